@@ -1,0 +1,14 @@
+pub mod AncestorLists
+pub mod Closure
+pub mod GraphFacts
+pub mod GraphRows
+pub mod IdOrder
+pub mod MarkSteps
+pub mod Members
+pub mod OwnIds
+pub mod PlaceLists
+pub mod Reach
+pub mod ResultRows
+pub mod RiseSteps
+pub mod RowSteps
+pub mod Walks

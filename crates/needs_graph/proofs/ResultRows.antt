@@ -1,0 +1,58 @@
+-- The definitions of results, conclusions and conditions at rows of their tables.
+use Rattle.std.proofs.Common.{◌≡◌, [], ◌∷◌, Bool, true, false, refl}
+use Rattle.wf_value.specs.declared.condition.Condition.TheVariants as condition
+use Rattle.wf_value.specs.declared.outcome.Outcome.{Outcome}
+use Rattle.wf_value.specs.declared.outcome.Outcome.TheVariants as outcome
+use Rattle.wf_value.specs.declared.outcome.JobResult.TheVariants as job
+use Rattle.needs_graph.specs.Results.{gathered, conclusion_of}
+use Rattle.needs_graph.specs.Conditions.{condition_value}
+use Rattle.needs_graph.specs.declared.results.LegEnd.{LegEnd}
+
+-- a leg, and whether a failure of it is passed over
+abbrev leg : Outcome → Bool → LegEnd
+leg o passed_over = record { outcome = o; continue_on_error = passed_over }
+
+no_legs : gathered [] ≡ job.Success
+no_legs = refl
+
+failure_counts : gathered (leg outcome.Success false ∷ leg outcome.Failure false ∷ []) ≡ job.Failure
+failure_counts = refl
+
+failure_is_passed_over : gathered (leg outcome.Success false ∷ leg outcome.Failure true ∷ []) ≡ job.Success
+failure_is_passed_over = refl
+
+failure_before_cancelled : gathered (leg outcome.Cancelled false ∷ leg outcome.Failure false ∷ []) ≡ job.Failure
+failure_before_cancelled = refl
+
+cancelled_counts : gathered (leg outcome.Failure true ∷ leg outcome.Cancelled true ∷ []) ≡ job.Cancelled
+cancelled_counts = refl
+
+skipped_counts_as_success : conclusion_of (job.Success ∷ job.Skipped ∷ []) ≡ outcome.Success
+skipped_counts_as_success = refl
+
+run_failure_before_cancelled : conclusion_of (job.Cancelled ∷ job.Failure ∷ job.Skipped ∷ []) ≡ outcome.Failure
+run_failure_before_cancelled = refl
+
+run_cancelled : conclusion_of (job.Success ∷ job.Cancelled ∷ []) ≡ outcome.Cancelled
+run_cancelled = refl
+
+success_wants_all : condition_value condition.Success (job.Success ∷ job.Failure ∷ []) false ≡ false
+success_wants_all = refl
+
+success_without_ancestors : condition_value condition.Success [] false ≡ true
+success_without_ancestors = refl
+
+skipped_is_no_success : condition_value condition.Success (job.Skipped ∷ []) false ≡ false
+skipped_is_no_success = refl
+
+failure_wants_one : condition_value condition.Failure (job.Success ∷ job.Failure ∷ []) false ≡ true
+failure_wants_one = refl
+
+failure_not_while_stopping : condition_value condition.Failure (job.Failure ∷ []) true ≡ false
+failure_not_while_stopping = refl
+
+success_not_while_stopping : condition_value condition.Success (job.Success ∷ []) true ≡ false
+success_not_while_stopping = refl
+
+always_while_stopping : condition_value condition.Always (job.Failure ∷ []) true ≡ true
+always_while_stopping = refl

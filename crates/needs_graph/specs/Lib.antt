@@ -1,0 +1,6 @@
+pub mod Ancestors
+pub mod Conditions
+pub mod Marks
+pub mod Needs
+pub mod Results
+pub mod Rows

@@ -1,0 +1,46 @@
+-- What a workflow's jobs need, and when that makes no graph.
+-- GitHub Docs, "Workflow syntax for GitHub Actions": `jobs.<job_id>.needs`.
+use Rattle.std.specs.Prelude.{ℕ, List, [], ◌∷◌, Bool, Result, Ok, Err, filter, map, if◌then◌else◌}
+use Rattle.std.specs.List.{list_any, list_all, enumerate_from}
+use Rattle.std.specs.Str.{bytes_eq}
+use Rattle.wf_value.specs.Names.{names_rise}
+use Rattle.wf_value.specs.declared.code.Code.TheVariants.{UnknownNeed}
+use Rattle.wf_value.specs.declared.refusal.Refusal.{Refusal}
+use Rattle.wf_value.specs.declared.refusal.Refusal.TheVariants.{Numbered, Cycle}
+use Rattle.needs_graph.specs.declared.job_needs.JobNeeds.{JobNeeds}
+use Rattle.needs_graph.specs.Ancestors.{is_ancestor}
+use Rattle.needs_graph.specs.Marks.{places}
+
+-- whether each id is below the next, by bytes
+abbrev pub ids_rise : List JobNeeds → Bool
+ids_rise jobs = names_rise (map (λ job. (job.id, job.needs)) jobs)
+
+abbrev pub is_listed : List (List ℕ) → List ℕ → Bool
+is_listed ids id = list_any (bytes_eq id) ids
+
+-- whether an id is a job's
+abbrev pub is_job : List JobNeeds → List ℕ → Bool
+is_job jobs id = list_any (λ job. bytes_eq id job.id) jobs
+
+-- for each job the places of the jobs whose ids it lists
+abbrev pub needs_of : List JobNeeds → List (List ℕ)
+needs_of jobs = map (λ job. places (λ other. is_listed job.needs other.id) jobs) jobs
+
+-- the ids of the jobs that are their own ancestors, in order
+abbrev pub own_ancestors : List JobNeeds → List (List ℕ)
+own_ancestors jobs =
+    map (λ e. e.1.id) (filter (λ e. is_ancestor (needs_of jobs) e.0 e.0) (enumerate_from 0 jobs))
+
+abbrev pub unknown_need : Refusal
+unknown_need = Numbered UnknownNeed
+
+abbrev pub unless_cycle : List (List ℕ) → List (List ℕ) → Result (List (List ℕ)) Refusal
+unless_cycle [] needs = Ok needs
+unless_cycle (id ∷ ids) needs = Err (Cycle (id ∷ ids))
+
+-- the graph of the jobs' needs, or why there is none: 13 comes before 14
+abbrev pub graph_of : List JobNeeds → Result (List (List ℕ)) Refusal
+graph_of jobs =
+    if list_all (λ job. list_all (is_job jobs) job.needs) jobs
+    then unless_cycle (own_ancestors jobs) (needs_of jobs)
+    else Err unknown_need

@@ -1,0 +1,23 @@
+//! Which jobs a job needs, directly and through others, when a job is to run, and what it and its
+//! run end as.
+#![tactic(auto)]
+
+mod conditions;
+mod graph;
+mod job_needs;
+mod lookup;
+mod marks;
+mod places;
+mod results;
+mod rows;
+
+pub use conditions::decide;
+pub use graph::Graph;
+pub use job_needs::JobNeeds;
+pub use lookup::ids_rise;
+pub use results::{LegEnd, conclude, gather};
+
+#[cfg(test)]
+mod graph_tests;
+#[cfg(test)]
+mod tests;

@@ -1,0 +1,5 @@
+pub mod AsciiForms
+pub mod Faultless
+pub mod Members
+pub mod Numbers
+pub mod Parts

@@ -1,0 +1,4 @@
+pub mod Admitted
+pub mod PlanOf
+pub mod ReplyText
+pub mod SmallText

@@ -1,0 +1,42 @@
+-- The printed replies.
+use Rattle.std.specs.Prelude.{ℕ, List, [], ◌∷◌, ◌++◌, codes}
+use Rattle.std.specs.Fmt.{decimal}
+use Rattle.serde_json.specs.Data.{Data, null, boolean, number, string, object, Members, no_members, member}
+use Rattle.serde_json.specs.Find.{of_integer}
+use Rattle.serde_json.specs.Written.{compact_text}
+use Rattle.wf_value.specs.declared.scalar.Scalar.{Scalar}
+use Rattle.wf_value.specs.declared.scalar.Scalar.TheVariants.{Null, Truth, Whole, Text}
+use Rattle.wf_value.specs.RefusalText.{refusal_text}
+use Rattle.run_plan.specs.declared.reply.Lease.{Lease as Leased}
+use Rattle.run_plan.specs.declared.reply.Reply.{Reply}
+use Rattle.run_plan.specs.declared.reply.Reply.TheVariants as reply
+
+-- a scalar as a JSON value
+abbrev pub scalar_json : Scalar → Data
+scalar_json Null = null
+scalar_json (Truth b) = boolean b
+scalar_json (Whole n) = number (of_integer n)
+scalar_json (Text t) = string t
+
+abbrev pub pairs_json : List (List ℕ × Scalar) → Members
+pairs_json [] = no_members
+pairs_json (p ∷ ps) = member p.0 (scalar_json p.1) (pairs_json ps)
+
+-- a combination as compact JSON, its members in the order of the names' bytes
+abbrev pub combo_text : List (List ℕ × Scalar) → List ℕ
+combo_text combo = compact_text (object (pairs_json combo))
+
+-- `lease`, the lease, the run, the job's id, the leg's number and the combination
+abbrev pub lease_line : ℕ → ℕ → List ℕ → ℕ → List ℕ → List ℕ
+lease_line lease run job leg combo = codes "lease " ++ decimal lease ++ codes " " ++ decimal run ++ codes " " ++ job ++ codes " " ++ decimal leg ++ codes " " ++ combo
+
+abbrev pub lease_text : Leased → List ℕ
+lease_text l = lease_line l.lease l.run l.job l.leg (combo_text l.combo)
+
+abbrev pub reply_text : Reply → List ℕ
+reply_text (reply.Created run) = codes "created " ++ decimal run
+reply_text (reply.Lease l) = lease_text l
+reply_text reply.Nothing = codes "nothing"
+reply_text reply.Ok = codes "ok"
+reply_text (reply.Run view) = view
+reply_text (reply.Refused r) = refusal_text r

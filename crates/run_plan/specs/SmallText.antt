@@ -1,0 +1,56 @@
+-- The forms of the small texts: ids, names, labels and numbers.
+use Rattle.std.specs.Prelude.{ℕ, ◌==◌, ◌&&◌, ◌||◌, List, length, Bool, not, nat_le, slice_index, Option, Some, None, if◌then◌else◌}
+use Rattle.std.specs.List.{list_all, slice_split}
+use Rattle.std.specs.Char.{is_ascii_digit, is_ascii_lowercase, is_ascii_alphanumeric, is_ascii_graphic}
+use Rattle.std.specs.Str.Parse.{digits_value}
+
+abbrev pub is_of_short_length : List ℕ → Bool
+is_of_short_length text = nat_le 1 (length text) && nat_le (length text) 64
+
+-- 1 to 64 bytes, each of a kind
+abbrev pub is_short : (ℕ → Bool) → List ℕ → Bool
+is_short kind text = is_of_short_length text && list_all kind text
+
+-- a letter, a digit or `-`
+abbrev pub is_delivery_byte : ℕ → Bool
+is_delivery_byte b = is_ascii_alphanumeric b || (b == 45)
+
+-- a small letter, a digit or `_`
+abbrev pub is_event_byte : ℕ → Bool
+is_event_byte b = is_ascii_lowercase b || is_ascii_digit b || (b == 95)
+
+-- a letter, a digit, `_`, `-` or `.`
+abbrev pub is_runner_byte : ℕ → Bool
+is_runner_byte b = is_ascii_alphanumeric b || (b == 95) || (b == 45) || (b == 46)
+
+-- a printed byte that is no space and no comma
+abbrev pub is_label_byte : ℕ → Bool
+is_label_byte b = is_ascii_graphic b && not (b == 44)
+
+-- the value, where a test holds
+abbrev pub found_if : {X : Type 0} → Bool → X → Option X
+found_if test x = if test then Some x else None
+
+abbrev pub delivery_of : List ℕ → Option (List ℕ)
+delivery_of text = found_if (is_short is_delivery_byte text) text
+
+abbrev pub event_of : List ℕ → Option (List ℕ)
+event_of text = found_if (is_short is_event_byte text) text
+
+abbrev pub runner_of : List ℕ → Option (List ℕ)
+runner_of text = found_if (is_short is_runner_byte text) text
+
+abbrev pub are_labels : List (List ℕ) → Bool
+are_labels labels = nat_le (length labels) 16 && list_all (is_short is_label_byte) labels
+
+-- 1 to 16 labels, joined by commas
+abbrev pub labels_of : List ℕ → Option (List (List ℕ))
+labels_of text = let labels = slice_split (λ b. b == 44) text in found_if (are_labels labels) labels
+
+-- whether the text is one to nine decimal digits, the first not 0
+abbrev pub is_number : List ℕ → Bool
+is_number text = nat_le 1 (length text) && nat_le (length text) 9 && list_all is_ascii_digit text && not (slice_index text 0 == 48)
+
+-- decimal, 1 to 999999999, no leading zero
+abbrev pub number_of : List ℕ → Option ℕ
+number_of text = found_if (is_number text && nat_le 1 (digits_value 10 text)) (digits_value 10 text)

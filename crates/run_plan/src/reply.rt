@@ -1,0 +1,136 @@
+ghost use Rattle.std.specs.Prelude.{◌≡◌, ◌↔◌, IfOk, IsTrue, Ok, string_bytes};
+ghost use Rattle.wf_value.specs.Gives.{Gives};
+ghost use Rattle.run_plan.specs.ReplyText.{lease_line, lease_text, reply_text};
+
+use crate::combo_text::text_of_combo;
+use crate::lists::same_pairs;
+use crate::number::Number;
+use crate::refusals::{copy_of_refusal, same_refusals};
+use std::alloc::{AllocError, Global};
+use wf_value::{Chars, Combo, Refusal};
+
+/// A leg that is handed to a runner.
+#[derive(Debug, Drop)]
+pub struct Lease {
+    pub lease: Number,
+    pub run: Number,
+    pub job: Chars,
+    /// The leg's number within its job, from 0.
+    pub leg: usize,
+    pub combo: Combo,
+}
+
+impl Lease {
+    fn copy(&self, alloc: Global) -> Result<Self, Refusal>
+        ensures { Gives (λ l. l) result (Ok self.now) }
+    {
+        Ok(Lease {
+            lease: self.lease,
+            run: self.run,
+            job: self.job.copy(alloc)?,
+            leg: self.leg,
+            combo: self.combo.copy(alloc)?,
+        })
+    }
+
+    fn same(&self, other: &Lease) -> bool
+        ensures { IsTrue result ↔ (self.now ≡ other.now) }
+    {
+        self.lease == other.lease
+            && self.run == other.run
+            && self.job.same(&other.job)
+            && self.leg == other.leg
+            && same_pairs(self.combo.as_slice(), other.combo.as_slice())
+    }
+
+    fn text(&self, alloc: Global) -> Result<Chars, Refusal>
+        ensures { Gives (λ t. t) result (Ok (lease_text self.now)) }
+    {
+        let combo = text_of_combo(alloc, &self.combo)?;
+        let lease = self.lease.get();
+        let run = self.run.get();
+        let line = lease_line(
+            alloc,
+            lease,
+            run,
+            self.job.as_str(),
+            self.leg,
+            combo.as_str(),
+        )?;
+        Ok(Chars::new(line))
+    }
+}
+
+fn lease_line(
+    alloc: Global,
+    lease: u32,
+    run: u32,
+    job: &str,
+    leg: usize,
+    combo: &str,
+) -> Result<String, AllocError>
+    ensures { IfOk result (λ s. string_bytes s ≡ lease_line lease run job.now leg combo.now) }
+{
+    format!(in alloc; "lease {lease} {run} {job} {leg} {combo}")
+}
+
+/// What a command is answered.
+#[derive(Debug, Drop)]
+pub enum Reply {
+    /// The run that the delivery made.
+    Created(Number),
+    Lease(Lease),
+    /// No leg is ready for the runner.
+    Nothing,
+    Ok,
+    /// The view of a run, printed.
+    Run(Chars),
+    /// 40 to 45 and 48. The table is as it was.
+    Refused(Refusal),
+}
+
+impl Reply {
+    pub fn copy(&self, alloc: Global) -> Result<Self, Refusal>
+        ensures { Gives (λ r. r) result (Ok self.now) }
+    {
+        match self {
+            Reply::Created(run) => Ok(Reply::Created(*run)),
+            Reply::Lease(lease) => Ok(Reply::Lease(lease.copy(alloc)?)),
+            Reply::Nothing => Ok(Reply::Nothing),
+            Reply::Ok => Ok(Reply::Ok),
+            Reply::Run(view) => Ok(Reply::Run(view.copy(alloc)?)),
+            Reply::Refused(refusal) => Ok(Reply::Refused(copy_of_refusal(alloc, refusal)?)),
+        }
+    }
+
+    pub fn same(&self, other: &Reply) -> bool
+        ensures { IsTrue result ↔ (self.now ≡ other.now) }
+    {
+        match (self, other) {
+            (Reply::Created(a), Reply::Created(b)) => *a == *b,
+            (Reply::Lease(a), Reply::Lease(b)) => a.same(b),
+            (Reply::Nothing, Reply::Nothing) => true,
+            (Reply::Ok, Reply::Ok) => true,
+            (Reply::Run(a), Reply::Run(b)) => a.same(b),
+            (Reply::Refused(a), Reply::Refused(b)) => same_refusals(a, b),
+            _ => false,
+        }
+    }
+
+    /// The printed reply.
+    pub fn text(&self, alloc: Global) -> Result<Chars, Refusal>
+        ensures { Gives (λ t. t) result (Ok (reply_text self.now)) }
+    {
+        match self {
+            Reply::Created(run) => {
+                let run = run.get();
+                Ok(Chars::new(format!(in alloc; "created {run}")?))
+            }
+            Reply::Lease(lease) => lease.text(alloc),
+            Reply::Nothing => Chars::from_str(alloc, "nothing"),
+            Reply::Ok => Chars::from_str(alloc, "ok"),
+            Reply::Run(view) => view.copy(alloc),
+            Reply::Refused(refusal) => refusal.text(alloc),
+        }
+    }
+}

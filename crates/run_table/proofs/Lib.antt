@@ -1,0 +1,10 @@
+pub mod Changed
+pub mod Firsts
+pub mod JobSteps
+pub mod JobsText
+pub mod JoinedLegs
+pub mod LegSteps
+pub mod Lowered
+pub mod Rests
+pub mod RunSteps
+pub mod ViewRows

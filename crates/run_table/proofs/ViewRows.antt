@@ -1,0 +1,86 @@
+-- Views of runs at literal records, and their texts.
+use Rattle.std.proofs.Common.{◌≡◌, ℕ, List, [], ◌∷◌, ◌++◌, Bool, true, false, Some, None, codes, refl, ap}
+use Rattle.std.specs.Fmt.{digits}
+use Rattle.wf_value.specs.declared.outcome.Outcome.TheVariants as outcome
+use Rattle.wf_value.specs.declared.outcome.JobResult.TheVariants as result
+use Rattle.wf_reader.specs.Event.{event_of}
+use Rattle.run_plan.specs.PlanOf.{plan_of}
+use Rattle.run_plan.specs.Admitted.{Admitted}
+use Rattle.run_plan.specs.declared.planned.PlannedJob.{PlannedJob}
+use Rattle.run_table.specs.ViewText.{Sight, sight_of, sight_text, run_text, job_text, same_workflow}
+use Rattle.run_table.specs.declared.leg.Leg.{Leg}
+use Rattle.run_table.specs.declared.leg.LegPhase.{LegPhase}
+use Rattle.run_table.specs.declared.leg.LegPhase.TheVariants as leg
+use Rattle.run_table.specs.declared.job.JobRecord.{JobRecord}
+use Rattle.run_table.specs.declared.job.JobState.{JobState}
+use Rattle.run_table.specs.declared.job.JobState.TheVariants as state
+use Rattle.run_table.specs.declared.run.Run.{Run}
+use Rattle.run_table.specs.declared.run.RunPhase.{RunPhase}
+use Rattle.run_table.specs.declared.run.RunPhase.TheVariants as phase
+
+-- ---- a run's text, for a plan of literal ids
+
+abbrev planned : List ℕ → PlannedJob
+planned id = record { id = id; legs = [] }
+
+abbrev job : JobState → List Leg → JobRecord
+job s legs = record { state = s; legs = legs }
+
+abbrev unclaimed : LegPhase → Leg
+unclaimed p = record { phase = p; lease = None }
+
+abbrev claimed : LegPhase → Leg
+claimed p = record { phase = p; lease = Some 1 }
+
+abbrev build : List PlannedJob
+build = planned (codes "build") ∷ []
+
+abbrev go : List PlannedJob
+go = planned (codes "go") ∷ []
+
+abbrev three : List PlannedJob
+three = planned (codes "a") ∷ planned (codes "b") ∷ planned (codes "c") ∷ []
+
+completed : run_text build phase.Ended (job (state.Settled result.Success) (claimed (leg.Ended outcome.Success) ∷ []) ∷ []) ≡ codes "completed success build:success(success)"
+completed = refl
+
+queued : run_text build phase.Live (job state.Open (unclaimed leg.Ready ∷ []) ∷ []) ≡ codes "queued - build:open(ready)"
+queued = refl
+
+running : run_text build phase.Live (job state.Open (claimed leg.Running ∷ []) ∷ []) ≡ codes "in_progress - build:open(running)"
+running = refl
+
+pending : run_text go phase.Waiting (job state.Blocked [] ∷ []) ≡ codes "pending - go:blocked"
+pending = refl
+
+cancelled_while_pending : run_text go phase.Ended (job (state.Settled result.Cancelled) [] ∷ []) ≡ codes "completed cancelled go:cancelled()"
+cancelled_while_pending = refl
+
+-- one leg is ready, one was cancelled without a claim, and one waits
+three_legs : run_text (planned (codes "m") ∷ []) phase.Live (job state.Open (unclaimed leg.Ready ∷ unclaimed (leg.Ended outcome.Cancelled) ∷ unclaimed leg.Waiting ∷ []) ∷ []) ≡ codes "queued - m:open(ready,cancelled,waiting)"
+three_legs = refl
+
+failed_with_skipped : run_text three phase.Ended (job (state.Settled result.Failure) (claimed (leg.Ended outcome.Failure) ∷ []) ∷ job (state.Settled result.Success) (claimed (leg.Ended outcome.Success) ∷ []) ∷ job (state.Settled result.Skipped) [] ∷ []) ≡ codes "completed failure a:failure(failure) b:success(success) c:skipped()"
+failed_with_skipped = refl
+
+stopping : run_text (planned (codes "m") ∷ []) phase.Live (job state.Open (claimed leg.Stopping ∷ claimed (leg.Ended outcome.Failure) ∷ unclaimed (leg.Ended outcome.Cancelled) ∷ []) ∷ []) ≡ codes "in_progress - m:open(stopping,failure,cancelled)"
+stopping = refl
+
+-- ---- whole views, of runs whose bodies have a known plan, repository and path
+
+abbrev admitted : List ℕ → Admitted
+admitted body = record { delivery = codes "d1"; event = codes "push"; body = body }
+
+abbrev completed_run : List ℕ → Run
+completed_run body = record { prepared = admitted body; phase = phase.Ended; stopping = false; jobs = job (state.Settled result.Success) (claimed (leg.Ended outcome.Success) ∷ []) ∷ [] }
+
+look_at_a_completed_run : (body : List ℕ) → plan_of body ≡ build → sight_text (record { id = 1; number = 1; run = completed_run body }) ≡ codes "run 1 1 completed success build:success(success)"
+unfolding digits
+look_at_a_completed_run body planned_so = ap (λ plan. codes "run 1 1 " ++ run_text plan phase.Ended (completed_run body).jobs) planned_so
+
+-- the number counts the runs of the same repository and path: here the third run is the second of its workflow
+numbered_by_workflow : (ci cd : List ℕ) → (event_of ci).repo ≡ codes "o/r" → (event_of cd).repo ≡ codes "o/r" → (event_of ci).path ≡ codes "ci.json" → (event_of cd).path ≡ codes "cd.json" → sight_of (completed_run ci ∷ completed_run cd ∷ completed_run ci ∷ completed_run ci ∷ []) 3 ≡ Some (record { id = 3; number = 2; run = completed_run ci })
+numbered_by_workflow ci cd ci_repo cd_repo ci_path cd_path = simp (ci_repo, cd_repo, ci_path, cd_path)
+
+no_such_run : (body : List ℕ) → sight_of (completed_run body ∷ []) 2 ≡ None
+no_such_run body = refl

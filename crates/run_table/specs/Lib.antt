@@ -1,0 +1,12 @@
+pub mod FirstOf
+pub mod Fitting
+pub mod JobRules
+pub mod LegRules
+pub mod Legs
+pub mod RunRules
+pub mod Sameness
+pub mod Settling
+pub mod Step
+pub mod TableState
+pub mod Turns
+pub mod ViewText

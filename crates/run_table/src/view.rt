@@ -1,0 +1,52 @@
+ghost use Rattle.std.specs.Prelude.{◌≡◌, Ok};
+ghost use Rattle.wf_value.specs.Gives.{Gives};
+ghost use Rattle.run_table.specs.ViewText.{sight_text};
+
+use crate::run::Run;
+use crate::view_text::{conclusion_word, push_jobs, status_word};
+use run_plan::Number;
+use std::alloc::Global;
+use std::marker::Model;
+use wf_value::{Chars, Refusal};
+
+/// What is seen of a run: its id, its number among the runs of its workflow, and the run.
+#[derive(Debug, Drop)]
+pub struct RunView<'a> {
+    id: Number,
+    number: usize,
+    run: &'a Run,
+}
+
+impl<'a> Model for RunView<'a> {
+    ghost use Rattle.run_table.specs.ViewText.{Sight};
+
+    ghost Value = { Sight };
+
+    ghost view = { λ v. record { id = v.id; number = v.number; run = v.run.now } };
+}
+
+impl<'a> RunView<'a> {
+    pub(crate) fn new(id: Number, number: usize, run: &'a Run) -> Self
+        ensures { result ≡ record { id = id; number = number; run = run.now } }
+    {
+        RunView { id, number, run }
+    }
+
+    /// The printed view: `run ID NUMBER STATUS CONCLUSION JOB:STATE ..`.
+    pub fn text(&self, alloc: Global) -> Result<Chars, Refusal>
+        ensures { Gives (λ t. t) result (Ok (sight_text self.now)) }
+    {
+        let id = self.id.get();
+        let number = self.number;
+        let run = self.run;
+        let jobs = run.jobs.as_slice();
+        let status = status_word(run.phase, jobs);
+        let conclusion = conclusion_word(alloc, run.phase, jobs)?;
+        let mut text = format!(in alloc; "run {id} {number} {status} {conclusion}")?;
+        push_jobs(run.prepared.plan().as_slice(), jobs, &mut text)?;
+        Ok(Chars::new(text))
+    }
+}
+
+#[cfg(test)]
+mod tests;

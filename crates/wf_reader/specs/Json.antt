@@ -1,0 +1,25 @@
+-- What a value that `serde_json` reads holds, as lists. RFC 8259, sections 4, 5 and 7.
+-- An object has each name once, in the order of the names' bytes.
+use Rattle.std.specs.Prelude.{ℕ, List, [], ◌∷◌, unwrap_or}
+use Rattle.serde_json.specs.Data.{Data, null, Items, no_items, item, Members, no_members, member}
+use Rattle.serde_json.specs.Find.{get, as_str, as_object}
+
+abbrev pub item_list : Items → List Data
+item_list no_items = []
+item_list (item d ds) = d ∷ item_list ds
+
+abbrev pub member_list : Members → List (List ℕ × Data)
+member_list no_members = []
+member_list (member k d ms) = (k, d) ∷ member_list ms
+
+-- the text of a value, and the empty one where it is no text
+abbrev pub text_of : Data → List ℕ
+text_of d = unwrap_or (as_str d) []
+
+-- the members of a value, and none where it is no object
+abbrev pub members_of : Data → List (List ℕ × Data)
+members_of d = member_list (unwrap_or (as_object d) no_members)
+
+-- the value of a member, and null where there is none
+abbrev pub value_at : List ℕ → Data → Data
+value_at name d = unwrap_or (get name d) null

@@ -1,0 +1,31 @@
+ghost use Rattle.std.specs.Prelude.{[]};
+ghost use Rattle.serde_json.specs.View.{view};
+ghost use Rattle.wf_value.specs.Gives.{Gives};
+ghost use Rattle.wf_reader.specs.Body.{body_faults, body_value};
+ghost use Rattle.wf_reader.specs.Faults.{unless_faulty};
+
+use serde_json::Value;
+use std::alloc::Global;
+use std::str;
+use wf_value::{Code, Refusal};
+
+/// The longest body, in bytes.
+const MAX_BODY: usize = 65_536;
+
+/// The JSON value of a body: 24 over 65,536 bytes, 10 where it is not UTF-8 or not JSON.
+pub fn read_body(alloc: Global, bytes: &[u8]) -> Result<Value, Refusal>
+    ensures { Gives view result
+        (unless_faulty (body_faults (λ _. []) bytes.now) (body_value bytes.now)) }
+{
+    if bytes.len() > MAX_BODY {
+        return Err(Refusal::Numbered(Code::TooLong));
+    }
+    let Ok(text) = str::from_utf8(bytes) else {
+        return Err(Refusal::Numbered(Code::NotJson));
+    };
+    match Value::from_str(alloc, text) {
+        Ok(value) => Ok(value),
+        Err(error) if error.is_memory() => Err(Refusal::Numbered(Code::NoMemory)),
+        Err(_) => Err(Refusal::Numbered(Code::NotJson)),
+    }
+}

@@ -1,0 +1,71 @@
+ghost use Rattle.std.specs.Prelude.{◌≡◌, codes};
+ghost use Rattle.serde_json.specs.Find.{get};
+ghost use Rattle.serde_json.specs.View.{view};
+ghost use Rattle.wf_value.specs.Gives.{Gives};
+ghost use Rattle.wf_reader.specs.Event.{envelope_faults, envelope_of, event_faults, event_of};
+ghost use Rattle.wf_value.specs.declared.code.Code.TheVariants.{WrongKind};
+ghost use Rattle.wf_reader.specs.Faults.{unless_faulty, required};
+ghost use Rattle.wf_reader.specs.Json.{value_at};
+ghost use Rattle.wf_reader.specs.Workflow.{value_faults, value_of};
+
+use crate::body::read_body;
+use crate::fields::{check_context, read_filled_text, wrong_kind};
+use crate::workflow::{Workflow, workflow_in};
+use serde_json::Value;
+use std::alloc::Global;
+use wf_value::{Chars, Refusal};
+
+/// The body of an event: whose repository and which workflow it is for, and the workflow itself.
+#[derive(Debug, Drop)]
+pub struct Event {
+    /// Not empty. Repositories compare by bytes.
+    pub repo: Chars,
+    /// Not empty. It names the workflow within the repository.
+    pub path: Chars,
+    pub workflow: Workflow,
+}
+
+/// The workflow in an envelope.
+fn read_inner(alloc: Global, envelope: &Value) -> Result<Workflow, Refusal>
+    ensures { Gives (λ w. w) result
+        (unless_faulty
+        (required WrongKind value_faults (get (codes "workflow") (view envelope.now)))
+        (value_of (value_at (codes "workflow") (view envelope.now)))) }
+{
+    match envelope.get("workflow") {
+        Some(value) => workflow_in(alloc, value),
+        None => Err(wrong_kind()),
+    }
+}
+
+/// The event of a value, or the first of its faults.
+fn event_in(alloc: Global, value: &Value) -> Result<Event, Refusal>
+    ensures { Gives (λ e. e) result
+        (unless_faulty (envelope_faults (view value.now)) (envelope_of (view value.now))) }
+{
+    if !value.is_object() {
+        return Err(wrong_kind());
+    }
+    let repo = read_filled_text(alloc, value, "repo")?;
+    let path = read_filled_text(alloc, value, "path")?;
+    check_context(value, "github")?;
+    check_context(value, "inputs")?;
+    check_context(value, "vars")?;
+    let workflow = read_inner(alloc, value)?;
+    Ok(Event {
+        repo,
+        path,
+        workflow,
+    })
+}
+
+/// The event that a body spells, or the first of its faults: 24 for a body over 65,536 bytes, 10 where
+/// it is not UTF-8 or not JSON, 11 for the envelope, and for the workflow in it 11, 12, 15, 16 and 23.
+/// Want of memory is 50.
+pub fn read_event(alloc: Global, bytes: &[u8]) -> Result<Event, Refusal>
+    ensures { Gives (λ e. e) result
+        (unless_faulty (event_faults bytes.now) (event_of bytes.now)) }
+{
+    let value = read_body(alloc, bytes)?;
+    event_in(alloc, &value)
+}

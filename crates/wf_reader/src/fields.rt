@@ -1,0 +1,77 @@
+ghost use Rattle.std.specs.Prelude.{◌≡◌, option_map, option_and_then};
+ghost use Rattle.serde_json.specs.Find.{get, as_object};
+ghost use Rattle.serde_json.specs.View.{view, members_view};
+ghost use Rattle.wf_value.specs.Gives.{Gives};
+ghost use Rattle.wf_value.specs.declared.code.Code.TheVariants.{WrongKind};
+ghost use Rattle.wf_value.specs.declared.refusal.Refusal.TheVariants.{Numbered};
+ghost use Rattle.wf_reader.specs.Event.{filled_text_faults};
+ghost use Rattle.wf_reader.specs.Faults.{unless_faulty, optional, required, left_out, text_faults, object_faults};
+ghost use Rattle.wf_reader.specs.Json.{text_of, value_at};
+
+use serde_json::{Map, Value};
+use std::alloc::Global;
+use wf_value::{Chars, Code, Refusal};
+
+/// 11, for a member of the wrong kind, and for one that is required and missing.
+pub fn wrong_kind() -> Refusal
+    ensures { result ≡ Numbered WrongKind }
+{
+    Refusal::Numbered(Code::WrongKind)
+}
+
+/// The members of a member that is an object.
+pub fn members_at<'v>(object: &'v Value, name: &str) -> Option<&'v Map<String, Value>>
+    ensures { option_map (λ m. members_view m.now.entries) result
+        ≡ option_and_then as_object (get name.now (view object.now)) }
+{
+    object.get(name).and_then(Value::as_object)
+}
+
+/// Refuses a member that is left out, whatever its value (16).
+pub fn refuse_left_out(object: &Value, name: &str) -> Result<(), Refusal>
+    ensures { Gives (λ u. u) result
+        (unless_faulty (left_out (get name.now (view object.now))) tt) }
+{
+    match object.get(name) {
+        Some(_) => Err(Refusal::Numbered(Code::LeftOut)),
+        None => Ok(()),
+    }
+}
+
+/// Refuses a member that is there and no object (11).
+pub fn check_context(object: &Value, name: &str) -> Result<(), Refusal>
+    ensures { Gives (λ u. u) result
+        (unless_faulty (optional object_faults (get name.now (view object.now))) tt) }
+{
+    match object.get(name) {
+        Some(context) if !context.is_object() => Err(wrong_kind()),
+        _ => Ok(()),
+    }
+}
+
+/// The text of a member, or the empty text where it is missing. Another kind is 11.
+pub fn read_text(alloc: Global, object: &Value, name: &str) -> Result<Chars, Refusal>
+    ensures { Gives (λ c. c) result
+        (unless_faulty (optional text_faults (get name.now (view object.now)))
+        (text_of (value_at name.now (view object.now)))) }
+{
+    let Some(member) = object.get(name) else {
+        return Chars::from_str(alloc, "");
+    };
+    match member.as_str() {
+        Some(text) => Chars::from_str(alloc, text),
+        None => Err(wrong_kind()),
+    }
+}
+
+/// The text of a member that has to be there and not empty, else 11.
+pub fn read_filled_text(alloc: Global, object: &Value, name: &str) -> Result<Chars, Refusal>
+    ensures { Gives (λ c. c) result
+        (unless_faulty (required WrongKind filled_text_faults (get name.now (view object.now)))
+        (text_of (value_at name.now (view object.now)))) }
+{
+    match object.get(name).and_then(Value::as_str) {
+        Some(text) if !text.is_empty() => Chars::from_str(alloc, text),
+        _ => Err(wrong_kind()),
+    }
+}

@@ -1,0 +1,76 @@
+ghost use Rattle.std.specs.Prelude.{◌≡◌};
+ghost use Rattle.std.specs.List.{list_all};
+ghost use Rattle.serde_json.specs.View.{view};
+ghost use Rattle.wf_value.specs.Gives.{Gives};
+ghost use Rattle.wf_reader.specs.Faults.{unless_faulty};
+ghost use Rattle.wf_reader.specs.Job.{is_id_start, is_id_part, is_job_id, job_faults, job_of};
+
+use crate::fields::{refuse_left_out, wrong_kind};
+use crate::labels::read_runs_on;
+use crate::texts::Texts;
+use serde_json::Value;
+use std::alloc::Global;
+use wf_value::{Chars, Code, Refusal};
+
+/// A job of a workflow. GitHub Docs, "Workflow syntax for GitHub Actions", `jobs.<job_id>`.
+#[derive(Debug, Drop)]
+pub struct Job {
+    /// A letter or `_`, then letters, digits, `-` and `_`: 1 to 100 bytes.
+    pub id: Chars,
+    /// What `runs-on` asks of a runner: one text at least.
+    pub labels: Texts,
+}
+
+const MAX_ID: usize = 100;
+
+fn is_start(byte: u8) -> bool
+    ensures { result ≡ is_id_start byte }
+{
+    byte.is_ascii_alphabetic() || byte == b'_'
+}
+
+fn is_part(byte: u8) -> bool
+    ensures { result ≡ is_id_part byte }
+{
+    is_start(byte) || byte.is_ascii_digit() || byte == b'-'
+}
+
+fn are_parts(bytes: &[u8]) -> bool
+    ensures { result ≡ list_all is_id_part bytes.now }
+{
+    bytes.iter().all(|byte| is_part(*byte))
+}
+
+/// Whether a text is the id of a job.
+fn is_id(text: &str) -> bool
+    ensures { result ≡ is_job_id text.now }
+{
+    match text.as_bytes() {
+        [] => false,
+        [first, rest @ ..] => is_start(*first) && are_parts(rest) && text.len() <= MAX_ID,
+    }
+}
+
+/// One job, or the first of its faults.
+pub fn read_job(alloc: Global, id: &str, value: &Value) -> Result<Job, Refusal>
+    ensures { Gives (λ j. j) result
+        (unless_faulty (job_faults (id.now, view value.now)) (job_of (id.now, view value.now))) }
+{
+    if !is_id(id) {
+        return Err(Refusal::Numbered(Code::JobId));
+    }
+    if !value.is_object() {
+        return Err(wrong_kind());
+    }
+    refuse_left_out(value, "uses")?;
+    let labels = read_runs_on(alloc, value)?;
+    refuse_left_out(value, "needs")?;
+    refuse_left_out(value, "if")?;
+    refuse_left_out(value, "continue-on-error")?;
+    refuse_left_out(value, "concurrency")?;
+    refuse_left_out(value, "strategy")?;
+    Ok(Job {
+        id: Chars::from_str(alloc, id)?,
+        labels,
+    })
+}

@@ -1,0 +1,83 @@
+ghost use Rattle.std.specs.Prelude.{◌≡◌, map, codes, flat_map, string_bytes};
+ghost use Rattle.serde_json.specs.View.{view};
+ghost use Rattle.wf_value.specs.Gives.{Gives};
+ghost use Rattle.wf_reader.specs.Faults.{unless_faulty};
+ghost use Rattle.wf_reader.specs.Job.{job_faults, job_of};
+ghost use Rattle.wf_reader.specs.Json.{members_of, value_at};
+ghost use Rattle.wf_reader.specs.Workflow.{jobs_faults, value_faults, value_of, workflow_faults, workflow_of};
+
+use crate::body::read_body;
+use crate::fields::{members_at, read_text, refuse_left_out, wrong_kind};
+use crate::job::{Job, read_job};
+use crate::jobs::Jobs;
+use serde_json::{Map, Value};
+use std::alloc::Global;
+use wf_value::{Chars, Code, Refusal};
+
+/// The most jobs of a workflow.
+const MAX_JOBS: usize = 256;
+
+/// A workflow. GitHub Docs, "Workflow syntax for GitHub Actions".
+#[derive(Debug, Drop)]
+pub struct Workflow {
+    /// The `name`, and the empty text where it is missing.
+    pub name: Chars,
+    /// 1 to 256 jobs.
+    pub jobs: Jobs,
+}
+
+/// Each job, up to the first fault.
+fn read_each(alloc: Global, members: &Map<String, Value>) -> Result<Jobs, Refusal>
+    ensures { Gives (λ j. j) result
+        (unless_faulty (flat_map (λ e. job_faults (string_bytes e.0, view e.1)) members.now.entries)
+        (map (λ e. job_of (string_bytes e.0, view e.1)) members.now.entries)) }
+{
+    let mut jobs = Vec::new(alloc);
+    for (id, value) in members {
+        jobs.push(read_job(alloc, id.as_str(), value)?)?;
+    }
+    Ok(Jobs::new(jobs))
+}
+
+/// The jobs of a workflow: no object, or one without a member, is 11, and over 256 are 23.
+fn read_jobs(alloc: Global, workflow: &Value) -> Result<Jobs, Refusal>
+    ensures { Gives (λ j. j) result
+        (unless_faulty (jobs_faults (members_of (value_at (codes "jobs") (view workflow.now))))
+        (map job_of (members_of (value_at (codes "jobs") (view workflow.now))))) }
+{
+    let Some(members) = members_at(workflow, "jobs") else {
+        return Err(wrong_kind());
+    };
+    if members.is_empty() {
+        return Err(wrong_kind());
+    }
+    if members.len() > MAX_JOBS {
+        return Err(Refusal::Numbered(Code::TooManyJobs));
+    }
+    read_each(alloc, members)
+}
+
+/// The workflow of a value, or the first of its faults.
+pub fn workflow_in(alloc: Global, value: &Value) -> Result<Workflow, Refusal>
+    ensures { Gives (λ w. w) result
+        (unless_faulty (value_faults (view value.now)) (value_of (view value.now))) }
+{
+    if !value.is_object() {
+        return Err(wrong_kind());
+    }
+    let name = read_text(alloc, value, "name")?;
+    refuse_left_out(value, "concurrency")?;
+    let jobs = read_jobs(alloc, value)?;
+    Ok(Workflow { name, jobs })
+}
+
+/// The workflow that a body spells, or the first of its faults: 24 for a body over 65,536 bytes, 10
+/// where it is not UTF-8 or not JSON, and for what is inside it 11, 12, 15, 16 and 23. Want of memory
+/// is 50. GitHub Docs, "Workflow syntax for GitHub Actions"; RFC 8259.
+pub fn read_workflow(alloc: Global, bytes: &[u8]) -> Result<Workflow, Refusal>
+    ensures { Gives (λ w. w) result
+        (unless_faulty (workflow_faults bytes.now) (workflow_of bytes.now)) }
+{
+    let value = read_body(alloc, bytes)?;
+    workflow_in(alloc, &value)
+}

@@ -1,0 +1,14 @@
+-- The one word for a call that may be refused.
+use Rattle.std.specs.Prelude.{◌≡◌, ◌≢◌, Result, Ok, Err}
+use Rattle.wf_value.specs.declared.code.Code.TheVariants.{NoMemory}
+use Rattle.wf_value.specs.declared.refusal.Refusal.{Refusal}
+use Rattle.wf_value.specs.declared.refusal.Refusal.TheVariants.{Numbered}
+
+-- the refusal of a call that was refused memory
+abbrev pub no_memory : Refusal
+no_memory = Numbered NoMemory
+
+-- The call gave what the definition gives, seen by view, unless memory was refused.
+abbrev pub Gives : {X Y : Type 0} → (X → Y) → Result X Refusal → Result Y Refusal → Type 0
+Gives view (Ok x) defined = defined ≡ Ok (view x)
+Gives view (Err e) defined = e ≢ no_memory → defined ≡ Err e

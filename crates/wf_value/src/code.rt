@@ -1,0 +1,138 @@
+ghost use Rattle.std.specs.Prelude.{◌≡◌};
+
+/// Why a call was refused, where the number says it all. Cycles of needs (14) and numbers out of turn
+/// (43) carry a value, and so are refusals of their own.
+#[derive(Clone, Copy, Debug, PartialEq, Eq)]
+pub enum Code {
+    /// 10: the text is not JSON, or not UTF-8.
+    NotJson,
+    /// 11: a member is of the wrong kind, or one that is required is missing.
+    WrongKind,
+    /// 12: a job id is not of its form.
+    JobId,
+    /// 13: `needs` names no job of the workflow.
+    UnknownNeed,
+    /// 15: `runs-on` is missing or an empty list.
+    NoLabels,
+    /// 16: a kind of job, or a member, that is left out.
+    LeftOut,
+    /// 17: an expression outside the profile.
+    Expression,
+    /// 18: a context that is not allowed in this place.
+    PlaceOfContext,
+    /// 19: a matrix value of another kind.
+    MatrixValue,
+    /// 20: an empty list of a variable, or an empty include or exclude object.
+    EmptyList,
+    /// 21: a matrix whose lists' lengths multiply to over 4,096.
+    MatrixTooLarge,
+    /// 22: a matrix that gives no leg, or more than 256.
+    LegCount,
+    /// 23: more than 256 jobs.
+    TooManyJobs,
+    /// 24: a text over 65,536 bytes.
+    TooLong,
+    /// 25: a member of `strategy`.
+    StrategyMember,
+    /// 26: a condition outside the profile.
+    Condition,
+    /// 40: no such run.
+    NoRun,
+    /// 41: the run has completed.
+    RunCompleted,
+    /// 42: the runner has a lease.
+    HasLease,
+    /// 44: the runner does not hold that lease.
+    LeaseNotHeld,
+    /// 45: no such runner.
+    NoRunner,
+    /// 46: the history has 100,000 entries.
+    HistoryFull,
+    /// 47: it does not fit the area.
+    AreaFull,
+    /// 48: a counter is at its last value.
+    LastCounter,
+    /// 50: memory was refused.
+    NoMemory,
+    /// 51: the device failed in this call.
+    DeviceFailed,
+    /// 52: the device failed earlier: open again.
+    FailedEarlier,
+    /// 53: no area is open.
+    NoArea,
+    /// 54: the chosen area spells no table.
+    NoTable,
+    /// 55: the disk to be made is not empty.
+    DiskNotEmpty,
+    /// 56: a checkpoint call out of its turn.
+    CheckpointTurn,
+    /// 60: transcripts and history differ.
+    Unsettled,
+    /// 61: an input, an output or a socket failed.
+    StreamFailed,
+    /// 70: a request's head.
+    Head,
+    /// 71: a request's length.
+    ContentLength,
+    /// 72: a request's path.
+    Path,
+    /// 73: a request's method.
+    Method,
+    /// 74: the delivery or event header.
+    EventHeader,
+    /// 75: a line that is no command.
+    Line,
+    /// 76: an input over 1,048,576 bytes.
+    InputTooLong,
+}
+
+impl Code {
+    ghost use Rattle.wf_value.specs.RefusalText.{code_number};
+
+    pub fn number(self) -> u64
+        ensures { result ≡ code_number self }
+    {
+        match self {
+            Code::NotJson => 10,
+            Code::WrongKind => 11,
+            Code::JobId => 12,
+            Code::UnknownNeed => 13,
+            Code::NoLabels => 15,
+            Code::LeftOut => 16,
+            Code::Expression => 17,
+            Code::PlaceOfContext => 18,
+            Code::MatrixValue => 19,
+            Code::EmptyList => 20,
+            Code::MatrixTooLarge => 21,
+            Code::LegCount => 22,
+            Code::TooManyJobs => 23,
+            Code::TooLong => 24,
+            Code::StrategyMember => 25,
+            Code::Condition => 26,
+            Code::NoRun => 40,
+            Code::RunCompleted => 41,
+            Code::HasLease => 42,
+            Code::LeaseNotHeld => 44,
+            Code::NoRunner => 45,
+            Code::HistoryFull => 46,
+            Code::AreaFull => 47,
+            Code::LastCounter => 48,
+            Code::NoMemory => 50,
+            Code::DeviceFailed => 51,
+            Code::FailedEarlier => 52,
+            Code::NoArea => 53,
+            Code::NoTable => 54,
+            Code::DiskNotEmpty => 55,
+            Code::CheckpointTurn => 56,
+            Code::Unsettled => 60,
+            Code::StreamFailed => 61,
+            Code::Head => 70,
+            Code::ContentLength => 71,
+            Code::Path => 72,
+            Code::Method => 73,
+            Code::EventHeader => 74,
+            Code::Line => 75,
+            Code::InputTooLong => 76,
+        }
+    }
+}

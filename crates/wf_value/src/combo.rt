@@ -1,0 +1,115 @@
+ghost use Rattle.std.specs.Prelude.{◌≡◌, ◌↔◌, ◌++◌, ◌∷◌, [], length, IsTrue, Ok, OnErr};
+ghost use Rattle.wf_value.specs.Gives.{Gives};
+ghost use Rattle.wf_value.specs.Names.{names_rise};
+
+use crate::chars::Chars;
+use crate::refusal::Refusal;
+use crate::scalar::Scalar;
+use std::alloc::Global;
+use std::marker::Model;
+
+/// A combination of a matrix: a value for each of its names, in the order of the names' bytes.
+/// A contract sees the list of the pairs. GitHub Docs, "Running variations of jobs in a workflow".
+#[derive(Debug, Drop)]
+pub struct Combo {
+    pairs: Vec<(Chars, Scalar)>,
+}
+
+impl Model for Combo {
+    ghost use Rattle.std.specs.Prelude.{List, ℕ, IsTrue};
+    ghost use Rattle.wf_value.specs.declared.scalar.Scalar.{Scalar};
+    ghost use Rattle.wf_value.specs.Names.{names_rise};
+    ghost use Rattle.wf_value.specs.ScalarCode.{coded_pairs};
+
+    ghost Value = { List (List ℕ × Scalar) };
+
+    ghost coded = { coded_pairs };
+
+    ghost view = { λ c. c.pairs.items };
+
+    ghost invariant = { λ c. IsTrue (names_rise c.pairs.items) };
+}
+
+impl Combo {
+    /// The combination without names, which a job without a matrix has.
+    pub fn new(alloc: Global) -> Self
+        ensures { result ≡ [] }
+    {
+        Combo {
+            pairs: Vec::new(alloc),
+        }
+    }
+
+    /// The combination of a `Vec` whose names rise, which is moved and not copied.
+    pub fn from_pairs(pairs: Vec<(Chars, Scalar)>) -> Self
+        requires { IsTrue (names_rise pairs.items) }
+        ensures { result ≡ pairs.items }
+    {
+        Combo { pairs }
+    }
+
+    /// The `Vec` back.
+    pub fn into_vec(self) -> Vec<(Chars, Scalar)>
+        ensures pairs { result.items ≡ self }
+        ensures in_order { IsTrue (names_rise self) }
+    {
+        let Combo { pairs } = self;
+        pairs
+    }
+
+    /// The pairs, in the order of the bytes of their names.
+    pub fn as_slice(&self) -> &[(Chars, Scalar)]
+        ensures pairs { result.now ≡ self.now }
+        ensures in_order { IsTrue (names_rise self.now) }
+    {
+        self.pairs.as_slice()
+    }
+
+    /// The number of names.
+    pub fn len(&self) -> usize
+        ensures { result ≡ length self.now }
+    {
+        self.pairs.len()
+    }
+
+    /// Whether there is no name.
+    pub fn is_empty(&self) -> bool
+        ensures { IsTrue result ↔ (self.now ≡ []) }
+    {
+        self.pairs.is_empty()
+    }
+
+    /// Adds a copy of a name and of its value at the end, where the name's place is. On an `Err` the
+    /// combination is unchanged.
+    pub fn push_copy(&mut self, alloc: Global, name: &Chars, value: &Scalar) -> Result<(), Refusal>
+        requires { IsTrue (names_rise (self.old ++ (name.now, value.now) ∷ [])) }
+        ensures ok { Gives (λ _. self.new) result (Ok (self.old ++ (name.now, value.now) ∷ [])) }
+        ensures err { OnErr result (self.new ≡ self.old) }
+    {
+        let pair = (name.copy(alloc)?, copy_of(alloc, value)?);
+        self.pairs.push(pair)?;
+        Ok(())
+    }
+
+    pub fn copy(&self, alloc: Global) -> Result<Self, Refusal>
+        ensures { Gives (λ c. c) result (Ok self.now) }
+    {
+        let mut pairs = Vec::with_capacity(alloc, self.pairs.len())?;
+        for (name, value) in self.pairs.as_slice() {
+            pairs.push((name.copy(alloc)?, copy_of(alloc, value)?))?;
+        }
+        Ok(Combo { pairs })
+    }
+}
+
+/// A copy of a value.
+fn copy_of(alloc: Global, value: &Scalar) -> Result<Scalar, Refusal>
+    ensures { Gives (λ s. s) result (Ok value.now) }
+{
+    match value {
+        Scalar::Null => Ok(Scalar::Null),
+        Scalar::Truth(truth) => Ok(Scalar::Truth(*truth)),
+        Scalar::Whole(whole) => Ok(Scalar::Whole(*whole)),
+        Scalar::Text(text) => Ok(Scalar::Text(text.copy(alloc)?)),
+    }
+}

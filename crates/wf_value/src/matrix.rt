@@ -1,0 +1,106 @@
+ghost use Rattle.std.specs.Prelude.{◌≡◌, IsTrue};
+ghost use Rattle.wf_value.specs.Names.{names_rise};
+
+use crate::chars::Chars;
+use crate::combo::Combo;
+use crate::scalar::Scalar;
+use std::marker::Model;
+
+/// A variable of a matrix: a name, and its values in the order of the list.
+/// A contract sees the pair of both.
+#[derive(Debug, Drop)]
+pub struct Variable {
+    name: Chars,
+    values: Vec<Scalar>,
+}
+
+impl Model for Variable {
+    ghost use Rattle.wf_value.specs.Matrix.{NamedValues, coded_variable};
+
+    ghost Value = { NamedValues };
+
+    ghost coded = { coded_variable };
+
+    ghost view = { λ v. (v.name, v.values.items) };
+}
+
+impl Variable {
+    /// The variable of a name and of a `Vec`, which are moved and not copied.
+    pub fn new(name: Chars, values: Vec<Scalar>) -> Self
+        ensures { result ≡ (name, values.items) }
+    {
+        Variable { name, values }
+    }
+
+    pub fn name(&self) -> &Chars
+        ensures { result.now ≡ self.now.0 }
+    {
+        &self.name
+    }
+
+    pub fn values(&self) -> &[Scalar]
+        ensures { result.now ≡ self.now.1 }
+    {
+        self.values.as_slice()
+    }
+}
+
+/// A matrix as it is read: its variables in the order of the bytes of their names, and its `include`
+/// and `exclude` objects as they stand. A contract sees the three lists.
+/// GitHub Docs, "Running variations of jobs in a workflow".
+#[derive(Debug, Drop)]
+pub struct Matrix {
+    variables: Vec<Variable>,
+    include: Vec<Combo>,
+    exclude: Vec<Combo>,
+}
+
+impl Model for Matrix {
+    ghost use Rattle.std.specs.Prelude.{IsTrue};
+    ghost use Rattle.wf_value.specs.Names.{names_rise};
+    ghost use Rattle.wf_value.specs.Matrix.{MatrixLists, coded_matrix};
+
+    ghost Value = { MatrixLists };
+
+    ghost coded = { coded_matrix };
+
+    ghost view = { λ m. record { variables = m.variables.items; include = m.include.items; exclude = m.exclude.items } };
+
+    ghost invariant = { λ m. IsTrue (names_rise m.variables.items) };
+}
+
+impl Matrix {
+    /// The matrix of its lists, which are moved and not copied.
+    pub fn new(variables: Vec<Variable>, include: Vec<Combo>, exclude: Vec<Combo>) -> Self
+        requires { IsTrue (names_rise variables.items) }
+        ensures variables { result.variables ≡ variables.items }
+        ensures include { result.include ≡ include.items }
+        ensures exclude { result.exclude ≡ exclude.items }
+    {
+        Matrix {
+            variables,
+            include,
+            exclude,
+        }
+    }
+
+    /// The variables, in the order of the bytes of their names.
+    pub fn variables(&self) -> &[Variable]
+        ensures variables { result.now ≡ self.now.variables }
+        ensures in_order { IsTrue (names_rise self.now.variables) }
+    {
+        self.variables.as_slice()
+    }
+
+    pub fn include(&self) -> &[Combo]
+        ensures { result.now ≡ self.now.include }
+    {
+        self.include.as_slice()
+    }
+
+    pub fn exclude(&self) -> &[Combo]
+        ensures { result.now ≡ self.now.exclude }
+    {
+        self.exclude.as_slice()
+    }
+}
