@@ -67,7 +67,7 @@ placed_get xs = placed_after [] xs
 pub first_some_looked_up : {X Y : Type 0} (f : ℕ → X → Option Y) (xs : List X) → first_some (λ e. option_and_then (f e.0) (slice_get xs e.0)) (placed xs) ≡ first_some (λ e. f e.0 e.1) (placed xs)
 first_some_looked_up {X} f xs =
     first_some_same (λ e. option_and_then (f e.0) (slice_get xs e.0)) (λ e. f e.0 e.1) (placed xs)
-        (all_weaken (λ (e : ℕ × X). slice_get xs e.0 ≡ Some e.1) (λ e. option_and_then (f e.0) (slice_get xs e.0) ≡ f e.0 e.1) (λ e h. ap (option_and_then (f e.0)) h) (placed xs) (placed_get xs))
+    (all_weaken (λ (e : ℕ × X). slice_get xs e.0 ≡ Some e.1) (λ e. option_and_then (f e.0) (slice_get xs e.0) ≡ f e.0 e.1) (λ e h. ap (option_and_then (f e.0)) h) (placed xs) (placed_get xs))
 
 -- what the question answers at a place
 abbrev pub ask : {X Y : Type 0} → (ℕ → X → Option Y) → List X → ℕ → Option Y
@@ -121,11 +121,11 @@ pub first_rule_within : {X P : Type 0} (rule : ℕ → X → P → Option X) (pl
 first_rule_within {X} {P} rule places xs =
     first_some-flat_map (rule_within rule xs) (λ (e : ℕ × X). map (λ p. (e.0, p)) (places e.1)) (placed xs)
     ∙ first_some_same (λ (e : ℕ × X). first_some (rule_within rule xs) (map (λ p. (e.0, p)) (places e.1))) (λ e. option_map (slice_set xs e.0) (first_some (rule e.0 e.1) (places e.1))) (placed xs)
-        (all_weaken (λ (e : ℕ × X). slice_get xs e.0 ≡ Some e.1) (λ e. first_some (rule_within rule xs) (map (λ p. (e.0, p)) (places e.1)) ≡ option_map (slice_set xs e.0) (first_some (rule e.0 e.1) (places e.1)))
-            (λ e h. first_some-map (rule_within rule xs) (λ p. (e.0, p)) (places e.1)
-                ∙ ap (λ o. first_some (λ p. option_and_then (λ x. option_map (slice_set xs e.0) (rule e.0 x p)) o) (places e.1)) h
-                ∙ first_some-option_map (rule e.0 e.1) (slice_set xs e.0) (places e.1))
-            (placed xs) (placed_get xs))
+    (all_weaken (λ (e : ℕ × X). slice_get xs e.0 ≡ Some e.1) (λ e. first_some (rule_within rule xs) (map (λ p. (e.0, p)) (places e.1)) ≡ option_map (slice_set xs e.0) (first_some (rule e.0 e.1) (places e.1)))
+    (λ e h. first_some-map (rule_within rule xs) (λ p. (e.0, p)) (places e.1)
+    ∙ ap (λ o. first_some (λ p. option_and_then (λ x. option_map (slice_set xs e.0) (rule e.0 x p)) o) (places e.1)) h
+    ∙ first_some-option_map (rule e.0 e.1) (slice_set xs e.0) (places e.1))
+    (placed xs) (placed_get xs))
 
 -- ---- the first element of a list that has a rule, as a loop finds it
 

@@ -19,7 +19,7 @@ at_legs planned stopping job =
     first_some-map (job_rule planned stopping job) (λ (l : ℕ × Leg). at_leg l.0) (placed job.legs)
     ∙ first_some_looked_up (λ l x. option_map (λ y. with_legs job (slice_set job.legs l y)) (leg_rule x)) job.legs
     ∙ first_some_alike (λ (e : ℕ × Leg). option_map (λ y. with_legs job (slice_set job.legs e.0 y)) (leg_rule e.1)) (λ e. option_map (with_legs job) (option_map (slice_set job.legs e.0) (leg_rule e.1))) (placed job.legs)
-        (λ e. option_map_twice (with_legs job) (slice_set job.legs e.0) (leg_rule e.1))
+    (λ e. option_map_twice (with_legs job) (slice_set job.legs e.0) (leg_rule e.1))
     ∙ first_some-option_map (λ (e : ℕ × Leg). option_map (slice_set job.legs e.0) (leg_rule e.1)) (with_legs job) (placed job.legs)
 
 pub or_else_none : {Y : Type 0} (o : Option Y) → or_else o None ≡ o
@@ -30,9 +30,9 @@ or_else_none (Some y) = refl
 pub first_job_rule : (planned : ℕ) (stopping : Bool) (job : JobRecord) → first_some (job_rule planned stopping job) (job_places job) ≡ or_else (job_rule planned stopping job opening) (or_else (option_map (with_legs job) (first_leg job)) (closed job))
 first_job_rule planned stopping job =
     ap (or_else (job_rule planned stopping job opening))
-        (first_some-append (job_rule planned stopping job) (map (λ l. at_leg l.0) (placed job.legs)) (closing ∷ [])
-        ∙ ap (λ o. or_else o (or_else (closed job) None)) (at_legs planned stopping job)
-        ∙ ap (or_else (option_map (with_legs job) (first_leg job))) (or_else_none (closed job)))
+    (first_some-append (job_rule planned stopping job) (map (λ l. at_leg l.0) (placed job.legs)) (closing ∷ [])
+    ∙ ap (λ o. or_else o (or_else (closed job) None)) (at_legs planned stopping job)
+    ∙ ap (or_else (option_map (with_legs job) (first_leg job))) (or_else_none (closed job)))
 
 -- of a job that is not blocked
 pub first_rule_after_opening : (planned : ℕ) (stopping : Bool) (job : JobRecord) → is_blocked job.state ≡ false → first_some (job_rule planned stopping job) (job_places job) ≡ or_else (option_map (with_legs job) (first_leg job)) (closed job)

@@ -7,4 +7,5 @@ pub mod LegSteps
 pub mod Lowered
 pub mod Rests
 pub mod RunSteps
+pub mod StepRows
 pub mod ViewRows

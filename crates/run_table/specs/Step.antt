@@ -61,10 +61,10 @@ is_delivered_as delivery run = bytes_eq run.prepared.delivery delivery
 abbrev pub admitted : TableState → Admitted → TableState × Reply
 admitted t event =
     option_map_or (λ i. (t, reply.Created (i + 1)))
-        (position (is_delivered_as event.delivery) t.runs)
-        (if nat_le 100000 (length t.runs)
-            then (t, refused LastCounter)
-            else (at_rest (record t { runs = t.runs ++ new_run event ∷ [] }), reply.Created (length t.runs + 1)))
+    (position (is_delivered_as event.delivery) t.runs)
+    (if nat_le 100000 (length t.runs)
+    then (t, refused LastCounter)
+    else (at_rest (record t { runs = t.runs ++ new_run event ∷ [] }), reply.Created (length t.runs + 1)))
 
 -- ---- claim
 

@@ -24,9 +24,7 @@ pub struct Fit {
 fn has_label(labels: &[Chars], wanted: &Chars) -> bool
     ensures { result ≡ has_label labels.now wanted.now }
 {
-    labels
-        .iter()
-        .any(|label| label.as_str().eq_ignore_ascii_case(wanted.as_str()))
+    labels.iter().any(|label| label.as_str().eq_ignore_ascii_case(wanted.as_str()))
 }
 
 /// Whether each label that a leg asks for is among the runner's.
@@ -120,12 +118,7 @@ fn fit_in_jobs(
     Ok(None)
 }
 
-fn fit_in_run(
-    alloc: Global,
-    labels: &[Chars],
-    i: usize,
-    run: &Run,
-) -> Result<Option<Fit>, Refusal>
+fn fit_in_run(alloc: Global, labels: &[Chars], i: usize, run: &Run) -> Result<Option<Fit>, Refusal>
     ensures found { Gives (λ f. f) result (Ok (fit_in_run labels.now i run.now)) }
     ensures run { IfOk result (λ f. IfSome f (λ fit. fit.run ≡ i)) }
 {
@@ -134,11 +127,7 @@ fn fit_in_run(
 }
 
 /// The first ready leg in the order of run, job and leg that the labels serve.
-pub fn first_fit(
-    alloc: Global,
-    labels: &[Chars],
-    runs: &[Run],
-) -> Result<Option<Fit>, Refusal>
+pub fn first_fit(alloc: Global, labels: &[Chars], runs: &[Run]) -> Result<Option<Fit>, Refusal>
     ensures found { Gives (λ f. f) result (Ok (first_fit labels.now runs.now)) }
     ensures run { IfOk result (λ f. IfSome f (λ fit. fit.run < length runs.now)) }
 {

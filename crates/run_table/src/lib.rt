@@ -3,6 +3,7 @@
 
 mod fit;
 mod job;
+pub mod laws;
 mod leg;
 mod run;
 mod runner;

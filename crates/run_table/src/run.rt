@@ -3,8 +3,8 @@ ghost use Rattle.std.specs.Str.{bytes_eq};
 ghost use Rattle.wf_value.specs.Gives.{Gives};
 ghost use Rattle.run_table.specs.ViewText.{same_workflow};
 
-use crate::job::JobRecords;
 use crate::fit::{Fit, first_fit};
+use crate::job::JobRecords;
 use crate::view::RunView;
 use run_plan::{DeliveryId, Number, Prepared};
 use std::alloc::Global;
@@ -222,11 +222,7 @@ impl Runs {
     }
 
     /// The first ready leg that the labels serve.
-    pub(crate) fn first_fit(
-        &self,
-        alloc: Global,
-        labels: &[Chars],
-    ) -> Result<Option<Fit>, Refusal>
+    pub(crate) fn first_fit(&self, alloc: Global, labels: &[Chars]) -> Result<Option<Fit>, Refusal>
         ensures found { Gives (λ f. f) result (Ok (first_fit labels.now self.now)) }
         ensures run { IfOk result (λ f. IfSome f (λ fit. fit.run < 100000)) }
     {
@@ -308,8 +304,7 @@ ghost use Rattle.run_table.specs.Step.{is_delivered_as, leased_run, ended_run};
 fn position_of(runs: &[Run], delivery: &DeliveryId) -> Option<usize>
     ensures { result ≡ position (is_delivered_as delivery.now) runs.now }
 {
-    runs.iter()
-        .position(|run| run.prepared.delivery().as_str() == delivery.as_str())
+    runs.iter().position(|run| run.prepared.delivery().as_str() == delivery.as_str())
 }
 
 fn lease_in_run(runs: &mut [Run], i: usize, j: usize, l: usize, lease: Number)

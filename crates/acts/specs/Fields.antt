@@ -1,0 +1,14 @@
+-- The fields of a line of a script, parted by one space.
+use Rattle.std.specs.Prelude.{ℕ, ◌+◌, ◌==◌, Bool, List, take, drop, Option, option_map, option_and_then}
+use Rattle.std.specs.List.{position}
+
+abbrev pub is_space : ℕ → Bool
+is_space b = b == 32
+
+-- what stands before the first space, and all that follows it
+abbrev pub at_space : List ℕ → Option (List ℕ × List ℕ)
+at_space text = option_map (λ n. (take n text, drop (n + 1) text)) (position is_space text)
+
+-- two fields, and all that follows the space after them
+abbrev pub three_fields : List ℕ → Option (List ℕ × List ℕ × List ℕ)
+three_fields text = option_and_then (λ a. option_map (λ b. (a.0, b.0, b.1)) (at_space a.1)) (at_space text)

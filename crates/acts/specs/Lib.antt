@@ -1,0 +1,4 @@
+pub mod Answers
+pub mod Fields
+pub mod Line
+pub mod Play
