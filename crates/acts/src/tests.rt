@@ -130,6 +130,7 @@ fn number_of(ended: &Result<(), Refusal>) -> u64 {
 }
 
 /// A reader that fails after a number of bytes.
+#[derive(Drop)]
 struct FailingReader<'a> {
     bytes: &'a [u8],
     left: usize,

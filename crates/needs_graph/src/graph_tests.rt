@@ -57,24 +57,41 @@ fn refuses(rt: HostRuntime) -> Result<(), Fail> {
     Ok(())
 }
 
-#[test]
-fn builds_a_diamond(rt: HostRuntime) -> Result<(), Fail> {
-    let rows: Rows<'_> = &[
-        ("a", &[]),
-        ("b", &["a", "a"]),
-        ("c", &["a"]),
-        ("d", &["c", "b"]),
-    ];
+const DIAMOND: Rows<'static> = &[
+    ("a", &[]),
+    ("b", &["a", "a"]),
+    ("c", &["a"]),
+    ("d", &["c", "b"]),
+];
+
+fn check_diamond(rt: &impl Abort, graph: &Graph) {
     let needs: [&[usize]; 4] = [&[], &[0], &[0], &[1, 2]];
     let ancestors: [&[usize]; 4] = [&[], &[0], &[0], &[0, 1, 2]];
-
-    let graph = build(&rt, rt.alloc(), rows)?;
     assert_eq!(rt; graph.job_count(), 4);
     for job in 0..4 {
         assert_eq!(rt; graph.needs(job), needs[job]);
         assert_eq!(rt; graph.ancestors(job), ancestors[job]);
     }
+}
+
+#[test]
+fn builds_a_diamond(rt: HostRuntime) -> Result<(), Fail> {
+    check_diamond(&rt, &build(&rt, rt.alloc(), DIAMOND)?);
     Ok(())
+}
+
+/// Holds whichever allocation is refused.
+#[test]
+fn gives_its_answer_or_refuses_memory(rt: HostRuntime) {
+    match build(&rt, rt.alloc(), DIAMOND) {
+        Ok(graph) => check_diamond(&rt, &graph),
+        Err(refusal) => assert_eq!(rt; refusal.number(), 50),
+    }
+    let cycle: Rows<'_> = &[("a", &["c"]), ("b", &["a"]), ("c", &["b"]), ("d", &["a"])];
+    match build(&rt, rt.alloc(), cycle) {
+        Ok(_) => panic!(rt; "a graph with a cycle"),
+        Err(refusal) => assert!(rt; refusal.number() == 14 || refusal.number() == 50),
+    }
 }
 
 /// A chain of three, so that its last job has an ancestor that it does not need directly.

@@ -27,7 +27,7 @@ pub fn ids_rise(jobs: &[JobNeeds]) -> bool
 }
 
 /// The place of the job of that id.
-pub(crate) fn place_of(jobs: &[JobNeeds], id: &Chars) -> Option<usize>
+fn place_of(jobs: &[JobNeeds], id: &Chars) -> Option<usize>
     requires { IsTrue (ids_rise jobs.now) }
     ensures { MatchOption result
         (All (λ job. job.id ≢ id.now) jobs.now)
@@ -35,4 +35,17 @@ pub(crate) fn place_of(jobs: &[JobNeeds], id: &Chars) -> Option<usize>
 {
     jobs.binary_search_by(|job| job.id.as_str().cmp(id.as_str()))
         .ok()
+}
+
+/// The same, tried first at the place that is likely: ids are mostly listed in their order.
+pub(crate) fn place_from(jobs: &[JobNeeds], id: &Chars, likely: usize) -> Option<usize>
+    requires { IsTrue (ids_rise jobs.now) }
+    ensures { MatchOption result
+        (All (λ job. job.id ≢ id.now) jobs.now)
+        (λ place. (place < length jobs.now) × HoldsAt (λ job. job.id ≡ id.now) jobs.now place) }
+{
+    if likely < jobs.len() && jobs[likely].id.same(id) {
+        return Some(likely);
+    }
+    place_of(jobs, id)
 }

@@ -5,7 +5,7 @@ ghost use Rattle.needs_graph.specs.Needs.{ids_rise};
 ghost use Rattle.needs_graph.specs.Rows.{needs_row_of, needs_rows_of};
 
 use crate::job_needs::JobNeeds;
-use crate::lookup::place_of;
+use crate::lookup::place_from;
 use crate::marks::Marks;
 use crate::places::Places;
 use std::alloc::Global;
@@ -17,9 +17,13 @@ fn needs_row(alloc: Global, jobs: &[JobNeeds], ids: &[Chars]) -> Result<Marks, R
     ensures { Gives (λ m. m) result (needs_row_of jobs.now ids.now) }
 {
     let mut row = Marks::none(alloc, jobs.len())?;
+    let mut next = 0;
     for id in ids {
-        match place_of(jobs, id) {
-            Some(place) => row.insert(place),
+        match place_from(jobs, id, next) {
+            Some(place) => {
+                row.insert(place);
+                next = place + 1;
+            }
             None => return Err(Refusal::Numbered(Code::UnknownNeed)),
         }
     }

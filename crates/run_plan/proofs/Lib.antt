@@ -3,3 +3,4 @@ pub mod Faultless
 pub mod Members
 pub mod Numbers
 pub mod Parts
+mod Rows

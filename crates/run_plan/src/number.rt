@@ -52,7 +52,7 @@ impl Number {
         if value == 0 {
             return None;
         }
-        Some(Number { value })
+        Some(Number::new(value))
     }
 }
 

@@ -60,7 +60,7 @@ impl PlannedLegs {
         for leg in self.as_slice() {
             legs.push(leg.copy(alloc)?)?;
         }
-        Ok(PlannedLegs { legs })
+        Ok(PlannedLegs::new(legs))
     }
 }
 
@@ -119,6 +119,6 @@ impl Plan {
         for job in self.as_slice() {
             jobs.push(job.copy(alloc)?)?;
         }
-        Ok(Plan { jobs })
+        Ok(Plan::new(jobs))
     }
 }

@@ -99,7 +99,7 @@ impl Prepared {
     {
         self.delivery.same(&other.delivery)
             && self.event.same(&other.event)
-            && self.body.as_slice() == other.body.as_slice()
+            && self.body() == other.body()
     }
 }
 

@@ -2,6 +2,8 @@
 #![tactic(auto)]
 
 mod fit;
+#[cfg(test)]
+mod fixtures;
 mod job;
 pub mod laws;
 mod leg;
@@ -19,3 +21,6 @@ pub use run::{Run, RunPhase, Runs};
 pub use runner::{Runner, Runners};
 pub use table::Table;
 pub use view::RunView;
+
+#[cfg(test)]
+mod tests;

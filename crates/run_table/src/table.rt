@@ -46,6 +46,19 @@ impl Table {
         ensures step { Gives (λ reply. (self.new, reply)) result (Ok (step self.old command.now)) }
         ensures err { OnErr result (self.new ≡ self.old) }
     {
+        match command {
+            Command::Look(id) => self.show(alloc, *id),
+            Command::Admit(_) | Command::Claim(_) | Command::Done(_) => {
+                self.carry_out_whole(alloc, command)
+            }
+        }
+    }
+
+    /// Works on a copy, which takes the table's place once the step is done.
+    fn carry_out_whole(&mut self, alloc: Global, command: &Command) -> Result<Reply, Refusal>
+        ensures step { Gives (λ reply. (self.new, reply)) result (Ok (step self.old command.now)) }
+        ensures err { OnErr result (self.new ≡ self.old) }
+    {
         let mut next = self.copy(alloc)?;
         let reply = next.carry_out(alloc, command)?;
         *self = next;
@@ -163,8 +176,8 @@ impl Table {
         Ok(Reply::Ok)
     }
 
-    fn show(&mut self, alloc: Global, id: Number) -> Result<Reply, Refusal>
-        ensures { Gives (λ reply. (self.new, reply)) result (Ok (looked_at self.old id)) }
+    fn show(&self, alloc: Global, id: Number) -> Result<Reply, Refusal>
+        ensures { Gives (λ reply. (self.now, reply)) result (Ok (looked_at self.now id)) }
     {
         match self.runs.look(id) {
             Some(view) => Ok(Reply::Run(view.text(alloc)?)),
@@ -237,3 +250,6 @@ fn reporting(alloc: Global, report: &Done) -> Result<Runner, Refusal>
         holds: None,
     })
 }
+
+#[cfg(test)]
+mod tests;

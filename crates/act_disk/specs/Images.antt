@@ -1,0 +1,54 @@
+-- The disk model: what a call of a disk does to what a read gives, and to the images that a stop may leave.
+-- An image is the list of the disk's bytes.
+use Rattle.std.specs.Prelude.{◌≡◌, ◌⊎◌, ◌↔◌, ℕ, ◌+◌, ◌≤◌, min, max, List, length, take, drop, Result, MatchResult}
+
+-- A write of n bytes at `at`, whatever became of it: any bytes in the range and past the old end, the same elsewhere.
+pub record Torn (at n : ℕ) (old new : List ℕ) : Type 0 where
+  pub no_shorter : length old ≤ length new
+  pub no_longer : length new ≤ max (length old) (at + n)
+  pub before : take (min at (length old)) new ≡ take (min at (length old)) old
+  pub after : drop (at + n) new ≡ drop (at + n) old
+
+-- these bytes stand at `at`
+abbrev pub Holds : List ℕ → ℕ → List ℕ → Type 0
+Holds file at bytes = take (length bytes) (drop at file) ≡ bytes
+
+-- A write of these bytes at `at` that was done. Between the old end and `at` any bytes may stand.
+pub record IsWritten (at : ℕ) (bytes old new : List ℕ) : Type 0 where
+  pub len : length new ≡ max (length old) (at + length bytes)
+  pub torn : Torn at (length bytes) old new
+  pub held : Holds new at bytes
+
+-- each image after a step is what the step made of one before it, and those before it stay
+pub record Follows (step : List ℕ → List ℕ → Type 0) (old new : List ℕ → Type 0) : Type 0 where
+  pub each : (c : List ℕ) → new c → (d : List ℕ) × old d × step d c
+  pub keeps : (c : List ℕ) → old c → new c
+
+-- whatever the step may make of an image before it is an image after it
+abbrev pub LeavesAny : (List ℕ → List ℕ → Type 0) → (List ℕ → Type 0) → (List ℕ → Type 0) → Type 0
+LeavesAny step old new = (d c : List ℕ) → old d → step d c → new c
+
+-- the same images
+abbrev pub SameImages : (List ℕ → Type 0) → (List ℕ → Type 0) → Type 0
+SameImages old new = (c : List ℕ) → new c ↔ old c
+
+-- this image and no other
+abbrev pub Only : List ℕ → (List ℕ → Type 0) → Type 0
+Only file images = (c : List ℕ) → images c ↔ (c ≡ file)
+
+-- Time goes on: the images since an earlier moment are those that were counted then, and those of now.
+pub record Elapses (before now : ℕ) (past since : ℕ → List ℕ → Type 0) (images : List ℕ → Type 0) : Type 0 where
+  pub later : before ≤ now
+  pub nothing_else : (t : ℕ) (c : List ℕ) → t ≤ before → since t c → past t c ⊎ images c
+  pub keeps : (t : ℕ) (c : List ℕ) → t ≤ before → past t c → since t c
+
+-- Each image since old has P: a stop at any moment from old to new leaves a disk that has P.
+pub record EachSince {D : Type 0} (moment : D → ℕ) (images_since : D → ℕ → List ℕ → Type 0) (old new : D) (P : List ℕ → Type 0) : Type 0 where
+  pub later : moment old ≤ moment new
+  pub each : (c : List ℕ) → images_since new (moment old) c → P c
+  -- and of a run that began earlier, what was counted at old, and what has P
+  pub before : (t : ℕ) (c : List ℕ) → t ≤ moment old → images_since new t c → images_since old t c ⊎ P c
+
+-- the count of failed calls stays at `Ok`, and rises by one at `Err`
+abbrev pub CountsFault : {T E : Type 0} → Result T E → ℕ → ℕ → Type 0
+CountsFault result old new = MatchResult result (λ _. new ≡ old) (λ _. new ≡ old + 1)

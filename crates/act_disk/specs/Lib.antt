@@ -1,0 +1,9 @@
+pub mod Fuse
+pub mod Gate
+pub mod Image
+pub mod Images
+pub mod Failed
+pub mod Laid
+pub mod Record
+pub mod RecordLaws
+pub mod RealFile

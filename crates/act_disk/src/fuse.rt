@@ -1,0 +1,174 @@
+ghost use Rattle.std.specs.Prelude.{◌≡◌, ◌↔◌, ◌+◌, ◌<◌, ◌≤◌, max, length, take, drop, IsTrue, OnOk, OnErr};
+ghost use Rattle.act_disk.specs.Fuse.{Passes, fails_now};
+ghost use Rattle.act_disk.specs.Images.{Torn, IsWritten, Follows, LeavesAny, SameImages, Only, Elapses, CountsFault};
+ghost use Rattle.act_disk.specs.declared.failing.Failing.TheVariants.{Once, From};
+
+use crate::disk::Disk;
+use crate::failing::Failing;
+use crate::fault::DiskFault;
+use std::marker::Model;
+
+/// A disk that fails a call, or all calls from one on: of its reads, writes and syncs, counted from 0.
+/// The other calls are those of the disk inside.
+///
+/// A write that it fails is done inside all the same, since a write that failed may have done anything
+/// in its range. A read or a sync that it fails is not made inside.
+#[derive(Drop)]
+pub struct FuseDisk<D: Disk> {
+    disk: D,
+    failing: Failing,
+    refused: u64,
+}
+
+impl<D: Disk> Model for FuseDisk<D> {
+    ghost use Rattle.std.specs.Prelude.{◌+◌, ◌^◌, ◌<◌};
+    ghost use Rattle.act_disk.specs.Fuse.{Fused};
+
+    ghost Value = { Fused D };
+
+    ghost view = { λ f. record { disk = f.disk; failing = f.failing; refused = f.refused } };
+
+    ghost invariant = { λ f. D.Disk.fault_count f.disk + f.refused < 2 ^ 64 };
+}
+
+impl<D: Disk> FuseDisk<D> {
+    /// Fails the call with this number.
+    pub fn once(disk: D, call: u64) -> Self
+        ensures { result ≡ record { disk = disk; failing = Once call; refused = 0 } }
+    {
+        FuseDisk::new(disk, Failing::Once(call))
+    }
+
+    /// Fails the call with this number, and all after it.
+    pub fn from(disk: D, call: u64) -> Self
+        ensures { result ≡ record { disk = disk; failing = From call; refused = 0 } }
+    {
+        FuseDisk::new(disk, Failing::From(call))
+    }
+
+    fn new(disk: D, failing: Failing) -> Self
+        ensures { result ≡ record { disk = disk; failing = failing; refused = 0 } }
+    {
+        let _faults = disk.faults();
+        FuseDisk {
+            disk,
+            failing,
+            refused: 0,
+        }
+    }
+
+    /// The disk inside.
+    pub fn into_inner(self) -> D
+        ensures { result ≡ self.disk }
+    {
+        let FuseDisk { disk, .. } = self;
+        disk
+    }
+}
+
+/// Counts a call that the fuse fails.
+fn refuse(refused: &mut u64) -> DiskFault
+    requires { refused.old < u64.MAX }
+    ensures { refused.new ≡ refused.old + 1 }
+{
+    *refused += 1;
+    DiskFault
+}
+
+impl<D: Disk> Disk for FuseDisk<D> {
+    ghost seen = { λ f. D.Disk.seen f.disk };
+
+    ghost images = { λ f. D.Disk.images f.disk };
+
+    ghost moment = { λ f. D.Disk.moment f.disk };
+
+    ghost images_since = { λ f. D.Disk.images_since f.disk };
+
+    ghost size = { λ f. D.Disk.size f.disk };
+
+    ghost fault_count = { λ f. D.Disk.fault_count f.disk + f.refused };
+
+    ghost honest = { λ f. D.Disk.honest f.disk };
+
+    ghost seen_is_image = { λ f. D.Disk.seen_is_image f.disk };
+
+    ghost seen_length = { λ f. D.Disk.seen_length f.disk };
+
+    ghost counts_now = { λ f. D.Disk.counts_now f.disk };
+
+    ghost only_now = { λ f. D.Disk.only_now f.disk };
+
+    fn len(&self) -> u64 {
+        self.disk.len()
+    }
+
+    fn faults(&self) -> u64 {
+        self.disk.faults() + self.refused
+    }
+
+    /// As the trait says, through the fuse. Where the fuse fails it, the disk inside is as it was.
+    fn read(&mut self, at: u64, buf: &mut [u8]) -> Result<(), DiskFault>
+        requires within { at + length buf.old ≤ D.size self.old.disk }
+        requires countable { D.fault_count self.old.disk + self.old.refused < u64.MAX }
+        ensures fuse { Passes result self.old self.new }
+        ensures kept { IsTrue (fails_now self.old.failing) → self.new.disk ≡ self.old.disk }
+        ensures bytes { OnOk result (D.honest self.old.disk → buf.new ≡ take (length buf.old) (drop at (D.seen self.old.disk))) }
+        ensures seen { D.honest self.old.disk → D.seen self.new.disk ≡ D.seen self.old.disk }
+        ensures images { D.honest self.old.disk → SameImages (D.images self.old.disk) (D.images self.new.disk) }
+        ensures time { D.honest self.old.disk → Elapses (D.moment self.old.disk) (D.moment self.new.disk)
+            (D.images_since self.old.disk) (D.images_since self.new.disk) (D.images self.new.disk) }
+        ensures size { D.size self.new.disk ≡ D.size self.old.disk }
+        ensures faults { CountsFault result (D.fault_count self.old.disk + self.old.refused) (D.fault_count self.new.disk + self.new.refused) }
+        ensures honest { D.honest self.new.disk ↔ D.honest self.old.disk }
+    {
+        if self.failing.next_fails() {
+            return Err(refuse(&mut self.refused));
+        }
+        self.disk.read(at, buf)
+    }
+
+    /// As the trait says, through the fuse. Where the fuse fails it, any bytes may stand in its range.
+    fn write_at(&mut self, at: u64, bytes: &[u8]) -> Result<(), DiskFault>
+        requires { D.fault_count self.old.disk + self.old.refused < u64.MAX }
+        ensures fuse { Passes result self.old self.new }
+        ensures written { OnOk result (D.honest self.old.disk → IsWritten at bytes.now (D.seen self.old.disk) (D.seen self.new.disk)) }
+        ensures failed { OnErr result (D.honest self.old.disk → Torn at (length bytes.now) (D.seen self.old.disk) (D.seen self.new.disk)) }
+        ensures images { D.honest self.old.disk → Follows (Torn at (length bytes.now)) (D.images self.old.disk) (D.images self.new.disk) }
+        ensures any { OnOk result (D.honest self.old.disk → LeavesAny (Torn at (length bytes.now)) (D.images self.old.disk) (D.images self.new.disk)) }
+        ensures refused { self.old.refused < self.new.refused → D.honest self.old.disk
+            → LeavesAny (Torn at (length bytes.now)) (D.images self.old.disk) (D.images self.new.disk) }
+        ensures time { D.honest self.old.disk → Elapses (D.moment self.old.disk) (D.moment self.new.disk)
+            (D.images_since self.old.disk) (D.images_since self.new.disk) (D.images self.new.disk) }
+        ensures size { OnOk result (D.size self.new.disk ≡ max (D.size self.old.disk) (at + length bytes.now)) }
+        ensures no_shorter { D.size self.old.disk ≤ D.size self.new.disk }
+        ensures faults { CountsFault result (D.fault_count self.old.disk + self.old.refused) (D.fault_count self.new.disk + self.new.refused) }
+        ensures honest { D.honest self.new.disk ↔ D.honest self.old.disk }
+    {
+        let fails = self.failing.next_fails();
+        self.disk.write_at(at, bytes)?;
+        if fails {
+            return Err(refuse(&mut self.refused));
+        }
+        Ok(())
+    }
+
+    /// As the trait says, through the fuse. Where the fuse fails it, the disk inside is as it was.
+    fn sync(&mut self) -> Result<(), DiskFault>
+        requires { D.fault_count self.old.disk + self.old.refused < u64.MAX }
+        ensures fuse { Passes result self.old self.new }
+        ensures kept { IsTrue (fails_now self.old.failing) → self.new.disk ≡ self.old.disk }
+        ensures stable { OnOk result (D.honest self.old.disk → Only (D.seen self.old.disk) (D.images self.new.disk)) }
+        ensures failed { OnErr result (D.honest self.old.disk → SameImages (D.images self.old.disk) (D.images self.new.disk)) }
+        ensures seen { D.honest self.old.disk → D.seen self.new.disk ≡ D.seen self.old.disk }
+        ensures time { D.honest self.old.disk → Elapses (D.moment self.old.disk) (D.moment self.new.disk)
+            (D.images_since self.old.disk) (D.images_since self.new.disk) (D.images self.new.disk) }
+        ensures size { D.size self.new.disk ≡ D.size self.old.disk }
+        ensures faults { CountsFault result (D.fault_count self.old.disk + self.old.refused) (D.fault_count self.new.disk + self.new.refused) }
+        ensures honest { D.honest self.new.disk ↔ D.honest self.old.disk }
+    {
+        if self.failing.next_fails() {
+            return Err(refuse(&mut self.refused));
+        }
+        self.disk.sync()
+    }
+}

@@ -1,0 +1,110 @@
+ghost use Rattle.std.specs.Prelude.{◌≡◌, ◌<◌, ◌≤◌, List, ℕ, length, take, drop, reverse, Ok, OnOk, IfOk};
+ghost use Rattle.act_disk.specs.declared.call.Fill.{Fill as Fills};
+ghost use Rattle.act_disk.specs.Image.{filled, filled_after, begun, LeftInside, image_of, laid_by};
+ghost use Rattle.act_disk.specs.Record.{bytes_of, seen_after, MayHaveLeft};
+ghost use Rattle.wf_value.specs.Gives.{Gives};
+
+use crate::call::{Call, Fill};
+use crate::memory::{MemoryDisk, lay};
+use std::alloc::{AllocError, Global};
+use wf_value::Refusal;
+
+/// The byte of `Fill::Gates`.
+const GATE: u8 = 0xA5;
+
+impl MemoryDisk {
+    /// The disk that a stop inside a call of the record leaves, which counts from 0: of the writes
+    /// since the last sync before it, and of the call's own where it is a write, it has what the fill
+    /// says. 50 where memory is refused.
+    pub fn image(&self, alloc: Global, call: u64, fill: Fill) -> Result<MemoryDisk, Refusal>
+        requires { call < length self.now.calls }
+        ensures image { Gives (λ d. d) result (Ok (image_of self.now call fill)) }
+        ensures inside { IfOk result (λ d. LeftInside self.now call (bytes_of d)) }
+        ensures since { IfOk result (λ d. MayHaveLeft self.now call (bytes_of d)) }
+    {
+        let calls = begun_calls(self.calls(), call as usize);
+        let bytes = filled_bytes(alloc, self.first(), calls, fill)?;
+        MemoryDisk::from_slice(alloc, &bytes)
+    }
+}
+
+/// The calls before this one, and itself where it is a write.
+fn begun_calls(calls: &[Call], call: usize) -> &[Call]
+    requires { call < length calls.now }
+    ensures { result.now ≡ begun calls.now call }
+{
+    match &calls[call] {
+        Call::Write { .. } => &calls[..call + 1],
+        Call::Sync => &calls[..call],
+    }
+}
+
+/// What the last sync made stable, and of the writes since what the fill says.
+fn filled_bytes(
+    alloc: Global,
+    first: &[u8],
+    calls: &[Call],
+    fill: Fill,
+) -> Result<Vec<u8>, AllocError>
+    ensures { IfOk result (λ bytes. bytes.items ≡ filled_after fill first.now (reverse calls.now)) }
+{
+    let stable = stable_count(calls);
+    let mut bytes = Vec::from_slice(alloc, first)?;
+    lay_calls(alloc, &mut bytes, &calls[..stable], Fill::New)?;
+    lay_calls(alloc, &mut bytes, &calls[stable..], fill)?;
+    Ok(bytes)
+}
+
+/// How many calls the last sync made stable, itself among them.
+fn stable_count(calls: &[Call]) -> usize
+    ensures bound { result ≤ length calls.now }
+    ensures since { (fill : Fills) (first : List ℕ) → filled_after fill first (reverse calls.now)
+        ≡ laid_by fill (drop result calls.now) (seen_after first (reverse (take result calls.now))) }
+{
+    let mut count = calls.len();
+    while count > 0 {
+        if let Call::Sync = &calls[count - 1] {
+            break;
+        }
+        count -= 1;
+    }
+    count
+}
+
+/// Lays of each write what the fill says.
+fn lay_calls(
+    alloc: Global,
+    file: &mut Vec<u8>,
+    calls: &[Call],
+    fill: Fill,
+) -> Result<(), AllocError>
+    ensures { OnOk result (file.new.items ≡ laid_by fill calls.now file.old.items) }
+{
+    for call in calls {
+        if let Call::Write { at, bytes } = call {
+            lay_filled(alloc, file, *at, bytes.as_slice(), fill)?;
+        }
+    }
+    Ok(())
+}
+
+/// Lays of one write what the fill says.
+fn lay_filled(
+    alloc: Global,
+    file: &mut Vec<u8>,
+    at: u64,
+    bytes: &[u8],
+    fill: Fill,
+) -> Result<(), AllocError>
+    ensures { OnOk result (file.new.items ≡ filled fill at bytes.now file.old.items) }
+{
+    match fill {
+        Fill::Old => Ok(()),
+        Fill::New => lay(file, at, bytes),
+        Fill::Half => lay(file, at, &bytes[..bytes.len() / 2]),
+        Fill::Gates => {
+            let gates = vec![in alloc; GATE; bytes.len()]?;
+            lay(file, at, &gates)
+        }
+    }
+}

@@ -1,0 +1,8 @@
+pub mod Agreement
+pub mod Finals
+pub mod Firsts
+pub mod Legs
+pub mod Merging
+pub mod Originals
+pub mod Rising
+pub mod Steps

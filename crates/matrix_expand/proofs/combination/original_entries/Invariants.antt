@@ -1,0 +1,7 @@
+use Rattle.std.proofs.Common.{◌≡◌, take}
+use Rattle.matrix_expand.specs.Entries.{object_entries}
+use Rattle.matrix_expand.specs.Numbered.{original_at}
+use Rattle.matrix_expand.proofs.combination.original_entries.Given as goal
+
+abbrev pub invariant-loop-axis : goal.invariant-loop-axis
+invariant-loop-axis l = l.entries.items ≡ object_entries l.place (original_at (take l.axis-index l.axes) l.number)

@@ -1,0 +1,10 @@
+use Rattle.std.proofs.Common.{◌≡◌, ◌≤◌, ◌-◌, ◌++◌, length}
+use Rattle.matrix_expand.specs.Numbered.{kept_numbers, kept_from}
+use Rattle.matrix_expand.proofs.original.kept_originals.Given as goal
+
+-- the numbers kept so far and those that are left are all
+abbrev pub invariant-loop-number : goal.invariant-loop-number
+invariant-loop-number l = record {
+  few : length l.kept.items ≤ 256;
+  all : l.kept.items ++ kept_from l.excludes l.number (l.count - l.number) ≡ kept_from l.excludes 0 l.count;
+}

@@ -1,0 +1,5 @@
+pub mod Combinations
+pub mod Entries
+pub mod Numbered
+pub mod Rows
+pub mod Values

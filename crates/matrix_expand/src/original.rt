@@ -1,0 +1,53 @@
+ghost use Rattle.std.specs.Prelude.{◌≡◌, ◌+◌, ◌≤◌, length, min};
+ghost use Rattle.wf_value.specs.Gives.{Gives};
+ghost use Rattle.matrix_expand.specs.Combinations.{choice_count};
+ghost use Rattle.matrix_expand.specs.Numbered.{pattern_removes, kept_numbers, kept_or_refusal};
+ghost use Rattle.std.specs.List.{list_any};
+
+use crate::pattern::Pattern;
+use std::alloc::Global;
+use wf_value::{Code, Refusal, Variable};
+
+/// The greatest number of choices of a value for each variable.
+pub const MOST_CHOICES: usize = 4096;
+
+/// The greatest number of combinations.
+pub const MOST_LEGS: usize = 256;
+
+/// How many choices of a value for each variable there are, and 4,097 where there are more.
+pub fn capped_choices(variables: &[Variable]) -> usize
+    ensures { result ≡ min 4097 (choice_count variables.now) }
+{
+    let mut count = 1;
+    for variable in variables {
+        count = (count * variable.values().len().min(MOST_CHOICES + 1)).min(MOST_CHOICES + 1);
+    }
+    count
+}
+
+/// Whether an exclude object removes the original of a number.
+fn is_removed(excludes: &[Pattern], number: usize) -> bool
+    ensures { result ≡ list_any (pattern_removes number) excludes.now }
+{
+    excludes.iter().any(|exclude| exclude.removes(number))
+}
+
+/// The numbers of the originals that no exclude object removes. Refused 22 where they are more than 256.
+pub fn kept_originals(
+    alloc: Global,
+    count: usize,
+    excludes: &[Pattern],
+) -> Result<Vec<usize>, Refusal>
+    ensures { Gives (λ v. v.items) result (kept_or_refusal (kept_numbers excludes.now count)) }
+{
+    let mut kept = Vec::new(alloc);
+    for number in 0..count {
+        if !is_removed(excludes, number) {
+            if kept.len() == MOST_LEGS {
+                return Err(Refusal::Numbered(Code::LegCount));
+            }
+            kept.push(number)?;
+        }
+    }
+    Ok(kept)
+}

@@ -1,0 +1,79 @@
+-- Rows of the documentation and of the issue, computed from the definitions alone.
+use Rattle.std.proofs.Common.{◌≡◌, List, ℕ, [], ◌∷◌, refl, true, false}
+use Rattle.std.specs.Prelude.{Option, Some, None, Ok, Err, codes}
+use Rattle.std.specs.Str.{chars}
+use lib.Utf8.{encode}
+use Rattle.wf_value.specs.declared.scalar.Scalar.TheVariants.{Null, Truth, Text}
+use Rattle.wf_expr.specs.ContextValue.{Entries}
+use Rattle.wf_expr.specs.Faults.{wrong_expression, wrong_place}
+use Rattle.wf_expr.specs.Letters.{begins_name, continues_name}
+use Rattle.wf_expr.specs.Parsing.{template_of}
+use Rattle.wf_expr.specs.Reading.{run}
+use Rattle.wf_expr.specs.TemplateValue.{template_value}
+use Rattle.wf_expr.specs.declared.place.Place.TheVariants.{Workflow, Job}
+use Rattle.wf_expr.specs.declared.piece.Operand.TheVariants.{Quoted, Reference}
+use Rattle.wf_expr.specs.declared.piece.Piece.{Piece}
+use Rattle.wf_expr.specs.declared.piece.Piece.TheVariants.{Plain, Braced}
+
+abbrev run_name : List Piece
+run_name =
+    Braced (Reference (codes "github" ∷ codes "workflow" ∷ []) ∷ [])
+    ∷ Plain (codes "-")
+    ∷ Braced (Reference (codes "github" ∷ codes "head_ref" ∷ []) ∷ Reference (codes "github" ∷ codes "run_id" ∷ []) ∷ [])
+    ∷ []
+
+row-read : template_of (codes "${{ github.workflow }}-${{ github.head_ref || github.run_id }}") Workflow ≡ Ok run_name
+unfolding run chars encode begins_name continues_name
+row-read = refl
+
+row-value : template_value ((codes "github" ∷ codes "workflow" ∷ [], Text (codes "ci.json")) ∷ (codes "github" ∷ codes "run_id" ∷ [], Text (codes "1")) ∷ []) run_name ≡ Text (codes "ci.json-1")
+row-value = refl
+
+row-quote : template_of (codes "${{ 'it''s' }}") Workflow ≡ Ok (Braced (Quoted (codes "it's") ∷ []) ∷ [])
+unfolding run chars encode begins_name continues_name
+row-quote = refl
+
+row-opening_in_quotes : template_of (codes "$${{ '${{ }}' }}") Workflow ≡ Ok (Plain (codes "$") ∷ Braced (Quoted (codes "${{ }}") ∷ []) ∷ [])
+unfolding run chars encode begins_name continues_name
+row-opening_in_quotes = refl
+
+row-spaces : template_of (codes "${{github . ref}}") Workflow ≡ Ok (Braced (Reference (codes "github" ∷ codes "ref" ∷ []) ∷ []) ∷ [])
+unfolding run chars encode begins_name continues_name
+row-spaces = refl
+
+row-empty : template_of [] Workflow ≡ Ok []
+unfolding run chars
+row-empty = refl
+
+row-no_name : template_of (codes "${{ github }}") Job ≡ Err wrong_expression
+unfolding run chars encode begins_name continues_name
+row-no_name = refl
+
+row-secrets : template_of (codes "${{ secrets.x }}") Job ≡ Err wrong_expression
+unfolding run chars encode begins_name continues_name
+row-secrets = refl
+
+row-needs : template_of (codes "${{ needs.a }}") Workflow ≡ Err wrong_expression
+unfolding run chars encode begins_name continues_name
+row-needs = refl
+
+row-needs_elsewhere : template_of (codes "${{ needs.a.result }}") Workflow ≡ Err wrong_place
+unfolding run chars encode begins_name continues_name
+row-needs_elsewhere = refl
+
+row-first_fault : template_of (codes "${{ matrix.x }}${{") Workflow ≡ Err wrong_expression
+unfolding run chars encode begins_name continues_name
+row-first_fault = refl
+
+abbrev falses : Entries
+falses = (codes "inputs" ∷ codes "none" ∷ [], Null) ∷ (codes "inputs" ∷ codes "no" ∷ [], Truth false) ∷ []
+
+-- the last where none is true, and the value itself where the piece stands alone
+row-last : template_value falses (Braced (Reference (codes "inputs" ∷ codes "none" ∷ []) ∷ Reference (codes "inputs" ∷ codes "no" ∷ []) ∷ []) ∷ []) ≡ Truth false
+row-last = refl
+
+row-missing : template_value falses (Braced (Reference (codes "inputs" ∷ codes "x" ∷ []) ∷ []) ∷ []) ≡ Text []
+row-missing = refl
+
+row-joined : template_value falses (Plain (codes "<") ∷ Braced (Reference (codes "inputs" ∷ codes "none" ∷ []) ∷ []) ∷ Braced (Reference (codes "inputs" ∷ codes "no" ∷ []) ∷ []) ∷ []) ≡ Text (codes "<false")
+row-joined = refl

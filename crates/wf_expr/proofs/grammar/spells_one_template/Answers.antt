@@ -1,0 +1,5 @@
+use Rattle.wf_expr.proofs.SpellLemmas.{one-template}
+use Rattle.wf_expr.proofs.grammar.spells_one_template.Goals as goal
+
+pub returns : goal.returns
+returns c = one-template

@@ -1,0 +1,24 @@
+use Rattle.std.proofs.lemmas.Iterator.{YieldsList-from_chars}
+use Rattle.std.proofs.lemmas.Iterator.Consumers.{YieldsList-turn, YieldsList-end}
+use Rattle.std.proofs.lemmas.Result.{err_from_is_err_and}
+use Rattle.wf_expr.proofs.RunLemmas.{run-ok, run-err, run-end}
+use Rattle.wf_expr.proofs.reader.read.Goals as goal
+
+pub loop-c-init : goal.loop-c-init
+loop-c-init c = rw c.new-reader.ensures
+
+pub loop-c-preserved : goal.loop-c-preserved
+loop-c-preserved c =
+    let t = YieldsList-turn (YieldsList-from_chars c.args.text.now c.utf8.text cc) c.loop-c.yielded _ c.loop-c.yielded_by _ _ c.in-Some.c c.in-Some.is c.next.ensures.steps in
+    run-ok _ _ _ _ _ _ t c.loop-c.invariant c.in_ok-reader.ensures
+
+pub returns : goal.returns
+returns c =
+    let t = YieldsList-end (YieldsList-from_chars c.args.text.now c.utf8.text cc) c.loop-c.yielded _ c.loop-c.yielded_by _ _ c.in-None.is c.next.ensures.steps in
+    rw (← run-end _ _ _ _ t.1 c.loop-c.invariant) c.end.ensures
+
+pub returns-in_err-reader : goal.returns-in_err-reader
+returns-in_err-reader c =
+    let t = YieldsList-turn (YieldsList-from_chars c.args.text.now c.utf8.text cc) c.loop-c.yielded _ c.loop-c.yielded_by _ _ c.in-Some.c c.in-Some.is c.next.ensures.steps in
+    let p = err_from_is_err_and c.from_residual.result c.from_residual.ensures.1 in
+    rw (p.1, p.2) (λ h. run-err _ _ _ _ _ _ t c.loop-c.invariant (c.in_err-reader.ensures h))

@@ -1,0 +1,10 @@
+pub mod ContextValue
+pub mod Faults
+pub mod FlagValue
+pub mod Grammar
+pub mod Letters
+pub mod Outcome
+pub mod Parsing
+pub mod Profile
+pub mod Reading
+pub mod TemplateValue

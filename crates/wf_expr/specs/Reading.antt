@@ -1,0 +1,79 @@
+-- Reading a template from the left, a character at a time. What it reads and what it refuses is the
+-- grammar's (`Grammar`).
+use Rattle.std.specs.Prelude.{ℕ, List, [], ◌∷◌, ◌++◌, Option, Some, None, Result, Ok, Err, ◌==◌, if◌then◌else◌, codes}
+use Rattle.std.specs.Char.{encode_utf8}
+use Rattle.std.specs.Option.{option_and_then}
+use Rattle.std.specs.Str.{chars}
+use Rattle.wf_value.specs.declared.refusal.Refusal.{Refusal}
+use Rattle.wf_expr.specs.Faults.{wrong_expression}
+use Rattle.wf_expr.specs.Letters.{begins_name, continues_name}
+use Rattle.wf_expr.specs.declared.piece.Operand.{Operand}
+use Rattle.wf_expr.specs.declared.piece.Operand.TheVariants.{Quoted, Reference}
+use Rattle.wf_expr.specs.declared.piece.Piece.{Piece}
+use Rattle.wf_expr.specs.declared.piece.Piece.TheVariants.{Plain, Braced}
+use Rattle.wf_expr.specs.declared.reader.Reader.{Reader}
+use Rattle.wf_expr.specs.declared.reader.Reader.TheVariants.{InText, AfterDollar, AfterBrace, OperandDue, InName, AfterName, NameDue, InQuoted, AfterQuote, AfterOperand, AfterBar, AfterClose}
+
+-- 17 where there is nothing
+abbrev pub needed : {X : Type 0} → Option X → Result X Refusal
+needed None = Err wrong_expression
+needed (Some x) = Ok x
+
+-- text as it stands is a piece where there is some
+abbrev pub plain_piece : List ℕ → List Piece
+plain_piece [] = []
+plain_piece (b ∷ bs) = Plain (b ∷ bs) ∷ []
+
+abbrev pub in_text : List Piece → List ℕ → ℕ → Reader
+in_text ps word c = if c == 36 then AfterDollar ps word else InText ps (word ++ encode_utf8 c)
+
+abbrev pub after_operand : List Piece → List Operand → ℕ → Option Reader
+after_operand ps os c =
+    if c == 32 then Some (AfterOperand ps os) else if c == 124 then Some (AfterBar ps os) else if c == 125 then Some (AfterClose ps os) else None
+
+abbrev pub after_name : List Piece → List Operand → List (List ℕ) → ℕ → Option Reader
+after_name ps os names c =
+    if c == 32 then Some (AfterName ps os names) else if c == 46 then Some (NameDue ps os names) else after_operand ps (os ++ Reference names ∷ []) c
+
+-- what one more character makes of it, or nothing where no template goes on so
+abbrev pub taken : Reader → ℕ → Option Reader
+taken (InText ps word) c = Some (in_text ps word c)
+taken (AfterDollar ps word) c = if c == 123 then Some (AfterBrace ps word) else Some (in_text ps (word ++ codes "$") c)
+taken (AfterBrace ps word) c = if c == 123 then Some (OperandDue (ps ++ plain_piece word) []) else Some (in_text ps (word ++ codes "${") c)
+taken (OperandDue ps os) c =
+    if c == 32 then Some (OperandDue ps os) else if c == 39 then Some (InQuoted ps os []) else if begins_name c then Some (InName ps os [] (encode_utf8 c)) else None
+taken (NameDue ps os names) c =
+    if c == 32 then Some (NameDue ps os names) else if begins_name c then Some (InName ps os names (encode_utf8 c)) else None
+taken (InName ps os names word) c =
+    if continues_name c then Some (InName ps os names (word ++ encode_utf8 c)) else after_name ps os (names ++ word ∷ []) c
+taken (AfterName ps os names) c = after_name ps os names c
+taken (InQuoted ps os word) c = if c == 39 then Some (AfterQuote ps os word) else Some (InQuoted ps os (word ++ encode_utf8 c))
+taken (AfterQuote ps os word) c =
+    if c == 39 then Some (InQuoted ps os (word ++ encode_utf8 c)) else after_operand ps (os ++ Quoted word ∷ []) c
+taken (AfterOperand ps os) c = after_operand ps os c
+taken (AfterBar ps os) c = if c == 124 then Some (OperandDue ps os) else None
+taken (AfterClose ps os) c = if c == 125 then Some (InText (ps ++ Braced os ∷ []) []) else None
+
+-- the pieces at the end of the text, or nothing inside a `${{`
+abbrev pub ended : Reader → Option (List Piece)
+ended (InText ps word) = Some (ps ++ plain_piece word)
+ended (AfterDollar ps word) = Some (ps ++ plain_piece (word ++ codes "$"))
+ended (AfterBrace ps word) = Some (ps ++ plain_piece (word ++ codes "${"))
+ended (OperandDue ps os) = None
+ended (NameDue ps os names) = None
+ended (InName ps os names word) = None
+ended (AfterName ps os names) = None
+ended (InQuoted ps os word) = None
+ended (AfterQuote ps os word) = None
+ended (AfterOperand ps os) = None
+ended (AfterBar ps os) = None
+ended (AfterClose ps os) = None
+
+-- the pieces after these characters too
+unfoldable pub run : Reader → List ℕ → Option (List Piece)
+run r [] = ended r
+run r (c ∷ cs) = option_and_then (λ next. run next cs) (taken r c)
+
+-- the pieces of a text
+abbrev pub pieces_of : List ℕ → Option (List Piece)
+pieces_of text = run (InText [] []) (chars text)

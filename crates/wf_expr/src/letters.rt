@@ -1,0 +1,18 @@
+ghost use Rattle.std.specs.Prelude.{◌≡◌};
+ghost use Rattle.wf_expr.specs.Letters.{begins_name, continues_name};
+
+/// Whether a name may begin with the character: a letter A to Z, a to z, or `_`.
+#[tactic(auto, unfolding(crate::specs::Letters::begins_name))]
+pub(crate) fn begins_name(c: char) -> bool
+    ensures { result ≡ begins_name c }
+{
+    c.is_ascii_alphabetic() || c == '_'
+}
+
+/// Whether a name may go on with the character: as at its begin, or a digit or `-`.
+#[tactic(auto, unfolding(crate::specs::Letters::continues_name))]
+pub(crate) fn continues_name(c: char) -> bool
+    ensures { result ≡ continues_name c }
+{
+    begins_name(c) || c.is_ascii_digit() || c == '-'
+}

@@ -1,0 +1,8 @@
+/// Where a template stands.
+#[derive(Clone, Copy, Debug, PartialEq, Eq)]
+pub enum Place {
+    /// The `concurrency` of the workflow, which may use the contexts `github`, `inputs` and `vars`.
+    Workflow,
+    /// A job's `concurrency`, `runs-on` or `continue-on-error`, which may use all six.
+    Job,
+}

@@ -1,0 +1,169 @@
+ghost use Rattle.std.specs.Prelude.{◌≡◌, ◌↔◌, ◌≤◌, [], ◌∷◌, IsTrue, All, codes, count_by, sum_by};
+ghost use Rattle.wf_expr.specs.Profile.{IsShared, IsInContext, InProfile, IsAllowed, OfReference, OfReferences, AllowedIn, IsInProfile, is_reference, reference_count};
+
+use crate::piece::{Operand, Piece};
+use crate::place::Place;
+use wf_value::Chars;
+
+/// How many references a template may have.
+pub(crate) const MOST_REFERENCES: usize = 32;
+
+fn is_shared(context: &str) -> bool
+    ensures { IsTrue result ↔ IsShared context.now }
+{
+    context == "github" || context == "inputs" || context == "vars"
+}
+
+/// Whether a reference of these names is one of the profile.
+pub(crate) fn in_profile(path: &[Chars]) -> bool
+    ensures { IsTrue result ↔ InProfile path.now }
+{
+    match path {
+        [context, _, names @ ..] => is_in_context(context.as_str(), names),
+        _ => false,
+    }
+}
+
+/// Whether the context has paths with these names behind the first.
+fn is_in_context(context: &str, names: &[Chars]) -> bool
+    ensures { IsTrue result ↔ IsInContext context.now names.now }
+{
+    if is_shared(context) {
+        return true;
+    }
+    match context {
+        "strategy" | "matrix" => true,
+        "needs" => is_result(names),
+        _ => false,
+    }
+}
+
+/// Whether the one name is `result`.
+fn is_result(names: &[Chars]) -> bool
+    ensures { IsTrue result ↔ (names.now ≡ codes "result" ∷ []) }
+{
+    match names {
+        [name] => is_text(name, "result"),
+        _ => false,
+    }
+}
+
+fn is_text(name: &Chars, text: &str) -> bool
+    ensures { IsTrue result ↔ (name.now ≡ text.now) }
+{
+    name.as_str() == text
+}
+
+/// Whether a reference of these names may stand in the place.
+pub(crate) fn is_allowed(place: Place, path: &[Chars]) -> bool
+    ensures { IsTrue result ↔ IsAllowed place path.now }
+{
+    match (place, path) {
+        (Place::Job, _) => true,
+        (Place::Workflow, []) => false,
+        (Place::Workflow, [context, ..]) => is_shared(context.as_str()),
+    }
+}
+
+fn operand_in_profile(operand: &Operand) -> bool
+    ensures { IsTrue result ↔ OfReference InProfile operand.now }
+{
+    match operand {
+        Operand::Quoted(_) => true,
+        Operand::Reference(path) => in_profile(path.as_slice()),
+    }
+}
+
+fn operands_in_profile(operands: &[Operand]) -> bool
+    ensures { IsTrue result ↔ All (OfReference InProfile) operands.now }
+{
+    operands.iter().all(|operand| operand_in_profile(operand))
+}
+
+fn piece_in_profile(piece: &Piece) -> bool
+    ensures { IsTrue result ↔ OfReferences InProfile piece.now }
+{
+    match piece {
+        Piece::Plain(_) => true,
+        Piece::Braced(expression) => operands_in_profile(expression.as_slice()),
+    }
+}
+
+fn pieces_in_profile(pieces: &[Piece]) -> bool
+    ensures { IsTrue result ↔ All (OfReferences InProfile) pieces.now }
+{
+    pieces.iter().all(|piece| piece_in_profile(piece))
+}
+
+fn operand_allowed(place: Place, operand: &Operand) -> bool
+    ensures { IsTrue result ↔ OfReference (IsAllowed place) operand.now }
+{
+    match operand {
+        Operand::Quoted(_) => true,
+        Operand::Reference(path) => is_allowed(place, path.as_slice()),
+    }
+}
+
+fn operands_allowed(place: Place, operands: &[Operand]) -> bool
+    ensures { IsTrue result ↔ All (OfReference (IsAllowed place)) operands.now }
+{
+    operands
+        .iter()
+        .all(|operand| operand_allowed(place, operand))
+}
+
+fn piece_allowed(place: Place, piece: &Piece) -> bool
+    ensures { IsTrue result ↔ OfReferences (IsAllowed place) piece.now }
+{
+    match piece {
+        Piece::Plain(_) => true,
+        Piece::Braced(expression) => operands_allowed(place, expression.as_slice()),
+    }
+}
+
+/// Whether the place allows each context.
+pub(crate) fn pieces_allowed(place: Place, pieces: &[Piece]) -> bool
+    ensures { IsTrue result ↔ AllowedIn place pieces.now }
+{
+    pieces.iter().all(|piece| piece_allowed(place, piece))
+}
+
+fn references_of(operands: &[Operand]) -> usize
+    ensures { result ≡ count_by is_reference operands.now }
+{
+    operands
+        .iter()
+        .filter(|operand| matches!(operand, Operand::Reference(_)))
+        .count()
+}
+
+fn references(piece: &Piece) -> usize
+    ensures { result ≡ reference_count piece.now }
+{
+    match piece {
+        Piece::Plain(_) => 0,
+        Piece::Braced(expression) => references_of(expression.as_slice()),
+    }
+}
+
+/// Whether there are no more references than a template may have.
+fn are_few(pieces: &[Piece]) -> bool
+    ensures { IsTrue result ↔ (sum_by reference_count pieces.now ≤ 32) }
+{
+    let mut left = MOST_REFERENCES;
+    for piece in pieces {
+        let count = references(piece);
+        if left < count {
+            return false;
+        }
+        left -= count;
+    }
+    true
+}
+
+/// Whether the references are those of a template.
+pub(crate) fn are_in_profile(pieces: &[Piece]) -> bool
+    ensures { IsTrue result ↔ IsInProfile pieces.now }
+{
+    pieces_in_profile(pieces) && are_few(pieces)
+}

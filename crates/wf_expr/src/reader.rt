@@ -1,0 +1,295 @@
+ghost use Rattle.std.specs.Prelude.{◌≡◌, ◌++◌, [], ◌∷◌, if◌then◌else◌};
+ghost use Rattle.std.specs.Char.{encode_utf8};
+ghost use Rattle.wf_value.specs.Gives.{Gives};
+ghost use Rattle.wf_expr.specs.Letters.{begins_name};
+ghost use Rattle.wf_expr.specs.Reading.{needed, taken, ended, plain_piece, in_text, after_name, after_operand, pieces_of};
+
+use crate::letters::{begins_name, continues_name};
+use crate::path::Path;
+use crate::piece::{Expression, Operand, Piece};
+use crate::template::Template;
+use std::alloc::Global;
+use wf_value::{Chars, Code, Refusal};
+
+/// How far the reading of a template has come: the pieces so far, and of the present piece its
+/// operands, the names of the present reference and the present word, as far as they go.
+#[derive(Debug, Drop)]
+pub(crate) enum Reader {
+    /// In text as it stands.
+    InText(Template, Chars),
+    /// Behind a `$` that may begin a piece.
+    AfterDollar(Template, Chars),
+    /// Behind a `${` that may begin a piece.
+    AfterBrace(Template, Chars),
+    /// Where an operand is due.
+    OperandDue(Template, Expression),
+    InName(Template, Expression, Path, Chars),
+    AfterName(Template, Expression, Path),
+    /// Behind a dot.
+    NameDue(Template, Expression, Path),
+    InQuoted(Template, Expression, Chars),
+    /// Behind a quote, which ends the text or is the first of two.
+    AfterQuote(Template, Expression, Chars),
+    AfterOperand(Template, Expression),
+    /// Behind the first `|` of two.
+    AfterBar(Template, Expression),
+    /// Behind the first `}` of two.
+    AfterClose(Template, Expression),
+}
+
+fn with_char(word: Chars, c: char) -> Result<Chars, Refusal>
+    ensures { Gives (λ w. w) result (Ok (word ++ encode_utf8 c)) }
+{
+    let mut text = word.into_string();
+    text.push(c)?;
+    Ok(Chars::new(text))
+}
+
+fn with_text(word: Chars, more: &str) -> Result<Chars, Refusal>
+    ensures { Gives (λ w. w) result (Ok (word ++ more.now)) }
+{
+    let mut text = word.into_string();
+    text.push_str(more)?;
+    Ok(Chars::new(text))
+}
+
+fn empty(alloc: Global) -> Chars
+    ensures { result ≡ [] }
+{
+    Chars::new(String::new(alloc))
+}
+
+/// 17: the text goes on as no template does.
+fn fault<T>() -> Result<T, Refusal>
+    ensures { result ≡ Err (Refusal.Numbered Code.Expression) }
+{
+    Err(Refusal::Numbered(Code::Expression))
+}
+
+impl Reader {
+    pub(crate) fn new(alloc: Global) -> Reader
+        ensures { result ≡ Reader.InText [] [] }
+    {
+        Reader::InText(Template::new(alloc), empty(alloc))
+    }
+
+    /// Takes one more character; 17 where no template goes on so.
+    pub(crate) fn take(self, alloc: Global, c: char) -> Result<Reader, Refusal>
+        ensures { Gives (λ r. r) result (needed (taken self c)) }
+    {
+        match self {
+            Reader::InText(pieces, word) => in_text(pieces, word, c),
+            Reader::AfterDollar(pieces, word) => after_dollar(pieces, word, c),
+            Reader::AfterBrace(pieces, word) => after_brace(alloc, pieces, word, c),
+            Reader::OperandDue(pieces, operands) => operand_due(alloc, pieces, operands, c),
+            Reader::NameDue(pieces, operands, names) => name_due(alloc, pieces, operands, names, c),
+            Reader::InName(pieces, operands, names, word) => in_name(
+                pieces, operands, names, word, c,
+            ),
+            Reader::AfterName(pieces, operands, names) => after_name(pieces, operands, names, c),
+            Reader::InQuoted(pieces, operands, word) => in_quoted(pieces, operands, word, c),
+            Reader::AfterQuote(pieces, operands, word) => after_quote(pieces, operands, word, c),
+            Reader::AfterOperand(pieces, operands) => after_operand(pieces, operands, c),
+            Reader::AfterBar(pieces, operands) => match c {
+                '|' => Ok(Reader::OperandDue(pieces, operands)),
+                _ => fault(),
+            },
+            Reader::AfterClose(pieces, operands) => after_close(alloc, pieces, operands, c),
+        }
+    }
+
+    /// The template at the end of the text; 17 inside a piece `${{ .. }}`.
+    pub(crate) fn end(self) -> Result<Template, Refusal>
+        ensures { Gives (λ t. t) result (needed (ended self)) }
+    {
+        match self {
+            Reader::InText(pieces, word) => with_plain(pieces, word),
+            Reader::AfterDollar(pieces, word) => with_plain(pieces, with_text(word, "$")?),
+            Reader::AfterBrace(pieces, word) => with_plain(pieces, with_text(word, "${")?),
+            _ => fault(),
+        }
+    }
+}
+
+/// The template with the text as one more piece, if there is some.
+fn with_plain(pieces: Template, word: Chars) -> Result<Template, Refusal>
+    ensures { Gives (λ t. t) result (Ok (pieces ++ plain_piece word)) }
+{
+    if word.as_str().is_empty() {
+        Ok(pieces)
+    } else {
+        pieces.with(Piece::Plain(word))
+    }
+}
+
+fn in_text(pieces: Template, word: Chars, c: char) -> Result<Reader, Refusal>
+    ensures { Gives (λ r. r) result (Ok (in_text pieces word c)) }
+{
+    match c {
+        '$' => Ok(Reader::AfterDollar(pieces, word)),
+        _ => Ok(Reader::InText(pieces, with_char(word, c)?)),
+    }
+}
+
+fn after_dollar(pieces: Template, word: Chars, c: char) -> Result<Reader, Refusal>
+    ensures { Gives (λ r. r) result (needed (taken (Reader.AfterDollar pieces word) c)) }
+{
+    match c {
+        '{' => Ok(Reader::AfterBrace(pieces, word)),
+        _ => in_text(pieces, with_text(word, "$")?, c),
+    }
+}
+
+fn after_brace(alloc: Global, pieces: Template, word: Chars, c: char) -> Result<Reader, Refusal>
+    ensures { Gives (λ r. r) result (needed (taken (Reader.AfterBrace pieces word) c)) }
+{
+    match c {
+        '{' => Ok(Reader::OperandDue(with_plain(pieces, word)?, Expression::new(alloc))),
+        _ => in_text(pieces, with_text(word, "${")?, c),
+    }
+}
+
+fn operand_due(
+    alloc: Global,
+    pieces: Template,
+    operands: Expression,
+    c: char,
+) -> Result<Reader, Refusal>
+    ensures { Gives (λ r. r) result (needed (taken (Reader.OperandDue pieces operands) c)) }
+{
+    match c {
+        ' ' => Ok(Reader::OperandDue(pieces, operands)),
+        '\'' => Ok(Reader::InQuoted(pieces, operands, empty(alloc))),
+        _ => name_from(alloc, pieces, operands, Path::new(alloc), c),
+    }
+}
+
+/// The begin of a name.
+fn name_from(
+    alloc: Global,
+    pieces: Template,
+    operands: Expression,
+    names: Path,
+    c: char,
+) -> Result<Reader, Refusal>
+    ensures { Gives (λ r. r) result (needed (if begins_name c then Some (Reader.InName pieces operands names (encode_utf8 c)) else None)) }
+{
+    if !begins_name(c) {
+        return fault();
+    }
+    let word = with_char(empty(alloc), c)?;
+    Ok(Reader::InName(pieces, operands, names, word))
+}
+
+fn name_due(
+    alloc: Global,
+    pieces: Template,
+    operands: Expression,
+    names: Path,
+    c: char,
+) -> Result<Reader, Refusal>
+    ensures { Gives (λ r. r) result (needed (taken (Reader.NameDue pieces operands names) c)) }
+{
+    match c {
+        ' ' => Ok(Reader::NameDue(pieces, operands, names)),
+        _ => name_from(alloc, pieces, operands, names, c),
+    }
+}
+
+fn in_name(
+    pieces: Template,
+    operands: Expression,
+    names: Path,
+    word: Chars,
+    c: char,
+) -> Result<Reader, Refusal>
+    ensures { Gives (λ r. r) result (needed (taken (Reader.InName pieces operands names word) c)) }
+{
+    if continues_name(c) {
+        let word = with_char(word, c)?;
+        return Ok(Reader::InName(pieces, operands, names, word));
+    }
+    after_name(pieces, operands, names.with(word)?, c)
+}
+
+fn after_name(
+    pieces: Template,
+    operands: Expression,
+    names: Path,
+    c: char,
+) -> Result<Reader, Refusal>
+    ensures { Gives (λ r. r) result (needed (after_name pieces operands names c)) }
+{
+    match c {
+        ' ' => Ok(Reader::AfterName(pieces, operands, names)),
+        '.' => Ok(Reader::NameDue(pieces, operands, names)),
+        _ => after_operand(pieces, operands.with(Operand::Reference(names))?, c),
+    }
+}
+
+fn in_quoted(
+    pieces: Template,
+    operands: Expression,
+    word: Chars,
+    c: char,
+) -> Result<Reader, Refusal>
+    ensures { Gives (λ r. r) result (needed (taken (Reader.InQuoted pieces operands word) c)) }
+{
+    match c {
+        '\'' => Ok(Reader::AfterQuote(pieces, operands, word)),
+        _ => Ok(Reader::InQuoted(pieces, operands, with_char(word, c)?)),
+    }
+}
+
+fn after_quote(
+    pieces: Template,
+    operands: Expression,
+    word: Chars,
+    c: char,
+) -> Result<Reader, Refusal>
+    ensures { Gives (λ r. r) result (needed (taken (Reader.AfterQuote pieces operands word) c)) }
+{
+    match c {
+        '\'' => Ok(Reader::InQuoted(pieces, operands, with_char(word, c)?)),
+        _ => after_operand(pieces, operands.with(Operand::Quoted(word))?, c),
+    }
+}
+
+fn after_operand(pieces: Template, operands: Expression, c: char) -> Result<Reader, Refusal>
+    ensures { Gives (λ r. r) result (needed (after_operand pieces operands c)) }
+{
+    match c {
+        ' ' => Ok(Reader::AfterOperand(pieces, operands)),
+        '|' => Ok(Reader::AfterBar(pieces, operands)),
+        '}' => Ok(Reader::AfterClose(pieces, operands)),
+        _ => fault(),
+    }
+}
+
+fn after_close(
+    alloc: Global,
+    pieces: Template,
+    operands: Expression,
+    c: char,
+) -> Result<Reader, Refusal>
+    ensures { Gives (λ r. r) result (needed (taken (Reader.AfterClose pieces operands) c)) }
+{
+    match c {
+        '}' => {
+            let pieces = pieces.with(Piece::Braced(operands))?;
+            Ok(Reader::InText(pieces, empty(alloc)))
+        }
+        _ => fault(),
+    }
+}
+
+/// The pieces of a text; 17 where no template is spelled so.
+pub(crate) fn read(alloc: Global, text: &str) -> Result<Template, Refusal>
+    ensures { Gives (λ t. t) result (needed (pieces_of text.now)) }
+{
+    let mut reader = Reader::new(alloc);
+    for c in text.chars() {
+        reader = reader.take(alloc, c)?;
+    }
+    reader.end()
+}

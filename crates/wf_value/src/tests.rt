@@ -1,0 +1,83 @@
+use crate::{Chars, Code, Combo, Ids, Refusal, Scalar};
+use std::alloc::Global;
+use std::test::Fail;
+
+fn text(alloc: Global, text: &str) -> Result<Scalar, Fail> {
+    Ok(Scalar::Text(Chars::from_str(alloc, text)?))
+}
+
+#[test]
+fn scalars_that_look_alike_differ(rt: HostRuntime) -> Result<(), Fail> {
+    let alloc = rt.alloc();
+    let scalars = [
+        Scalar::Null,
+        Scalar::Truth(true),
+        Scalar::Whole(1),
+        text(alloc, "1")?,
+        text(alloc, "true")?,
+        text(alloc, "")?,
+    ];
+    for (i, a) in scalars.iter().enumerate() {
+        for (j, b) in scalars.iter().enumerate() {
+            assert_eq!(rt; a.same(b), i == j);
+        }
+    }
+    Ok(())
+}
+
+#[test]
+fn truth_and_text(rt: HostRuntime) -> Result<(), Fail> {
+    let alloc = rt.alloc();
+    let rows = [
+        (Scalar::Null, false, ""),
+        (Scalar::Truth(false), false, "false"),
+        (Scalar::Truth(true), true, "true"),
+        (Scalar::Whole(0), false, "0"),
+        (Scalar::Whole(i64::MIN), true, "-9223372036854775808"),
+        (Scalar::Whole(i64::MAX), true, "9223372036854775807"),
+        (text(alloc, "")?, false, ""),
+        (text(alloc, "0")?, true, "0"),
+        (text(alloc, "false")?, true, "false"),
+    ];
+    for (scalar, truthy, printed) in rows.iter() {
+        assert_eq!(rt; scalar.truthy(), *truthy);
+        assert_eq!(rt; scalar.text_of(alloc)?.as_str(), *printed);
+    }
+    Ok(())
+}
+
+#[test]
+fn refusals_print_what_they_carry(rt: HostRuntime) -> Result<(), Fail> {
+    let alloc = rt.alloc();
+    let mut ids = Vec::new(alloc);
+    ids.push(Chars::from_str(alloc, "a")?)?;
+    ids.push(Chars::from_str(alloc, "b")?)?;
+    let rows = [
+        (Refusal::Numbered(Code::NotJson), 10, "refused 10"),
+        (Refusal::Numbered(Code::InputTooLong), 76, "refused 76"),
+        (Refusal::Cycle(Ids::new(ids)), 14, "refused 14 a b"),
+        (Refusal::Turn(0), 43, "refused 43 0"),
+    ];
+    for (refusal, number, printed) in rows.iter() {
+        assert_eq!(rt; refusal.number(), *number);
+        assert_eq!(rt; refusal.text(alloc)?.as_str(), *printed);
+        assert_eq!(rt; format!(in alloc; "{refusal}")?.as_str(), *printed);
+    }
+    Ok(())
+}
+
+#[test]
+fn texts_and_lists_come_back(rt: HostRuntime) -> Result<(), Fail> {
+    let alloc = rt.alloc();
+    let chars = Chars::new(String::from_str(alloc, "build")?);
+    let copy = chars.copy(alloc)?;
+    assert!(rt; chars.same(&copy));
+    assert_eq!(rt; chars.into_string().as_str(), "build");
+    let mut ids = Vec::new(alloc);
+    ids.push(copy)?;
+    let ids = Ids::new(ids);
+    assert_eq!(rt; ids.as_slice().len(), 1);
+    assert_eq!(rt; ids.into_vec().len(), 1);
+    assert!(rt; Combo::new(alloc).is_empty());
+    Ok(())
+}
