@@ -15,7 +15,7 @@ trap 'rm -rf "$scratch"' EXIT
 mkdir -p "$scratch/crates/disk_bench/src" "$folder"
 cp "$top/HANDLES" "$scratch/"
 cp -r "$top/crates/wf_value" "$top/crates/act_disk" "$scratch/crates/"
-cp "$here/main.rt" "$scratch/crates/disk_bench/src/"
+cp "$here/main.rt.txt" "$scratch/crates/disk_bench/src/main.rt"
 printf 'wf_value: thiserror\nact_disk: wf_value thiserror\ndisk_bench: act_disk wf_value anyhow\n' > "$scratch/crates.txt"
 (cd "$scratch/crates/disk_bench" && rt run --jobs 1 -- "$scratch/try" 1 1 > "$scratch/log" 2>&1) || { tail -20 "$scratch/log"; exit 1; }
 cc -O2 -o "$scratch/plain" "$here/plain.c"

@@ -8,7 +8,8 @@ work=$(mktemp -d)
 trap 'rm -rf "$work"' EXIT
 mkdir "$work/crates"
 cp -r "$top/crates/wf_value" "$top/crates/needs_graph" "$work/crates/"
-cp -r "$here" "$work/crates/needs_bench"
+mkdir -p "$work/crates/needs_bench/src"
+cp "$here/main.rt.txt" "$work/crates/needs_bench/src/main.rt"
 {
     grep -E '^(wf_value|needs_graph)[: ]' "$top/crates.txt"
     echo 'needs_bench: needs_graph wf_value serde_json anyhow'

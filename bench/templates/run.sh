@@ -1,19 +1,18 @@
 #!/bin/sh
 # Prints how the time of `Template::parse` grows: 65,536 bytes against 8,192 (8 times the bytes).
-# It builds in a folder of its own, with the crates of this repository. `slot` waits for a free
-# processor where there is such a command.
+# It builds main.rt.txt in a folder of its own, with the crates of this repository.
 set -eu
 top=$(cd "$(dirname "$0")/../.." && pwd)
 work=$(mktemp -d)
 trap 'rm -rf "$work"' EXIT
-mkdir -p "$work/crates/templates_bench"
+mkdir -p "$work/crates/templates_bench/src"
 for crate in wf_value wf_expr; do
     mkdir -p "$work/crates/$crate"
     for part in src specs proofs; do
         cp -r "$top/crates/$crate/$part" "$work/crates/$crate/$part"
     done
 done
-cp -r "$top/bench/templates/src" "$work/crates/templates_bench/src"
+cp "$top/bench/templates/main.rt.txt" "$work/crates/templates_bench/src/main.rt"
 printf 'wf_value: thiserror\nwf_expr: wf_value\ntemplates_bench: wf_value wf_expr\n' > "$work/crates.txt"
 cd "$work/crates/templates_bench"
-if command -v slot > /dev/null; then slot rt try; else rt try; fi
+rt try

@@ -1,2 +1,3 @@
 pub mod CutLines
 pub mod Plays
+mod Rows

@@ -1,16 +1,14 @@
 -- What a pattern says of the original of a number is what its object says of the original.
-use Rattle.std.proofs.Common.{◌≡◌, ℕ, zero, suc, ◌+◌, ◌<◌, Bool, true, false, ◌&&◌, ◌||◌, not, cond, List, [], ◌∷◌, ◌++◌, map, length, Option, Some, None, refl, sym, ap, ◌∙◌, arith}
+use Rattle.std.proofs.Common.{◌≡◌, ℕ, zero, suc, Bool, true, false, ◌&&◌, ◌||◌, not, cond, List, [], ◌∷◌, map, Option, Some, None, refl, sym, ap, ◌∙◌, arith}
 use Rattle.std.specs.Prelude.{nat_eq, is_some, is_none}
 use Rattle.std.specs.Cmp.Lexicographic.{pointwise, texts_ties}
-use Rattle.std.specs.FinMap.{find}
-use Rattle.std.specs.List.{filter, filter_map, list_any, list_all, range_with_len, cons_option}
+use Rattle.std.specs.List.{filter, list_any, list_all, range_with_len, cons_option}
 use Rattle.std.specs.Option.{option_map}
 use Rattle.std.specs.Ordering.{is_eq}
 use Rattle.wf_value.specs.Matrix.{NamedValues, MatrixLists}
-use Rattle.wf_value.specs.declared.scalar.Scalar.{Scalar}
-use Rattle.matrix_expand.specs.Combinations.{Combination, value_at, has_pair, is_value, removes, agrees, is_variable, kept, new_combinations, originals, choice_count}
+use Rattle.matrix_expand.specs.Combinations.{Combination, value_at, has_pair, is_value, removes, agrees, kept, new_combinations, originals, choice_count}
 use Rattle.matrix_expand.specs.Numbered.{chosen, axes_of, axes_where, numbered_axes, original_at, original_count, choice_of, wanted_of, has_other, pattern_of, wanted_holds, pattern_agrees, pattern_removes, kept_from, kept_numbers, new_objects, kept_of, added_of}
-use Rattle.matrix_expand.specs.Values.{AxisValue, PatternValue, ChoiceValue}
+use Rattle.matrix_expand.specs.Values.{AxisValue, ChoiceValue}
 use Rattle.matrix_expand.proofs.Rising.{name_cmp}
 use Rattle.matrix_expand.proofs.Originals.{choices_are_numbered, choices_none}
 

@@ -1,24 +1,23 @@
 -- The final combinations: what is found in them, and that the code's are these.
-use Rattle.std.proofs.Common.{◌≡◌, ℕ, zero, suc, ◌+◌, ◌<◌, Bool, true, false, ◌&&◌, ◌||◌, not, cond, List, [], ◌∷◌, ◌++◌, map, length, get_or, Option, Some, None, refl, sym, ap, ◌∙◌, subst, arith, length-append}
+use Rattle.std.proofs.Common.{◌≡◌, ℕ, ◌+◌, Bool, true, false, ◌||◌, cond, List, [], ◌∷◌, ◌++◌, map, length, get_or, Option, Some, None, refl, sym, ap, ◌∙◌, subst, length-append}
 use Rattle.std.specs.Prelude.{T, is_some}
 use Rattle.std.specs.Cmp.Lexicographic.{nat_list_cmp_total}
 use Rattle.std.specs.FinMap.{find, is_sorted}
 use Rattle.std.specs.FinMap.Entries.{by_order, put, below_all, is_sorted-put, find-put}
-use Rattle.std.specs.List.{filter, filter_map, flat_map, list_any, cons_option}
+use Rattle.std.specs.List.{filter, filter_map, list_any, cons_option}
 use Rattle.std.specs.Option.{option_map, option_or}
-use Rattle.std.specs.Ordering.{is_lt, is_eq, eq_by_cmp}
-use Rattle.std.specs.declared.cmp.Ordering.{Ordering}
+use Rattle.std.specs.Ordering.{is_lt, is_eq}
 use Rattle.std.specs.declared.cmp.Ordering.TheVariants.{Less, Equal, Greater}
-use Rattle.std.proofs.lemmas.Bool.{and_parts, and_from, or_parts, true≢false}
+use Rattle.std.proofs.lemmas.Bool.{and_parts, and_from, or_parts}
 use Rattle.std.proofs.lemmas.List.{get_or_at, length-map, append_assoc}
 use Rattle.std.proofs.lemmas.Map.Lookups.{exact_bytes}
 use Rattle.wf_value.specs.Matrix.{MatrixLists}
 use Rattle.wf_value.specs.Names.{names_rise}
 use Rattle.wf_value.specs.declared.scalar.Scalar.{Scalar}
 use Rattle.matrix_expand.specs.Combinations.{Combination, value_at, agrees, last_value, final_value, names_of, with_name, in_order, all_names, final_combination}
-use Rattle.matrix_expand.specs.Entries.{names_ascend, pairs_of, flagged, flags_of, added_value, object_entries, merged, SortsEntries, firsts_after, final_from}
+use Rattle.matrix_expand.specs.Entries.{names_ascend, pairs_of, flagged, flags_of, added_value, object_entries, merged, SortsEntries, final_from}
 use Rattle.matrix_expand.specs.Numbered.{chosen, axes_of, original_at, pattern_of, pattern_agrees}
-use Rattle.matrix_expand.specs.Values.{AxisValue, PatternValue, EntryValue}
+use Rattle.matrix_expand.specs.Values.{EntryValue}
 use Rattle.matrix_expand.proofs.Agreement.{agrees_numbered}
 use Rattle.matrix_expand.proofs.Firsts.{value_at-firsts, names_rise-firsts, names_ascend-flagged, names_ascend-final, names_rise-map}
 use Rattle.matrix_expand.proofs.Merging.{value_at-merged, value_at-object, names_ascend-rise, pairs_of-object}

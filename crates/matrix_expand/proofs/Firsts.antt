@@ -1,11 +1,9 @@
 -- The first pair of each name, of pairs whose names ascend: the names rise, and the same is found.
-use Rattle.std.proofs.Common.{◌≡◌, ℕ, suc, ◌+◌, ◌<◌, Bool, true, false, ◌&&◌, not, cond, List, [], ◌∷◌, ◌++◌, map, length, get_or, drop, Option, Some, None, refl, sym, ap, ◌∙◌, subst}
-use Rattle.std.specs.Cmp.Lexicographic.{pointwise, nat_list_cmp_total, texts_ties}
-use Rattle.std.specs.FinMap.{find}
+use Rattle.std.proofs.Common.{◌≡◌, ℕ, ◌+◌, ◌<◌, Bool, true, false, ◌&&◌, not, cond, List, [], ◌∷◌, ◌++◌, map, length, get_or, drop, Option, Some, None, refl, sym, ap, ◌∙◌, subst}
+use Rattle.std.specs.Cmp.Lexicographic.{pointwise, texts_ties}
 use Rattle.std.specs.FinMap.Entries.{below_all}
-use Rattle.std.specs.List.{filter, list_all}
-use Rattle.std.specs.Option.{option_map}
-use Rattle.std.specs.Ordering.{is_lt, is_eq, is_gt, eq_by_cmp}
+use Rattle.std.specs.List.{filter}
+use Rattle.std.specs.Ordering.{is_lt, is_eq, is_gt}
 use Rattle.std.specs.Prelude.{nat_eq}
 use Rattle.std.specs.declared.cmp.Ordering.{Ordering}
 use Rattle.std.specs.declared.cmp.Ordering.TheVariants.{Less, Equal, Greater}
@@ -13,13 +11,12 @@ use Rattle.std.proofs.lemmas.Bool.{and_parts, and_from, true≢false}
 use Rattle.std.proofs.lemmas.List.{at_drop_more}
 use Rattle.std.proofs.lemmas.Map.Lookups.{exact_bytes}
 use Rattle.wf_value.specs.Names.{names_rise}
-use Rattle.wf_value.specs.declared.scalar.Scalar.{Scalar}
 use Rattle.matrix_expand.specs.Combinations.{Combination, value_at}
 use Rattle.matrix_expand.specs.Entries.{is_least, names_ascend, pairs_of, flagged, is_last, firsts_after, merged, object_entries}
 use Rattle.matrix_expand.specs.Numbered.{original_at, chosen}
 use Rattle.matrix_expand.specs.Values.{AxisValue, EntryValue}
 use Rattle.matrix_expand.proofs.Merging.{names_ascend-merged, names_ascend-rise, pairs_of-object}
-use Rattle.matrix_expand.proofs.Rising.{name_cmp, less_from, equal_from, not_equal_after, same_test, below_all-less, rise_from, below_all_first, rise_rest}
+use Rattle.matrix_expand.proofs.Rising.{name_cmp, equal_from, same_test, below_all-less, rise_from}
 
 module _ (flags : List Bool) where
   -- an entry on

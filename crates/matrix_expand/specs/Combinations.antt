@@ -1,13 +1,11 @@
 -- The combinations of a matrix. GitHub Docs, "Running variations of jobs in a workflow".
-use Rattle.std.specs.Prelude.{ℕ, ◌*◌, nat_lt, ◌||◌, ◌&&◌, not, Bool, true, false, List, [], ◌∷◌, ◌++◌, map, length, Option, Some, None, Result, Ok, Err, nat_eq, cond}
+use Rattle.std.specs.Prelude.{ℕ, ◌*◌, nat_lt, ◌||◌, not, Bool, true, false, List, [], ◌∷◌, ◌++◌, map, length, Option, Some, None, Result, Ok, Err, nat_eq, cond}
 use Rattle.std.specs.List.{filter, flat_map, filter_map, list_any, list_all}
 use Rattle.std.specs.Option.{option_map, option_or}
 use Rattle.std.specs.Ordering.{nat_cmp, int_eq}
 use Rattle.std.specs.Cmp.Lexicographic.{slice_cmp, pointwise}
 use Rattle.std.specs.FinMap.{find}
 use Rattle.std.specs.FinMap.Entries.{by_order}
-use Rattle.std.specs.declared.cmp.Ordering.{Ordering}
-use Rattle.std.specs.declared.cmp.Ordering.TheVariants.{Less, Equal, Greater}
 use Rattle.wf_value.specs.Matrix.{NamedValues, MatrixLists}
 use Rattle.wf_value.specs.declared.code.Code.TheVariants.{MatrixTooLarge, LegCount}
 use Rattle.wf_value.specs.declared.refusal.Refusal.{Refusal}

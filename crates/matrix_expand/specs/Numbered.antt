@@ -1,9 +1,9 @@
 -- The originals by their numbers, as the code goes over them.
-use Rattle.std.specs.Prelude.{ℕ, zero, suc, ◌/◌, ◌%◌, ◌||◌, ◌&&◌, not, nat_lt, is_some, is_none, Bool, true, false, List, [], ◌∷◌, ◌++◌, map, length, Option, Some, None, cond, Result, Ok, Err}
+use Rattle.std.specs.Prelude.{ℕ, zero, suc, ◌/◌, ◌%◌, ◌&&◌, not, nat_lt, is_none, Bool, List, [], ◌∷◌, map, length, Option, cond, Result, Ok, Err}
 use Rattle.std.specs.List.{slice_index_or, filter, filter_map, list_any, list_all, range_with_len}
 use Rattle.std.specs.Option.{option_map}
-use Rattle.std.specs.Ordering.{nat_cmp, is_lt}
-use Rattle.std.specs.Cmp.Lexicographic.{slice_cmp, pointwise}
+use Rattle.std.specs.Ordering.{nat_cmp}
+use Rattle.std.specs.Cmp.Lexicographic.{slice_cmp}
 use Rattle.std.specs.FinMap.{find}
 use Rattle.wf_value.specs.Matrix.{NamedValues, MatrixLists}
 use Rattle.wf_value.specs.declared.code.Code.TheVariants.{LegCount}
@@ -12,7 +12,7 @@ use Rattle.wf_value.specs.declared.refusal.Refusal.TheVariants.{Numbered}
 use Rattle.wf_value.specs.declared.scalar.Scalar.{Scalar}
 use Rattle.wf_value.specs.declared.scalar.Scalar.TheVariants.{Null}
 use Rattle.matrix_expand.specs.Combinations.{Combination, choice_count, same_scalar}
-use Rattle.matrix_expand.specs.Values.{ChoiceValue, AxisValue, WantedValue, PatternValue, EntryValue}
+use Rattle.matrix_expand.specs.Values.{ChoiceValue, AxisValue, WantedValue, PatternValue}
 
 -- the value that the original of a number has
 abbrev pub chosen : ChoiceValue → ℕ → Scalar

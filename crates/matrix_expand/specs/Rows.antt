@@ -7,7 +7,7 @@ use Rattle.wf_value.specs.declared.refusal.Refusal.{Refusal}
 use Rattle.wf_value.specs.declared.refusal.Refusal.TheVariants.{Numbered}
 use Rattle.wf_value.specs.declared.scalar.Scalar.{Scalar}
 use Rattle.wf_value.specs.declared.scalar.Scalar.TheVariants.{Null, Truth, Whole, Text}
-use Rattle.matrix_expand.specs.Combinations.{Combination, combinations, combinations_or_refusal}
+use Rattle.matrix_expand.specs.Combinations.{Combination, combinations_or_refusal}
 
 abbrev fruit : List ℕ
 fruit = codes "fruit"

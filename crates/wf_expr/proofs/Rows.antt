@@ -1,6 +1,6 @@
 -- Rows of the documentation and of the issue, computed from the definitions alone.
-use Rattle.std.proofs.Common.{◌≡◌, List, ℕ, [], ◌∷◌, refl, true, false}
-use Rattle.std.specs.Prelude.{Option, Some, None, Ok, Err, codes}
+use Rattle.std.proofs.Common.{◌≡◌, List, [], ◌∷◌, refl, false}
+use Rattle.std.specs.Prelude.{Ok, Err, codes}
 use Rattle.std.specs.Str.{chars}
 use lib.Utf8.{encode}
 use Rattle.wf_value.specs.declared.scalar.Scalar.TheVariants.{Null, Truth, Text}

@@ -1,5 +1,3 @@
-use Rattle.std.proofs.Common.{sym, ap, ◌∙◌}
-use Rattle.matrix_expand.specs.Entries.{names_ascend, pairs_of, merged}
 use Rattle.matrix_expand.proofs.Firsts.{names_ascend-final}
 use Rattle.matrix_expand.proofs.Merging.{same_Ok}
 use Rattle.matrix_expand.proofs.combination.final_combination.Goals as goal

@@ -1,4 +1,4 @@
-use Rattle.std.proofs.Common.{◌≡◌, ◌+◌, ◌&&◌, ◌++◌, ◌∷◌, None, Some, true, false, cond, not, get_or, drop, refl, sym, ap, ◌∙◌}
+use Rattle.std.proofs.Common.{◌≡◌, ◌+◌, ◌++◌, ◌∷◌, None, Some, true, false, get_or, drop, refl, sym, ap, ◌∙◌}
 use Rattle.std.specs.Option.{option_copied}
 use Rattle.wf_value.specs.Names.{names_rise}
 use Rattle.matrix_expand.specs.Entries.{flagged, firsts_after, is_last}

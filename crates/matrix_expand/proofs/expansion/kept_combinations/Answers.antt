@@ -1,9 +1,8 @@
-use Rattle.std.proofs.Common.{◌≡◌, Ok, true, map, refl, sym, ap, ◌∙◌, subst}
-use Rattle.wf_value.specs.Gives.{Gives}
+use Rattle.std.proofs.Common.{◌≡◌, true, map, sym, ap, ◌∙◌}
 use Rattle.wf_value.specs.Names.{names_rise}
 use Rattle.matrix_expand.specs.Combinations.{kept, final_combination}
 use Rattle.matrix_expand.specs.Entries.{SortsEntries, final_from}
-use Rattle.matrix_expand.specs.Numbered.{numbered_axes, pattern_of, kept_of}
+use Rattle.matrix_expand.specs.Numbered.{numbered_axes}
 use Rattle.matrix_expand.proofs.Legs.{finals_are}
 use Rattle.matrix_expand.proofs.expansion.kept_combinations.Goals as goal
 

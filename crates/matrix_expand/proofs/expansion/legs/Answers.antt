@@ -2,7 +2,7 @@ use Rattle.std.proofs.Common.{◌≡◌, ◌++◌, Ok, map, length, sym, ap, ◌
 use Rattle.std.proofs.lemmas.Bool.{true≢false}
 use Rattle.std.proofs.lemmas.List.{length-map}
 use Rattle.std.proofs.lemmas.Result.{err_from_is_err_and}
-use Rattle.matrix_expand.specs.Numbered.{kept_numbers, kept_of, added_of}
+use Rattle.matrix_expand.specs.Numbered.{kept_of, added_of}
 use Rattle.matrix_expand.proofs.Legs.{legs_refused, legs_counted, legs_miscounted, combinations_are, patterns_are, numbers_are, kept_numbers_are, added_are}
 use Rattle.matrix_expand.proofs.Merging.{same_Ok}
 use Rattle.matrix_expand.proofs.expansion.legs.Goals as goal

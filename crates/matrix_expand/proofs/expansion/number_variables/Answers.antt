@@ -1,4 +1,4 @@
-use Rattle.std.proofs.Common.{◌<◌, IsTrue, sym, ap, ◌∙◌, arith}
+use Rattle.std.proofs.Common.{IsTrue}
 use Rattle.wf_value.specs.Names.{names_rise}
 use Rattle.matrix_expand.specs.Numbered.{axes_of}
 use Rattle.matrix_expand.proofs.Legs.{names_rise-axes}

@@ -1,6 +1,6 @@
-use Rattle.std.proofs.Common.{◌≡◌, ◌≤◌, ◌+◌, ◌-◌, length, not, ◌++◌, ◌∷◌, [], cond, sym, ap, ◌∙◌, arith, length-append}
+use Rattle.std.proofs.Common.{◌+◌, ◌-◌, not, ◌++◌, ◌∷◌, [], cond, sym, ap, ◌∙◌, arith, length-append}
 use Rattle.matrix_expand.specs.Numbered.{kept_from}
-use Rattle.matrix_expand.proofs.Steps.{kept_more, kept_none, kept_few, kept_many, pushed}
+use Rattle.matrix_expand.proofs.Steps.{kept_more, pushed}
 use Rattle.matrix_expand.proofs.original.kept_originals.Goals as goal
 use Rattle.matrix_expand.proofs.original.kept_originals.Goals.{then-not-is_removed+else-len-eq-MOST_LEGS+in_ok-push, else-not-is_removed}
 

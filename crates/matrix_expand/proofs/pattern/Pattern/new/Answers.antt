@@ -1,5 +1,5 @@
-use Rattle.std.proofs.Common.{◌≡◌, ◌+◌, ◌++◌, ◌∷◌, [], ◌||◌, true, false, drop, refl, sym, ap, ◌∙◌, arith}
-use Rattle.matrix_expand.specs.Numbered.{wanted_of, has_other}
+use Rattle.std.proofs.Common.{◌≡◌, ◌+◌, ◌++◌, ◌∷◌, ◌||◌, drop, refl, sym, ap, ◌∙◌}
+use Rattle.matrix_expand.specs.Numbered.{wanted_of}
 use Rattle.matrix_expand.proofs.Steps.{wanted_more, others_more, wanted_skips, others_found, pushed, or-true}
 use Rattle.matrix_expand.proofs.pattern.Pattern.new.Goals as goal
 use Rattle.matrix_expand.proofs.pattern.Pattern.new.Goals.{in-Some+in_ok-push-in-Some, in-None}
