@@ -2,7 +2,7 @@
 
 ACTS := crates/acts/out/acts
 
-.PHONY: first-run test build bench
+.PHONY: first-run test build bench sweep
 
 # Proves and builds `acts` and the crates below it.
 build:
@@ -20,3 +20,7 @@ test:
 # Commands per second over growing tables.
 bench: build
 	python3 bench/play $(ACTS)
+
+# The stored run with each growth of memory refused in turn. Needs a C compiler.
+sweep: build
+	sweeps/refused_growth/run $(ACTS)
