@@ -1,18 +1,21 @@
 #!/bin/bash
-# Prints how the time of the worst matrices grows. The program is copied beside the crates into a folder
-# of its own, since its output differs from run to run and so it stands in no crates.txt.
+# Prints how time and memory of the worst matrices grow. The program is built in a copy of the crates, since its output differs
+# from run to run and so it stands in no crates.txt. Needs Python 3 and a C compiler.
 set -e
 here=$(cd "$(dirname "$0")" && pwd)
 top=$(cd "$here/../.." && pwd)
 work=$(mktemp -d)
 trap 'rm -rf "$work"' EXIT
-mkdir -p "$work/crates/bench_matrix/src"
-for crate in wf_value matrix_expand; do
-    mkdir -p "$work/crates/$crate"
-    (cd "$top/crates/$crate" && tar cf - --exclude=out .) | (cd "$work/crates/$crate" && tar xf -)
-done
-cp "$here/main.rt.txt" "$work/crates/bench_matrix/src/main.rt"
-grep -E '^(wf_value|matrix_expand):' "$top/crates.txt" > "$work/crates.txt"
-echo 'bench_matrix: wf_value matrix_expand' >> "$work/crates.txt"
-cd "$work/crates/bench_matrix"
-rt try
+mkdir "$work/crates"
+cp -r "$top/crates/wf_value" "$top/crates/matrix_expand" "$work/crates/"
+mkdir -p "$work/crates/matrix_bench/src"
+cp "$here/main.rt.txt" "$work/crates/matrix_bench/src/main.rt"
+{
+    grep -E '^(wf_value|matrix_expand)[: ]' "$top/crates.txt"
+    echo 'matrix_bench: matrix_expand wf_value anyhow'
+} > "$work/crates.txt"
+[ -f "$top/HANDLES" ] && cp "$top/HANDLES" "$work/"
+cd "$work/crates/matrix_bench"
+rt fmt > /dev/null
+rt run > "$work/log" 2>&1 || { tail -n 40 "$work/log"; exit 1; }
+"$here/table" out/matrix_bench

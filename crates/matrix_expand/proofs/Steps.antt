@@ -1,17 +1,15 @@
 -- Steps of the loops over variables, members and numbers.
-use Rattle.std.proofs.Common.{◌≡◌, ℕ, zero, suc, ◌+◌, ◌-◌, ◌*◌, ◌/◌, ◌<◌, ◌≤◌, min, Bool, true, false, ◌||◌, not, cond, List, [], ◌∷◌, ◌++◌, length, get_or, drop, Some, None, Ok, Err, refl, sym, ap, ◌∙◌, inl, inr, arith}
+use Rattle.std.proofs.Common.{◌≡◌, ℕ, zero, suc, ◌+◌, ◌-◌, ◌*◌, ◌/◌, ◌<◌, ◌≤◌, min, Bool, true, false, ◌||◌, not, cond, List, [], ◌∷◌, ◌++◌, length, get_or, drop, Some, None, refl, sym, ap, ◌∙◌, inl, inr, arith}
 use Rattle.std.specs.List.{list_any, slice_get}
 use Rattle.std.specs.Option.{option_map}
-use Rattle.std.proofs.lemmas.Bool.{cases_lt, lt-ltb, le-ltb}
+use Rattle.std.proofs.lemmas.Bool.{cases_lt}
 use Rattle.std.proofs.lemmas.List.{at_drop_more, append_assoc}
 use Rattle.std.proofs.lemmas.Nat.{div-mul-add}
 use Rattle.std.proofs.Math.Nat.{mul_comm, mul-le-mul_right}
 use Rattle.wf_value.specs.Matrix.{NamedValues}
-use Rattle.wf_value.specs.declared.code.Code.TheVariants.{LegCount}
-use Rattle.wf_value.specs.declared.refusal.Refusal.TheVariants.{Numbered}
 use Rattle.wf_value.specs.declared.scalar.Scalar.{Scalar}
 use Rattle.matrix_expand.specs.Combinations.{Combination, choice_count}
-use Rattle.matrix_expand.specs.Numbered.{choice_of, wanted_of, has_other, kept_from, kept_or_refusal, pattern_removes, pattern_agrees, new_objects}
+use Rattle.matrix_expand.specs.Numbered.{choice_of, wanted_of, has_other, kept_from, pattern_removes, pattern_agrees, new_objects}
 use Rattle.matrix_expand.specs.Values.{AxisValue, PatternValue}
 
 pub factors : (s a b : ℕ) → s ≡ a * b → 0 < s → (0 < a) × ((0 < b) × (s / a ≡ b))
@@ -84,17 +82,6 @@ pub kept_more : (excludes : List PatternValue) (number count : ℕ) → number <
 kept_more excludes number count l =
     let e : count - number ≡ suc (count - (number + 1)) = omega arith in
     ap (kept_from excludes number) e
-
-pub kept_none : (excludes : List PatternValue) (number count : ℕ) → count ≤ number → kept_from excludes number (count - number) ≡ []
-kept_none excludes number count l =
-    let e : count - number ≡ 0 = omega arith in
-    ap (kept_from excludes number) e
-
-pub kept_few : (numbers : List ℕ) → length numbers ≤ 256 → kept_or_refusal numbers ≡ Ok numbers
-kept_few numbers l = ap (λ b. cond b (Err (Numbered LegCount)) (Ok numbers)) (le-ltb 256 (length numbers) l)
-
-pub kept_many : (numbers : List ℕ) → 256 < length numbers → kept_or_refusal numbers ≡ Err (Numbered LegCount)
-kept_many numbers l = ap (λ b. cond b (Err (Numbered LegCount)) (Ok numbers)) (lt-ltb 256 (length numbers) l)
 
 -- one more of what is made, and one less of what is left
 pub pushed : {X : Type 0} (old now before rest total : List X) (x : X) → now ≡ old ++ x ∷ [] → before ≡ x ∷ rest → old ++ before ≡ total → now ++ rest ≡ total

@@ -227,6 +227,29 @@ fn counts_legs_after_exclude(rt: HostRuntime) -> Result<(), Fail> {
     Ok(())
 }
 
+/// Seventeen variables, `a` to `q`, of two values each: 131,072 choices.
+fn seventeen_of_two(rt: &impl Abort, alloc: Global) -> Result<Matrix, Refusal> {
+    let mut variables = Vec::new(alloc);
+    for letter in b'a'..b'r' {
+        let letter = letter as char;
+        let name = format!(in alloc; "{letter}")?;
+        variables.push(numbers(alloc, name.as_str(), 2)?)?;
+    }
+    assert!(rt; Matrix::names_rise(variables.as_slice()));
+    Ok(Matrix::new(variables, Vec::new(alloc), Vec::new(alloc)))
+}
+
+#[test]
+fn refuses_seventeen_variables_of_two_values(rt: HostRuntime) -> Result<(), Fail> {
+    let matrix = seventeen_of_two(&rt, rt.alloc())?;
+    assert_eq!(rt; matrix.variables().len(), 17);
+    match expand(rt.alloc(), &matrix) {
+        Ok(_) => assert!(rt; false),
+        Err(refusal) => assert_eq!(rt; refusal.number(), 21),
+    }
+    Ok(())
+}
+
 #[test]
 fn puts_the_new_combination_last(rt: HostRuntime) -> Result<(), Fail> {
     let matrix = grid(&rt, rt.alloc(), (16, 16), true, true)?;

@@ -1,9 +1,7 @@
--- Jobs in the rising order of their ids, and a search among them.
-use Rattle.std.proofs.Common.{◌≡◌, ◌≢◌, ℕ, zero, suc, ◌+◌, ◌<◌, ◌≤◌, List, [], ◌∷◌, true, Result, Ok, Err, MatchOption, All, IsTrue, length, get_or, map, sym, refl, subst, ap, ◌∙◌, ⊎_elim, arith}
-use Rattle.std.specs.List.{HoldsAt}
-use Rattle.std.specs.List.Sorted.{IsSearchInRange, IsBinarySearchResult, IsNonDecreasingBy, IsStrictlySortedBy}
-use Rattle.std.specs.Result.{result_ok}
-use Rattle.std.specs.Ordering.{nat_cmp, is_lt, is_eq, ordering_index}
+-- Jobs in the rising order of their ids.
+use Rattle.std.proofs.Common.{◌≡◌, ℕ, zero, suc, ◌+◌, ◌<◌, List, [], ◌∷◌, true, IsTrue, length, get_or, map, sym, refl, subst, ap, ◌∙◌, ⊎_elim, arith}
+use Rattle.std.specs.List.Sorted.{IsStrictlySortedBy}
+use Rattle.std.specs.Ordering.{nat_cmp, is_lt, is_eq}
 use Rattle.std.specs.declared.cmp.Ordering.{Ordering}
 use Rattle.std.specs.declared.cmp.Ordering.TheVariants.{Less, Equal, Greater}
 use Rattle.std.specs.Cmp.Lexicographic.{slice_cmp}
@@ -69,38 +67,3 @@ ids_apart jobs rise i j d in_i in_j same =
     cc)
     (cases_eq i j))
     (cases_lt i j)
-
-index_at_most : (o : Ordering) → ordering_index o ≤ 2
-index_at_most Less = omega arith
-index_at_most Equal = omega arith
-index_at_most Greater = omega arith
-
--- what is below a, and that is not above b, is no further from b than a is
-rising_step : (a b x : List ℕ) → compared a b ≡ Less → ordering_index (compared a x) ≤ ordering_index (compared b x)
-rising_step a b x less =
-    elim (compared b x)
-    as (λ o. compared b x ≡ o → ordering_index (compared a x) ≤ ordering_index o) [
-      | Less ↦ λ e. let h = nat_list_cmp_total.trans a b x less e in let i : ordering_index (compared a x) ≡ 0 = ap ordering_index h in omega arith
-      | Equal ↦
-          λ e.
-          let h : compared a x ≡ Less = ap (λ y. compared a y) (sym (same_from_Equal b x e)) ∙ less in
-          let i : ordering_index (compared a x) ≡ 0 = ap ordering_index h in
-          omega arith
-      | Greater ↦ λ e. index_at_most (compared a x)
-    ]
-    refl
-
-rising : (jobs : List JobNeeds) → IsTrue (ids_rise jobs) → (x : List ℕ) → IsNonDecreasingBy (λ job. ordering_index (compared job.id x)) jobs
-rising jobs rise x i j d up below =
-    ⊎_elim (λ less. rising_step _ _ x (less_ids jobs rise i j d less below)) (λ not_less. let same : i ≡ j = omega arith in let P : ℕ → Type 0 = λ n. ordering_index (compared (get_or jobs i d).id x) ≤ ordering_index (compared (get_or jobs n d).id x) in subst P same (omega arith)) (cases_lt i j)
-
--- a search by the order finds the job of the id, if there is one
-pub found : (jobs : List JobNeeds) → IsTrue (ids_rise jobs) → (x : List ℕ) (r : Result ℕ ℕ) → IsSearchInRange r (length jobs) → IsBinarySearchResult (λ job. compared job.id x) jobs r → MatchOption (result_ok r) (All (λ job. job.id ≢ x) jobs) (λ place. (place < length jobs) × HoldsAt (λ job. job.id ≡ x) jobs place)
-found jobs rise x (Ok place) range search = (range, λ d. same_from_Equal _ x (search d))
-found jobs rise x (Err place) range search =
-    let parts = search (rising jobs rise x) in
-    λ k d below e.
-    ⊎_elim
-    (λ less. let a = parts.0 k d (omega arith) less in let b = Equal-from_same _ x e in cc)
-    (λ past. let a = parts.1 k d past below in let b = Equal-from_same _ x e in cc)
-    (cases_lt k place)

@@ -3,6 +3,7 @@ pub mod Closure
 pub mod GraphFacts
 pub mod GraphRows
 pub mod IdOrder
+pub mod LookupSteps
 pub mod MarkSteps
 pub mod Members
 pub mod OwnIds

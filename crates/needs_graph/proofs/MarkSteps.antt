@@ -1,7 +1,9 @@
 -- The steps of the loops over marks.
 use Rattle.std.proofs.Common.{◌≡◌, ℕ, zero, suc, ◌+◌, ◌<◌, ◌≤◌, min, List, [], ◌∷◌, ◌++◌, Bool, true, false, cond, ◌||◌, length, set, take, map, refl, sym, ap, ◌∙◌, zero-add, arith}
 use Rattle.std.specs.List.{filter, enumerate_from}
-use Rattle.needs_graph.specs.Marks.{is_marked, either, marked}
+use Rattle.std.proofs.lemmas.Bool.{true≢false}
+use Rattle.needs_graph.specs.Marks.{is_marked, either, marked, through}
+use Rattle.needs_graph.proofs.Closure.{or_false}
 
 pub either_none : (xs : List Bool) → either xs [] ≡ xs
 either_none [] = refl
@@ -44,3 +46,29 @@ pub added_more : (old others marks : List Bool) (i : ℕ) → marks ≡ either o
 added_more old others marks i so_far in_old in_others =
     let next : suc i ≡ i + 1 = omega arith in
     ap (λ m. set m i (is_marked m i || is_marked others i)) so_far ∙ (either_more old others i in_old in_others ∙ ap (λ n. either old (take n others)) next)
+
+-- marks behind the last true one add nothing
+pub either_trimmed : (xs ys : List Bool) (n : ℕ) → ((k : ℕ) → n ≤ k → is_marked ys k ≡ false) → either xs (take n ys) ≡ either xs ys
+either_trimmed [] ys n rest = refl
+either_trimmed (x ∷ xs) [] n rest = ap (λ l. either (x ∷ xs) l) (take_none n)
+either_trimmed (x ∷ xs) (y ∷ ys) zero rest =
+    let tail = sym (either_none xs) ∙ either_trimmed xs ys zero (λ k enough. rest (suc k) (omega arith)) in
+    ap (λ l. x ∷ l) tail ∙ ap (λ b. b ∷ either xs ys) (or_false x ∙ ap (λ b. x || b) (sym (rest zero (omega arith))))
+either_trimmed (x ∷ xs) (y ∷ ys) (suc n) rest =
+    ap (λ l. (x || y) ∷ l) (either_trimmed xs ys n (λ k enough. rest (suc k) (omega arith)))
+
+-- two sets that add the same lead to the same
+pub through_same : (job : ℕ) (others trimmed : List Bool) (rows : List (List Bool)) → ((marks : List Bool) → either marks trimmed ≡ either marks others) → map (through job trimmed) rows ≡ map (through job others) rows
+through_same job others trimmed [] same = refl
+through_same job others trimmed (row ∷ rows) same =
+    ap (λ r. cond (is_marked row job) r row ∷ map (through job trimmed) rows) (same row) ∙ ap (λ l. through job others row ∷ l) (through_same job others trimmed rows same)
+
+marked_from_trimmed : (marks : List Bool) (a n : ℕ) → ((k : ℕ) → n ≤ k → is_marked marks k ≡ false) → map (λ e. e.0) (filter (λ e. e.1) (enumerate_from a (take n marks))) ≡ map (λ e. e.0) (filter (λ e. e.1) (enumerate_from a marks))
+marked_from_trimmed [] a n rest = ap (λ l. map (λ e. e.0) (filter (λ e. e.1) (enumerate_from a l))) (take_none n)
+marked_from_trimmed (true ∷ marks) a zero rest = absurd (true≢false (rest zero (omega arith)))
+marked_from_trimmed (false ∷ marks) a zero rest = marked_from_trimmed marks (a + 1) zero (λ k enough. rest (suc k) (omega arith))
+marked_from_trimmed (true ∷ marks) a (suc n) rest = ap (λ l. a ∷ l) (marked_from_trimmed marks (a + 1) n (λ k enough. rest (suc k) (omega arith)))
+marked_from_trimmed (false ∷ marks) a (suc n) rest = marked_from_trimmed marks (a + 1) n (λ k enough. rest (suc k) (omega arith))
+
+pub marked_trimmed : (marks : List Bool) (n : ℕ) → ((k : ℕ) → n ≤ k → is_marked marks k ≡ false) → marked (take n marks) ≡ marked marks
+marked_trimmed marks n rest = marked_from_trimmed marks 0 n rest

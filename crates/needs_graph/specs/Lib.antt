@@ -1,5 +1,6 @@
 pub mod Ancestors
 pub mod Conditions
+pub mod Lookup
 pub mod Marks
 pub mod Needs
 pub mod Results

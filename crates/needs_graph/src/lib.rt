@@ -4,6 +4,7 @@
 
 mod conditions;
 mod graph;
+mod id_order;
 mod job_needs;
 mod lookup;
 mod marks;
@@ -13,8 +14,8 @@ mod rows;
 
 pub use conditions::decide;
 pub use graph::Graph;
+pub use id_order::ids_rise;
 pub use job_needs::JobNeeds;
-pub use lookup::ids_rise;
 pub use results::{LegEnd, conclude, gather};
 
 #[cfg(test)]

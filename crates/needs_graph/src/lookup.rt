@@ -1,51 +1,73 @@
-ghost use Rattle.std.specs.Prelude.{◌≡◌, ◌≢◌, ◌<◌, IsTrue, MatchOption, All, length};
-ghost use Rattle.std.specs.Cmp.Lexicographic.{slice_cmp};
-ghost use Rattle.std.specs.List.{HoldsAt};
-ghost use Rattle.std.specs.Ordering.{nat_cmp};
-ghost use Rattle.needs_graph.specs.Needs.{ids_rise};
+ghost use Rattle.std.specs.Prelude.{◌≡◌, IfOk, Ok, List, ℕ, length};
+ghost use Rattle.std.specs.Str.{bytes_eq};
+ghost use Rattle.std.specs.HashMap.{get_by};
+ghost use Rattle.wf_value.specs.Gives.{Gives};
+ghost use Rattle.needs_graph.specs.Lookup.{Finds};
 
 use crate::job_needs::JobNeeds;
-use std::cmp::Ordering;
-use wf_value::Chars;
+use std::alloc::{AllocError, Global};
+use std::collections::HashMap;
+use std::marker::Model;
+use wf_value::{Chars, Refusal};
 
-fn compare_ids(job: &JobNeeds, id: &Chars) -> Ordering
-    ensures { result ≡ slice_cmp nat_cmp job.now.id id.now }
-{
-    job.id.as_str().cmp(id.as_str())
+/// Jobs that are looked up by their ids, many times over. A contract sees the jobs.
+#[derive(Drop)]
+pub(crate) struct Lookup<'a> {
+    jobs: &'a [JobNeeds],
+    places: HashMap<&'a str, usize>,
 }
 
-/// Whether each job's id is below the next one's, by bytes.
-pub fn ids_rise(jobs: &[JobNeeds]) -> bool
-    ensures { result ≡ ids_rise jobs.now }
-{
-    for i in 1..jobs.len() {
-        if !compare_ids(&jobs[i - 1], &jobs[i].id).is_lt() {
-            return false;
+impl<'a> Model for Lookup<'a> {
+    ghost use Rattle.std.specs.Prelude.{List, ℕ};
+    ghost use Rattle.std.specs.Str.{bytes_eq};
+    ghost use Rattle.std.specs.HashMap.{get_by};
+    ghost use Rattle.needs_graph.specs.Lookup.{Finds};
+    ghost use Rattle.needs_graph.specs.declared.job_needs.JobNeeds.{JobNeeds};
+
+    ghost Value = { List JobNeeds };
+
+    ghost view = { λ l. l.jobs.now };
+
+    ghost invariant = { λ l. (id : List ℕ) → Finds l.jobs.now id (get_by (λ k. bytes_eq id k.now) l.places) };
+}
+
+impl<'a> Lookup<'a> {
+    pub(crate) fn new(alloc: Global, jobs: &'a [JobNeeds]) -> Result<Self, Refusal>
+        ensures { Gives (λ l. l) result (Ok jobs.now) }
+    {
+        Ok(Lookup {
+            jobs,
+            places: places_by_id(alloc, jobs)?,
+        })
+    }
+
+    pub(crate) fn job_count(&self) -> usize
+        ensures { result ≡ length self.now }
+    {
+        self.jobs.len()
+    }
+
+    /// The place of the job of that id, tried first at the place that is likely: ids are mostly
+    /// listed in their order.
+    pub(crate) fn place_from(&self, id: &Chars, likely: usize) -> Option<usize>
+        ensures { Finds self.now id.now result }
+    {
+        if likely < self.jobs.len() && self.jobs[likely].id.same(id) {
+            return Some(likely);
         }
+        self.places.get(id.as_str()).copied()
     }
-    true
 }
 
-/// The place of the job of that id.
-fn place_of(jobs: &[JobNeeds], id: &Chars) -> Option<usize>
-    requires { IsTrue (ids_rise jobs.now) }
-    ensures { MatchOption result
-        (All (λ job. job.id ≢ id.now) jobs.now)
-        (λ place. (place < length jobs.now) × HoldsAt (λ job. job.id ≡ id.now) jobs.now place) }
+fn places_by_id<'a>(
+    alloc: Global,
+    jobs: &'a [JobNeeds],
+) -> Result<HashMap<&'a str, usize>, AllocError>
+    ensures { IfOk result (λ places. (id : List ℕ) → Finds jobs.now id (get_by (λ k. bytes_eq id k.now) places)) }
 {
-    jobs.binary_search_by(|job| job.id.as_str().cmp(id.as_str()))
-        .ok()
-}
-
-/// The same, tried first at the place that is likely: ids are mostly listed in their order.
-pub(crate) fn place_from(jobs: &[JobNeeds], id: &Chars, likely: usize) -> Option<usize>
-    requires { IsTrue (ids_rise jobs.now) }
-    ensures { MatchOption result
-        (All (λ job. job.id ≢ id.now) jobs.now)
-        (λ place. (place < length jobs.now) × HoldsAt (λ job. job.id ≡ id.now) jobs.now place) }
-{
-    if likely < jobs.len() && jobs[likely].id.same(id) {
-        return Some(likely);
+    let mut places = HashMap::new(alloc);
+    for (place, job) in jobs.iter().enumerate() {
+        places.insert(job.id.as_str(), place)?;
     }
-    place_of(jobs, id)
+    Ok(places)
 }

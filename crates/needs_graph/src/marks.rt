@@ -1,4 +1,4 @@
-ghost use Rattle.std.specs.Prelude.{◌≡◌, ◌<◌, Ok, IfOk, List, Bool, true, false, length, replicate, slice_set};
+ghost use Rattle.std.specs.Prelude.{◌≡◌, ◌<◌, ◌≤◌, ℕ, Ok, IfOk, List, Bool, true, false, length, replicate, slice_set};
 ghost use Rattle.wf_value.specs.Gives.{Gives};
 ghost use Rattle.needs_graph.specs.Marks.{is_marked, marked, either, through};
 
@@ -6,6 +6,9 @@ use crate::places::Places;
 use std::alloc::{AllocError, Global};
 use std::marker::Model;
 use wf_value::Refusal;
+
+/// How many marks the processor adds at once.
+const STEP: usize = 32;
 
 /// A set of jobs: for each job, in order, whether it is in the set.
 #[derive(Debug, Drop)]
@@ -34,6 +37,16 @@ impl Marks {
     {
         Ok(Marks {
             marks: Vec::from_slice(alloc, self.marks.as_slice())?,
+        })
+    }
+
+    /// The set without the marks behind the last job in it, which adds the same to any other.
+    pub(crate) fn trimmed(&self, alloc: Global) -> Result<Self, AllocError>
+        ensures { IfOk result (λ t. (marks : List Bool) → either marks t ≡ either marks self.now) }
+    {
+        let end = end_of(self.marks.as_slice());
+        Ok(Marks {
+            marks: Vec::from_slice(alloc, &self.marks.as_slice()[..end])?,
         })
     }
 
@@ -74,6 +87,17 @@ impl Marks {
     }
 }
 
+/// A place behind the last mark: the next that is whole steps from the first, or the end.
+fn end_of(marks: &[bool]) -> usize
+    ensures within { result ≤ length marks.now }
+    ensures rest { (job : ℕ) → result ≤ job → is_marked marks.now job ≡ false }
+{
+    match marks.iter().rposition(|mark| *mark) {
+        Some(last) => (last / STEP * STEP + STEP).min(marks.len()),
+        None => 0,
+    }
+}
+
 fn add_marks(marks: &mut [bool], others: &[bool])
     ensures { marks.new ≡ either marks.old others.now }
 {
@@ -86,8 +110,9 @@ fn add_marks(marks: &mut [bool], others: &[bool])
 fn marked_places(alloc: Global, marks: &[bool]) -> Result<Vec<usize>, AllocError>
     ensures { IfOk result (λ places. places.items ≡ marked marks.now) }
 {
-    let mut places = Vec::new(alloc);
-    for (job, mark) in marks.iter().enumerate() {
+    let first = &marks[..end_of(marks)];
+    let mut places = Vec::with_capacity(alloc, first.iter().filter(|mark| **mark).count())?;
+    for (job, mark) in first.iter().enumerate() {
         if *mark {
             places.push(job)?;
         }

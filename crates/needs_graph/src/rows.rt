@@ -5,21 +5,21 @@ ghost use Rattle.needs_graph.specs.Needs.{ids_rise};
 ghost use Rattle.needs_graph.specs.Rows.{needs_row_of, needs_rows_of};
 
 use crate::job_needs::JobNeeds;
-use crate::lookup::place_from;
+use crate::lookup::Lookup;
 use crate::marks::Marks;
 use crate::places::Places;
 use std::alloc::Global;
 use wf_value::{Chars, Code, Refusal};
 
 /// The jobs of those ids, or 13 where one is no job's.
-fn needs_row(alloc: Global, jobs: &[JobNeeds], ids: &[Chars]) -> Result<Marks, Refusal>
+fn needs_row(alloc: Global, jobs: &Lookup<'_>, ids: &[Chars]) -> Result<Marks, Refusal>
     requires { IsTrue (ids_rise jobs.now) }
     ensures { Gives (λ m. m) result (needs_row_of jobs.now ids.now) }
 {
-    let mut row = Marks::none(alloc, jobs.len())?;
+    let mut row = Marks::none(alloc, jobs.job_count())?;
     let mut next = 0;
     for id in ids {
-        match place_from(jobs, id, next) {
+        match jobs.place_from(id, next) {
             Some(place) => {
                 row.insert(place);
                 next = place + 1;
@@ -35,9 +35,10 @@ pub(crate) fn needs_rows(alloc: Global, jobs: &[JobNeeds]) -> Result<Vec<Marks>,
     requires { IsTrue (ids_rise jobs.now) }
     ensures { Gives (λ v. v.items) result (needs_rows_of jobs.now) }
 {
+    let lookup = Lookup::new(alloc, jobs)?;
     let mut rows = Vec::new(alloc);
     for job in jobs {
-        rows.push(needs_row(alloc, jobs, job.needs.as_slice())?)?;
+        rows.push(needs_row(alloc, &lookup, job.needs.as_slice())?)?;
     }
     Ok(rows)
 }
@@ -66,7 +67,7 @@ pub(crate) fn closed_rows(alloc: Global, rows: &[Marks]) -> Result<Vec<Marks>, R
 {
     let mut reached = copied(alloc, rows)?;
     for job in 0..rows.len() {
-        let others = reached[job].copy(alloc)?;
+        let others = reached[job].trimmed(alloc)?;
         lead_all_through(reached.as_mut_slice(), job, &others);
     }
     Ok(reached)

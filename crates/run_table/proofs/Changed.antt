@@ -1,6 +1,6 @@
 -- A change at one place of a list, and a change of each element, as code makes them.
-use Rattle.std.specs.Prelude.{◌≡◌, ℕ, zero, suc, ◌+◌, ◌<◌, ◌≤◌, List, [], ◌∷◌, ◌++◌, map, length, slice_set, refl}
-use Rattle.std.proofs.Common.{arith, ap, subst, sym, ◌∙◌, get_or, take, drop}
+use Rattle.std.specs.Prelude.{◌≡◌, ℕ, zero, suc, ◌<◌, ◌≤◌, List, [], ◌∷◌, length, slice_set, refl}
+use Rattle.std.proofs.Common.{arith, ap, get_or}
 use Rattle.run_table.specs.FirstOf.{changed_at}
 
 pub changed_within : {X : Type 0} (f : X → X) (xs : List X) (i : ℕ) (d : X) → i < length xs → slice_set xs i (f (get_or xs i d)) ≡ changed_at i f xs

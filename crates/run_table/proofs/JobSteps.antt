@@ -1,9 +1,9 @@
 -- The rule at the first place of a job that has one.
-use Rattle.std.specs.Prelude.{◌≡◌, ℕ, ◌+◌, ◌<◌, List, [], ◌∷◌, ◌++◌, map, length, Bool, false, if◌then◌else◌, Result, Ok, Option, Some, None, option_map, option_and_then, slice_get, slice_set, refl}
-use Rattle.std.proofs.Common.{arith, ap, subst, sym, ◌∙◌, get_or}
+use Rattle.std.specs.Prelude.{◌≡◌, ℕ, [], ◌∷◌, map, Bool, false, if◌then◌else◌, Result, Ok, Option, Some, None, option_map, slice_set, refl}
+use Rattle.std.proofs.Common.{ap, subst, sym, ◌∙◌}
 use Rattle.run_table.specs.FirstOf.{or_else, first_some, placed}
 use Rattle.run_table.specs.LegRules.{leg_rule}
-use Rattle.run_table.specs.JobRules.{JobPlace, opening, at_leg, closing, job_places, job_rule, closed, decided, is_blocked, with_legs, first_leg}
+use Rattle.run_table.specs.JobRules.{opening, at_leg, closing, job_places, job_rule, closed, decided, is_blocked, with_legs, first_leg}
 use Rattle.wf_value.specs.declared.refusal.Refusal.{Refusal}
 use Rattle.wf_value.specs.Gives.{Gives}
 use Rattle.run_table.specs.declared.leg.Leg.{Leg}

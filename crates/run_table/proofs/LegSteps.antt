@@ -5,7 +5,7 @@ use Rattle.run_table.specs.FirstOf.{first_some, placed}
 use Rattle.run_table.specs.LegRules.{next_phase, leg_rule}
 use Rattle.run_table.specs.declared.leg.Leg.{Leg}
 use Rattle.run_table.specs.declared.leg.LegPhase.{LegPhase}
-use Rattle.run_table.proofs.Firsts.{NoneBefore, ask, ask_read, found_at, none_found}
+use Rattle.run_table.proofs.Firsts.{NoneBefore, ask, ask_read, found_at}
 
 abbrev pub leg_change : List Leg → ℕ → Leg → Option (List Leg)
 leg_change legs i x = option_map (slice_set legs i) (leg_rule x)

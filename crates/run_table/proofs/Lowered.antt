@@ -1,8 +1,7 @@
 -- Each settling rule lowers the count of phases before it.
-use Rattle.std.specs.Prelude.{◌≡◌, ℕ, zero, suc, ◌+◌, ◌*◌, ◌<◌, ◌≤◌, ◌&&◌, List, [], ◌∷◌, ◌++◌, map, length, sum_by, replicate, Bool, true, false, not, Option, Some, None, option_map, option_and_then, slice_get, slice_set, if◌then◌else◌, refl}
+use Rattle.std.specs.Prelude.{◌≡◌, ℕ, zero, suc, ◌+◌, ◌*◌, ◌<◌, List, [], ◌∷◌, length, sum_by, replicate, Bool, true, false, Option, Some, None, option_map, option_and_then, slice_get, slice_set, if◌then◌else◌, refl}
 use Rattle.std.specs.List.{enumerate_from, list_all}
 use Rattle.std.proofs.Common.{arith, ap, subst, sym, ◌∙◌, get_or, lit<}
-use Rattle.std.proofs.lemmas.Grind.{common_steps}
 use Rattle.std.proofs.lemmas.List.Sums.{sum_by-set, sum_by-cons}
 use Rattle.std.proofs.lemmas.List.Folds.{sum_by-replicate}
 use Rattle.std.proofs.lemmas.Option.{slice_get_within, get_or_from_slice_get}
@@ -11,10 +10,10 @@ use Rattle.wf_value.specs.declared.outcome.JobResult.TheVariants as result
 use Rattle.needs_graph.specs.Conditions.{condition_value}
 use Rattle.needs_graph.specs.Results.{gathered}
 use Rattle.run_plan.specs.PlanOf.{plan_of}
-use Rattle.run_table.specs.FirstOf.{or_else, first_some, placed, rule_within, places_within}
+use Rattle.run_table.specs.FirstOf.{or_else, first_some, rule_within}
 use Rattle.run_table.specs.LegRules.{next_phase, leg_rule, leg_phases_left, leg_left}
-use Rattle.run_table.specs.JobRules.{JobPlace, opening, at_leg, closing, job_rule, job_left, state_left, decided, closed, is_blocked, is_open, has_ended, leg_ends, new_leg, with_legs, ancestor_results}
-use Rattle.run_table.specs.RunRules.{RunPlace, in_job, whole, run_rule, whole_rule, next_run_phase, is_settled, phases_left, planned_in, planned_legs, planned_rule, run_left, run_places, with_jobs}
+use Rattle.run_table.specs.JobRules.{JobPlace, opening, at_leg, closing, job_rule, job_left, state_left, decided, closed, is_blocked, has_ended, leg_ends, new_leg, with_legs, ancestor_results}
+use Rattle.run_table.specs.RunRules.{RunPlace, in_job, whole, run_rule, next_run_phase, is_settled, phases_left, planned_legs, planned_rule, run_left, with_jobs}
 use Rattle.run_table.specs.Settling.{rule_at, places, first_rule, left}
 use Rattle.run_table.specs.declared.leg.Leg.{Leg}
 use Rattle.run_table.specs.declared.leg.LegPhase.{LegPhase}

@@ -1,7 +1,7 @@
 -- Settling comes to an end, and then no rule applies.
-use Rattle.std.specs.Prelude.{◌≡◌, ℕ, zero, suc, ◌+◌, ◌<◌, ◌≤◌, List, Option, Some, None, refl}
+use Rattle.std.specs.Prelude.{◌≡◌, ℕ, zero, suc, ◌≤◌, List, Some, None, refl}
 use Rattle.std.specs.Option.{option_map_or}
-use Rattle.std.proofs.Common.{arith, ap, subst, sym, ◌∙◌}
+use Rattle.std.proofs.Common.{arith, ap, sym, ◌∙◌}
 use Rattle.run_table.specs.Settling.{first_rule, left, settled_within, settled}
 use Rattle.run_table.specs.declared.run.Run.{Run}
 use Rattle.run_table.proofs.Lowered.{first_rule_lowers}

@@ -1,10 +1,10 @@
 -- The rule at the first place of a run that has one.
-use Rattle.std.specs.Prelude.{◌≡◌, ℕ, List, [], ◌∷◌, ◌++◌, map, Bool, true, false, if◌then◌else◌, Option, Some, None, option_map, refl}
-use Rattle.std.proofs.Common.{ap, sym, ◌∙◌}
+use Rattle.std.specs.Prelude.{◌≡◌, [], ◌∷◌, ◌++◌, map, true, false, if◌then◌else◌, None, option_map}
+use Rattle.std.proofs.Common.{ap, ◌∙◌}
 use Rattle.run_plan.specs.PlanOf.{plan_of}
 use Rattle.run_table.specs.FirstOf.{or_else, first_some, places_within, rule_within}
-use Rattle.run_table.specs.JobRules.{JobPlace, job_places}
-use Rattle.run_table.specs.RunRules.{RunPlace, in_job, whole, is_live, run_places, run_rule, whole_rule, planned_rule, with_jobs, first_job}
+use Rattle.run_table.specs.JobRules.{job_places}
+use Rattle.run_table.specs.RunRules.{in_job, whole, is_live, run_places, run_rule, whole_rule, planned_rule, with_jobs, first_job}
 use Rattle.run_table.specs.declared.run.Run.{Run}
 use Rattle.run_table.proofs.Firsts.{first_some-append, first_some-map, first_some-option_map}
 use Rattle.run_table.proofs.JobSteps.{or_else_none}

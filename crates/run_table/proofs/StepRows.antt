@@ -3,19 +3,17 @@ use Rattle.std.specs.Prelude.{◌≡◌, ℕ, List, [], ◌∷◌, codes, Some, 
 use Rattle.wf_value.specs.declared.code.Code.TheVariants.{HasLease, LeaseNotHeld, NoRun}
 use Rattle.wf_value.specs.declared.outcome.JobResult.TheVariants as result
 use Rattle.wf_value.specs.declared.outcome.Outcome.TheVariants as outcome
-use Rattle.wf_value.specs.declared.refusal.Refusal.TheVariants.{Numbered, Turn}
+use Rattle.wf_value.specs.declared.refusal.Refusal.TheVariants.{Turn}
 use Rattle.run_plan.specs.declared.command.Claim.{Claim as Claimed}
 use Rattle.run_plan.specs.declared.command.Command.TheVariants as command
 use Rattle.run_plan.specs.declared.reply.Reply.TheVariants as reply
-use Rattle.run_table.specs.FirstOf.{changed_at}
 use Rattle.run_table.specs.JobRules.{job_rule, opening, new_leg}
-use Rattle.run_table.specs.Legs.{ended_leg, leased_leg}
+use Rattle.run_table.specs.Legs.{leased_leg}
 use Rattle.run_table.specs.Settling.{settled}
 use Rattle.run_table.specs.Step.{step, empty, claiming, refused}
 use Rattle.run_table.specs.TableState.{TableState}
 use Rattle.run_table.specs.declared.leg.Leg.{Leg}
 use Rattle.run_table.specs.declared.leg.LegPhase.TheVariants as leg
-use Rattle.run_table.specs.declared.job.JobRecord.{JobRecord}
 use Rattle.run_table.specs.declared.job.JobState.TheVariants as state
 use Rattle.run_table.specs.declared.run.Run.{Run}
 use Rattle.run_table.specs.declared.run.RunPhase.TheVariants as phase

@@ -1,5 +1,5 @@
 -- Views of runs at literal records, and their texts.
-use Rattle.std.proofs.Common.{◌≡◌, ℕ, List, [], ◌∷◌, ◌++◌, Bool, true, false, Some, None, codes, refl, ap}
+use Rattle.std.proofs.Common.{◌≡◌, ℕ, List, [], ◌∷◌, ◌++◌, false, Some, None, codes, refl, ap}
 use Rattle.std.specs.Fmt.{digits}
 use Rattle.wf_value.specs.declared.outcome.Outcome.TheVariants as outcome
 use Rattle.wf_value.specs.declared.outcome.JobResult.TheVariants as result
@@ -7,7 +7,7 @@ use Rattle.wf_reader.specs.Event.{event_of}
 use Rattle.run_plan.specs.PlanOf.{plan_of}
 use Rattle.run_plan.specs.Admitted.{Admitted}
 use Rattle.run_plan.specs.declared.planned.PlannedJob.{PlannedJob}
-use Rattle.run_table.specs.ViewText.{Sight, sight_of, sight_text, run_text, job_text, same_workflow}
+use Rattle.run_table.specs.ViewText.{sight_of, sight_text, run_text}
 use Rattle.run_table.specs.declared.leg.Leg.{Leg}
 use Rattle.run_table.specs.declared.leg.LegPhase.{LegPhase}
 use Rattle.run_table.specs.declared.leg.LegPhase.TheVariants as leg
@@ -15,7 +15,6 @@ use Rattle.run_table.specs.declared.job.JobRecord.{JobRecord}
 use Rattle.run_table.specs.declared.job.JobState.{JobState}
 use Rattle.run_table.specs.declared.job.JobState.TheVariants as state
 use Rattle.run_table.specs.declared.run.Run.{Run}
-use Rattle.run_table.specs.declared.run.RunPhase.{RunPhase}
 use Rattle.run_table.specs.declared.run.RunPhase.TheVariants as phase
 
 -- ---- a run's text, for a plan of literal ids

@@ -1,11 +1,10 @@
 -- The places of a job, and the settling rule at each. GitHub Docs, "Workflow syntax for GitHub Actions":
 -- jobs.<job_id>.needs and jobs.<job_id>.if.
-use Rattle.std.specs.Prelude.{ℕ, ◌+◌, ◌*◌, List, [], ◌∷◌, ◌++◌, ◌&&◌, map, length, filter_map, sum_by, Bool, true, false, is_some, Option, Some, None, option_map, option_and_then, slice_get, slice_set, replicate, if◌then◌else◌}
+use Rattle.std.specs.Prelude.{ℕ, ◌+◌, ◌*◌, List, [], ◌∷◌, ◌++◌, ◌&&◌, map, filter_map, sum_by, Bool, true, false, is_some, Option, Some, None, option_map, option_and_then, slice_get, slice_set, replicate, if◌then◌else◌}
 use Rattle.std.specs.List.{list_all}
 use Rattle.wf_value.specs.declared.condition.Condition.TheVariants as condition
 use Rattle.wf_value.specs.declared.outcome.JobResult.{JobResult}
 use Rattle.wf_value.specs.declared.outcome.JobResult.TheVariants as result
-use Rattle.wf_value.specs.declared.outcome.Outcome.{Outcome}
 use Rattle.needs_graph.specs.declared.results.LegEnd.{LegEnd}
 use Rattle.needs_graph.specs.Results.{gathered}
 use Rattle.needs_graph.specs.Conditions.{condition_value}

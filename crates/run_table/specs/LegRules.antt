@@ -1,6 +1,6 @@
 -- The settling rule of a leg. GitHub Docs, "Control the concurrency of workflows and jobs"; that a leg
 -- without a group goes straight on is own.
-use Rattle.std.specs.Prelude.{ℕ, List, Bool, true, false, Option, Some, None, option_map}
+use Rattle.std.specs.Prelude.{ℕ, Option, Some, None, option_map}
 use Rattle.wf_value.specs.declared.outcome.Outcome.{Outcome}
 use Rattle.run_table.specs.declared.leg.Leg.{Leg}
 use Rattle.run_table.specs.declared.leg.LegPhase.{LegPhase}

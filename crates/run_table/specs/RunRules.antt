@@ -1,5 +1,5 @@
 -- The places of a run, and the settling rule at each. GitHub Docs, "Workflow syntax for GitHub Actions": jobs.
-use Rattle.std.specs.Prelude.{ℕ, ◌+◌, List, [], ◌∷◌, ◌++◌, map, length, filter_map, sum_by, Bool, true, false, is_some, Option, Some, None, option_map, slice_get, if◌then◌else◌}
+use Rattle.std.specs.Prelude.{ℕ, ◌+◌, List, [], ◌∷◌, ◌++◌, map, length, sum_by, Bool, true, false, is_some, Option, Some, None, option_map, slice_get, if◌then◌else◌}
 use Rattle.std.specs.List.{list_all}
 use Rattle.std.specs.Option.{option_map_or}
 use Rattle.wf_value.specs.declared.outcome.JobResult.{JobResult}

@@ -1,5 +1,5 @@
 -- Settling: the first place of the table where a rule applies is taken, again and again until none applies.
-use Rattle.std.specs.Prelude.{ℕ, zero, suc, List, sum_by, Option, Some, None, option_map}
+use Rattle.std.specs.Prelude.{ℕ, zero, suc, List, sum_by, Option}
 use Rattle.std.specs.Option.{option_map_or}
 use Rattle.run_table.specs.FirstOf.{first_some, places_within, rule_within}
 use Rattle.run_table.specs.RunRules.{RunPlace, run_places, run_rule, run_left}

@@ -1,18 +1,16 @@
 -- One step of the table: what a command is answered, and the table after it. Checks stand in their order,
 -- and a refusal leaves the table. What a step looks at it finds by going over the whole table from the
 -- first run.
-use Rattle.std.specs.Prelude.{ℕ, ◌+◌, ◌==◌, ◌&&◌, List, [], ◌∷◌, ◌++◌, map, length, find, Bool, true, false, not, nat_eq, nat_le, is_some, Option, Some, None, option_map, option_and_then, slice_get, slice_set, if◌then◌else◌}
-use Rattle.std.specs.List.{list_all, list_any, position}
+use Rattle.std.specs.Prelude.{ℕ, ◌+◌, List, [], ◌∷◌, ◌++◌, map, length, Bool, false, nat_le, Option, Some, None, if◌then◌else◌}
+use Rattle.std.specs.List.{position}
 use Rattle.std.specs.Option.{option_map_or}
-use Rattle.std.specs.Str.{bytes_eq, str_eq_ignore_ascii_case}
+use Rattle.std.specs.Str.{bytes_eq}
 use Rattle.wf_value.specs.declared.code.Code.{Code}
 use Rattle.wf_value.specs.declared.code.Code.TheVariants.{HasLease, LeaseNotHeld, LastCounter, NoRun}
 use Rattle.wf_value.specs.declared.refusal.Refusal.TheVariants.{Numbered}
 use Rattle.wf_value.specs.declared.outcome.Outcome.{Outcome}
 use Rattle.run_plan.specs.Admitted.{Admitted}
 use Rattle.run_plan.specs.PlanOf.{plan_of}
-use Rattle.run_plan.specs.declared.planned.PlannedJob.{PlannedJob}
-use Rattle.run_plan.specs.declared.planned.PlannedLeg.{PlannedLeg}
 use Rattle.run_plan.specs.declared.command.Claim.{Claim as Claimed}
 use Rattle.run_plan.specs.declared.command.Done.{Done as Reported}
 use Rattle.run_plan.specs.declared.command.Command.{Command}
@@ -26,9 +24,6 @@ use Rattle.run_table.specs.Settling.{settled}
 use Rattle.run_table.specs.Turns.{runner_named, met_first, with_runner, holds_lease, holds_this}
 use Rattle.run_table.specs.ViewText.{Sight, sight_of, sight_text}
 use Rattle.run_table.specs.declared.fit.Fit.{Fit}
-use Rattle.run_table.specs.declared.leg.Leg.{Leg}
-use Rattle.run_table.specs.declared.leg.LegPhase.{LegPhase}
-use Rattle.run_table.specs.declared.leg.LegPhase.TheVariants as leg
 use Rattle.run_table.specs.declared.job.JobRecord.{JobRecord}
 use Rattle.run_table.specs.declared.job.JobState.TheVariants as state
 use Rattle.run_table.specs.declared.run.Run.{Run}

@@ -1,7 +1,10 @@
-ghost use Rattle.std.specs.Prelude.{◌≡◌, false, Ok, IfOk, option_map, slice_set};
+ghost use Rattle.std.specs.Prelude.{◌≡◌, false, Ok, IfOk, option_map, slice_set, map};
 ghost use Rattle.std.specs.List.{list_all};
 ghost use Rattle.wf_value.specs.Gives.{Gives};
-ghost use Rattle.run_table.specs.FirstOf.{first_some, or_else, taken};
+ghost use Rattle.run_table.specs.FirstOf.{first_some, or_else, taken, rule_within, places_within, changed_at};
+ghost use Rattle.run_table.specs.JobRules.{job_places};
+ghost use Rattle.run_table.specs.RunRules.{planned_in, planned_rule};
+ghost use Rattle.run_table.specs.Step.{leased_job, ended_job};
 
 use crate::leg::Legs;
 use needs_graph::{decide, gather};
@@ -244,10 +247,6 @@ impl JobRecords {
     }
 }
 
-ghost use Rattle.run_table.specs.FirstOf.{rule_within, places_within};
-ghost use Rattle.run_table.specs.JobRules.{job_places};
-ghost use Rattle.run_table.specs.RunRules.{planned_in, planned_rule};
-
 fn planned_in(plan: &[PlannedJob], j: usize) -> usize
     ensures { result ≡ planned_in plan.now j }
 {
@@ -275,10 +274,6 @@ fn take_job_rule(
     }
     Ok(false)
 }
-
-ghost use Rattle.std.specs.Prelude.{map};
-ghost use Rattle.run_table.specs.FirstOf.{changed_at};
-ghost use Rattle.run_table.specs.Step.{leased_job, ended_job};
 
 fn lease_in_job(jobs: &mut [JobRecord], j: usize, l: usize, lease: Number)
     ensures { jobs.new ≡ changed_at j (leased_job l lease) jobs.old }

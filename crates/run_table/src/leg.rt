@@ -1,7 +1,10 @@
-ghost use Rattle.std.specs.Prelude.{◌≡◌, false, Ok, IfOk, option_map, slice_set, replicate};
+ghost use Rattle.std.specs.Prelude.{◌≡◌, false, Ok, IfOk, option_map, slice_set, replicate, map};
 ghost use Rattle.std.specs.List.{list_all};
 ghost use Rattle.wf_value.specs.Gives.{Gives};
-ghost use Rattle.run_table.specs.FirstOf.{first_some, placed, taken};
+ghost use Rattle.run_table.specs.FirstOf.{first_some, placed, taken, changed_at};
+ghost use Rattle.run_table.specs.LegRules.{leg_rule, outcome_of};
+ghost use Rattle.run_table.specs.JobRules.{leg_ends};
+ghost use Rattle.run_table.specs.Legs.{leased_leg, ended_leg};
 
 use needs_graph::LegEnd;
 use run_plan::Number;
@@ -188,10 +191,6 @@ impl Legs {
     }
 }
 
-ghost use Rattle.run_table.specs.LegRules.{leg_rule};
-ghost use Rattle.run_table.specs.LegRules.{outcome_of};
-ghost use Rattle.run_table.specs.JobRules.{leg_ends};
-
 fn take_leg_rule(legs: &mut [Leg]) -> bool
     ensures taken { first_some (λ e. option_map (slice_set legs.old e.0) (leg_rule e.1)) (placed legs.old) ≡ taken result legs.new }
     ensures kept { result ≡ false → legs.new ≡ legs.old }
@@ -226,10 +225,6 @@ fn end_of(leg: &Leg) -> Option<LegEnd>
         continue_on_error: false,
     })
 }
-
-ghost use Rattle.std.specs.Prelude.{map};
-ghost use Rattle.run_table.specs.FirstOf.{changed_at};
-ghost use Rattle.run_table.specs.Legs.{leased_leg, ended_leg};
 
 fn lease_leg(legs: &mut [Leg], l: usize, lease: Number)
     ensures { legs.new ≡ changed_at l (λ _. leased_leg lease) legs.old }

@@ -1,7 +1,11 @@
-ghost use Rattle.std.specs.Prelude.{◌≡◌, ◌&&◌, Ok, count_by};
+ghost use Rattle.std.specs.Prelude.{◌≡◌, ◌&&◌, Ok, count_by, false, IfOk, map};
 ghost use Rattle.std.specs.Str.{bytes_eq};
 ghost use Rattle.wf_value.specs.Gives.{Gives};
 ghost use Rattle.run_table.specs.ViewText.{same_workflow};
+ghost use Rattle.run_table.specs.FirstOf.{taken, changed_at};
+ghost use Rattle.run_table.specs.Settling.{first_rule};
+ghost use Rattle.std.specs.List.{position};
+ghost use Rattle.run_table.specs.Step.{is_delivered_as, leased_run, ended_run};
 
 use crate::fit::{Fit, first_fit};
 use crate::job::JobRecords;
@@ -279,10 +283,6 @@ fn count_same(run: &Run, runs: &[Run]) -> usize
         .count()
 }
 
-ghost use Rattle.std.specs.Prelude.{false, IfOk};
-ghost use Rattle.run_table.specs.FirstOf.{taken};
-ghost use Rattle.run_table.specs.Settling.{first_rule};
-
 fn take_run_rule(alloc: Global, runs: &mut [Run]) -> Result<bool, Refusal>
     ensures took { Gives (λ took. taken took runs.new) result (Ok (first_rule runs.old)) }
     ensures kept { IfOk result (λ took. took ≡ false → runs.new ≡ runs.old) }
@@ -295,11 +295,6 @@ fn take_run_rule(alloc: Global, runs: &mut [Run]) -> Result<bool, Refusal>
     }
     Ok(false)
 }
-
-ghost use Rattle.std.specs.Prelude.{map};
-ghost use Rattle.std.specs.List.{position};
-ghost use Rattle.run_table.specs.FirstOf.{changed_at};
-ghost use Rattle.run_table.specs.Step.{is_delivered_as, leased_run, ended_run};
 
 fn position_of(runs: &[Run], delivery: &DeliveryId) -> Option<usize>
     ensures { result ≡ position (is_delivered_as delivery.now) runs.now }

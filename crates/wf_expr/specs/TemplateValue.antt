@@ -1,24 +1,15 @@
 -- The value of a template over a context. GitHub Docs, "Evaluate expressions in workflows and actions"
 -- (Literals, Operators).
-use Rattle.std.specs.Prelude.{ℕ, pos, List, [], ◌∷◌, Bool, true, false, not, find, map, unwrap_or}
-use Rattle.std.specs.Ordering.{int_eq}
+use Rattle.std.specs.Prelude.{ℕ, List, [], ◌∷◌, find, map, unwrap_or}
 use Rattle.std.specs.List.{flat_map}
 use Rattle.wf_value.specs.declared.scalar.Scalar.{Scalar}
-use Rattle.wf_value.specs.declared.scalar.Scalar.TheVariants.{Null, Truth, Whole, Text}
-use Rattle.wf_value.specs.ScalarValue.{scalar_text}
+use Rattle.wf_value.specs.declared.scalar.Scalar.TheVariants.{Text}
+use Rattle.wf_value.specs.ScalarValue.{is_truthy, scalar_text}
 use Rattle.wf_expr.specs.ContextValue.{Entries, value_at}
 use Rattle.wf_expr.specs.declared.piece.Operand.{Operand}
 use Rattle.wf_expr.specs.declared.piece.Operand.TheVariants.{Quoted, Reference}
 use Rattle.wf_expr.specs.declared.piece.Piece.{Piece}
 use Rattle.wf_expr.specs.declared.piece.Piece.TheVariants.{Plain, Braced}
-
--- false, 0, the empty text and null are false, and every other value is true
-abbrev pub is_true : Scalar → Bool
-is_true Null = false
-is_true (Truth b) = b
-is_true (Whole n) = not (int_eq n (pos 0))
-is_true (Text []) = false
-is_true (Text (c ∷ cs)) = true
 
 -- a quoted text, or the context's value of the path, which is the empty text where it has none
 abbrev pub operand_value : Entries → Operand → Scalar
@@ -32,7 +23,7 @@ last_or other (v ∷ vs) = last_or v vs
 
 -- `||`: the first true value, else the last
 abbrev pub first_true : Scalar → List Scalar → Scalar
-first_true other values = unwrap_or (find is_true values) (last_or other values)
+first_true other values = unwrap_or (find is_truthy values) (last_or other values)
 
 abbrev pub expression_value : Entries → List Operand → Scalar
 expression_value context operands = first_true (Text []) (map (operand_value context) operands)

@@ -1,34 +1,12 @@
 ghost use Rattle.std.specs.Prelude.{◌≡◌, ◌++◌, [], Ok, OnOk, IfErr, string_bytes};
 ghost use Rattle.std.specs.List.{flat_map};
 ghost use Rattle.wf_value.specs.Gives.{Gives, no_memory};
-ghost use Rattle.wf_expr.specs.TemplateValue.{is_true, operand_value, expression_value, piece_text};
+ghost use Rattle.wf_expr.specs.TemplateValue.{operand_value, expression_value, piece_text};
 
 use crate::context::Context;
 use crate::piece::{Expression, Operand, Piece};
 use std::alloc::Global;
 use wf_value::{Chars, Refusal, Scalar};
-
-fn copy_of(alloc: Global, value: &Scalar) -> Result<Scalar, Refusal>
-    ensures { Gives (λ s. s) result (Ok value.now) }
-{
-    match value {
-        Scalar::Null => Ok(Scalar::Null),
-        Scalar::Truth(truth) => Ok(Scalar::Truth(*truth)),
-        Scalar::Whole(number) => Ok(Scalar::Whole(*number)),
-        Scalar::Text(text) => Ok(Scalar::Text(text.copy(alloc)?)),
-    }
-}
-
-fn is_true(value: &Scalar) -> bool
-    ensures { result ≡ is_true value.now }
-{
-    match value {
-        Scalar::Null => false,
-        Scalar::Truth(truth) => *truth,
-        Scalar::Whole(number) => *number != 0,
-        Scalar::Text(text) => !text.as_str().is_empty(),
-    }
-}
 
 fn empty_text(alloc: Global) -> Scalar
     ensures { result ≡ Scalar.Text [] }
@@ -43,7 +21,7 @@ fn of_operand(alloc: Global, operand: &Operand, context: &Context) -> Result<Sca
     match operand {
         Operand::Quoted(text) => Ok(Scalar::Text(text.copy(alloc)?)),
         Operand::Reference(path) => match context.get(path) {
-            Some(value) => copy_of(alloc, value),
+            Some(value) => value.copy(alloc),
             None => Ok(empty_text(alloc)),
         },
     }
@@ -56,7 +34,7 @@ fn of_operands(alloc: Global, operands: &[Operand], context: &Context) -> Result
     let mut last = empty_text(alloc);
     for operand in operands {
         last = of_operand(alloc, operand, context)?;
-        if is_true(&last) {
+        if last.truthy() {
             return Ok(last);
         }
     }

@@ -40,6 +40,13 @@ impl Combo {
         }
     }
 
+    /// Whether each name is below the next one, by bytes, as `from_pairs` asks.
+    pub fn names_rise(pairs: &[(Chars, Scalar)]) -> bool
+        ensures { result ≡ names_rise pairs.now }
+    {
+        pairs.is_sorted_by(|one, other| one.0.as_str().cmp(other.0.as_str()).is_lt())
+    }
+
     /// The combination of a `Vec` whose names rise, which is moved and not copied.
     pub fn from_pairs(pairs: Vec<(Chars, Scalar)>) -> Self
         requires { IsTrue (names_rise pairs.items) }
@@ -86,7 +93,7 @@ impl Combo {
         ensures ok { Gives (λ _. self.new) result (Ok (self.old ++ (name.now, value.now) ∷ [])) }
         ensures err { OnErr result (self.new ≡ self.old) }
     {
-        let pair = (name.copy(alloc)?, copy_of(alloc, value)?);
+        let pair = (name.copy(alloc)?, value.copy(alloc)?);
         self.pairs.push(pair)?;
         Ok(())
     }
@@ -96,20 +103,8 @@ impl Combo {
     {
         let mut pairs = Vec::with_capacity(alloc, self.pairs.len())?;
         for (name, value) in self.pairs.as_slice() {
-            pairs.push((name.copy(alloc)?, copy_of(alloc, value)?))?;
+            pairs.push((name.copy(alloc)?, value.copy(alloc)?))?;
         }
         Ok(Combo { pairs })
-    }
-}
-
-/// A copy of a value.
-fn copy_of(alloc: Global, value: &Scalar) -> Result<Scalar, Refusal>
-    ensures { Gives (λ s. s) result (Ok value.now) }
-{
-    match value {
-        Scalar::Null => Ok(Scalar::Null),
-        Scalar::Truth(truth) => Ok(Scalar::Truth(*truth)),
-        Scalar::Whole(whole) => Ok(Scalar::Whole(*whole)),
-        Scalar::Text(text) => Ok(Scalar::Text(text.copy(alloc)?)),
     }
 }

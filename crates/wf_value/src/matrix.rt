@@ -70,6 +70,13 @@ impl Model for Matrix {
 }
 
 impl Matrix {
+    /// Whether each variable's name is below the next one's, by bytes, as `new` asks.
+    pub fn names_rise(variables: &[Variable]) -> bool
+        ensures { result ≡ names_rise variables.now }
+    {
+        variables.is_sorted_by(|one, other| one.name.as_str().cmp(other.name.as_str()).is_lt())
+    }
+
     /// The matrix of its lists, which are moved and not copied.
     pub fn new(variables: Vec<Variable>, include: Vec<Combo>, exclude: Vec<Combo>) -> Self
         requires { IsTrue (names_rise variables.items) }

@@ -16,7 +16,18 @@ pub enum Scalar {
 }
 
 impl Scalar {
-    ghost use Rattle.wf_value.specs.ScalarValue.{IsTruthy, scalar_text};
+    ghost use Rattle.wf_value.specs.ScalarValue.{is_truthy, scalar_text};
+
+    pub fn copy(&self, alloc: Global) -> Result<Self, Refusal>
+        ensures { Gives (λ s. s) result (Ok self.now) }
+    {
+        match self {
+            Scalar::Null => Ok(Scalar::Null),
+            Scalar::Truth(truth) => Ok(Scalar::Truth(*truth)),
+            Scalar::Whole(whole) => Ok(Scalar::Whole(*whole)),
+            Scalar::Text(text) => Ok(Scalar::Text(text.copy(alloc)?)),
+        }
+    }
 
     /// Whether kind and value are the same.
     pub fn same(&self, other: &Scalar) -> bool
@@ -33,7 +44,7 @@ impl Scalar {
 
     /// Whether the value counts as true: `false`, `0`, the empty text and null do not.
     pub fn truthy(&self) -> bool
-        ensures { IsTrue result ↔ IsTruthy self.now }
+        ensures { result ≡ is_truthy self.now }
     {
         match self {
             Scalar::Null => false,

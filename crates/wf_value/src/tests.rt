@@ -1,4 +1,4 @@
-use crate::{Chars, Code, Combo, Ids, Refusal, Scalar};
+use crate::{Chars, Code, Combo, Ids, Matrix, Refusal, Scalar, Variable};
 use std::alloc::Global;
 use std::test::Fail;
 
@@ -21,6 +21,7 @@ fn scalars_that_look_alike_differ(rt: HostRuntime) -> Result<(), Fail> {
         for (j, b) in scalars.iter().enumerate() {
             assert_eq!(rt; a.same(b), i == j);
         }
+        assert!(rt; a.copy(alloc)?.same(a));
     }
     Ok(())
 }
@@ -62,6 +63,43 @@ fn refusals_print_what_they_carry(rt: HostRuntime) -> Result<(), Fail> {
         assert_eq!(rt; refusal.number(), *number);
         assert_eq!(rt; refusal.text(alloc)?.as_str(), *printed);
         assert_eq!(rt; format!(in alloc; "{refusal}")?.as_str(), *printed);
+    }
+    Ok(())
+}
+
+/// Variables of those names, without values.
+fn variables(alloc: Global, names: &[&str]) -> Result<Vec<Variable>, Fail> {
+    let mut variables = Vec::new(alloc);
+    for name in names {
+        let name = Chars::from_str(alloc, name)?;
+        variables.push(Variable::new(name, Vec::new(alloc)))?;
+    }
+    Ok(variables)
+}
+
+/// Pairs of those names.
+fn pairs(alloc: Global, names: &[&str]) -> Result<Vec<(Chars, Scalar)>, Fail> {
+    let mut pairs = Vec::new(alloc);
+    for name in names {
+        pairs.push((Chars::from_str(alloc, name)?, Scalar::Null))?;
+    }
+    Ok(pairs)
+}
+
+#[test]
+fn tells_the_order_of_names(rt: HostRuntime) -> Result<(), Fail> {
+    let rows: [(&[&str], bool); 5] = [
+        (&[], true),
+        (&["b"], true),
+        (&["B", "a", "ab"], true),
+        (&["a", "a"], false),
+        (&["a", "c", "b"], false),
+    ];
+    for (names, expected) in rows {
+        let variables = variables(rt.alloc(), names)?;
+        assert_eq!(rt; Matrix::names_rise(variables.as_slice()), expected);
+        let pairs = pairs(rt.alloc(), names)?;
+        assert_eq!(rt; Combo::names_rise(pairs.as_slice()), expected);
     }
     Ok(())
 }

@@ -1,4 +1,3 @@
-use Rattle.std.proofs.Common.{◌≡◌}
 use Rattle.run_table.specs.Fitting.{fit_in_run}
 use Rattle.run_table.proofs.Firsts.{NoneBefore}
 use Rattle.run_table.proofs.fit.first_fit.Given as goal

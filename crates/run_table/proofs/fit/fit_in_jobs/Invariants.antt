@@ -1,4 +1,3 @@
-use Rattle.std.proofs.Common.{◌≡◌}
 use Rattle.run_table.specs.Fitting.{fit_in_planned}
 use Rattle.run_table.proofs.Firsts.{NoneBefore}
 use Rattle.run_table.proofs.fit.fit_in_jobs.Given as goal

@@ -1,4 +1,4 @@
-use Rattle.std.proofs.Common.{arith, ap, ◌∙◌, ◌≡◌, get_or, length, ◌<◌, sym}
+use Rattle.std.proofs.Common.{arith, ap, ◌∙◌, ◌≡◌, get_or, length, ◌<◌}
 use Rattle.std.specs.Prelude.{slice_set}
 use Rattle.std.proofs.lemmas.List.Edits.{map_over_more}
 use Rattle.run_table.specs.Legs.{ended_leg}

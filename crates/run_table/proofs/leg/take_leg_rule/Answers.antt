@@ -1,4 +1,4 @@
-use Rattle.std.proofs.Common.{arith, ap, sym, below_more, ◌≡◌, Some, None, length}
+use Rattle.std.proofs.Common.{arith, ap, below_more, ◌≡◌, Some, None, length}
 use Rattle.run_table.specs.LegRules.{next_phase}
 use Rattle.run_table.proofs.Firsts.{none_found}
 use Rattle.run_table.proofs.LegSteps.{leg_change, leg_taken, leg_passed}

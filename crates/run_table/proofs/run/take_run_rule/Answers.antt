@@ -1,6 +1,6 @@
 use Rattle.std.proofs.Common.{arith, ap, below_more, ◌≡◌, ℕ, get_or, Ok}
 use Rattle.run_table.specs.FirstOf.{first_some}
-use Rattle.run_table.specs.RunRules.{RunPlace, run_places, run_rule}
+use Rattle.run_table.specs.RunRules.{run_places, run_rule}
 use Rattle.run_table.specs.declared.run.Run.{Run}
 use Rattle.run_table.proofs.Firsts.{element_taken, element_passed, no_element_taken, put_back, took_some, took_none}
 use Rattle.run_table.proofs.run.take_run_rule.Goals as goal

@@ -1,4 +1,4 @@
-use Rattle.std.proofs.Common.{◌∙◌, ap, ◌++◌, ◌∷◌, [], rules, arith}
+use Rattle.std.proofs.Common.{◌∙◌, ap, ◌++◌, ◌∷◌, []}
 use Rattle.run_table.specs.JobRules.{new_leg}
 use Rattle.run_table.proofs.LegSteps.{replicate_more}
 use Rattle.run_table.proofs.leg.Legs.of_plan.Goals as goal

@@ -1,8 +1,8 @@
-use Rattle.std.proofs.Common.{◌∙◌, sym, ap, Ok}
+use Rattle.std.proofs.Common.{◌∙◌, sym}
 use Rattle.run_table.specs.Settling.{first_rule}
-use Rattle.run_table.proofs.Firsts.{took_some, took_none}
+use Rattle.run_table.proofs.Firsts.{took_some}
 use Rattle.run_table.proofs.Lowered.{first_rule_lowers}
-use Rattle.run_table.proofs.Rests.{settled_after_rule, settled_at_rest}
+use Rattle.run_table.proofs.Rests.{settled_after_rule}
 use Rattle.run_table.proofs.run.Runs.settle.Goals as goal
 
 pub loop-smaller : goal.loop-smaller

@@ -1,6 +1,6 @@
 use Rattle.std.proofs.Common.{◌≡◌, ◌-◌, ◌≤◌, drop}
 use Rattle.needs_graph.specs.Needs.{ids_rise}
-use Rattle.needs_graph.proofs.lookup.ids_rise.Given as goal
+use Rattle.needs_graph.proofs.id_order.ids_rise.Given as goal
 
 -- what is left decides
 abbrev pub invariant-loop-i : goal.invariant-loop-i

@@ -1,6 +1,6 @@
 use Rattle.std.proofs.Common.{◌∙◌, sym, arith}
 use Rattle.needs_graph.proofs.RiseSteps.{rise_end}
-use Rattle.needs_graph.proofs.lookup.ids_rise.Goals as goal
+use Rattle.needs_graph.proofs.id_order.ids_rise.Goals as goal
 
 pub returns : goal.returns
 returns c =
