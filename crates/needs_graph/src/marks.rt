@@ -40,7 +40,7 @@ impl Marks {
         })
     }
 
-    /// The set without the marks behind the last job in it, which adds the same to any other.
+    /// The set, cut at a place behind its last job: it adds the same to any other.
     pub(crate) fn trimmed(&self, alloc: Global) -> Result<Self, AllocError>
         ensures { IfOk result (λ t. (marks : List Bool) → either marks t ≡ either marks self.now) }
     {
