@@ -1,14 +1,11 @@
 -- The definitions on values from the first script.
-use Rattle.std.specs.Prelude.{◌≡◌, ℕ, pos, List, [], ◌∷◌, Option, Some, None, true, refl, codes}
+use Rattle.std.specs.Prelude.{◌≡◌, pos, [], ◌∷◌, Some, None, true, refl, codes}
 use Rattle.std.specs.Fmt.{digits}
 use Rattle.std.specs.Str.{is_utf8, chars}
 use Rattle.serde_json.proofs.OnLiterals.{serde_json_on_literals}
 use Rattle.wf_value.specs.declared.code.Code.TheVariants.{HasLease}
 use Rattle.wf_value.specs.declared.refusal.Refusal.TheVariants.{Numbered, Turn}
-use Rattle.wf_value.specs.declared.scalar.Scalar.{Scalar}
 use Rattle.wf_value.specs.declared.scalar.Scalar.TheVariants.{Null, Truth, Whole, Text}
-use Rattle.wf_reader.specs.declared.workflow.Workflow.{Workflow}
-use Rattle.run_plan.specs.declared.reply.Reply.{Reply}
 use Rattle.run_plan.specs.declared.reply.Reply.TheVariants as reply
 use Rattle.run_plan.specs.PlanOf.{plan_of, workflow_plan}
 use Rattle.run_plan.specs.ReplyText.{combo_text, reply_text}
@@ -77,10 +74,10 @@ combo = refl
 -- ---- plans
 
 plan_of_labels : workflow_plan (record { name = []; jobs = record { id = codes "b"; labels = codes "linux" ∷ codes "x64" ∷ [] } ∷ [] })
-    ≡ record { id = codes "b"; legs = record { combo = []; labels = codes "linux" ∷ codes "x64" ∷ [] } ∷ [] } ∷ []
+    ≡ record { id = codes "b"; labels = codes "linux" ∷ codes "x64" ∷ []; legs = record { combo = [] } ∷ [] } ∷ []
 plan_of_labels = refl
 
 plan_of_body : plan_of (codes "{\"repo\":\"o/r\",\"path\":\"ci.json\",\"workflow\":{\"jobs\":{\"build\":{\"runs-on\":\"linux\"}}}}")
-    ≡ record { id = codes "build"; legs = record { combo = []; labels = codes "linux" ∷ [] } ∷ [] } ∷ []
+    ≡ record { id = codes "build"; labels = codes "linux" ∷ []; legs = record { combo = [] } ∷ [] } ∷ []
 unfolding serde_json_on_literals is_utf8 chars
 plan_of_body = refl

@@ -9,7 +9,7 @@ use std::alloc::Global;
 use wf_value::{Outcome, Refusal};
 
 /// A runner asks for a leg to run.
-#[derive(Debug, Drop)]
+#[derive(Drop)]
 pub struct Claim {
     pub runner: RunnerName,
     /// One above the runner's last number, or the last again.
@@ -18,7 +18,7 @@ pub struct Claim {
 }
 
 /// A runner reports how the leg of a lease ended.
-#[derive(Debug, Drop)]
+#[derive(Drop)]
 pub struct Done {
     pub runner: RunnerName,
     /// One above the runner's last number, or the last again.
@@ -28,7 +28,7 @@ pub struct Done {
 }
 
 /// What the service is asked.
-#[derive(Debug, Drop)]
+#[derive(Drop)]
 pub enum Command {
     /// Admits a run.
     Admit(Prepared),
@@ -43,7 +43,7 @@ impl Command {
         ensures { Gives (λ c. c) result (Ok self.now) }
     {
         match self {
-            Command::Admit(prepared) => Ok(Command::Admit(prepared.copy(alloc)?)),
+            Command::Admit(prepared) => Ok(Command::Admit(prepared.share()?)),
             Command::Claim(claim) => Ok(Command::Claim(claim.copy(alloc)?)),
             Command::Done(done) => Ok(Command::Done(done.copy(alloc)?)),
             Command::Look(run) => Ok(Command::Look(*run)),

@@ -1,8 +1,8 @@
-ghost use Rattle.std.specs.Prelude.{◌≡◌, ◌↔◌, IsTrue, Ok};
+ghost use Rattle.std.specs.Prelude.{◌≡◌, ◌↔◌, [], IsTrue, Ok};
 ghost use Rattle.wf_value.specs.Gives.{Gives};
-ghost use Rattle.wf_reader.specs.Event.{event_faults, event_of};
+ghost use Rattle.wf_reader.specs.Event.{event_of};
 ghost use Rattle.wf_reader.specs.Faults.{unless_faulty};
-ghost use Rattle.run_plan.specs.PlanOf.{plan_of};
+ghost use Rattle.run_plan.specs.PlanOf.{faults_of, plan_of};
 
 use crate::delivery_id::DeliveryId;
 use crate::event_name::EventName;
@@ -10,13 +10,13 @@ use crate::planned::Plan;
 use crate::planning::plan;
 use std::alloc::Global;
 use std::marker::Model;
+use std::sync::Arc;
 use wf_reader::{Event, read_event};
 use wf_value::{Chars, Refusal};
 
-/// An event that is ready to be admitted: the bytes of its body, and beside them what they spell. A
-/// contract sees the delivery, the event's name and the bytes, since the rest follows from them.
-#[derive(Debug, Drop)]
-pub struct Prepared {
+/// An admitted event, and beside its bytes what they spell.
+#[derive(Drop)]
+struct Admission {
     delivery: DeliveryId,
     event: EventName,
     body: Vec<u8>,
@@ -25,80 +25,89 @@ pub struct Prepared {
     plan: Plan,
 }
 
+/// An event that is ready to be admitted. It never changes, and stands in memory once, however often it
+/// is shared. A contract sees the delivery, the event's name and the bytes, since the rest follows from
+/// them.
+#[derive(Drop)]
+pub struct Prepared {
+    admission: Arc<Admission>,
+}
+
 impl Model for Prepared {
-    ghost use Rattle.std.specs.Prelude.{◌≡◌};
+    ghost use Rattle.std.specs.Arc.{arc_value};
+    ghost use Rattle.std.specs.Prelude.{◌≡◌, []};
     ghost use Rattle.wf_reader.specs.Event.{event_of};
     ghost use Rattle.run_plan.specs.Admitted.{Admitted, coded_admitted};
-    ghost use Rattle.run_plan.specs.PlanOf.{plan_of};
+    ghost use Rattle.run_plan.specs.PlanOf.{faults_of, plan_of};
 
     ghost Value = { Admitted };
 
     ghost coded = { coded_admitted };
 
-    ghost view = { λ p. record { delivery = p.delivery; event = p.event; body = p.body.items } };
+    ghost view = { λ p. let a = arc_value p.admission in
+        record { delivery = a.delivery; event = a.event; body = a.body.items } };
 
-    ghost invariant = { λ p. (p.repo ≡ (event_of p.body.items).repo) × (p.path ≡ (event_of p.body.items).path) × (p.plan ≡ plan_of p.body.items) };
+    ghost invariant = { λ p. let a = arc_value p.admission in
+        (faults_of a.body.items ≡ []) × (a.repo ≡ (event_of a.body.items).repo)
+        × (a.path ≡ (event_of a.body.items).path) × (a.plan ≡ plan_of a.body.items) };
 }
 
 impl Prepared {
     pub fn delivery(&self) -> &DeliveryId
         ensures { result.now ≡ self.now.delivery }
     {
-        &self.delivery
+        &self.admission.delivery
     }
 
     pub fn event(&self) -> &EventName
         ensures { result.now ≡ self.now.event }
     {
-        &self.event
+        &self.admission.event
     }
 
-    /// The admitted bytes.
+    /// The admitted bytes, in which nothing is wrong.
     pub fn body(&self) -> &[u8]
-        ensures { result.now ≡ self.now.body }
+        ensures bytes { result.now ≡ self.now.body }
+        ensures faultless { faults_of self.now.body ≡ [] }
     {
-        self.body.as_slice()
+        self.admission.body.as_slice()
     }
 
     /// The repository of the event.
     pub fn repo(&self) -> &Chars
         ensures { result.now ≡ (event_of self.now.body).repo }
     {
-        &self.repo
+        &self.admission.repo
     }
 
     /// The path of the workflow within the repository.
     pub fn path(&self) -> &Chars
         ensures { result.now ≡ (event_of self.now.body).path }
     {
-        &self.path
+        &self.admission.path
     }
 
     /// The plan of the body's workflow.
     pub fn plan(&self) -> &Plan
         ensures { result.now ≡ plan_of self.now.body }
     {
-        &self.plan
+        &self.admission.plan
     }
 
-    pub fn copy(&self, alloc: Global) -> Result<Self, Refusal>
+    /// The same event. It takes no memory: 50 comes only where the event has 2^63 - 1 shares.
+    pub fn share(&self) -> Result<Self, Refusal>
         ensures { Gives (λ p. p) result (Ok self.now) }
     {
         Ok(Prepared {
-            delivery: self.delivery.copy(alloc)?,
-            event: self.event.copy(alloc)?,
-            body: self.body.clone()?,
-            repo: self.repo.copy(alloc)?,
-            path: self.path.copy(alloc)?,
-            plan: self.plan.copy(alloc)?,
+            admission: Arc::try_clone(&self.admission)?,
         })
     }
 
     pub fn same(&self, other: &Prepared) -> bool
         ensures { IsTrue result ↔ (self.now ≡ other.now) }
     {
-        self.delivery.same(&other.delivery)
-            && self.event.same(&other.event)
+        self.delivery().same(other.delivery())
+            && self.event().same(other.event())
             && self.body() == other.body()
     }
 }
@@ -111,7 +120,8 @@ pub fn prepare(
     delivery: DeliveryId,
     body: Vec<u8>,
 ) -> Result<Prepared, Refusal>
-    ensures { Gives (λ p. p) result (unless_faulty (event_faults body.items) (record { delivery = delivery; event = event; body = body.items })) }
+    ensures { Gives (λ p. p) result
+        (unless_faulty (faults_of body.items) (record { delivery = delivery; event = event; body = body.items })) }
 {
     let Event {
         repo,
@@ -119,12 +129,15 @@ pub fn prepare(
         workflow,
     } = read_event(alloc, body.as_slice())?;
     let plan = plan(alloc, &workflow)?;
-    Ok(Prepared {
+    let admission = Admission {
         delivery,
         event,
         body,
         repo,
         path,
         plan,
+    };
+    Ok(Prepared {
+        admission: Arc::new(alloc, admission)?,
     })
 }

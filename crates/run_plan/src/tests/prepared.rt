@@ -12,9 +12,8 @@ fn expect_job(rt: &impl Abort, plan: &Plan, place: usize, id: &str, labels: &[&s
     assert_eq!(rt; job.id.as_str(), id);
     let legs = job.legs.as_slice();
     assert_eq!(rt; legs.len(), 1);
-    let leg = &legs[0];
-    assert_eq!(rt; leg.combo.len(), 0);
-    let found = leg.labels.as_slice();
+    assert_eq!(rt; legs[0].combo.len(), 0);
+    let found = job.labels.as_slice();
     assert_eq!(rt; found.len(), labels.len());
     for (label, want) in found.iter().zip(labels) {
         assert_eq!(rt; label.as_str(), *want);
@@ -23,7 +22,7 @@ fn expect_job(rt: &impl Abort, plan: &Plan, place: usize, id: &str, labels: &[&s
 
 fn prepares(rt: &impl Abort, alloc: Global) -> Result<(), Refusal> {
     let first = ready(alloc, "d1", "push", BODY)?;
-    let copy = first.copy(alloc)?;
+    let copy = first.share()?;
     for event in [&first, &copy] {
         assert_eq!(rt; event.delivery().as_str(), "d1");
         assert_eq!(rt; event.event().as_str(), "push");

@@ -1,21 +1,28 @@
-use Rattle.std.proofs.Common.{◌≡◌, ap, sym, ◌∙◌}
+use Rattle.std.proofs.Common.{◌≡◌, ap, sym, ◌∙◌, refl}
+use Rattle.std.specs.Prelude.{[], ◌++◌}
 use Rattle.std.proofs.lemmas.Result.{err_from_is_err_and}
 use Rattle.wf_reader.specs.declared.event.Event.{Event}
 use Rattle.wf_reader.specs.Event.{event_faults, event_of}
-use Rattle.run_plan.proofs.Faultless.{refused_too, given_too, given}
-use Rattle.run_plan.specs.PlanOf.{workflow_plan}
+use Rattle.run_plan.proofs.Faultless.{refused_too, faultless, given}
+use Rattle.run_plan.specs.PlanOf.{faults_of, plan_faults, workflow_plan}
 use Rattle.run_plan.proofs.prepared.prepare.Goals as goal
 
 pub returns-in_err-repo : goal.returns-in_err-repo
 returns-in_err-repo c =
     let p = err_from_is_err_and c.from_residual.result c.from_residual.ensures.1 in
-    rw (p.1, p.2) (λ h. refused_too (event_faults c.args.body.items) (event_of c.args.body.items) _ c.in_err-repo.field-0.0 (rw c.as_slice.ensures.value at c.in_err-repo.ensures h))
+    rw (p.1, p.2) (λ h. refused_too (event_faults c.args.body.items) (plan_faults (event_of c.args.body.items).workflow) (event_of c.args.body.items) _ c.in_err-repo.field-0.0 (rw c.as_slice.ensures.value at c.in_err-repo.ensures h))
 
 pub invariant_of-result : goal.invariant_of-result
 invariant_of-result c =
-    let read : event_of c.args.body.items ≡ c.in_ok-repo.field-0 = given (event_faults c.args.body.items) _ _ (rw c.as_slice.ensures.value at c.in_ok-repo.ensures) in
+    let told = rw c.as_slice.ensures.value at c.in_ok-repo.ensures in
+    let none : event_faults c.args.body.items ≡ [] = faultless (event_faults c.args.body.items) _ _ told in
+    let read : event_of c.args.body.items ≡ c.in_ok-repo.field-0 = given (event_faults c.args.body.items) _ _ told in
     let planned : workflow_plan c.in_ok-repo.workflow ≡ c.in_ok-plan.plan = cc c.in_ok-plan.ensures in
-    (ap (λ (e : Event). e.repo) (sym read), ap (λ (e : Event). e.path) (sym read), sym planned ∙ ap workflow_plan (sym c.in_ok-repo.workflow-is) ∙ ap (λ (e : Event). workflow_plan e.workflow) (sym read))
+    rw c.in_ok-new.ensures.ok (ap (λ fs. fs ++ []) none, ap (λ (e : Event). e.repo) (sym read), ap (λ (e : Event). e.path) (sym read), sym planned ∙ ap workflow_plan (sym c.in_ok-repo.workflow-is) ∙ ap (λ (e : Event). workflow_plan e.workflow) (sym read))
 
 pub returns : goal.returns
-returns c = given_too (event_faults c.args.body.items) (event_of c.args.body.items) c.in_ok-repo.field-0 _ (rw c.as_slice.ensures.value at c.in_ok-repo.ensures)
+returns c =
+    let told = rw c.as_slice.ensures.value at c.in_ok-repo.ensures in
+    let none : faults_of c.args.body.items ≡ [] = ap (λ fs. fs ++ []) (faultless (event_faults c.args.body.items) _ _ told) in
+    let kept = c.in_ok-new.ensures.ok in
+    rw (none, kept) refl
