@@ -1,10 +1,10 @@
-use Rattle.std.proofs.Common.{ap, sym, ◌∙◌, arith}
+use Rattle.std.proofs.Common.{inr, ap, sym, ◌∙◌, arith}
 use Rattle.serde_json.specs.Read.{read}
 use Rattle.wf_reader.proofs.BodyCases.{no_text, text_read}
 use Rattle.wf_reader.proofs.body.read_body.Goals as goal
 
 pub returns-in_default : goal.returns-in_default
-returns-in_default c = λ _. no_text c.args.bytes.now (omega arith) c.in_default.ensures.cases.0
+returns-in_default c = inr (no_text c.args.bytes.now (omega arith) c.in_default.ensures.cases.0)
 
 pub returns-in-Ok-from_str : goal.returns-in-Ok-from_str
 returns-in-Ok-from_str c =
