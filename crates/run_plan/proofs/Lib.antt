@@ -4,3 +4,4 @@ pub mod Members
 pub mod Numbers
 pub mod Parts
 mod Rows
+pub mod SameCommands

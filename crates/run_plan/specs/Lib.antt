@@ -1,4 +1,5 @@
 pub mod Admitted
+pub mod LastCommand
 pub mod PlanOf
 pub mod ReplyText
 pub mod SmallText

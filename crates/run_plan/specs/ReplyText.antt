@@ -1,11 +1,13 @@
 -- The printed replies.
-use Rattle.std.specs.Prelude.{ℕ, List, [], ◌∷◌, ◌++◌, codes}
+use Rattle.std.specs.Prelude.{ℕ, List, [], ◌∷◌, ◌++◌, Bool, true, false, codes}
 use Rattle.std.specs.Fmt.{decimal}
 use Rattle.serde_json.specs.Data.{Data, null, boolean, number, string, object, Members, no_members, member}
 use Rattle.serde_json.specs.Find.{of_integer}
 use Rattle.serde_json.specs.Written.{compact_text}
 use Rattle.wf_value.specs.declared.scalar.Scalar.{Scalar}
 use Rattle.wf_value.specs.declared.scalar.Scalar.TheVariants.{Null, Truth, Whole, Text}
+use Rattle.wf_value.specs.declared.refusal.Refusal.{Refusal}
+use Rattle.wf_value.specs.declared.refusal.Refusal.TheVariants.{Numbered, Cycle, Turn}
 use Rattle.wf_value.specs.RefusalText.{refusal_text}
 use Rattle.run_plan.specs.declared.reply.Lease.{Lease as Leased}
 use Rattle.run_plan.specs.declared.reply.Reply.{Reply}
@@ -40,3 +42,17 @@ reply_text reply.Nothing = codes "nothing"
 reply_text reply.Ok = codes "ok"
 reply_text (reply.Run view) = view
 reply_text (reply.Refused r) = refusal_text r
+
+-- whether a copy takes memory: only texts do
+abbrev pub refusal_carries_text : Refusal → Bool
+refusal_carries_text (Numbered code) = false
+refusal_carries_text (Cycle ids) = true
+refusal_carries_text (Turn last) = false
+
+abbrev pub carries_text : Reply → Bool
+carries_text (reply.Created run) = false
+carries_text (reply.Lease l) = true
+carries_text reply.Nothing = false
+carries_text reply.Ok = false
+carries_text (reply.Run view) = true
+carries_text (reply.Refused r) = refusal_carries_text r

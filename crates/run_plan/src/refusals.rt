@@ -1,13 +1,15 @@
-ghost use Rattle.std.specs.Prelude.{◌≡◌, ◌↔◌, IsTrue, Ok};
+ghost use Rattle.std.specs.Prelude.{◌≡◌, ◌↔◌, false, IsOk, IsTrue, Ok};
 ghost use Rattle.wf_value.specs.Gives.{Gives};
+ghost use Rattle.run_plan.specs.ReplyText.{refusal_carries_text};
 
 use crate::lists::same_texts;
 use std::alloc::Global;
 use wf_value::{Ids, Refusal};
 
-/// A copy of a refusal.
+/// A copy of a refusal. Only the ids of a cycle take memory.
 pub fn copy_of_refusal(alloc: Global, refusal: &Refusal) -> Result<Refusal, Refusal>
-    ensures { Gives (λ r. r) result (Ok refusal.now) }
+    ensures same { Gives (λ r. r) result (Ok refusal.now) }
+    ensures without_text { refusal_carries_text refusal.now ≡ false → IsOk result }
 {
     match refusal {
         Refusal::Numbered(code) => Ok(Refusal::Numbered(*code)),

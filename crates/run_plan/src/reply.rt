@@ -1,6 +1,6 @@
-ghost use Rattle.std.specs.Prelude.{◌≡◌, ◌↔◌, IfOk, IsTrue, Ok, string_bytes};
+ghost use Rattle.std.specs.Prelude.{◌≡◌, ◌↔◌, false, IfOk, IsOk, IsTrue, Ok, string_bytes};
 ghost use Rattle.wf_value.specs.Gives.{Gives};
-ghost use Rattle.run_plan.specs.ReplyText.{lease_line, lease_text, reply_text};
+ghost use Rattle.run_plan.specs.ReplyText.{carries_text, lease_line, lease_text, reply_text};
 
 use crate::combo_text::text_of_combo;
 use crate::lists::same_pairs;
@@ -21,7 +21,7 @@ pub struct Lease {
 }
 
 impl Lease {
-    fn copy(&self, alloc: Global) -> Result<Self, Refusal>
+    pub fn copy(&self, alloc: Global) -> Result<Self, Refusal>
         ensures { Gives (λ l. l) result (Ok self.now) }
     {
         Ok(Lease {
@@ -90,8 +90,10 @@ pub enum Reply {
 }
 
 impl Reply {
+    /// A copy. Only a text takes memory.
     pub fn copy(&self, alloc: Global) -> Result<Self, Refusal>
-        ensures { Gives (λ r. r) result (Ok self.now) }
+        ensures same { Gives (λ r. r) result (Ok self.now) }
+        ensures without_text { carries_text self.now ≡ false → IsOk result }
     {
         match self {
             Reply::Created(run) => Ok(Reply::Created(*run)),

@@ -1,6 +1,6 @@
 use Rattle.std.proofs.Common.{◌≡◌, ap, sym, ◌∙◌, refl}
 use Rattle.std.specs.Prelude.{[], ◌++◌}
-use Rattle.std.proofs.lemmas.Result.{err_from_is_err_and}
+use Rattle.wf_value.proofs.PassedOn.{passed_on}
 use Rattle.wf_reader.specs.declared.event.Event.{Event}
 use Rattle.wf_reader.specs.Event.{event_faults, event_of}
 use Rattle.run_plan.proofs.Faultless.{refused_too, faultless, given}
@@ -9,8 +9,7 @@ use Rattle.run_plan.proofs.prepared.prepare.Goals as goal
 
 pub returns-in_err-repo : goal.returns-in_err-repo
 returns-in_err-repo c =
-    let p = err_from_is_err_and c.from_residual.result c.from_residual.ensures.1 in
-    rw (p.1, p.2) (λ h. refused_too (event_faults c.args.body.items) (plan_faults (event_of c.args.body.items).workflow) (event_of c.args.body.items) _ c.in_err-repo.field-0.0 (rw c.as_slice.ensures.value at c.in_err-repo.ensures h))
+    passed_on _ _ _ _ c.in_err-repo.field-0.0 c.from_residual.ensures.1 (rw c.as_slice.ensures.value at c.in_err-repo.ensures) (λ refused. refused_too (event_faults c.args.body.items) (plan_faults (event_of c.args.body.items).workflow) (event_of c.args.body.items) _ c.in_err-repo.field-0.0 refused)
 
 pub invariant_of-result : goal.invariant_of-result
 invariant_of-result c =

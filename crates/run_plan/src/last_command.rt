@@ -1,0 +1,80 @@
+ghost use Rattle.std.specs.Prelude.{◌≡◌, Ok, IsOk, false};
+ghost use Rattle.wf_value.specs.Gives.{Gives};
+ghost use Rattle.run_plan.specs.LastCommand.{is_last_claim, is_last_report, kept_reply};
+ghost use Rattle.run_plan.specs.ReplyText.{carries_text};
+
+use crate::command::{Claim, Done};
+use crate::reply::{Lease, Reply};
+use std::alloc::Global;
+use wf_value::Refusal;
+
+/// The reply to a claim that was in its turn.
+#[derive(Drop)]
+pub enum ClaimReply {
+    Nothing,
+    Lease(Lease),
+}
+
+/// The last numbered command of a runner, and the reply to it, which a repetition gets again.
+#[derive(Drop)]
+pub enum LastCommand {
+    Claim(Claim, ClaimReply),
+    /// A report, whose reply is `ok`.
+    Done(Done),
+}
+
+impl ClaimReply {
+    pub fn copy(&self, alloc: Global) -> Result<Self, Refusal>
+        ensures { Gives (λ r. r) result (Ok self.now) }
+    {
+        match self {
+            ClaimReply::Nothing => Ok(ClaimReply::Nothing),
+            ClaimReply::Lease(lease) => Ok(ClaimReply::Lease(lease.copy(alloc)?)),
+        }
+    }
+}
+
+impl LastCommand {
+    pub fn copy(&self, alloc: Global) -> Result<Self, Refusal>
+        ensures { Gives (λ c. c) result (Ok self.now) }
+    {
+        match self {
+            LastCommand::Claim(claim, reply) => {
+                Ok(LastCommand::Claim(claim.copy(alloc)?, reply.copy(alloc)?))
+            }
+            LastCommand::Done(done) => Ok(LastCommand::Done(done.copy(alloc)?)),
+        }
+    }
+
+    /// A copy of the reply that is kept. Only a lease takes memory.
+    pub fn reply(&self, alloc: Global) -> Result<Reply, Refusal>
+        ensures kept { Gives (λ r. r) result (Ok (kept_reply self.now)) }
+        ensures without_text { carries_text (kept_reply self.now) ≡ false → IsOk result }
+    {
+        match self {
+            LastCommand::Claim(_, ClaimReply::Nothing) => Ok(Reply::Nothing),
+            LastCommand::Claim(_, ClaimReply::Lease(lease)) => Ok(Reply::Lease(lease.copy(alloc)?)),
+            LastCommand::Done(_) => Ok(Reply::Ok),
+        }
+    }
+
+    /// Whether it is this claim.
+    pub fn is_claim(&self, claim: &Claim) -> bool
+        ensures { result ≡ is_last_claim claim.now self.now }
+    {
+        match self {
+            LastCommand::Claim(last, _) => last.same(claim),
+            LastCommand::Done(_) => false,
+        }
+    }
+
+    /// Whether it is this report.
+    pub fn is_report(&self, done: &Done) -> bool
+        ensures { result ≡ is_last_report done.now self.now }
+    {
+        match self {
+            LastCommand::Claim(_, _) => false,
+            LastCommand::Done(last) => last.same(done),
+        }
+    }
+}
