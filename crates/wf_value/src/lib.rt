@@ -21,6 +21,3 @@ pub use matrix::{Matrix, Variable};
 pub use outcome::{JobResult, Outcome};
 pub use refusal::Refusal;
 pub use scalar::Scalar;
-
-#[cfg(test)]
-mod tests;
