@@ -21,3 +21,10 @@ scalar_text (Truth true) = codes "true"
 scalar_text (Truth false) = codes "false"
 scalar_text (Whole n) = signed_decimal n
 scalar_text (Text t) = t
+
+-- the text that a scalar holds, and the empty one where it holds none
+abbrev pub text_held : Scalar → List ℕ
+text_held Null = []
+text_held (Truth b) = []
+text_held (Whole n) = []
+text_held (Text t) = t
