@@ -17,8 +17,3 @@ pub use graph::Graph;
 pub use id_order::ids_rise;
 pub use job_needs::JobNeeds;
 pub use results::{LegEnd, conclude, gather};
-
-#[cfg(test)]
-mod graph_tests;
-#[cfg(test)]
-mod tests;

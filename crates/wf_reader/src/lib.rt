@@ -9,8 +9,6 @@ mod fields;
 mod job;
 mod jobs;
 mod labels;
-#[cfg(test)]
-mod tests;
 mod texts;
 mod workflow;
 

@@ -6,7 +6,7 @@ use crate::chars::Chars;
 use crate::refusal::Refusal;
 use crate::same::{Same, same_items};
 use crate::scalar::Scalar;
-use crate::try_copy::TryCopy;
+use crate::try_copy::{TryCopy, copy_items};
 use std::alloc::Global;
 use std::marker::Model;
 
@@ -114,11 +114,9 @@ impl TryCopy for Combo {
         ensures gives { Gives (λ c. c) result (Ok self.now) }
         ensures answers { self.now ≡ [] → result ≡ Ok [] }
     {
-        let mut pairs = Vec::with_capacity(alloc, self.pairs.len())?;
-        for pair in self.pairs.as_slice() {
-            pairs.push(TryCopy::copy(pair, alloc)?)?;
-        }
-        Ok(Combo { pairs })
+        Ok(Combo {
+            pairs: copy_items(alloc, self.as_slice())?,
+        })
     }
 }
 

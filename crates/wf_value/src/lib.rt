@@ -28,6 +28,3 @@ pub use try_copy::TryCopy;
 
 /// The ids of jobs, in order.
 pub type Ids = Sequence<Chars>;
-
-#[cfg(test)]
-mod tests;

@@ -3,7 +3,7 @@ ghost use Rattle.wf_value.specs.Gives.{Gives};
 
 use crate::refusal::Refusal;
 use crate::same::{Same, same_items};
-use crate::try_copy::TryCopy;
+use crate::try_copy::{TryCopy, copy_items};
 use std::alloc::Global;
 use std::marker::Model;
 
@@ -62,11 +62,7 @@ impl<T: TryCopy + Drop> TryCopy for Sequence<T> {
         ensures gives { Gives (λ s. s) result (Ok self.now) }
         ensures answers { self.now ≡ [] → result ≡ Ok [] }
     {
-        let mut copies = Vec::with_capacity(alloc, self.len())?;
-        for item in self.as_slice() {
-            copies.push(item.copy(alloc)?)?;
-        }
-        Ok(Sequence::new(copies))
+        Ok(Sequence::new(copy_items(alloc, self.as_slice())?))
     }
 }
 
