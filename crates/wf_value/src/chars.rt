@@ -1,4 +1,5 @@
 ghost use Rattle.std.specs.Prelude.{◌≡◌, ◌↔◌, [], IsTrue, Ok, string_bytes};
+ghost use Rattle.std.specs.Str.{bytes_eq};
 ghost use Rattle.wf_value.specs.Gives.{Gives};
 
 use crate::refusal::Refusal;
@@ -79,7 +80,11 @@ impl TryCopy for Chars {
 }
 
 impl Same for Chars {
-    fn same(&self, other: &Self) -> bool {
+    /// Whether both are the same bytes.
+    fn same(&self, other: &Self) -> bool
+        ensures equal { IsTrue result ↔ (self.now ≡ other.now) }
+        ensures test { result ≡ bytes_eq self.now other.now }
+    {
         self.as_str() == other.as_str()
     }
 }

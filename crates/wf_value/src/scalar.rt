@@ -88,8 +88,13 @@ impl TryCopy for Scalar {
 }
 
 impl Same for Scalar {
+    ghost use Rattle.wf_value.specs.ScalarValue.{same_scalar};
+
     /// Whether kind and value are the same.
-    fn same(&self, other: &Self) -> bool {
+    fn same(&self, other: &Self) -> bool
+        ensures equal { IsTrue result ↔ (self.now ≡ other.now) }
+        ensures test { result ≡ same_scalar self.now other.now }
+    {
         match (self, other) {
             (Scalar::Null, Scalar::Null) => true,
             (Scalar::Truth(a), Scalar::Truth(b)) => *a == *b,
