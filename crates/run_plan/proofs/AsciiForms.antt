@@ -1,33 +1,17 @@
 -- Texts whose bytes are all of a kind below 128 are UTF-8.
-use Rattle.std.specs.Prelude.{◌≡◌, ℕ, zero, suc, ◌<◌, ◌&&◌, List, [], ◌∷◌, Bool, true, false, refl, slice_index}
+use Rattle.std.specs.Prelude.{◌≡◌, ℕ, zero, suc, ◌<◌, List, [], ◌∷◌, Bool, true, slice_index}
 use Rattle.std.specs.List.{list_all}
 use Rattle.std.specs.Str.{IsUtf8}
 use Rattle.std.proofs.Common.{arith}
-use Rattle.std.proofs.lemmas.Grind.{common_steps}
+use Rattle.std.proofs.lemmas.Bool.{and_parts}
 use Rattle.std.proofs.lemmas.Str.{IsUtf8-from_ascii}
-use Rattle.run_plan.specs.SmallText.{is_of_short_length, is_short, is_delivery_byte, is_event_byte, is_runner_byte, is_label_byte}
-
-pub and_true : (a b : Bool) → (a && b) ≡ true → (a ≡ true) × (b ≡ true)
-and_true true b h = (refl, h)
-and_true false b h = absurd (cc)
+use Rattle.run_plan.specs.SmallText.{is_of_short_length, is_short}
 
 ascii_at : (kind : ℕ → Bool) → ((b : ℕ) → kind b ≡ true → b < 128) → (bs : List ℕ) → list_all kind bs ≡ true → (i : ℕ) → slice_index bs i < 128
 ascii_at kind small [] h i = omega arith
-ascii_at kind small (b ∷ bs) h zero = small b (and_true (kind b) (list_all kind bs) h).0
-ascii_at kind small (b ∷ bs) h (suc i) = ascii_at kind small bs (and_true (kind b) (list_all kind bs) h).1 i
+ascii_at kind small (b ∷ bs) h zero = small b (and_parts (kind b) (list_all kind bs) h).0
+ascii_at kind small (b ∷ bs) h (suc i) = ascii_at kind small bs (and_parts (kind b) (list_all kind bs) h).1 i
 
 -- a short text of a kind below 128
 pub utf8_of_short : (kind : ℕ → Bool) → ((b : ℕ) → kind b ≡ true → b < 128) → (bs : List ℕ) → is_short kind bs ≡ true → IsUtf8 bs
-utf8_of_short kind small bs h = IsUtf8-from_ascii bs (ascii_at kind small bs (and_true (is_of_short_length bs) (list_all kind bs) h).1)
-
-pub is_delivery_byte_small : (b : ℕ) → is_delivery_byte b ≡ true → b < 128
-is_delivery_byte_small b h = grind (arith, common_steps)
-
-pub is_event_byte_small : (b : ℕ) → is_event_byte b ≡ true → b < 128
-is_event_byte_small b h = grind (arith, common_steps)
-
-pub is_runner_byte_small : (b : ℕ) → is_runner_byte b ≡ true → b < 128
-is_runner_byte_small b h = grind (arith, common_steps)
-
-pub is_label_byte_small : (b : ℕ) → is_label_byte b ≡ true → b < 128
-is_label_byte_small b h = grind (arith, common_steps)
+utf8_of_short kind small bs h = IsUtf8-from_ascii bs (ascii_at kind small bs (and_parts (is_of_short_length bs) (list_all kind bs) h).1)

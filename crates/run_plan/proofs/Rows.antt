@@ -9,35 +9,35 @@ use Rattle.wf_value.specs.declared.scalar.Scalar.TheVariants.{Null, Truth, Whole
 use Rattle.run_plan.specs.declared.reply.Reply.TheVariants as reply
 use Rattle.run_plan.specs.PlanOf.{plan_of, workflow_plan}
 use Rattle.run_plan.specs.ReplyText.{combo_text, reply_text}
-use Rattle.run_plan.specs.SmallText.{delivery_of, event_of, labels_of, number_of, runner_of}
+use Rattle.run_plan.specs.SmallText.{delivery_id_of, event_name_of, label_list_of, number_of, runner_name_of}
 
 -- ---- small texts
 
-delivery : delivery_of (codes "d1") ≡ Some (codes "d1")
+delivery : delivery_id_of (codes "d1") ≡ Some (codes "d1")
 delivery = refl
 
-no_delivery : delivery_of (codes "d_1") ≡ None
+no_delivery : delivery_id_of (codes "d_1") ≡ None
 no_delivery = refl
 
-event : event_of (codes "push") ≡ Some (codes "push")
+event : event_name_of (codes "push") ≡ Some (codes "push")
 event = refl
 
-no_event : event_of (codes "Push") ≡ None
+no_event : event_name_of (codes "Push") ≡ None
 no_event = refl
 
-runner : runner_of (codes "r-1.x_Y") ≡ Some (codes "r-1.x_Y")
+runner : runner_name_of (codes "r-1.x_Y") ≡ Some (codes "r-1.x_Y")
 runner = refl
 
-no_runner : runner_of [] ≡ None
+no_runner : runner_name_of [] ≡ None
 no_runner = refl
 
-labels : labels_of (codes "X64,linux") ≡ Some (codes "X64" ∷ codes "linux" ∷ [])
+labels : label_list_of (codes "X64,linux") ≡ Some (codes "X64" ∷ codes "linux" ∷ [])
 labels = refl
 
-empty_label : labels_of (codes "X64,") ≡ None
+empty_label : label_list_of (codes "X64,") ≡ None
 empty_label = refl
 
-label_with_space : labels_of (codes "X64, linux") ≡ None
+label_with_space : label_list_of (codes "X64, linux") ≡ None
 label_with_space = refl
 
 last_number : number_of (codes "999999999") ≡ Some 999999999

@@ -6,7 +6,6 @@ use Rattle.serde_json.specs.Find.{of_integer}
 use Rattle.serde_json.specs.Written.{compact_text}
 use Rattle.wf_value.specs.declared.scalar.Scalar.{Scalar}
 use Rattle.wf_value.specs.declared.scalar.Scalar.TheVariants.{Null, Truth, Whole, Text}
-use Rattle.wf_value.specs.declared.refusal.Refusal.{Refusal}
 use Rattle.wf_value.specs.declared.refusal.Refusal.TheVariants.{Numbered, Cycle, Turn}
 use Rattle.wf_value.specs.RefusalText.{refusal_text}
 use Rattle.run_plan.specs.declared.reply.Lease.{Lease as Leased}
@@ -44,15 +43,12 @@ reply_text (reply.Run view) = view
 reply_text (reply.Refused r) = refusal_text r
 
 -- whether a copy takes memory: only texts do
-abbrev pub refusal_carries_text : Refusal → Bool
-refusal_carries_text (Numbered code) = false
-refusal_carries_text (Cycle ids) = true
-refusal_carries_text (Turn last) = false
-
 abbrev pub carries_text : Reply → Bool
 carries_text (reply.Created run) = false
 carries_text (reply.Lease l) = true
 carries_text reply.Nothing = false
 carries_text reply.Ok = false
 carries_text (reply.Run view) = true
-carries_text (reply.Refused r) = refusal_carries_text r
+carries_text (reply.Refused (Numbered code)) = false
+carries_text (reply.Refused (Cycle ids)) = true
+carries_text (reply.Refused (Turn last)) = false

@@ -31,21 +31,29 @@ is_label_byte b = is_ascii_graphic b && not (b == 44)
 abbrev pub found_if : {X : Type 0} → Bool → X → Option X
 found_if test x = if test then Some x else None
 
-abbrev pub delivery_of : List ℕ → Option (List ℕ)
-delivery_of text = found_if (is_short is_delivery_byte text) text
+-- the text, where it is 1 to 64 bytes of a kind
+abbrev pub short_text_of : (ℕ → Bool) → List ℕ → Option (List ℕ)
+short_text_of kind text = found_if (is_short kind text) text
 
-abbrev pub event_of : List ℕ → Option (List ℕ)
-event_of text = found_if (is_short is_event_byte text) text
+abbrev pub delivery_id_of : List ℕ → Option (List ℕ)
+delivery_id_of = short_text_of is_delivery_byte
 
-abbrev pub runner_of : List ℕ → Option (List ℕ)
-runner_of text = found_if (is_short is_runner_byte text) text
+abbrev pub event_name_of : List ℕ → Option (List ℕ)
+event_name_of = short_text_of is_event_byte
 
+abbrev pub runner_name_of : List ℕ → Option (List ℕ)
+runner_name_of = short_text_of is_runner_byte
+
+-- 1 to 16 labels
 abbrev pub are_labels : List (List ℕ) → Bool
-are_labels labels = nat_le (length labels) 16 && list_all (is_short is_label_byte) labels
+are_labels labels = nat_le 1 (length labels) && nat_le (length labels) 16 && list_all (is_short is_label_byte) labels
 
--- 1 to 16 labels, joined by commas
-abbrev pub labels_of : List ℕ → Option (List (List ℕ))
-labels_of text = let labels = slice_split (λ b. b == 44) text in found_if (are_labels labels) labels
+abbrev pub split_at_commas : List ℕ → List (List ℕ)
+split_at_commas = slice_split (λ b. b == 44)
+
+-- labels, joined by commas
+abbrev pub label_list_of : List ℕ → Option (List (List ℕ))
+label_list_of text = found_if (are_labels (split_at_commas text)) (split_at_commas text)
 
 -- whether the text is one to nine decimal digits, the first not 0
 abbrev pub is_number : List ℕ → Bool
@@ -53,4 +61,4 @@ is_number text = nat_le 1 (length text) && nat_le (length text) 9 && list_all is
 
 -- decimal, 1 to 999999999, no leading zero
 abbrev pub number_of : List ℕ → Option ℕ
-number_of text = found_if (is_number text && nat_le 1 (digits_value 10 text)) (digits_value 10 text)
+number_of text = found_if (is_number text) (digits_value 10 text)

@@ -1,12 +1,9 @@
-ghost use Rattle.std.specs.Prelude.{◌≡◌, ◌↔◌, IsTrue, Ok};
-ghost use Rattle.wf_value.specs.Gives.{Gives};
-
 use crate::labels::Labels;
 use crate::number::Number;
 use crate::prepared::Prepared;
-use crate::runner_name::RunnerName;
+use crate::small_text::RunnerName;
 use std::alloc::Global;
-use wf_value::{Outcome, Refusal};
+use wf_value::{Outcome, Refusal, Same, TryCopy};
 
 /// A runner asks for a leg to run.
 #[derive(Drop)]
@@ -38,10 +35,8 @@ pub enum Command {
     Look(Number),
 }
 
-impl Command {
-    pub fn copy(&self, alloc: Global) -> Result<Self, Refusal>
-        ensures { Gives (λ c. c) result (Ok self.now) }
-    {
+impl TryCopy for Command {
+    fn copy(&self, alloc: Global) -> Result<Self, Refusal> {
         match self {
             Command::Admit(prepared) => Ok(Command::Admit(prepared.share()?)),
             Command::Claim(claim) => Ok(Command::Claim(claim.copy(alloc)?)),
@@ -49,44 +44,40 @@ impl Command {
             Command::Look(run) => Ok(Command::Look(*run)),
         }
     }
+}
 
-    pub fn same(&self, other: &Command) -> bool
-        ensures { IsTrue result ↔ (self.now ≡ other.now) }
-    {
+impl Same for Command {
+    fn same(&self, other: &Self) -> bool {
         match (self, other) {
-            (Command::Admit(a), Command::Admit(b)) => a.same(b),
-            (Command::Claim(a), Command::Claim(b)) => a.same(b),
-            (Command::Done(a), Command::Done(b)) => a.same(b),
-            (Command::Look(a), Command::Look(b)) => *a == *b,
+            (Command::Admit(one), Command::Admit(other)) => one.same(other),
+            (Command::Claim(one), Command::Claim(other)) => one.same(other),
+            (Command::Done(one), Command::Done(other)) => one.same(other),
+            (Command::Look(one), Command::Look(other)) => *one == *other,
             _ => false,
         }
     }
 }
 
-impl Claim {
-    pub fn copy(&self, alloc: Global) -> Result<Self, Refusal>
-        ensures { Gives (λ c. c) result (Ok self.now) }
-    {
+impl TryCopy for Claim {
+    fn copy(&self, alloc: Global) -> Result<Self, Refusal> {
         Ok(Claim {
             runner: self.runner.copy(alloc)?,
             number: self.number,
             labels: self.labels.copy(alloc)?,
         })
     }
+}
 
-    pub fn same(&self, other: &Claim) -> bool
-        ensures { IsTrue result ↔ (self.now ≡ other.now) }
-    {
+impl Same for Claim {
+    fn same(&self, other: &Self) -> bool {
         self.runner.same(&other.runner)
             && self.number == other.number
             && self.labels.same(&other.labels)
     }
 }
 
-impl Done {
-    pub fn copy(&self, alloc: Global) -> Result<Self, Refusal>
-        ensures { Gives (λ d. d) result (Ok self.now) }
-    {
+impl TryCopy for Done {
+    fn copy(&self, alloc: Global) -> Result<Self, Refusal> {
         Ok(Done {
             runner: self.runner.copy(alloc)?,
             number: self.number,
@@ -94,10 +85,10 @@ impl Done {
             result: self.result,
         })
     }
+}
 
-    pub fn same(&self, other: &Done) -> bool
-        ensures { IsTrue result ↔ (self.now ≡ other.now) }
-    {
+impl Same for Done {
+    fn same(&self, other: &Self) -> bool {
         self.runner.same(&other.runner)
             && self.number == other.number
             && self.lease == other.lease

@@ -1,112 +1,97 @@
-ghost use Rattle.std.specs.Prelude.{◌≡◌, ◌↔◌, ◌==◌, IsTrue, IfOk, Ok, map};
-ghost use Rattle.std.specs.List.{list_all, slice_split};
+ghost use Rattle.std.specs.Prelude.{◌≡◌, false, length, nat_le, IsTrue, Ok, None};
+ghost use Rattle.std.specs.List.{list_all};
 ghost use Rattle.wf_value.specs.Gives.{Gives};
-ghost use Rattle.run_plan.specs.SmallText.{are_labels, is_short, is_label_byte, labels_of};
+ghost use Rattle.run_plan.specs.SmallText.{are_labels, is_short, is_label_byte, label_list_of, split_at_commas};
 
-use crate::lists::same_texts;
-use crate::small_text::{is_of_short_length, text_of};
-use std::alloc::{AllocError, Global};
+use crate::small_text::Label;
+use std::alloc::Global;
 use std::marker::Model;
-use wf_reader::Texts;
-use wf_value::{Chars, Refusal};
+use wf_value::{Refusal, Same, Sequence, TryCopy};
 
 /// How many labels a runner has at most.
 const MOST: usize = 16;
 
-/// The labels of a runner: 1 to 16, each of 1 to 64 printed ASCII bytes without the space and the comma.
+/// The labels of a runner: 1 to 16.
 /// GitHub Docs, "Using self-hosted runners in a workflow".
-#[derive(Debug, Drop)]
+#[derive(Drop)]
 pub struct Labels {
-    labels: Texts,
+    labels: Sequence<Label>,
 }
 
 impl Model for Labels {
-    ghost use Rattle.std.specs.Prelude.{List, ℕ};
+    ghost use Rattle.std.specs.Prelude.{List, ℕ, IsTrue};
+    ghost use Rattle.run_plan.specs.SmallText.{are_labels};
 
     ghost Value = { List (List ℕ) };
 
     ghost view = { λ l. l.labels };
-}
 
-fn is_label_byte(b: u8) -> bool
-    ensures { result ≡ is_label_byte b }
-{
-    b.is_ascii_graphic() && b != b','
-}
-
-fn are_label_bytes(text: &[u8]) -> bool
-    ensures { result ≡ list_all is_label_byte text.now }
-{
-    text.iter().all(|b| is_label_byte(*b))
-}
-
-fn is_label(text: &[u8]) -> bool
-    ensures { result ≡ is_short is_label_byte text.now }
-{
-    is_of_short_length(text) && are_label_bytes(text)
-}
-
-fn parts_of(alloc: Global, text: &[u8]) -> Result<Vec<&[u8]>, AllocError>
-    ensures { IfOk result
-        (λ parts. map (λ p. p.now) parts.items ≡ slice_split (λ b. b == 44) text.now) }
-{
-    text.split(|b| *b == b',').collect(alloc)
-}
-
-fn each_is_label(parts: &[&[u8]]) -> bool
-    ensures { result ≡ list_all (λ p. is_short is_label_byte p.now) parts.now }
-{
-    parts.iter().all(|part| is_label(part))
-}
-
-fn are_labels(parts: &[&[u8]]) -> bool
-    ensures { result ≡ are_labels (map (λ p. p.now) parts.now) }
-{
-    parts.len() <= MOST && each_is_label(parts)
-}
-
-fn copied(alloc: Global, parts: &[&[u8]]) -> Result<Texts, Refusal>
-    requires { IsTrue (are_labels (map (λ p. p.now) parts.now)) }
-    ensures { Gives (λ t. t) result (Ok (map (λ p. p.now) parts.now)) }
-{
-    let mut labels = Vec::new(alloc);
-    for part in parts {
-        labels.push(text_of(alloc, part)?)?;
-    }
-    Ok(Texts::new(labels))
+    ghost invariant = { λ l. IsTrue (are_labels l.labels) };
 }
 
 impl Labels {
-    /// The labels that the bytes are, joined by commas, or `None` where they are none.
+    /// The labels that the bytes are, joined by commas, or `None` where they are none, memory or not.
     pub fn of(alloc: Global, text: &[u8]) -> Result<Option<Self>, Refusal>
-        ensures { Gives (λ l. l) result (Ok (labels_of text.now)) }
+        ensures gives { Gives (λ l. l) result (Ok (label_list_of text.now)) }
+        ensures answers { are_labels (split_at_commas text.now) ≡ false → result ≡ Ok None }
     {
-        let parts = parts_of(alloc, text)?;
-        if !are_labels(&parts) {
+        if !are_labels(text) {
             return Ok(None);
         }
-        let labels = copied(alloc, &parts)?;
-        Ok(Some(Labels { labels }))
+        let labels = labels_of_parts(alloc, text)?;
+        Ok(Some(Labels {
+            labels: Sequence::new(labels),
+        }))
     }
 
-    pub fn as_slice(&self) -> &[Chars]
-        ensures { result.now ≡ self.now }
+    pub fn as_slice(&self) -> &[Label]
+        ensures labels { result.now ≡ self.now }
+        ensures form { IsTrue (are_labels self.now) }
     {
         self.labels.as_slice()
     }
+}
 
-    pub fn copy(&self, alloc: Global) -> Result<Self, Refusal>
-        ensures { Gives (λ l. l) result (Ok self.now) }
-    {
+impl TryCopy for Labels {
+    fn copy(&self, alloc: Global) -> Result<Self, Refusal> {
         Ok(Labels {
             labels: self.labels.copy(alloc)?,
         })
     }
+}
 
-    /// Whether both are the same texts in the same order.
-    pub fn same(&self, other: &Labels) -> bool
-        ensures { IsTrue result ↔ (self.now ≡ other.now) }
-    {
-        same_texts(self.as_slice(), other.as_slice())
+impl Same for Labels {
+    fn same(&self, other: &Self) -> bool {
+        self.labels.same(&other.labels)
     }
+}
+
+fn are_few(text: &[u8]) -> bool
+    ensures { result ≡ nat_le (length (split_at_commas text.now)) 16 }
+{
+    text.split(|b| *b == b',').count() <= MOST
+}
+
+fn each_is_label(text: &[u8]) -> bool
+    ensures { result ≡ list_all (is_short is_label_byte) (split_at_commas text.now) }
+{
+    text.split(|b| *b == b',')
+        .all(|part| Label::is_of_form(part))
+}
+
+fn are_labels(text: &[u8]) -> bool
+    ensures { result ≡ are_labels (split_at_commas text.now) }
+{
+    are_few(text) && each_is_label(text)
+}
+
+fn labels_of_parts(alloc: Global, text: &[u8]) -> Result<Vec<Label>, Refusal>
+    requires { IsTrue (are_labels (split_at_commas text.now)) }
+    ensures { Gives (λ v. v.items) result (Ok (split_at_commas text.now)) }
+{
+    let mut labels = Vec::new(alloc);
+    for part in text.split(|b| *b == b',') {
+        labels.push(Label::copy_of(alloc, part)?)?;
+    }
+    Ok(labels)
 }

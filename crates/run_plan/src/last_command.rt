@@ -1,4 +1,4 @@
-ghost use Rattle.std.specs.Prelude.{◌≡◌, Ok, IsOk, false};
+ghost use Rattle.std.specs.Prelude.{◌≡◌, Ok, false};
 ghost use Rattle.wf_value.specs.Gives.{Gives};
 ghost use Rattle.run_plan.specs.LastCommand.{is_last_claim, is_last_report, kept_reply};
 ghost use Rattle.run_plan.specs.ReplyText.{carries_text};
@@ -6,7 +6,7 @@ ghost use Rattle.run_plan.specs.ReplyText.{carries_text};
 use crate::command::{Claim, Done};
 use crate::reply::{Lease, Reply};
 use std::alloc::Global;
-use wf_value::Refusal;
+use wf_value::{Refusal, Same, TryCopy};
 
 /// The reply to a claim that was in its turn.
 #[derive(Drop)]
@@ -23,10 +23,8 @@ pub enum LastCommand {
     Done(Done),
 }
 
-impl ClaimReply {
-    pub fn copy(&self, alloc: Global) -> Result<Self, Refusal>
-        ensures { Gives (λ r. r) result (Ok self.now) }
-    {
+impl TryCopy for ClaimReply {
+    fn copy(&self, alloc: Global) -> Result<Self, Refusal> {
         match self {
             ClaimReply::Nothing => Ok(ClaimReply::Nothing),
             ClaimReply::Lease(lease) => Ok(ClaimReply::Lease(lease.copy(alloc)?)),
@@ -34,10 +32,8 @@ impl ClaimReply {
     }
 }
 
-impl LastCommand {
-    pub fn copy(&self, alloc: Global) -> Result<Self, Refusal>
-        ensures { Gives (λ c. c) result (Ok self.now) }
-    {
+impl TryCopy for LastCommand {
+    fn copy(&self, alloc: Global) -> Result<Self, Refusal> {
         match self {
             LastCommand::Claim(claim, reply) => {
                 Ok(LastCommand::Claim(claim.copy(alloc)?, reply.copy(alloc)?))
@@ -45,11 +41,13 @@ impl LastCommand {
             LastCommand::Done(done) => Ok(LastCommand::Done(done.copy(alloc)?)),
         }
     }
+}
 
+impl LastCommand {
     /// A copy of the reply that is kept. Only a lease takes memory.
     pub fn reply(&self, alloc: Global) -> Result<Reply, Refusal>
-        ensures kept { Gives (λ r. r) result (Ok (kept_reply self.now)) }
-        ensures without_text { carries_text (kept_reply self.now) ≡ false → IsOk result }
+        ensures gives { Gives (λ r. r) result (Ok (kept_reply self.now)) }
+        ensures answers { carries_text (kept_reply self.now) ≡ false → result ≡ Ok (kept_reply self.now) }
     {
         match self {
             LastCommand::Claim(_, ClaimReply::Nothing) => Ok(Reply::Nothing),

@@ -3,28 +3,23 @@
 
 mod combo_text;
 mod command;
-mod delivery_id;
-mod event_name;
+mod form;
 mod labels;
 mod last_command;
-mod lists;
 mod number;
 mod planned;
 mod planning;
 mod prepared;
-mod refusals;
 mod reply;
-mod runner_name;
 mod small_text;
 
 pub use command::{Claim, Command, Done};
-pub use delivery_id::DeliveryId;
-pub use event_name::EventName;
+pub use form::{DeliveryForm, EventForm, Form, LabelForm, RunnerForm};
 pub use labels::Labels;
 pub use last_command::{ClaimReply, LastCommand};
 pub use number::Number;
-pub use planned::{Plan, PlannedJob, PlannedLeg, PlannedLegs};
+pub use planned::{Plan, PlannedJob, PlannedLeg};
 pub use planning::plan;
 pub use prepared::{Prepared, prepare};
 pub use reply::{Lease, Reply};
-pub use runner_name::RunnerName;
+pub use small_text::{DeliveryId, EventName, Label, RunnerName, SmallText};

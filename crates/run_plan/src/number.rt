@@ -48,11 +48,7 @@ impl Number {
         if !is_number(text) {
             return None;
         }
-        let value = value_of(text);
-        if value == 0 {
-            return None;
-        }
-        Some(Number::new(value))
+        Some(Number::new(value_of(text)))
     }
 }
 
@@ -71,6 +67,7 @@ fn are_digits(text: &[u8]) -> bool
 fn value_of(digits: &[u8]) -> u32
     requires { IsTrue (is_number digits.now) }
     ensures value { result ≡ digits_value 10 digits.now }
+    ensures least { 1 ≤ result }
     ensures most { result ≤ 999999999 }
 {
     let mut value = 0;

@@ -3,10 +3,10 @@ ghost use Rattle.wf_value.specs.Gives.{Gives};
 ghost use Rattle.wf_reader.specs.Faults.{unless_faulty};
 ghost use Rattle.run_plan.specs.PlanOf.{plan_faults, planned_job, workflow_plan};
 
-use crate::planned::{Plan, PlannedJob, PlannedLeg, PlannedLegs};
+use crate::planned::{Plan, PlannedJob, PlannedLeg};
 use std::alloc::Global;
 use wf_reader::{Job, Workflow};
-use wf_value::{Combo, Refusal};
+use wf_value::{Combo, Refusal, Sequence, TryCopy};
 
 /// The plan of a workflow: one leg for each job. Want of memory is 50.
 pub fn plan(alloc: Global, workflow: &Workflow) -> Result<Plan, Refusal>
@@ -16,7 +16,7 @@ pub fn plan(alloc: Global, workflow: &Workflow) -> Result<Plan, Refusal>
     for job in workflow.jobs.as_slice() {
         jobs.push(planned_job(alloc, job)?)?;
     }
-    Ok(Plan::new(jobs))
+    Ok(Sequence::new(jobs))
 }
 
 fn planned_job(alloc: Global, job: &Job) -> Result<PlannedJob, Refusal>
@@ -29,6 +29,6 @@ fn planned_job(alloc: Global, job: &Job) -> Result<PlannedJob, Refusal>
     Ok(PlannedJob {
         id: job.id.copy(alloc)?,
         labels: job.labels.copy(alloc)?,
-        legs: PlannedLegs::new(legs),
+        legs: Sequence::new(legs),
     })
 }

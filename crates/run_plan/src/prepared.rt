@@ -1,18 +1,17 @@
-ghost use Rattle.std.specs.Prelude.{◌≡◌, ◌↔◌, [], IsTrue, Ok};
+ghost use Rattle.std.specs.Prelude.{◌≡◌, [], Ok};
 ghost use Rattle.wf_value.specs.Gives.{Gives};
 ghost use Rattle.wf_reader.specs.Event.{event_of};
 ghost use Rattle.wf_reader.specs.Faults.{unless_faulty};
 ghost use Rattle.run_plan.specs.PlanOf.{faults_of, plan_of};
 
-use crate::delivery_id::DeliveryId;
-use crate::event_name::EventName;
 use crate::planned::Plan;
 use crate::planning::plan;
+use crate::small_text::{DeliveryId, EventName};
 use std::alloc::Global;
 use std::marker::Model;
 use std::sync::Arc;
 use wf_reader::{Event, read_event};
-use wf_value::{Chars, Refusal};
+use wf_value::{Chars, Refusal, Same};
 
 /// An admitted event, and beside its bytes what they spell.
 #[derive(Drop)]
@@ -102,10 +101,10 @@ impl Prepared {
             admission: Arc::try_clone(&self.admission)?,
         })
     }
+}
 
-    pub fn same(&self, other: &Prepared) -> bool
-        ensures { IsTrue result ↔ (self.now ≡ other.now) }
-    {
+impl Same for Prepared {
+    fn same(&self, other: &Self) -> bool {
         self.delivery().same(other.delivery())
             && self.event().same(other.event())
             && self.body() == other.body()

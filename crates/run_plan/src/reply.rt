@@ -1,16 +1,14 @@
-ghost use Rattle.std.specs.Prelude.{◌≡◌, ◌↔◌, false, IfOk, IsOk, IsTrue, Ok, string_bytes};
+ghost use Rattle.std.specs.Prelude.{◌≡◌, false, IfOk, Ok, string_bytes};
 ghost use Rattle.wf_value.specs.Gives.{Gives};
-ghost use Rattle.run_plan.specs.ReplyText.{carries_text, lease_line, lease_text, reply_text};
+ghost use Rattle.run_plan.specs.ReplyText.{lease_line, lease_text, reply_text};
 
 use crate::combo_text::text_of_combo;
-use crate::lists::same_pairs;
 use crate::number::Number;
-use crate::refusals::{copy_of_refusal, same_refusals};
 use std::alloc::{AllocError, Global};
-use wf_value::{Chars, Combo, Refusal};
+use wf_value::{Chars, Combo, Refusal, Same, TryCopy};
 
 /// A leg that is handed to a runner.
-#[derive(Debug, Drop)]
+#[derive(Drop)]
 pub struct Lease {
     pub lease: Number,
     pub run: Number,
@@ -20,10 +18,8 @@ pub struct Lease {
     pub combo: Combo,
 }
 
-impl Lease {
-    pub fn copy(&self, alloc: Global) -> Result<Self, Refusal>
-        ensures { Gives (λ l. l) result (Ok self.now) }
-    {
+impl TryCopy for Lease {
+    fn copy(&self, alloc: Global) -> Result<Self, Refusal> {
         Ok(Lease {
             lease: self.lease,
             run: self.run,
@@ -32,17 +28,19 @@ impl Lease {
             combo: self.combo.copy(alloc)?,
         })
     }
+}
 
-    fn same(&self, other: &Lease) -> bool
-        ensures { IsTrue result ↔ (self.now ≡ other.now) }
-    {
+impl Same for Lease {
+    fn same(&self, other: &Self) -> bool {
         self.lease == other.lease
             && self.run == other.run
             && self.job.same(&other.job)
             && self.leg == other.leg
-            && same_pairs(self.combo.as_slice(), other.combo.as_slice())
+            && self.combo.same(&other.combo)
     }
+}
 
+impl Lease {
     fn text(&self, alloc: Global) -> Result<Chars, Refusal>
         ensures { Gives (λ t. t) result (Ok (lease_text self.now)) }
     {
@@ -75,7 +73,7 @@ fn lease_line(
 }
 
 /// What a command is answered.
-#[derive(Debug, Drop)]
+#[derive(Drop)]
 pub enum Reply {
     /// The run that the delivery made.
     Created(Number),
@@ -89,11 +87,13 @@ pub enum Reply {
     Refused(Refusal),
 }
 
-impl Reply {
-    /// A copy. Only a text takes memory.
-    pub fn copy(&self, alloc: Global) -> Result<Self, Refusal>
-        ensures same { Gives (λ r. r) result (Ok self.now) }
-        ensures without_text { carries_text self.now ≡ false → IsOk result }
+impl TryCopy for Reply {
+    ghost use Rattle.run_plan.specs.ReplyText.{carries_text};
+
+    /// Only a text takes memory.
+    fn copy(&self, alloc: Global) -> Result<Self, Refusal>
+        ensures gives { Gives (λ r. r) result (Ok self.now) }
+        ensures answers { carries_text self.now ≡ false → result ≡ Ok self.now }
     {
         match self {
             Reply::Created(run) => Ok(Reply::Created(*run)),
@@ -101,24 +101,26 @@ impl Reply {
             Reply::Nothing => Ok(Reply::Nothing),
             Reply::Ok => Ok(Reply::Ok),
             Reply::Run(view) => Ok(Reply::Run(view.copy(alloc)?)),
-            Reply::Refused(refusal) => Ok(Reply::Refused(copy_of_refusal(alloc, refusal)?)),
+            Reply::Refused(refusal) => Ok(Reply::Refused(refusal.copy(alloc)?)),
         }
     }
+}
 
-    pub fn same(&self, other: &Reply) -> bool
-        ensures { IsTrue result ↔ (self.now ≡ other.now) }
-    {
+impl Same for Reply {
+    fn same(&self, other: &Self) -> bool {
         match (self, other) {
-            (Reply::Created(a), Reply::Created(b)) => *a == *b,
-            (Reply::Lease(a), Reply::Lease(b)) => a.same(b),
+            (Reply::Created(one), Reply::Created(other)) => *one == *other,
+            (Reply::Lease(one), Reply::Lease(other)) => one.same(other),
             (Reply::Nothing, Reply::Nothing) => true,
             (Reply::Ok, Reply::Ok) => true,
-            (Reply::Run(a), Reply::Run(b)) => a.same(b),
-            (Reply::Refused(a), Reply::Refused(b)) => same_refusals(a, b),
+            (Reply::Run(one), Reply::Run(other)) => one.same(other),
+            (Reply::Refused(one), Reply::Refused(other)) => one.same(other),
             _ => false,
         }
     }
+}
 
+impl Reply {
     /// The printed reply.
     pub fn text(&self, alloc: Global) -> Result<Chars, Refusal>
         ensures { Gives (λ t. t) result (Ok (reply_text self.now)) }

@@ -1,6 +1,6 @@
 use Rattle.std.proofs.Common.{arith}
 use Rattle.std.proofs.lemmas.Grind.{common_steps}
-use Rattle.run_plan.proofs.Numbers.{one_digit_more, number_most}
+use Rattle.run_plan.proofs.Numbers.{one_digit_more, number_least, number_most}
 use Rattle.run_plan.proofs.number.value_of.Goals as goal
 
 pub overflow_mul-value : goal.overflow_mul-value
@@ -20,3 +20,6 @@ loop-b-preserved c =
 
 pub returns-clause-most : goal.returns-clause-most
 returns-clause-most c = grind (arith, common_steps, number_most c.args.digits.now c.requires, c.loop-b.invariant)
+
+pub returns-clause-least : goal.returns-clause-least
+returns-clause-least c = grind (arith, common_steps, number_least c.args.digits.now c.requires, c.loop-b.invariant)

@@ -1,0 +1,83 @@
+ghost use Rattle.std.specs.Prelude.{◌≡◌, ◌<◌, ℕ, Bool, true};
+
+/// The form of a short text: the bytes that it may have.
+pub trait Form {
+    ghost allows: { ℕ → Bool };
+
+    fn allows(byte: u8) -> bool
+        ensures { result ≡ allows byte };
+
+    ghost is_ascii: { (b : ℕ) → allows b ≡ true → b < 128 };
+}
+
+/// Letters, digits and `-`.
+#[derive(Drop)]
+pub struct DeliveryForm;
+
+impl Form for DeliveryForm {
+    ghost use Rattle.run_plan.specs.SmallText.{is_delivery_byte};
+    ghost use Rattle.std.proofs.Common.{arith};
+    ghost use Rattle.std.proofs.lemmas.Grind.{common_steps};
+
+    ghost allows = { is_delivery_byte };
+
+    fn allows(byte: u8) -> bool {
+        byte.is_ascii_alphanumeric() || byte == b'-'
+    }
+
+    ghost is_ascii = { λ b h. Prim.grind (arith, common_steps) };
+}
+
+/// Small letters, digits and `_`.
+#[derive(Drop)]
+pub struct EventForm;
+
+impl Form for EventForm {
+    ghost use Rattle.run_plan.specs.SmallText.{is_event_byte};
+    ghost use Rattle.std.proofs.Common.{arith};
+    ghost use Rattle.std.proofs.lemmas.Grind.{common_steps};
+
+    ghost allows = { is_event_byte };
+
+    fn allows(byte: u8) -> bool {
+        byte.is_ascii_lowercase() || byte.is_ascii_digit() || byte == b'_'
+    }
+
+    ghost is_ascii = { λ b h. Prim.grind (arith, common_steps) };
+}
+
+/// Letters, digits, `_`, `-` and `.`.
+#[derive(Drop)]
+pub struct RunnerForm;
+
+impl Form for RunnerForm {
+    ghost use Rattle.run_plan.specs.SmallText.{is_runner_byte};
+    ghost use Rattle.std.proofs.Common.{arith};
+    ghost use Rattle.std.proofs.lemmas.Grind.{common_steps};
+
+    ghost allows = { is_runner_byte };
+
+    fn allows(byte: u8) -> bool {
+        byte.is_ascii_alphanumeric() || byte == b'_' || byte == b'-' || byte == b'.'
+    }
+
+    ghost is_ascii = { λ b h. Prim.grind (arith, common_steps) };
+}
+
+/// Printed ASCII bytes without the space and the comma.
+#[derive(Drop)]
+pub struct LabelForm;
+
+impl Form for LabelForm {
+    ghost use Rattle.run_plan.specs.SmallText.{is_label_byte};
+    ghost use Rattle.std.proofs.Common.{arith};
+    ghost use Rattle.std.proofs.lemmas.Grind.{common_steps};
+
+    ghost allows = { is_label_byte };
+
+    fn allows(byte: u8) -> bool {
+        byte.is_ascii_graphic() && byte != b','
+    }
+
+    ghost is_ascii = { λ b h. Prim.grind (arith, common_steps) };
+}
