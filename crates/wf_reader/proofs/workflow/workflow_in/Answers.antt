@@ -1,4 +1,4 @@
-use Rattle.std.proofs.Common.{ap, codes}
+use Rattle.std.proofs.Common.{ap, codes, inr, sym}
 use Rattle.std.proofs.Common.{Ok}
 use Rattle.serde_json.specs.Find.{get}
 use Rattle.serde_json.specs.View.{view}
@@ -16,7 +16,7 @@ returns-in_err-jobs c =
     let d = view c.args.value.now in
     passed_on _ _ _ _ c.in_err-jobs.field-0.0 c.from_residual-in_err-jobs.ensures.1 c.in_err-jobs.ensures (λ refused. inside_object inside_workflow d _ _ c.if-not-is_object.ensures (
     skip (optional text_faults (get (codes "name") d)) _ _ _ _ _ c.in_ok-name.ensures (
-    skip (left_out (get (codes "concurrency") d)) _ _ _ _ _ c.in_ok-refuse_left_out.ensures (
+    skip (left_out (get (codes "concurrency") d)) _ _ _ _ _ (sym c.in_ok-refuse_left_out.ensures) (
     first_decides (jobs_faults (members_of (value_at (codes "jobs") d))) _ _ _ _ refused))))
 
 pub returns : goal.returns
@@ -24,6 +24,6 @@ returns c =
     let d = view c.args.value.now in
     inside_object inside_workflow d _ _ c.if-not-is_object.ensures (
     skip (optional text_faults (get (codes "name") d)) _ _ _ _ _ c.in_ok-name.ensures (
-    skip (left_out (get (codes "concurrency") d)) _ _ _ _ _ c.in_ok-refuse_left_out.ensures (
+    skip (left_out (get (codes "concurrency") d)) _ _ _ _ _ (sym c.in_ok-refuse_left_out.ensures) (
     skip (jobs_faults (members_of (value_at (codes "jobs") d))) _ _ _ _ _ c.in_ok-jobs.ensures (
     ap Ok (workflow_made d _ _ (same_value (optional text_faults (get (codes "name") d)) _ _ c.in_ok-name.ensures) (same_value (jobs_faults (members_of (value_at (codes "jobs") d))) _ _ c.in_ok-jobs.ensures))))))
