@@ -1,4 +1,3 @@
-use wf_reader::Texts;
 use wf_value::{Chars, Combo, Sequence};
 
 /// A leg of a job as it is planned: one combination of its matrix.
@@ -12,7 +11,7 @@ pub struct PlannedLeg {
 pub struct PlannedJob {
     pub id: Chars,
     /// What each of its legs asks of a runner.
-    pub labels: Texts,
+    pub labels: Sequence<Chars>,
     /// Numbered from 0.
     pub legs: Sequence<PlannedLeg>,
 }

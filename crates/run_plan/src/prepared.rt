@@ -1,4 +1,7 @@
-ghost use Rattle.std.specs.Prelude.{◌≡◌, [], Ok};
+ghost use Rattle.std.specs.Prelude.{◌≡◌, ◌<◌, ◌≤◌, [], Err, Ok, false, length};
+ghost use Rattle.std.specs.Str.{is_utf8};
+ghost use Rattle.wf_value.specs.declared.code.Code.TheVariants.{NotJson, TooLong};
+ghost use Rattle.wf_value.specs.declared.refusal.Refusal.TheVariants.{Numbered};
 ghost use Rattle.wf_value.specs.Gives.{Gives};
 ghost use Rattle.wf_reader.specs.Event.{event_of};
 ghost use Rattle.wf_reader.specs.Faults.{unless_faulty};
@@ -112,15 +115,20 @@ impl Same for Prepared {
 }
 
 /// An event made ready: its body is read and planned, and refused with the first of its faults: 10, 11,
-/// 12, 15, 16, 23, 24. Want of memory is 50.
+/// 12, 15, 16, 23, 24. Want of memory is 50. A body that is too long or no UTF-8 is refused memory or not.
 pub fn prepare(
     alloc: Global,
     event: EventName,
     delivery: DeliveryId,
     body: Vec<u8>,
 ) -> Result<Prepared, Refusal>
-    ensures { Gives (λ p. p) result
+    ensures gives { Gives (λ p. p) result
         (unless_faulty (faults_of body.items) (record { delivery = delivery; event = event; body = body.items })) }
+
+    // Memory or not:
+    ensures too_long { 65536 < length body.items → result ≡ Err (Numbered TooLong) }
+    ensures no_text { length body.items ≤ 65536 → is_utf8 body.items ≡ false
+        → result ≡ Err (Numbered NotJson) }
 {
     let Event {
         repo,
