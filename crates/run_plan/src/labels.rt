@@ -1,4 +1,4 @@
-ghost use Rattle.std.specs.Prelude.{◌≡◌, false, length, nat_le, IsTrue, Ok, None};
+ghost use Rattle.std.specs.Prelude.{◌≡◌, ◌==◌, false, length, nat_le, IsTrue, Ok, None};
 ghost use Rattle.std.specs.List.{list_all};
 ghost use Rattle.wf_value.specs.Gives.{Gives};
 ghost use Rattle.run_plan.specs.SmallText.{are_labels, is_short, is_label_byte, label_list_of, split_at_commas};
@@ -66,16 +66,22 @@ impl Same for Labels {
     }
 }
 
+fn is_comma(byte: &u8) -> bool
+    ensures { result ≡ (byte.now == 44) }
+{
+    *byte == b','
+}
+
 fn are_few(text: &[u8]) -> bool
     ensures { result ≡ nat_le (length (split_at_commas text.now)) 16 }
 {
-    text.split(|b| *b == b',').count() <= MOST
+    text.split(is_comma).count() <= MOST
 }
 
 fn each_is_label(text: &[u8]) -> bool
     ensures { result ≡ list_all (is_short is_label_byte) (split_at_commas text.now) }
 {
-    text.split(|b| *b == b',')
+    text.split(is_comma)
         .all(|part| Label::is_of_form(part))
 }
 
@@ -90,7 +96,7 @@ fn labels_of_parts(alloc: Global, text: &[u8]) -> Result<Vec<Label>, Refusal>
     ensures { Gives (λ v. v.items) result (Ok (split_at_commas text.now)) }
 {
     let mut labels = Vec::new(alloc);
-    for part in text.split(|b| *b == b',') {
+    for part in text.split(is_comma) {
         labels.push(Label::copy_of(alloc, part)?)?;
     }
     Ok(labels)
