@@ -1,17 +1,21 @@
 # The two commands of a new machine: `make first-run` and `make test`. Both need `rt` on the PATH.
 
 ACTS := crates/acts/out/acts
+OUT := crates/acts/out
 
-.PHONY: first-run test build bench sweep
+.PHONY: first-run test build bench gate sweep wrong-bodies
+
+# Plays the example by a trial run, and prints each line of the script with its answer.
+first-run:
+	@mkdir -p $(OUT)
+	@cd crates/acts && rt try -- play < ../../examples/first_run.script > out/first_run.answers 2> out/first_run.log \
+		|| { cat out/first_run.log >&2; exit 1; }
+	@sed 's/^/> /' examples/first_run.script | paste -d '\n' - $(OUT)/first_run.answers
+	@echo 'This was a trial run, which proves nothing; `make build` makes the proved program.' >&2
 
 # Proves and builds `acts` and the crates below it.
 build:
 	cd crates/acts && rt run -- play < /dev/null
-
-# Plays the example, and prints each line of the script with its answer.
-first-run: build
-	@$(ACTS) play < examples/first_run.script > crates/acts/out/first_run.answers
-	@sed 's/^/> /' examples/first_run.script | paste -d '\n' - crates/acts/out/first_run.answers
 
 # The merge gate: every proof from nothing, the must-fail edits, the tests and the stored runs.
 test:
@@ -24,3 +28,11 @@ bench: build
 # The stored run with each growth of memory refused in turn. Needs a C compiler.
 sweep: build
 	sweeps/refused_growth/run $(ACTS)
+
+# The wrong bodies beyond those of the gate: of each crate, or of CRATE.
+wrong-bodies:
+	sweeps/wrong_bodies/run $(CRATE)
+
+# Processor minutes of the gate, by crate, in a fresh clone.
+gate:
+	bench/gate

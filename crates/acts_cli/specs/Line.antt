@@ -30,12 +30,16 @@ prepared event = onward (λ p. command.Admit p) (unless_faulty (event_faults eve
 
 abbrev pub admit_of : List ℕ → Result Command Refusal
 admit_of fields =
-    option_map_or prepared (option_and_then (λ f. option_and_then (λ delivery. option_map (λ event. record { delivery = delivery; event = event; body = f.2 }) (event_of f.1)) (delivery_of f.0)) (three_fields fields)) (Err not_a_line)
+    option_map_or prepared (option_and_then (λ f. option_and_then (λ delivery. option_map (λ event.
+    record { delivery = delivery; event = event; body = f.2 })
+    (event_of f.1)) (delivery_of f.0)) (three_fields fields)) (Err not_a_line)
 
 -- `claim RUNNER NUMBER LABELS`
 abbrev pub claim_of : List ℕ → Option Command
 claim_of fields =
-    option_and_then (λ f. option_and_then (λ runner. option_and_then (λ number. option_map (λ labels. command.Claim (record { runner = runner; number = number; labels = labels })) (labels_of f.2)) (number_of f.1)) (runner_of f.0)) (three_fields fields)
+    option_and_then (λ f. option_and_then (λ runner. option_and_then (λ number. option_map (λ labels.
+    command.Claim (record { runner = runner; number = number; labels = labels }))
+    (labels_of f.2)) (number_of f.1)) (runner_of f.0)) (three_fields fields)
 
 abbrev pub outcome_of : List ℕ → Option Outcome
 outcome_of text =
@@ -46,7 +50,11 @@ outcome_of text =
 -- `done RUNNER NUMBER LEASE RESULT`
 abbrev pub done_of : List ℕ → Option Command
 done_of fields =
-    option_and_then (λ first. option_and_then (λ f. option_and_then (λ runner. option_and_then (λ number. option_and_then (λ lease. option_map (λ result. command.Done (record { runner = runner; number = number; lease = lease; result = result })) (outcome_of f.2)) (number_of f.1)) (number_of f.0)) (runner_of first.0)) (three_fields first.1)) (at_space fields)
+    option_and_then (λ first. option_and_then (λ f.
+    option_and_then (λ runner. option_and_then (λ number. option_and_then (λ lease. option_map (λ result.
+    command.Done (record { runner = runner; number = number; lease = lease; result = result }))
+    (outcome_of f.2)) (number_of f.1)) (number_of f.0)) (runner_of first.0))
+    (three_fields first.1)) (at_space fields)
 
 -- `look RUN`
 abbrev pub look_of : List ℕ → Option Command

@@ -35,7 +35,8 @@ Answers t (line ∷ lines) (a ∷ others) = (after : TableState) × IsAnswer t l
 -- what a script may have written: where memory was refused for no line it is what the script prints
 abbrev pub Plays : List ℕ → List ℕ → Type 0
 Plays script out =
-    (answers : List (List ℕ)) × Answers empty (script_lines script) answers × (out ≡ printed answers) × (All (λ a. a ≢ memory_refused) answers → out ≡ output_of script)
+    (answers : List (List ℕ)) × Answers empty (script_lines script) answers × (out ≡ printed answers)
+    × (All (λ a. a ≢ memory_refused) answers → out ≡ output_of script)
 
 -- all of what a script may write, or a front of it
 abbrev pub PlaysTo : List ℕ → List ℕ → Type 0
@@ -46,4 +47,5 @@ PlaysTo script out = (length script ≤ most_bytes) × (rest : List ℕ) × Play
 abbrev pub Ends : {U : Type 0} → List ℕ → List ℕ → Result U Refusal → Type 0
 Ends script out (Ok u) = (length script ≤ most_bytes) × Plays script out
 Ends script out (Err e) =
-    ((e ≡ Numbered InputTooLong) × (most_bytes < length script) × (out ≡ [])) ⊎ (((e ≡ stream_failed) ⊎ (e ≡ no_memory)) × ((out ≡ []) ⊎ PlaysTo script out))
+    ((e ≡ Numbered InputTooLong) × (most_bytes < length script) × (out ≡ []))
+    ⊎ (((e ≡ stream_failed) ⊎ (e ≡ no_memory)) × ((out ≡ []) ⊎ PlaysTo script out))

@@ -9,8 +9,8 @@ use run_table::Table;
 use std::alloc::Global;
 use wf_value::Refusal;
 
-/// Carries out the command of a line, and answers the table's reply. A refused line leaves the table.
-pub fn carry_out(alloc: Global, table: &mut Table, line: &[u8]) -> Result<Reply, Refusal>
+/// The table's reply to the command of a line, which moves it. A refused line leaves the table.
+pub fn reply_to(alloc: Global, table: &mut Table, line: &[u8]) -> Result<Reply, Refusal>
     ensures moves { Gives (λ reply. (table.new, reply)) result (carried_out table.old line.now) }
     ensures err { OnErr result (table.new ≡ table.old) }
 {

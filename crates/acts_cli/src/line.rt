@@ -1,4 +1,4 @@
-ghost use Rattle.std.specs.Prelude.{◌≡◌, Ok, ok_or};
+ghost use Rattle.std.specs.Prelude.{◌≡◌, Ok, Some, None, IfOk, IfErr, ok_or};
 ghost use Rattle.wf_value.specs.Gives.{Gives};
 ghost use Rattle.acts_cli.specs.Line.{not_a_line, admit_of, claim_of, outcome_of, done_of, look_of, command_by, command_of};
 
@@ -7,18 +7,20 @@ use run_plan::{Claim, Command, DeliveryId, Done, EventName, Labels, Number, Runn
 use std::alloc::Global;
 use wf_value::{Code, Outcome, Refusal};
 
+/// What a part of a line spells, or 75 where it spells nothing.
+fn spelled<T: Drop>(part: Option<T>) -> Result<T, Refusal>
+    ensures something { IfOk result (λ value. part ≡ Some value) }
+    ensures nothing { IfErr result (λ e. (part ≡ None) × (e ≡ not_a_line)) }
+{
+    part.ok_or(Refusal::Numbered(Code::Line))
+}
+
 fn admit_of(alloc: Global, fields: &[u8]) -> Result<Command, Refusal>
     ensures { Gives (λ c. c) result (admit_of fields.now) }
 {
-    let Some((delivery, event, body)) = three_fields(fields) else {
-        return Err(Refusal::Numbered(Code::Line));
-    };
-    let Some(delivery) = DeliveryId::of(alloc, delivery)? else {
-        return Err(Refusal::Numbered(Code::Line));
-    };
-    let Some(event) = EventName::of(alloc, event)? else {
-        return Err(Refusal::Numbered(Code::Line));
-    };
+    let (delivery, event, body) = spelled(three_fields(fields))?;
+    let delivery = spelled(DeliveryId::of(alloc, delivery)?)?;
+    let event = spelled(EventName::of(alloc, event)?)?;
     let body = body.to_vec(alloc)?;
     Ok(Command::Admit(prepare(alloc, event, delivery, body)?))
 }
@@ -26,22 +28,11 @@ fn admit_of(alloc: Global, fields: &[u8]) -> Result<Command, Refusal>
 fn claim_of(alloc: Global, fields: &[u8]) -> Result<Command, Refusal>
     ensures { Gives (λ c. c) result (ok_or (claim_of fields.now) not_a_line) }
 {
-    let Some((runner, number, labels)) = three_fields(fields) else {
-        return Err(Refusal::Numbered(Code::Line));
-    };
-    let Some(runner) = RunnerName::of(alloc, runner)? else {
-        return Err(Refusal::Numbered(Code::Line));
-    };
-    let Some(number) = Number::of(number) else {
-        return Err(Refusal::Numbered(Code::Line));
-    };
-    let Some(labels) = Labels::of(alloc, labels)? else {
-        return Err(Refusal::Numbered(Code::Line));
-    };
+    let (runner, number, labels) = spelled(three_fields(fields))?;
     Ok(Command::Claim(Claim {
-        runner,
-        number,
-        labels,
+        runner: spelled(RunnerName::of(alloc, runner)?)?,
+        number: spelled(Number::of(number))?,
+        labels: spelled(Labels::of(alloc, labels)?)?,
     }))
 }
 
@@ -62,37 +53,20 @@ fn outcome_of(text: &[u8]) -> Option<Outcome>
 fn done_of(alloc: Global, fields: &[u8]) -> Result<Command, Refusal>
     ensures { Gives (λ c. c) result (ok_or (done_of fields.now) not_a_line) }
 {
-    let Some((runner, fields)) = at_space(fields) else {
-        return Err(Refusal::Numbered(Code::Line));
-    };
-    let Some((number, lease, result)) = three_fields(fields) else {
-        return Err(Refusal::Numbered(Code::Line));
-    };
-    let Some(runner) = RunnerName::of(alloc, runner)? else {
-        return Err(Refusal::Numbered(Code::Line));
-    };
-    let (Some(number), Some(lease), Some(result)) = (
-        Number::of(number),
-        Number::of(lease),
-        outcome_of(result),
-    ) else {
-        return Err(Refusal::Numbered(Code::Line));
-    };
+    let (runner, fields) = spelled(at_space(fields))?;
+    let (number, lease, outcome) = spelled(three_fields(fields))?;
     Ok(Command::Done(Done {
-        runner,
-        number,
-        lease,
-        result,
+        runner: spelled(RunnerName::of(alloc, runner)?)?,
+        number: spelled(Number::of(number))?,
+        lease: spelled(Number::of(lease))?,
+        result: spelled(outcome_of(outcome))?,
     }))
 }
 
 fn look_of(field: &[u8]) -> Result<Command, Refusal>
     ensures { result ≡ ok_or (look_of field.now) not_a_line }
 {
-    match Number::of(field) {
-        Some(run) => Ok(Command::Look(run)),
-        None => Err(Refusal::Numbered(Code::Line)),
-    }
+    Ok(Command::Look(spelled(Number::of(field))?))
 }
 
 fn command_by(alloc: Global, word: &[u8], fields: &[u8]) -> Result<Command, Refusal>
@@ -107,7 +81,7 @@ fn command_by(alloc: Global, word: &[u8], fields: &[u8]) -> Result<Command, Refu
     } else if word == b"look".as_slice() {
         look_of(fields)
     } else {
-        Err(Refusal::Numbered(Code::Line))
+        spelled(None)
     }
 }
 
@@ -118,8 +92,6 @@ fn command_by(alloc: Global, word: &[u8], fields: &[u8]) -> Result<Command, Refu
 pub fn command_of(alloc: Global, line: &[u8]) -> Result<Command, Refusal>
     ensures { Gives (λ c. c) result (command_of line.now) }
 {
-    match at_space(line) {
-        Some((word, fields)) => command_by(alloc, word, fields),
-        None => Err(Refusal::Numbered(Code::Line)),
-    }
+    let (word, fields) = spelled(at_space(line))?;
+    command_by(alloc, word, fields)
 }

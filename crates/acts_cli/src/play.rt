@@ -3,7 +3,7 @@ ghost use Rattle.std.specs.Io.KnownBytes.{Appends, Consumes};
 ghost use Rattle.wf_value.specs.Gives.{no_memory};
 ghost use Rattle.acts_cli.specs.Play.{stream_failed, IsAnswer, Plays, Ends};
 
-use crate::answer::{answer_line, carry_out};
+use crate::answer::{answer_line, reply_to};
 use crate::input::read_at_most;
 use crate::lines::first_line;
 use crate::output::{flush, write_whole};
@@ -27,7 +27,7 @@ fn play_line<W: Write>(
         × Appends (W.contents writer.old) (W.contents writer.new) (take n (a ++ 10 ∷ [])) }
     ensures err { IfErr result (λ e. (e ≡ stream_failed) ⊎ (e ≡ no_memory)) }
 {
-    let outcome = carry_out(alloc, table, line);
+    let outcome = reply_to(alloc, table, line);
     let answer = answer_line(alloc, &outcome)?;
     write_whole(writer, answer.as_bytes())
 }
