@@ -45,7 +45,7 @@ fn truth_and_text(rt: HostRuntime) -> Result<(), Fail> {
     ];
     for (scalar, truthy, printed) in rows.iter() {
         assert_eq!(rt; scalar.truthy(), *truthy);
-        assert_eq!(rt; scalar.text_of(alloc)?.as_str(), *printed);
+        assert_eq!(rt; scalar.text(alloc)?.as_str(), *printed);
     }
     Ok(())
 }

@@ -25,6 +25,3 @@ pub use same::{Same, same_items};
 pub use scalar::Scalar;
 pub use sequence::Sequence;
 pub use try_copy::{TryCopy, copy_items};
-
-/// The ids of jobs, in order.
-pub type Ids = Sequence<Chars>;
