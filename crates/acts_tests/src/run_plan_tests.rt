@@ -2,6 +2,7 @@
 //! the second time it has all the memory that it asks for.
 
 mod alike;
+mod last_commands;
 mod prepared;
 mod printed;
 mod replies;

@@ -2,7 +2,7 @@ use crate::run_plan_tests::{BODY, expect_done, expect_memory, labels, number, re
 use run_plan::{Claim, Command, Done};
 use std::alloc::Global;
 use std::process::Abort;
-use wf_value::{Outcome, Refusal};
+use wf_value::{Outcome, Refusal, Same, TryCopy};
 
 const OTHER_BODY: &str =
     "{\"repo\":\"o/r\",\"path\":\"ci.json\",\"workflow\":{\"jobs\":{\"build\":{\"runs-on\":\"gpu\"}}}}";
@@ -17,16 +17,16 @@ fn command(alloc: Global, place: usize) -> Result<Command, Refusal> {
         1 => admit(alloc, "d2", "push", BODY),
         2 => admit(alloc, "d1", "fork", BODY),
         3 => admit(alloc, "d1", "push", OTHER_BODY),
-        4 => claim(alloc, "r1", "1", "linux,x64"),
-        5 => claim(alloc, "r2", "1", "linux,x64"),
-        6 => claim(alloc, "r1", "2", "linux,x64"),
-        7 => claim(alloc, "r1", "1", "x64,linux"),
-        8 => claim(alloc, "r1", "1", "linux"),
-        9 => done(alloc, "r1", "1", "1", Outcome::Success),
-        10 => done(alloc, "r2", "1", "1", Outcome::Success),
-        11 => done(alloc, "r1", "2", "1", Outcome::Success),
-        12 => done(alloc, "r1", "1", "2", Outcome::Success),
-        13 => done(alloc, "r1", "1", "1", Outcome::Failure),
+        4 => Ok(Command::Claim(claim(alloc, "r1", "1", "linux,x64")?)),
+        5 => Ok(Command::Claim(claim(alloc, "r2", "1", "linux,x64")?)),
+        6 => Ok(Command::Claim(claim(alloc, "r1", "2", "linux,x64")?)),
+        7 => Ok(Command::Claim(claim(alloc, "r1", "1", "x64,linux")?)),
+        8 => Ok(Command::Claim(claim(alloc, "r1", "1", "linux")?)),
+        9 => Ok(Command::Done(done(alloc, "r1", "1", "1", Outcome::Success)?)),
+        10 => Ok(Command::Done(done(alloc, "r2", "1", "1", Outcome::Success)?)),
+        11 => Ok(Command::Done(done(alloc, "r1", "2", "1", Outcome::Success)?)),
+        12 => Ok(Command::Done(done(alloc, "r1", "1", "2", Outcome::Success)?)),
+        13 => Ok(Command::Done(done(alloc, "r1", "1", "1", Outcome::Failure)?)),
         14 => Ok(Command::Look(number("1")?)),
         _ => Ok(Command::Look(number("2")?)),
     }
@@ -36,27 +36,27 @@ fn admit(alloc: Global, id: &str, event: &str, body: &str) -> Result<Command, Re
     Ok(Command::Admit(ready(alloc, id, event, body)?))
 }
 
-fn claim(alloc: Global, name: &str, count: &str, asked: &str) -> Result<Command, Refusal> {
-    Ok(Command::Claim(Claim {
+pub fn claim(alloc: Global, name: &str, count: &str, asked: &str) -> Result<Claim, Refusal> {
+    Ok(Claim {
         runner: runner(alloc, name)?,
         number: number(count)?,
         labels: labels(alloc, asked)?,
-    }))
+    })
 }
 
-fn done(
+pub fn done(
     alloc: Global,
     name: &str,
     count: &str,
     lease: &str,
     outcome: Outcome,
-) -> Result<Command, Refusal> {
-    Ok(Command::Done(Done {
+) -> Result<Done, Refusal> {
+    Ok(Done {
         runner: runner(alloc, name)?,
         number: number(count)?,
         lease: number(lease)?,
         result: outcome,
-    }))
+    })
 }
 
 fn tells_commands_apart(rt: &impl Abort, alloc: Global) -> Result<(), Refusal> {

@@ -3,7 +3,7 @@ use crate::run_plan_tests::{expect_done, expect_memory};
 use run_plan::Reply;
 use std::alloc::Global;
 use std::process::Abort;
-use wf_value::Refusal;
+use wf_value::{Refusal, Same, TryCopy};
 
 fn prints_replies(rt: &impl Abort, alloc: Global) -> Result<(), Refusal> {
     for place in 0..REPLIES {

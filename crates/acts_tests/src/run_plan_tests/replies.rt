@@ -4,7 +4,7 @@ ghost use Rattle.wf_value.specs.Gives.{Gives};
 use crate::run_plan_tests::number;
 use run_plan::{Lease, Reply};
 use std::alloc::Global;
-use wf_value::{Chars, Code, Combo, Ids, Refusal, Scalar};
+use wf_value::{Chars, Code, Combo, Refusal, Scalar, Sequence};
 
 /// How many replies there are, of which no two are the same.
 pub const REPLIES: usize = 22;
@@ -50,7 +50,7 @@ pub fn reply(alloc: Global, place: usize) -> Result<Reply, Refusal> {
     }
 }
 
-fn lease(alloc: Global, place: usize) -> Result<Lease, Refusal> {
+pub fn lease(alloc: Global, place: usize) -> Result<Lease, Refusal> {
     let lease = if place == 3 { "2" } else { "1" };
     let run = if place == 4 { "1" } else { "2" };
     let job = if place == 5 { "build" } else { "b" };
@@ -98,11 +98,11 @@ fn refusal(alloc: Global, place: usize) -> Result<Refusal, Refusal> {
     }
 }
 
-fn two_ids(alloc: Global, second: &str) -> Result<Ids, Refusal> {
+fn two_ids(alloc: Global, second: &str) -> Result<Sequence<Chars>, Refusal> {
     let mut ids = Vec::new(alloc);
     ids.push(chars(alloc, "a")?)?;
     ids.push(chars(alloc, second)?)?;
-    Ok(Ids::new(ids))
+    Ok(Sequence::new(ids))
 }
 
 fn chars(alloc: Global, text: &str) -> Result<Chars, Refusal>
