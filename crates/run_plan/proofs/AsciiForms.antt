@@ -7,7 +7,8 @@ use Rattle.std.proofs.lemmas.Bool.{and_parts}
 use Rattle.std.proofs.lemmas.Str.{IsUtf8-from_ascii}
 use Rattle.run_plan.specs.SmallText.{is_of_short_length, is_short}
 
-ascii_at : (kind : ℕ → Bool) → ((b : ℕ) → kind b ≡ true → b < 128) → (bs : List ℕ) → list_all kind bs ≡ true → (i : ℕ) → slice_index bs i < 128
+ascii_at : (kind : ℕ → Bool) → ((b : ℕ) → kind b ≡ true → b < 128) → (bs : List ℕ)
+    → list_all kind bs ≡ true → (i : ℕ) → slice_index bs i < 128
 ascii_at kind small [] h i = omega arith
 ascii_at kind small (b ∷ bs) h zero = small b (and_parts (kind b) (list_all kind bs) h).0
 ascii_at kind small (b ∷ bs) h (suc i) = ascii_at kind small bs (and_parts (kind b) (list_all kind bs) h).1 i

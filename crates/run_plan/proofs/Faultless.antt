@@ -4,7 +4,8 @@ use Rattle.wf_value.specs.declared.refusal.Refusal.{Refusal}
 use Rattle.wf_reader.specs.Faults.{unless_faulty}
 
 -- the first fault refuses every value, whatever other faults follow
-pub refused_too : {X Y : Type 0} (fs gs : List Refusal) (x : X) (y : Y) (e : Refusal) → unless_faulty fs x ≡ Err e → unless_faulty (fs ++ gs) y ≡ Err e
+pub refused_too : {X Y : Type 0} (fs gs : List Refusal) (x : X) (y : Y) (e : Refusal)
+    → unless_faulty fs x ≡ Err e → unless_faulty (fs ++ gs) y ≡ Err e
 refused_too [] gs x y e h = absurd (cc)
 refused_too (f ∷ fs) gs x y e h = cc
 

@@ -18,7 +18,9 @@ digit_small b h = grind (arith, common_steps)
 
 pub digits_of_test : (bs : List ℕ) → list_all is_ascii_digit bs ≡ true → AllDigits 10 bs
 digits_of_test [] h = tt
-digits_of_test (b ∷ bs) h = let both = and_parts (is_ascii_digit b) (list_all is_ascii_digit bs) h in (digit_small b both.0, digits_of_test bs both.1)
+digits_of_test (b ∷ bs) h =
+    let both = and_parts (is_ascii_digit b) (list_all is_ascii_digit bs) h in
+    (digit_small b both.0, digits_of_test bs both.1)
 
 pub record NineDigits (bs : List ℕ) : Type 0 where
   pub all : list_all is_ascii_digit bs ≡ true
@@ -45,11 +47,13 @@ number_most bs h =
 pub number_least : (bs : List ℕ) → is_number bs ≡ true → 1 ≤ digits_value 10 bs
 number_least bs h =
     let nine = nine_digits bs h in
-    let no_zero = (and_parts (nat_le 1 (length bs) && nat_le (length bs) 9 && list_all is_ascii_digit bs) (not (slice_index bs 0 == 48)) h).1 in
+    let no_zero =
+    (and_parts (nat_le 1 (length bs) && nat_le (length bs) 9 && list_all is_ascii_digit bs) (not (slice_index bs 0 == 48)) h).1 in
     let all = digits_of_test bs nine.all in
     let within : 0 < length bs = omega (arith, nine.some) in
     let range : IsInRange 48 57 (get_or bs 0 0) = digit_at bs 0 all within in
-    let first : digits_value 10 (take (0 + 1) bs) ≡ digits_value 10 (take 0 bs) * 10 + digit_value (get_or bs 0 0) = digits_value_more 10 bs 0 within in
+    let first : digits_value 10 (take (0 + 1) bs) ≡ digits_value 10 (take 0 bs) * 10 + digit_value (get_or bs 0 0) =
+    digits_value_more 10 bs 0 within in
     let weight : digit_value (get_or bs 0 0) + 48 ≡ get_or bs 0 0 = digit_value_digit (get_or bs 0 0) range in
     let above : 49 ≤ get_or bs 0 0 = grind (arith, common_steps) in
     let one : 1 ≤ 10 = omega arith in

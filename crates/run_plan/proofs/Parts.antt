@@ -7,7 +7,8 @@ use Rattle.std.proofs.lemmas.List.Splits.{length-slice_split}
 use Rattle.run_plan.specs.SmallText.{are_labels, is_short, is_label_byte, split_at_commas}
 
 -- a text has a part, so as few parts as labels may be are labels where each is one
-pub of_few : (text : List ℕ) → nat_le (length (split_at_commas text)) 16 ≡ true → list_all (is_short is_label_byte) (split_at_commas text) ≡ are_labels (split_at_commas text)
+pub of_few : (text : List ℕ) → nat_le (length (split_at_commas text)) 16 ≡ true
+    → list_all (is_short is_label_byte) (split_at_commas text) ≡ are_labels (split_at_commas text)
 of_few text few =
     let some : nat_le 1 (length (split_at_commas text)) ≡ true = rw (length-slice_split (λ b. b == 44) text) (le-leb 1 _ (omega arith)) in
     rw (some, few) refl
@@ -15,7 +16,8 @@ of_few text few =
 pub each_passes : (ps : List (List ℕ)) → are_labels ps ≡ true → list_all (is_short is_label_byte) ps ≡ true
 each_passes ps h = (and_parts (nat_le 1 (length ps) && nat_le (length ps) 16) (list_all (is_short is_label_byte) ps) h).1
 
-pub passes_at : (p : List ℕ → Bool) (ps : List (List ℕ)) (i : ℕ) (d : List ℕ) → list_all p ps ≡ true → i < length ps → p (get_or ps i d) ≡ true
+pub passes_at : (p : List ℕ → Bool) (ps : List (List ℕ)) (i : ℕ) (d : List ℕ)
+    → list_all p ps ≡ true → i < length ps → p (get_or ps i d) ≡ true
 passes_at p [] i d h lt = absurd (omega arith)
 passes_at p (x ∷ xs) zero d h lt = (and_parts (p x) (list_all p xs) h).0
 passes_at p (x ∷ xs) (suc i) d h lt = passes_at p xs i d (and_parts (p x) (list_all p xs) h).1 (omega arith)

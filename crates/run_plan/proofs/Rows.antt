@@ -67,7 +67,8 @@ out_of_turn : reply_text (reply.Refused (Turn 0)) ≡ codes "refused 43 0"
 unfolding digits
 out_of_turn = refl
 
-combo : combo_text ((codes "a", Text (codes "x\"y")) ∷ (codes "b", Truth true) ∷ (codes "n", Whole (pos 16)) ∷ (codes "z", Null) ∷ []) ≡ codes "{\"a\":\"x\\\"y\",\"b\":true,\"n\":16,\"z\":null}"
+combo : combo_text ((codes "a", Text (codes "x\"y")) ∷ (codes "b", Truth true) ∷ (codes "n", Whole (pos 16)) ∷ (codes "z", Null) ∷ [])
+    ≡ codes "{\"a\":\"x\\\"y\",\"b\":true,\"n\":16,\"z\":null}"
 unfolding digits serde_json_on_literals
 combo = refl
 

@@ -42,14 +42,19 @@ claim_by a b runner number labels =
 pub claims_decide : (a b : Claim) → Decides (same_claims a b) (a ≡ b)
 claims_decide a b =
     weaker _ (λ h. claim_by a b h.0.0 h.0.1 h.1) (λ h. ((ap (λ c. c.runner) h, ap (λ c. c.number) h), ap (λ c. c.labels) h))
-    (and_decides _ _ (and_decides _ _ (bytes_eq-Decides a.runner b.runner) (Decides-eqb a.number b.number)) (labels_decide a.labels b.labels))
+    (and_decides _ _ (and_decides _ _ (bytes_eq-Decides a.runner b.runner) (Decides-eqb a.number b.number))
+    (labels_decide a.labels b.labels))
 
 report_by : (a b : Done) → a.runner ≡ b.runner → a.number ≡ b.number → a.lease ≡ b.lease → a.result ≡ b.result → a ≡ b
 report_by a b runner number lease outcome =
     let of : List ℕ → ℕ → ℕ → Outcome → Done = λ r n l o. record { runner = r; number = n; lease = l; result = o } in
-    ap (λ r. of r a.number a.lease a.result) runner ∙ ap (λ n. of b.runner n a.lease a.result) number ∙ ap (λ l. of b.runner b.number l a.result) lease ∙ ap (λ o. of b.runner b.number b.lease o) outcome
+    ap (λ r. of r a.number a.lease a.result) runner ∙ ap (λ n. of b.runner n a.lease a.result) number
+    ∙ ap (λ l. of b.runner b.number l a.result) lease ∙ ap (λ o. of b.runner b.number b.lease o) outcome
 
 pub reports_decide : (a b : Done) → Decides (same_reports a b) (a ≡ b)
 reports_decide a b =
-    weaker _ (λ h. report_by a b h.0.0.0 h.0.0.1 h.0.1 h.1) (λ h. (((ap (λ d. d.runner) h, ap (λ d. d.number) h), ap (λ d. d.lease) h), ap (λ d. d.result) h))
-    (and_decides _ _ (and_decides _ _ (and_decides _ _ (bytes_eq-Decides a.runner b.runner) (Decides-eqb a.number b.number)) (Decides-eqb a.lease b.lease)) (outcomes_decide a.result b.result))
+    weaker _ (λ h. report_by a b h.0.0.0 h.0.0.1 h.0.1 h.1)
+    (λ h. (((ap (λ d. d.runner) h, ap (λ d. d.number) h), ap (λ d. d.lease) h), ap (λ d. d.result) h))
+    (and_decides _ _
+    (and_decides _ _ (and_decides _ _ (bytes_eq-Decides a.runner b.runner) (Decides-eqb a.number b.number)) (Decides-eqb a.lease b.lease))
+    (outcomes_decide a.result b.result))

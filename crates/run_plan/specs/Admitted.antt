@@ -12,4 +12,5 @@ coded_bytes = coded_list coded_ℕ
 
 abbrev pub coded_admitted : Coded Admitted
 coded_admitted =
-    code_by (List ℕ × (List ℕ × List ℕ)) (coded× coded_bytes (coded× coded_bytes coded_bytes)) (λ a. (a.delivery, (a.event, a.body))) (λ p. record { delivery = p.0; event = p.1.0; body = p.1.1 }) (λ _. refl)
+    code_by (List ℕ × (List ℕ × List ℕ)) (coded× coded_bytes (coded× coded_bytes coded_bytes))
+    (λ a. (a.delivery, (a.event, a.body))) (λ p. record { delivery = p.0; event = p.1.0; body = p.1.1 }) (λ _. refl)

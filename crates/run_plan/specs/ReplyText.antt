@@ -29,7 +29,8 @@ combo_text combo = compact_text (object (pairs_json combo))
 
 -- `lease`, the lease, the run, the job's id, the leg's number and the combination
 abbrev pub lease_line : ℕ → ℕ → List ℕ → ℕ → List ℕ → List ℕ
-lease_line lease run job leg combo = codes "lease " ++ decimal lease ++ codes " " ++ decimal run ++ codes " " ++ job ++ codes " " ++ decimal leg ++ codes " " ++ combo
+lease_line lease run job leg combo =
+    codes "lease " ++ decimal lease ++ codes " " ++ decimal run ++ codes " " ++ job ++ codes " " ++ decimal leg ++ codes " " ++ combo
 
 abbrev pub lease_text : Leased → List ℕ
 lease_text l = lease_line l.lease l.run l.job l.leg (combo_text l.combo)

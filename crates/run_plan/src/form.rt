@@ -1,4 +1,7 @@
 ghost use Rattle.std.specs.Prelude.{◌≡◌, ◌<◌, ℕ, Bool, true};
+ghost use Rattle.std.proofs.Common.{arith};
+ghost use Rattle.std.proofs.lemmas.Grind.{common_steps};
+ghost use Rattle.run_plan.specs.SmallText.{is_delivery_byte, is_event_byte, is_label_byte, is_runner_byte};
 
 /// The form of a short text: the bytes that it may have.
 pub trait Form {
@@ -15,10 +18,6 @@ pub trait Form {
 pub struct DeliveryForm;
 
 impl Form for DeliveryForm {
-    ghost use Rattle.run_plan.specs.SmallText.{is_delivery_byte};
-    ghost use Rattle.std.proofs.Common.{arith};
-    ghost use Rattle.std.proofs.lemmas.Grind.{common_steps};
-
     ghost allows = { is_delivery_byte };
 
     fn allows(byte: u8) -> bool {
@@ -33,10 +32,6 @@ impl Form for DeliveryForm {
 pub struct EventForm;
 
 impl Form for EventForm {
-    ghost use Rattle.run_plan.specs.SmallText.{is_event_byte};
-    ghost use Rattle.std.proofs.Common.{arith};
-    ghost use Rattle.std.proofs.lemmas.Grind.{common_steps};
-
     ghost allows = { is_event_byte };
 
     fn allows(byte: u8) -> bool {
@@ -51,10 +46,6 @@ impl Form for EventForm {
 pub struct RunnerForm;
 
 impl Form for RunnerForm {
-    ghost use Rattle.run_plan.specs.SmallText.{is_runner_byte};
-    ghost use Rattle.std.proofs.Common.{arith};
-    ghost use Rattle.std.proofs.lemmas.Grind.{common_steps};
-
     ghost allows = { is_runner_byte };
 
     fn allows(byte: u8) -> bool {
@@ -69,10 +60,6 @@ impl Form for RunnerForm {
 pub struct LabelForm;
 
 impl Form for LabelForm {
-    ghost use Rattle.run_plan.specs.SmallText.{is_label_byte};
-    ghost use Rattle.std.proofs.Common.{arith};
-    ghost use Rattle.std.proofs.lemmas.Grind.{common_steps};
-
     ghost allows = { is_label_byte };
 
     fn allows(byte: u8) -> bool {

@@ -81,8 +81,7 @@ fn are_few(text: &[u8]) -> bool
 fn each_is_label(text: &[u8]) -> bool
     ensures { result ≡ list_all (is_short is_label_byte) (split_at_commas text.now) }
 {
-    text.split(is_comma)
-        .all(|part| Label::is_of_form(part))
+    text.split(is_comma).all(|part| Label::is_of_form(part))
 }
 
 fn are_labels(text: &[u8]) -> bool

@@ -1,6 +1,6 @@
 ghost use Rattle.std.specs.Prelude.{◌≡◌, false, IfOk, Ok, string_bytes};
 ghost use Rattle.wf_value.specs.Gives.{Gives};
-ghost use Rattle.run_plan.specs.ReplyText.{lease_line, lease_text, reply_text};
+ghost use Rattle.run_plan.specs.ReplyText.{carries_text, lease_line, lease_text, reply_text};
 
 use crate::combo_text::text_of_combo;
 use crate::number::Number;
@@ -88,8 +88,6 @@ pub enum Reply {
 }
 
 impl TryCopy for Reply {
-    ghost use Rattle.run_plan.specs.ReplyText.{carries_text};
-
     /// Only a text takes memory.
     fn copy(&self, alloc: Global) -> Result<Self, Refusal>
         ensures gives { Gives (λ r. r) result (Ok self.now) }

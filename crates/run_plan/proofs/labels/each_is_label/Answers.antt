@@ -4,4 +4,8 @@ use Rattle.std.proofs.lemmas.Iterator.Splits.{YieldsList-from_slice_split}
 use Rattle.run_plan.proofs.labels.each_is_label.Goals as goal
 
 pub returns : goal.returns
-returns c = all_from_yields_List _ _ _ _ c.all.ensures.ran (YieldsList-from_slice_split _ _ c.args.text.now c.split.ensures.rest c.split.ensures.done c.split.ensures.closure (λ x r q k. search (rules, tests))) (λ x r q k. search (rules, tests))
+returns c =
+    all_from_yields_List _ _ _ _ c.all.ensures.ran
+    (YieldsList-from_slice_split _ _ c.args.text.now c.split.ensures.rest c.split.ensures.done c.split.ensures.closure
+    (λ x r q k. search (rules, tests)))
+    (λ x r q k. search (rules, tests))

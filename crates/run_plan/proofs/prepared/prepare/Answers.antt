@@ -9,7 +9,9 @@ use Rattle.run_plan.proofs.prepared.prepare.Goals as goal
 
 pub returns-in_err-repo-clause-gives : goal.returns-in_err-repo-clause-gives
 returns-in_err-repo-clause-gives c =
-    passed_on _ _ _ _ c.in_err-repo.field-0.0 c.from_residual.ensures.1 (rw c.as_slice.ensures.value at c.in_err-repo.ensures.gives) (λ refused. refused_too (event_faults c.args.body.items) (plan_faults (event_of c.args.body.items).workflow) (event_of c.args.body.items) _ c.in_err-repo.field-0.0 refused)
+    let body = c.args.body.items in
+    passed_on _ _ _ _ c.in_err-repo.field-0.0 c.from_residual.ensures.1 (rw c.as_slice.ensures.value at c.in_err-repo.ensures.gives)
+    (λ refused. refused_too (event_faults body) (plan_faults (event_of body).workflow) (event_of body) _ c.in_err-repo.field-0.0 refused)
 
 pub invariant_of-result : goal.invariant_of-result
 invariant_of-result c =
@@ -17,7 +19,8 @@ invariant_of-result c =
     let none : event_faults c.args.body.items ≡ [] = faultless (event_faults c.args.body.items) _ _ told in
     let read : event_of c.args.body.items ≡ c.in_ok-repo.field-0 = given (event_faults c.args.body.items) _ _ told in
     let planned : workflow_plan c.in_ok-repo.workflow ≡ c.in_ok-plan.plan = cc c.in_ok-plan.ensures in
-    rw c.in_ok-new.ensures.ok (ap (λ fs. fs ++ []) none, ap (λ (e : Event). e.repo) (sym read), ap (λ (e : Event). e.path) (sym read), sym planned ∙ ap workflow_plan (sym c.in_ok-repo.workflow-is) ∙ ap (λ (e : Event). workflow_plan e.workflow) (sym read))
+    let plan = sym planned ∙ ap workflow_plan (sym c.in_ok-repo.workflow-is) ∙ ap (λ (e : Event). workflow_plan e.workflow) (sym read) in
+    rw c.in_ok-new.ensures.ok (ap (λ fs. fs ++ []) none, ap (λ (e : Event). e.repo) (sym read), ap (λ (e : Event). e.path) (sym read), plan)
 
 pub returns-clause-gives : goal.returns-clause-gives
 returns-clause-gives c =
