@@ -61,6 +61,7 @@ fn read_jobs(alloc: Global, workflow: &Value) -> Result<Jobs, Refusal>
 }
 
 /// The workflow of a value, or the first of its faults.
+#[tactic(auto, using(crate::proofs::InTurn::no_fault, crate::proofs::InTurn::same_value))]
 pub fn workflow_in(alloc: Global, value: &Value) -> Result<Workflow, Refusal>
     ensures { Gives (λ w. w) result
         (unless_faulty (workflow_faults_in (view value.now)) (workflow_in (view value.now))) }

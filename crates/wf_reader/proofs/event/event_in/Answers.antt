@@ -8,7 +8,7 @@ use Rattle.wf_reader.specs.Workflow.{workflow_faults_in}
 use Rattle.wf_value.proofs.PassedOn.{passed_on}
 use Rattle.wf_reader.proofs.InTurn.{first_decides, skip, same_value}
 use Rattle.wf_reader.proofs.JobFaults.{inside_object}
-use Rattle.wf_reader.proofs.WorkflowParts.{event_made}
+use Rattle.wf_reader.proofs.EventParts.{event_made}
 use Rattle.wf_reader.proofs.event.event_in.Goals as goal
 
 pub returns-in_err-path : goal.returns-in_err-path
