@@ -1,8 +1,10 @@
-pub mod AncestorLists
+pub mod AncestorResults
 pub mod Closure
 pub mod GraphFacts
 pub mod GraphRows
+pub mod HasAncestor
 pub mod IdOrder
+pub mod JobSetSteps
 pub mod LookupSteps
 pub mod MarkSteps
 pub mod Members

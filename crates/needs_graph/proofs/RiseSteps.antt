@@ -3,7 +3,7 @@ use Rattle.std.proofs.Common.{◌≡◌, ℕ, ◌+◌, ◌-◌, ◌≤◌, List,
 use Rattle.std.proofs.lemmas.Bool.{cases_lt}
 use Rattle.std.proofs.lemmas.List.{drop_more, drop_all}
 use Rattle.needs_graph.specs.Needs.{ids_rise}
-use Rattle.needs_graph.specs.declared.job_needs.JobNeeds.{JobNeeds}
+use Rattle.needs_graph.specs.JobNeeds.{JobNeeds}
 
 -- where one job is left or none, nothing falls
 pub rise_end : (jobs : List JobNeeds) (i : ℕ) → length jobs ≤ i → 1 ≤ i → ids_rise (drop (i - 1) jobs) ≡ true

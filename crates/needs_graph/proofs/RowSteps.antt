@@ -9,7 +9,7 @@ use Rattle.std.proofs.lemmas.Slice.Eq.{bytes_eq-Decides}
 use Rattle.needs_graph.specs.Needs.{ids_rise, is_listed, is_job, unknown_need}
 use Rattle.needs_graph.specs.Rows.{needs_row, needs_row_of, needs_rows_of}
 use Rattle.wf_value.specs.declared.refusal.Refusal.{Refusal}
-use Rattle.needs_graph.specs.declared.job_needs.JobNeeds.{JobNeeds}
+use Rattle.needs_graph.specs.JobNeeds.{JobNeeds}
 use Rattle.needs_graph.proofs.Closure.{or_false}
 use Rattle.needs_graph.proofs.IdOrder.{ids_apart}
 

@@ -7,7 +7,7 @@ use Rattle.wf_value.specs.Names.{names_rise}
 use Rattle.wf_value.specs.declared.code.Code.TheVariants.{UnknownNeed}
 use Rattle.wf_value.specs.declared.refusal.Refusal.{Refusal}
 use Rattle.wf_value.specs.declared.refusal.Refusal.TheVariants.{Numbered, Cycle}
-use Rattle.needs_graph.specs.declared.job_needs.JobNeeds.{JobNeeds}
+use Rattle.needs_graph.specs.JobNeeds.{JobNeeds}
 use Rattle.needs_graph.specs.Ancestors.{is_ancestor}
 use Rattle.needs_graph.specs.Marks.{places}
 

@@ -5,20 +5,19 @@ ghost use Rattle.needs_graph.specs.Needs.{ids_rise};
 
 use crate::job_needs::JobNeeds;
 use std::cmp::Ordering;
-use wf_value::Chars;
 
-fn compare_ids(job: &JobNeeds, id: &Chars) -> Ordering
-    ensures { result ≡ slice_cmp nat_cmp job.now.id id.now }
+fn compare_ids(job: &JobNeeds<'_>, next: &JobNeeds<'_>) -> Ordering
+    ensures { result ≡ slice_cmp nat_cmp job.now.id next.now.id }
 {
-    job.id.as_str().cmp(id.as_str())
+    job.id().as_str().cmp(next.id().as_str())
 }
 
 /// Whether each job's id is below the next one's, by bytes.
-pub fn ids_rise(jobs: &[JobNeeds]) -> bool
+pub fn ids_rise(jobs: &[JobNeeds<'_>]) -> bool
     ensures { result ≡ ids_rise jobs.now }
 {
     for i in 1..jobs.len() {
-        if !compare_ids(&jobs[i - 1], &jobs[i].id).is_lt() {
+        if !compare_ids(&jobs[i - 1], &jobs[i]).is_lt() {
             return false;
         }
     }

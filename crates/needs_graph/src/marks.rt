@@ -1,7 +1,9 @@
 ghost use Rattle.std.specs.Prelude.{◌≡◌, ◌<◌, ◌≤◌, ℕ, Ok, IfOk, List, Bool, true, false, length, replicate, slice_set};
 ghost use Rattle.wf_value.specs.Gives.{Gives};
+ghost use Rattle.needs_graph.specs.JobSets.{is_in};
 ghost use Rattle.needs_graph.specs.Marks.{is_marked, marked, either, through};
 
+use crate::job_set::JobSet;
 use crate::places::Places;
 use std::alloc::{AllocError, Global};
 use std::marker::Model;
@@ -11,7 +13,7 @@ use wf_value::Refusal;
 const STEP: usize = 32;
 
 /// A set of jobs: for each job, in order, whether it is in the set.
-#[derive(Debug, Drop)]
+#[derive(Drop)]
 pub(crate) struct Marks {
     marks: Vec<bool>,
 }
@@ -77,6 +79,13 @@ impl Marks {
         if self.contains(job) {
             self.add_all(others);
         }
+    }
+
+    /// The set as bits.
+    pub(crate) fn set(&self, alloc: Global) -> Result<JobSet, AllocError>
+        ensures { IfOk result (λ s. (job : ℕ) → is_in s job ≡ is_marked self.now job) }
+    {
+        JobSet::of(alloc, self.marks.as_slice())
     }
 
     /// The jobs of the set, in order.

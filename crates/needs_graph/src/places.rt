@@ -3,7 +3,7 @@ ghost use Rattle.std.specs.Prelude.{◌≡◌, ℕ, List};
 use std::marker::Model;
 
 /// Jobs by their places, in order. A contract sees the list of the places.
-#[derive(Debug, Drop)]
+#[derive(Drop)]
 pub(crate) struct Places {
     places: Vec<usize>,
 }

@@ -1,14 +1,15 @@
-ghost use Rattle.std.specs.Prelude.{◌≡◌, IsTrue, Ok, map, length};
+ghost use Rattle.std.specs.Prelude.{◌≡◌, IfOk, IsTrue, Ok, map, length};
 ghost use Rattle.wf_value.specs.Gives.{Gives};
-ghost use Rattle.needs_graph.specs.Marks.{marked, through, closed};
+ghost use Rattle.needs_graph.specs.Marks.{is_marked, marked, places, through, closed};
 ghost use Rattle.needs_graph.specs.Needs.{ids_rise};
-ghost use Rattle.needs_graph.specs.Rows.{needs_row_of, needs_rows_of};
+ghost use Rattle.needs_graph.specs.Rows.{needs_row_of, needs_rows_of, dependents_by, IsSets};
 
 use crate::job_needs::JobNeeds;
+use crate::job_set::JobSet;
 use crate::lookup::Lookup;
 use crate::marks::Marks;
 use crate::places::Places;
-use std::alloc::Global;
+use std::alloc::{AllocError, Global};
 use wf_value::{Chars, Code, Refusal};
 
 /// The jobs of those ids, or 13 where one is no job's.
@@ -31,14 +32,14 @@ fn needs_row(alloc: Global, jobs: &Lookup<'_>, ids: &[Chars]) -> Result<Marks, R
 }
 
 /// For each job the jobs that it lists.
-pub(crate) fn needs_rows(alloc: Global, jobs: &[JobNeeds]) -> Result<Vec<Marks>, Refusal>
+pub(crate) fn needs_rows(alloc: Global, jobs: &[JobNeeds<'_>]) -> Result<Vec<Marks>, Refusal>
     requires { IsTrue (ids_rise jobs.now) }
     ensures { Gives (λ v. v.items) result (needs_rows_of jobs.now) }
 {
     let lookup = Lookup::new(alloc, jobs)?;
     let mut rows = Vec::new(alloc);
     for job in jobs {
-        rows.push(needs_row(alloc, &lookup, job.needs.as_slice())?)?;
+        rows.push(needs_row(alloc, &lookup, job.needs())?)?;
     }
     Ok(rows)
 }
@@ -82,4 +83,37 @@ pub(crate) fn all_places(alloc: Global, rows: &[Marks]) -> Result<Vec<Places>, R
         places.push(row.places(alloc)?)?;
     }
     Ok(places)
+}
+
+/// The jobs whose rows have the job, in order.
+fn dependents_on(alloc: Global, rows: &[Marks], job: usize) -> Result<Vec<usize>, AllocError>
+    ensures { IfOk result (λ v. v.items ≡ places (λ row. is_marked row job) rows.now) }
+{
+    rows.iter()
+        .enumerate()
+        .filter(|(_, row)| row.contains(job))
+        .map(|(place, _)| place)
+        .collect(alloc)
+}
+
+/// For each job the jobs whose rows have it, in order.
+pub(crate) fn all_dependents(alloc: Global, rows: &[Marks]) -> Result<Vec<Places>, Refusal>
+    ensures { Gives (λ v. v.items) result (Ok (dependents_by rows.now)) }
+{
+    let mut dependents = Vec::new(alloc);
+    for job in 0..rows.len() {
+        dependents.push(Places::new(dependents_on(alloc, rows, job)?))?;
+    }
+    Ok(dependents)
+}
+
+/// The jobs of each row, as a set.
+pub(crate) fn all_sets(alloc: Global, rows: &[Marks]) -> Result<Vec<JobSet>, AllocError>
+    ensures { IfOk result (λ v. IsSets v.items rows.now) }
+{
+    let mut sets = Vec::new(alloc);
+    for row in rows {
+        sets.push(row.set(alloc)?)?;
+    }
+    Ok(sets)
 }

@@ -10,5 +10,5 @@ returns-in_err-needs_row c =
     let jobs = c.args.jobs.now in
     let same : c.in_ok-lookup.lookup ≡ jobs = cc (c.in_ok-lookup.ensures) in
     rw (p.1, p.2) (λ some.
-    let refused = ap (λ js. needs_row_of js c.as_slice.result.now) (sym same) ∙ c.in_err-needs_row.ensures some in
-    rows_refused jobs c.loop-job.job-index c.job-item.result _ (omega arith) c.job-item.is (ap (needs_row_of jobs) (sym c.as_slice.ensures) ∙ refused))
+    let refused = ap (λ js. needs_row_of js c.needs.result.now) (sym same) ∙ c.in_err-needs_row.ensures some in
+    rows_refused jobs c.loop-job.job-index c.job-item.result _ (omega arith) c.job-item.is (ap (needs_row_of jobs) (sym c.needs.ensures) ∙ refused))

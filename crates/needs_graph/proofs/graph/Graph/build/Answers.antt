@@ -1,9 +1,9 @@
-use Rattle.std.proofs.Common.{◌≡◌, ◌∙◌, [], length, ap, sym, Ok, Err, arith}
+use Rattle.std.proofs.Common.{◌≡◌, ◌∙◌, Bool, List, [], length, subst, ap, sym, Ok, Err, arith}
 use Rattle.std.proofs.lemmas.List.{nil_from_length}
-use Rattle.needs_graph.specs.Marks.{closed}
+use Rattle.needs_graph.specs.Rows.{IsSets}
 use Rattle.std.proofs.lemmas.Bool.Decides.{nat_tests}
 use Rattle.wf_value.specs.declared.refusal.Refusal.TheVariants.{Cycle}
-use Rattle.needs_graph.proofs.GraphFacts.{walks_law, reached_is, length-reached, ids_are, places_are, graph_cyclic, graph_made, graph_is_graph}
+use Rattle.needs_graph.proofs.GraphFacts.{walks_law, reached_is, length-reached, ids_are, places_are, dependents_are, graph_cyclic, graph_made, graph_is_graph}
 use Rattle.needs_graph.proofs.graph.Graph.build.Goals as goal
 
 pub returns-in_err-direct-clause-walks : goal.returns-in_err-direct-clause-walks
@@ -40,8 +40,11 @@ returns-then-not-is_empty-clause-walks c = walks_law c.args.jobs.now
 pub returns-in_err-all_places-clause-walks : goal.returns-in_err-all_places-clause-walks
 returns-in_err-all_places-clause-walks c = walks_law c.args.jobs.now
 
-pub returns-in_err-all_places-2-clause-walks : goal.returns-in_err-all_places-2-clause-walks
-returns-in_err-all_places-2-clause-walks c = walks_law c.args.jobs.now
+pub returns-in_err-all_dependents-clause-walks : goal.returns-in_err-all_dependents-clause-walks
+returns-in_err-all_dependents-clause-walks c = walks_law c.args.jobs.now
+
+pub returns-in_err-all_sets-clause-walks : goal.returns-in_err-all_sets-clause-walks
+returns-in_err-all_sets-clause-walks c = walks_law c.args.jobs.now
 
 pub invariant_of-result : goal.invariant_of-result
 invariant_of-result c =
@@ -49,13 +52,18 @@ invariant_of-result c =
     let direct = c.in_ok-direct.direct.items in
     let reached = c.in_ok-reached.reached.items in
     let needs = c.in_ok-all_places.field-0.items in
+    let sets = c.in_ok-all_sets.field-0.items in
     let is = reached_is c.as_slice.result.now direct reached c.as_slice.ensures.value c.in_ok-reached.ensures in
     let own = ids_are jobs direct c.as_slice-2.result.now reached c.in_ok-ids.ids.items is c.as_slice-2.ensures.value c.in_ok-ids.ensures in
     let none : c.in_ok-ids.ids.items ≡ [] = nil_from_length _ (grind (arith, nat_tests, c.if-not-is_empty.ensures)) in
-    let graph = graph_is_graph jobs direct c.in_ok-direct.ensures (own ∙ none) in
     let needs_are = places_are c.as_slice-3.result.now direct needs c.as_slice-3.ensures.value c.in_ok-all_places.ensures in
-    let ancestors_are = places_are c.as_slice-4.result.now (closed (length direct) direct) c.in_ok-all_places-2.field-0.items (c.as_slice-4.ensures.value ∙ is) c.in_ok-all_places-2.ensures in
-    rw (← needs_are, ← ancestors_are) graph
+    let P : List (List Bool) → Type 0 = λ rows. IsSets sets rows in
+    let sets_are = subst P (c.as_slice-4.ensures.value ∙ is) c.in_ok-all_sets.ensures in
+    let listed = dependents_are c.as_slice-5.result.now direct c.in_ok-all_dependents.field-0.items c.as_slice-5.ensures.value c.in_ok-all_dependents.ensures in
+    rw (← needs_are) (graph_is_graph jobs direct sets _ c.in_ok-direct.ensures (own ∙ none) sets_are listed)
+
+pub returns-clause-walks : goal.returns-clause-walks
+returns-clause-walks c = walks_law c.args.jobs.now
 
 pub returns-clause-graph : goal.returns-clause-graph
 returns-clause-graph c =
@@ -68,6 +76,3 @@ returns-clause-graph c =
     let none : c.in_ok-ids.ids.items ≡ [] = nil_from_length _ (grind (arith, nat_tests, c.if-not-is_empty.ensures)) in
     graph_made jobs direct c.in_ok-direct.ensures (own ∙ none)
     ∙ ap Ok (places_are c.as_slice-3.result.now direct needs c.as_slice-3.ensures.value c.in_ok-all_places.ensures)
-
-pub returns-clause-walks : goal.returns-clause-walks
-returns-clause-walks c = walks_law c.args.jobs.now
