@@ -10,8 +10,6 @@ mod fuse;
 mod gate;
 mod image;
 mod memory;
-#[cfg(test)]
-mod tests;
 
 pub use call::{Bytes, Call, Fill};
 pub use disk::Disk;

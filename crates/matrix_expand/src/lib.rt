@@ -9,6 +9,3 @@ mod original;
 mod pattern;
 
 pub use expansion::expand;
-
-#[cfg(test)]
-mod tests;

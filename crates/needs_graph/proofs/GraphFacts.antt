@@ -178,10 +178,6 @@ gave x = Ok x
 same_from_gave : {X : Type 0} (x y : X) → gave x ≡ gave y → x ≡ y
 same_from_gave x y e = cc
 
-pub reached_is : (lent direct reached : List (List Bool)) → lent ≡ direct → gave (closed (length lent) lent) ≡ gave reached → reached ≡ closed (length direct) direct
-reached_is lent direct reached same told =
-    sym (same_from_gave _ _ told) ∙ ap (λ rows. closed (length rows) rows) same
-
 pub length-reached : (jobs : List JobNeeds) (direct lent reached : List (List Bool)) → needs_rows_of jobs ≡ Ok direct → reached ≡ closed (length direct) direct → lent ≡ reached → length jobs ≡ length lent
 length-reached jobs direct lent reached made_so is same =
     sym (ap length (same ∙ is) ∙ (length-closed (length direct) direct ∙ length-made jobs direct made_so))

@@ -3,7 +3,6 @@ pub mod Closure
 pub mod GraphFacts
 pub mod GraphRows
 pub mod HasAncestor
-pub mod IdOrder
 pub mod JobSetSteps
 pub mod LookupSteps
 pub mod MarkSteps
@@ -12,6 +11,5 @@ pub mod OwnIds
 pub mod PlaceLists
 pub mod Reach
 pub mod ResultRows
-pub mod RiseSteps
 pub mod RowSteps
 pub mod Walks

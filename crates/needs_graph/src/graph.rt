@@ -11,20 +11,19 @@ use crate::ended::HasResult;
 use crate::job_needs::JobNeeds;
 use crate::job_set::{JobSet, set_has};
 use crate::marks::Marks;
-use crate::places::Places;
 use crate::rows::{all_dependents, all_places, all_sets, closed_rows, needs_rows};
 use std::alloc::Global;
 use std::marker::Model;
-use wf_value::{Chars, Condition, Ids, Refusal};
+use wf_value::{Chars, Condition, Refusal, Sequence};
 
 /// Which jobs each job of a workflow needs, directly and through others. Jobs are named by their
 /// places in the order of their ids, from 0, and no job is its own ancestor. A contract sees for
 /// each job the places of the jobs that it needs directly, in order.
 #[derive(Drop)]
 pub struct Graph {
-    needs: Vec<Places>,
+    needs: Vec<Sequence<usize>>,
     ancestors: Vec<JobSet>,
-    dependents: Vec<Places>,
+    dependents: Vec<Sequence<usize>>,
 }
 
 impl Model for Graph {
@@ -51,15 +50,17 @@ impl Graph {
             ↔ HasWalk (needs_of jobs.now) job other }
     {
         let direct = needs_rows(alloc, jobs)?;
-        let reached = closed_rows(alloc, direct.as_slice())?;
+        let needs = all_places(alloc, direct.as_slice())?;
+        let dependents = all_dependents(alloc, direct.as_slice())?;
+        let reached = closed_rows(alloc, direct)?;
         let ids = own_ids(alloc, jobs, reached.as_slice())?;
         if !ids.is_empty() {
-            return Err(Refusal::Cycle(Ids::new(ids)));
+            return Err(Refusal::Cycle(Sequence::new(ids)));
         }
         Ok(Graph {
-            needs: all_places(alloc, direct.as_slice())?,
+            needs,
             ancestors: all_sets(alloc, reached.as_slice())?,
-            dependents: all_dependents(alloc, direct.as_slice())?,
+            dependents,
         })
     }
 

@@ -10,7 +10,6 @@ mod job_needs;
 mod job_set;
 mod lookup;
 mod marks;
-mod places;
 mod results;
 mod rows;
 
@@ -20,4 +19,3 @@ pub use graph::Graph;
 pub use id_order::ids_rise;
 pub use job_needs::JobNeeds;
 pub use results::{conclude, gather};
-

@@ -4,10 +4,9 @@ ghost use Rattle.needs_graph.specs.JobSets.{is_in};
 ghost use Rattle.needs_graph.specs.Marks.{is_marked, marked, either, through};
 
 use crate::job_set::JobSet;
-use crate::places::Places;
 use std::alloc::{AllocError, Global};
 use std::marker::Model;
-use wf_value::Refusal;
+use wf_value::{Refusal, Sequence};
 
 /// How many marks the processor adds at once.
 const STEP: usize = 32;
@@ -31,14 +30,6 @@ impl Marks {
     {
         Ok(Marks {
             marks: vec![in alloc; false; jobs]?,
-        })
-    }
-
-    pub(crate) fn copy(&self, alloc: Global) -> Result<Self, Refusal>
-        ensures { Gives (λ m. m) result (Ok self.now) }
-    {
-        Ok(Marks {
-            marks: Vec::from_slice(alloc, self.marks.as_slice())?,
         })
     }
 
@@ -89,10 +80,13 @@ impl Marks {
     }
 
     /// The jobs of the set, in order.
-    pub(crate) fn places(&self, alloc: Global) -> Result<Places, Refusal>
+    pub(crate) fn places(&self, alloc: Global) -> Result<Sequence<usize>, Refusal>
         ensures { Gives (λ p. p) result (Ok (marked self.now)) }
     {
-        Ok(Places::new(marked_places(alloc, self.marks.as_slice())?))
+        Ok(Sequence::new(marked_places(
+            alloc,
+            self.marks.as_slice(),
+        )?))
     }
 }
 

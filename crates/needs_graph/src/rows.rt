@@ -8,9 +8,8 @@ use crate::job_needs::JobNeeds;
 use crate::job_set::JobSet;
 use crate::lookup::Lookup;
 use crate::marks::Marks;
-use crate::places::Places;
 use std::alloc::{AllocError, Global};
-use wf_value::{Chars, Code, Refusal};
+use wf_value::{Chars, Code, Refusal, Sequence};
 
 /// The jobs of those ids, or 13 where one is no job's.
 fn needs_row(alloc: Global, jobs: &Lookup<'_>, ids: &[Chars]) -> Result<Marks, Refusal>
@@ -44,16 +43,6 @@ pub(crate) fn needs_rows(alloc: Global, jobs: &[JobNeeds<'_>]) -> Result<Vec<Mar
     Ok(rows)
 }
 
-fn copied(alloc: Global, rows: &[Marks]) -> Result<Vec<Marks>, Refusal>
-    ensures { Gives (λ v. v.items) result (Ok rows.now) }
-{
-    let mut copies = Vec::new(alloc);
-    for row in rows {
-        copies.push(row.copy(alloc)?)?;
-    }
-    Ok(copies)
-}
-
 fn lead_all_through(rows: &mut [Marks], job: usize, others: &Marks)
     ensures { rows.new ≡ map (through job others.now) rows.old }
 {
@@ -62,12 +51,12 @@ fn lead_all_through(rows: &mut [Marks], job: usize, others: &Marks)
     }
 }
 
-/// For each job the jobs that it reaches by any number of needs.
-pub(crate) fn closed_rows(alloc: Global, rows: &[Marks]) -> Result<Vec<Marks>, Refusal>
-    ensures { Gives (λ v. v.items) result (Ok (closed (length rows.now) rows.now)) }
+/// For each job the jobs that it reaches by any number of needs, from the jobs that it lists.
+pub(crate) fn closed_rows(alloc: Global, rows: Vec<Marks>) -> Result<Vec<Marks>, AllocError>
+    ensures { IfOk result (λ v. v.items ≡ closed (length rows.items) rows.items) }
 {
-    let mut reached = copied(alloc, rows)?;
-    for job in 0..rows.len() {
+    let mut reached = rows;
+    for job in 0..reached.len() {
         let others = reached[job].trimmed(alloc)?;
         lead_all_through(reached.as_mut_slice(), job, &others);
     }
@@ -75,7 +64,7 @@ pub(crate) fn closed_rows(alloc: Global, rows: &[Marks]) -> Result<Vec<Marks>, R
 }
 
 /// The jobs of each row, in order.
-pub(crate) fn all_places(alloc: Global, rows: &[Marks]) -> Result<Vec<Places>, Refusal>
+pub(crate) fn all_places(alloc: Global, rows: &[Marks]) -> Result<Vec<Sequence<usize>>, Refusal>
     ensures { Gives (λ v. v.items) result (Ok (map marked rows.now)) }
 {
     let mut places = Vec::new(alloc);
@@ -97,12 +86,12 @@ fn dependents_on(alloc: Global, rows: &[Marks], job: usize) -> Result<Vec<usize>
 }
 
 /// For each job the jobs whose rows have it, in order.
-pub(crate) fn all_dependents(alloc: Global, rows: &[Marks]) -> Result<Vec<Places>, Refusal>
+pub(crate) fn all_dependents(alloc: Global, rows: &[Marks]) -> Result<Vec<Sequence<usize>>, Refusal>
     ensures { Gives (λ v. v.items) result (Ok (dependents_by rows.now)) }
 {
     let mut dependents = Vec::new(alloc);
     for job in 0..rows.len() {
-        dependents.push(Places::new(dependents_on(alloc, rows, job)?))?;
+        dependents.push(Sequence::new(dependents_on(alloc, rows, job)?))?;
     }
     Ok(dependents)
 }

@@ -15,8 +15,6 @@ mod refusals;
 mod reply;
 mod runner_name;
 mod small_text;
-#[cfg(test)]
-mod tests;
 
 pub use command::{Claim, Command, Done};
 pub use delivery_id::DeliveryId;

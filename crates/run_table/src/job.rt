@@ -291,12 +291,3 @@ fn end_in_jobs(jobs: &mut [JobRecord], lease: Number, outcome: Outcome)
         job.end(lease, outcome);
     }
 }
-
-#[cfg(test)]
-impl JobRecords {
-    pub(crate) fn from_vec(jobs: Vec<JobRecord>) -> Self
-        ensures { result ≡ jobs.items }
-    {
-        JobRecords { jobs }
-    }
-}

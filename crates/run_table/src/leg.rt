@@ -244,12 +244,3 @@ fn end_leg(legs: &mut [Leg], lease: Number, outcome: Outcome)
         leg.end(lease, outcome);
     }
 }
-
-#[cfg(test)]
-impl Legs {
-    pub(crate) fn from_vec(legs: Vec<Leg>) -> Self
-        ensures { result ≡ legs.items }
-    {
-        Legs { legs }
-    }
-}

@@ -2,8 +2,6 @@
 #![tactic(auto)]
 
 mod fit;
-#[cfg(test)]
-mod fixtures;
 mod job;
 pub mod laws;
 mod leg;
@@ -21,6 +19,3 @@ pub use run::{Run, RunPhase, Runs};
 pub use runner::{Runner, Runners};
 pub use table::Table;
 pub use view::RunView;
-
-#[cfg(test)]
-mod tests;

@@ -318,15 +318,3 @@ fn end_in_runs(runs: &mut [Run], lease: Number, outcome: Outcome)
         run.end(lease, outcome);
     }
 }
-
-#[cfg(test)]
-impl Runs {
-    ghost use Rattle.std.specs.Prelude.{◌≤◌, length};
-
-    pub(crate) fn from_vec(runs: Vec<Run>) -> Self
-        requires { length runs.items ≤ 100000 }
-        ensures { result ≡ runs.items }
-    {
-        Runs { runs }
-    }
-}

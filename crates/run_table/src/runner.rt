@@ -182,18 +182,3 @@ fn position_named(runners: &[Runner], name: &RunnerName) -> Option<usize>
         .iter()
         .position(|runner| runner.name.as_str() == name.as_str())
 }
-
-#[cfg(test)]
-impl Runners {
-    pub(crate) fn from_vec(runners: Vec<Runner>) -> Self
-        ensures { result ≡ runners.items }
-    {
-        Runners { runners }
-    }
-
-    pub(crate) fn as_slice(&self) -> &[Runner]
-        ensures { result.now ≡ self.now }
-    {
-        self.runners.as_slice()
-    }
-}

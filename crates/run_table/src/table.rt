@@ -250,6 +250,3 @@ fn reporting(alloc: Global, report: &Done) -> Result<Runner, Refusal>
         holds: None,
     })
 }
-
-#[cfg(test)]
-mod tests;

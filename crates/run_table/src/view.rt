@@ -47,6 +47,3 @@ impl<'a> RunView<'a> {
         Ok(Chars::new(text))
     }
 }
-
-#[cfg(test)]
-mod tests;

@@ -21,6 +21,3 @@ pub use path::Path;
 pub use piece::{Expression, Operand, Piece};
 pub use place::Place;
 pub use template::Template;
-
-#[cfg(test)]
-mod tests;

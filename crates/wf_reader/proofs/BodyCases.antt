@@ -15,6 +15,9 @@ not_utf8 : (bytes : List ℕ) (b : Bool) → is_utf8 bytes ≡ b → ¬ IsUtf8 b
 not_utf8 bytes true is h = absurd (h (IsUtf8-from_is_utf8 bytes is))
 not_utf8 bytes false is h = is
 
+pub never_both : (bytes : List ℕ) → IsUtf8 bytes → is_utf8 bytes ≡ false → ⊥
+never_both bytes is not_so = let so : is_utf8 bytes ≡ true = is_utf8-from_IsUtf8 bytes is in cc
+
 short : (n : ℕ) → n ≤ 65536 → nat_le n 65536 ≡ true
 short n h = grind (arith, nat_tests)
 

@@ -1,15 +1,8 @@
 -- The first fault of lists of faults, part by part.
 use Rattle.std.proofs.Common.{◌≡◌, List, [], ◌∷◌, ◌++◌, map, Result, Ok, Err, refl, sym, ap, ◌∙◌, append_assoc}
-use Rattle.std.specs.Prelude.{◌≢◌, IsErrAnd}
 use Rattle.std.specs.List.{flat_map}
-use Rattle.wf_value.specs.Gives.{Gives, no_memory}
 use Rattle.wf_value.specs.declared.refusal.Refusal.{Refusal}
 use Rattle.wf_reader.specs.Faults.{unless_faulty}
-
--- the exit of a `?`
-pub gives_err : {X Y : Type 0} (view : X → Y) (r : Result X Refusal) (d : Result Y Refusal) (e : Refusal) → IsErrAnd r (λ f. f ≡ e) → (e ≢ no_memory → d ≡ Err e) → Gives view r d
-gives_err view (Ok x) d e is h = absurd is
-gives_err view (Err f) d e is h = λ ne. h (λ m. ne (is ∙ m)) ∙ ap Err (sym is)
 
 -- a part with a fault decides
 pub first_decides : {X Y : Type 0} (fs gs : List Refusal) (x : X) (y : Y) (e : Refusal) → unless_faulty fs x ≡ Err e → unless_faulty (fs ++ gs) y ≡ Err e

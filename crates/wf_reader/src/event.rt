@@ -1,9 +1,11 @@
-ghost use Rattle.std.specs.Prelude.{◌≡◌, codes};
+ghost use Rattle.std.specs.Prelude.{◌≡◌, ◌<◌, ◌≤◌, codes, length, false, Err};
+ghost use Rattle.std.specs.Str.{is_utf8};
 ghost use Rattle.serde_json.specs.Find.{get};
 ghost use Rattle.serde_json.specs.View.{view};
 ghost use Rattle.wf_value.specs.Gives.{Gives};
 ghost use Rattle.wf_reader.specs.Event.{envelope_faults, envelope_of, event_faults, event_of};
-ghost use Rattle.wf_value.specs.declared.code.Code.TheVariants.{WrongKind};
+ghost use Rattle.wf_value.specs.declared.code.Code.TheVariants.{NotJson, TooLong, WrongKind};
+ghost use Rattle.wf_value.specs.declared.refusal.Refusal.TheVariants.{Numbered};
 ghost use Rattle.wf_reader.specs.Faults.{unless_faulty, required};
 ghost use Rattle.wf_reader.specs.Json.{value_at};
 ghost use Rattle.wf_reader.specs.Workflow.{value_faults, value_of};
@@ -63,8 +65,13 @@ fn event_in(alloc: Global, value: &Value) -> Result<Event, Refusal>
 /// it is not UTF-8 or not JSON, 11 for the envelope, and for the workflow in it 11, 12, 15, 16 and 23.
 /// Want of memory is 50.
 pub fn read_event(alloc: Global, bytes: &[u8]) -> Result<Event, Refusal>
-    ensures { Gives (λ e. e) result
+    ensures gives { Gives (λ e. e) result
         (unless_faulty (event_faults bytes.now) (event_of bytes.now)) }
+
+    // Memory or not:
+    ensures too_long { 65536 < length bytes.now → result ≡ Err (Numbered TooLong) }
+    ensures no_text { length bytes.now ≤ 65536 → is_utf8 bytes.now ≡ false
+        → result ≡ Err (Numbered NotJson) }
 {
     let value = read_body(alloc, bytes)?;
     event_in(alloc, &value)

@@ -29,8 +29,7 @@ pub fn members_at<'v>(object: &'v Value, name: &str) -> Option<&'v Map<String, V
 
 /// Refuses a member that is left out, whatever its value (16).
 pub fn refuse_left_out(object: &Value, name: &str) -> Result<(), Refusal>
-    ensures { Gives (λ u. u) result
-        (unless_faulty (left_out (get name.now (view object.now))) tt) }
+    ensures { result ≡ unless_faulty (left_out (get name.now (view object.now))) tt }
 {
     match object.get(name) {
         Some(_) => Err(Refusal::Numbered(Code::LeftOut)),
@@ -40,8 +39,7 @@ pub fn refuse_left_out(object: &Value, name: &str) -> Result<(), Refusal>
 
 /// Refuses a member that is there and no object (11).
 pub fn check_context(object: &Value, name: &str) -> Result<(), Refusal>
-    ensures { Gives (λ u. u) result
-        (unless_faulty (optional object_faults (get name.now (view object.now))) tt) }
+    ensures { result ≡ unless_faulty (optional object_faults (get name.now (view object.now))) tt }
 {
     match object.get(name) {
         Some(context) if !context.is_object() => Err(wrong_kind()),

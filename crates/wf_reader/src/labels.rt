@@ -8,10 +8,9 @@ ghost use Rattle.wf_reader.specs.Job.{has_expression, label_faults, labels_fault
 ghost use Rattle.wf_reader.specs.Json.{text_of, value_at};
 
 use crate::fields::wrong_kind;
-use crate::texts::Texts;
 use serde_json::Value;
 use std::alloc::Global;
-use wf_value::{Chars, Code, Refusal};
+use wf_value::{Chars, Code, Refusal, Sequence};
 
 fn holds_expression(text: &str) -> bool
     ensures { result ≡ has_expression text.now }
@@ -66,13 +65,13 @@ fn labels_in(alloc: Global, value: &Value) -> Result<Vec<Chars>, Refusal>
 }
 
 /// The labels of a job: `runs-on` is missing or an empty list 15, an object 16, of another kind 11.
-pub fn read_runs_on(alloc: Global, job: &Value) -> Result<Texts, Refusal>
+pub fn read_runs_on(alloc: Global, job: &Value) -> Result<Sequence<Chars>, Refusal>
     ensures { Gives (λ t. t) result
         (unless_faulty (required NoLabels labels_faults (get (codes "runs-on") (view job.now)))
         (labels_of (value_at (codes "runs-on") (view job.now)))) }
 {
     match job.get("runs-on") {
-        Some(value) => Ok(Texts::new(labels_in(alloc, value)?)),
+        Some(value) => Ok(Sequence::new(labels_in(alloc, value)?)),
         None => Err(Refusal::Numbered(Code::NoLabels)),
     }
 }

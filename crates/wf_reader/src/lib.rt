@@ -9,13 +9,12 @@ mod fields;
 mod job;
 mod jobs;
 mod labels;
-#[cfg(test)]
-mod tests;
-mod texts;
 mod workflow;
 
 pub use event::{Event, read_event};
 pub use job::Job;
 pub use jobs::Jobs;
-pub use texts::Texts;
 pub use workflow::{Workflow, read_workflow};
+
+/// Texts in order, as the labels of a job.
+pub type Texts = wf_value::Sequence<wf_value::Chars>;

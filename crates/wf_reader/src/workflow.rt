@@ -1,6 +1,9 @@
-ghost use Rattle.std.specs.Prelude.{◌≡◌, map, codes, flat_map, string_bytes};
+ghost use Rattle.std.specs.Prelude.{◌≡◌, ◌<◌, ◌≤◌, map, codes, flat_map, length, string_bytes, false, Err};
+ghost use Rattle.std.specs.Str.{is_utf8};
 ghost use Rattle.serde_json.specs.View.{view};
 ghost use Rattle.wf_value.specs.Gives.{Gives};
+ghost use Rattle.wf_value.specs.declared.code.Code.TheVariants.{NotJson, TooLong};
+ghost use Rattle.wf_value.specs.declared.refusal.Refusal.TheVariants.{Numbered};
 ghost use Rattle.wf_reader.specs.Faults.{unless_faulty};
 ghost use Rattle.wf_reader.specs.Job.{job_faults, job_of};
 ghost use Rattle.wf_reader.specs.Json.{members_of, value_at};
@@ -75,8 +78,13 @@ pub fn workflow_in(alloc: Global, value: &Value) -> Result<Workflow, Refusal>
 /// where it is not UTF-8 or not JSON, and for what is inside it 11, 12, 15, 16 and 23. Want of memory
 /// is 50. GitHub Docs, "Workflow syntax for GitHub Actions"; RFC 8259.
 pub fn read_workflow(alloc: Global, bytes: &[u8]) -> Result<Workflow, Refusal>
-    ensures { Gives (λ w. w) result
+    ensures gives { Gives (λ w. w) result
         (unless_faulty (workflow_faults bytes.now) (workflow_of bytes.now)) }
+
+    // Memory or not:
+    ensures too_long { 65536 < length bytes.now → result ≡ Err (Numbered TooLong) }
+    ensures no_text { length bytes.now ≤ 65536 → is_utf8 bytes.now ≡ false
+        → result ≡ Err (Numbered NotJson) }
 {
     let value = read_body(alloc, bytes)?;
     workflow_in(alloc, &value)

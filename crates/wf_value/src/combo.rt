@@ -4,7 +4,9 @@ ghost use Rattle.wf_value.specs.Names.{names_rise};
 
 use crate::chars::Chars;
 use crate::refusal::Refusal;
+use crate::same::{Same, same_items};
 use crate::scalar::Scalar;
+use crate::try_copy::{TryCopy, copy_items};
 use std::alloc::Global;
 use std::marker::Model;
 
@@ -98,13 +100,28 @@ impl Combo {
         Ok(())
     }
 
+    /// What `TryCopy` gives.
     pub fn copy(&self, alloc: Global) -> Result<Self, Refusal>
         ensures { Gives (λ c. c) result (Ok self.now) }
     {
-        let mut pairs = Vec::with_capacity(alloc, self.pairs.len())?;
-        for (name, value) in self.pairs.as_slice() {
-            pairs.push((name.copy(alloc)?, value.copy(alloc)?))?;
-        }
-        Ok(Combo { pairs })
+        TryCopy::copy(self, alloc)
+    }
+}
+
+impl TryCopy for Combo {
+    /// A combination without names takes no memory.
+    fn copy(&self, alloc: Global) -> Result<Self, Refusal>
+        ensures gives { Gives (λ c. c) result (Ok self.now) }
+        ensures answers { self.now ≡ [] → result ≡ Ok [] }
+    {
+        Ok(Combo {
+            pairs: copy_items(alloc, self.as_slice())?,
+        })
+    }
+}
+
+impl Same for Combo {
+    fn same(&self, other: &Self) -> bool {
+        same_items(self.as_slice(), other.as_slice())
     }
 }

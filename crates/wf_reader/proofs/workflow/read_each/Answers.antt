@@ -1,13 +1,13 @@
 use Rattle.std.proofs.Common.{IsTrue, sym, subst}
 use Rattle.wf_reader.specs.JobCode.{ids_rise}
-use Rattle.wf_reader.proofs.InTurn.{gives_err}
+use Rattle.wf_value.proofs.PassedOn.{passed_on}
 use Rattle.wf_reader.proofs.Members.{turn_fails, turn_left, turn_done, all_done, ids_rise-sorted}
 use Rattle.wf_reader.proofs.workflow.read_each.Goals as goal
 
 pub returns-in_err-read_job : goal.returns-in_err-read_job
 returns-in_err-read_job c =
-    gives_err _ _ _ c.in_err-read_job.field-0.0 c.from_residual.ensures.1 (λ ne.
-    turn_fails c.args.members.now.entries c.loop-id.id-iterator c.next.new.self (c.in-Some.id.now, c.in-Some.value.now) c.as_str.result.now _ _ c.loop-id.invariant.left c.in-Some.ensures.steps c.as_str.ensures.value (c.in_err-read_job.ensures ne))
+    passed_on _ _ _ _ c.in_err-read_job.field-0.0 c.from_residual.ensures.1 c.in_err-read_job.ensures (λ refused.
+    turn_fails c.args.members.now.entries c.loop-id.id-iterator c.next.new.self (c.in-Some.id.now, c.in-Some.value.now) c.as_str.result.now _ _ c.loop-id.invariant.left c.in-Some.ensures.steps c.as_str.ensures.value refused)
 
 pub loop-id-preserved : goal.loop-id-preserved
 loop-id-preserved c =

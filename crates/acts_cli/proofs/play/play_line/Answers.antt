@@ -1,0 +1,10 @@
+use Rattle.std.proofs.Common.{ℕ, List}
+use Rattle.std.proofs.KnownBytes.{Appends-nil}
+use Rattle.acts_cli.specs.Answers.{outcome_text}
+use Rattle.acts_cli.proofs.Plays.{is_answer}
+use Rattle.acts_cli.proofs.play.play_line.Goals as goal
+
+pub returns-in_err-answer-clause-front : goal.returns-in_err-answer-clause-front
+returns-in_err-answer-clause-front g c =
+    let made = c.carry_out-outcome.ensures in
+    (outcome_text c.carry_out-outcome.result, 0, is_answer c.args.table.now c.carry_out-outcome.new.table c.args.line.now c.carry_out-outcome.result made.moves made.err, Appends-nil (g.W.Write.contents c.args.writer.now))

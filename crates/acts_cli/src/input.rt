@@ -1,0 +1,50 @@
+ghost use Rattle.std.specs.Prelude.{◌≡◌, ◌≤◌, ◌<◌, ◌⊎◌, ℕ, List, take, length, vec_len, IfOk, IfErr, OnErr};
+ghost use Rattle.std.specs.Io.KnownBytes.{Consumes, IsAtEnd, Keeps};
+ghost use Rattle.wf_value.specs.Gives.{no_memory};
+ghost use Rattle.acts_cli.specs.Play.{stream_failed};
+
+use std::alloc::Global;
+use std::io::{ErrorKind, Read};
+use wf_value::{Code, Refusal};
+
+/// How many bytes are read at a time.
+const CHUNK: usize = 8192;
+
+/// One read, tried again where a signal interrupts it. A failed read is 61.
+fn read_some<R: Read>(reader: &mut R, buffer: &mut [u8]) -> Result<usize, Refusal>
+    ensures bound { IfOk result (λ n. n ≤ length buffer.new) }
+    ensures bytes { IfOk result (λ n. Consumes (R.remaining reader.old) (R.remaining reader.new) (take n buffer.new)) }
+    ensures end { IfOk result (λ n. n ≡ 0 → 0 < length buffer.old → IsAtEnd (R.remaining reader.new)) }
+    ensures kept { OnErr result (Keeps (R.remaining reader.old) (R.remaining reader.new)) }
+    ensures err { IfErr result (λ e. e ≡ stream_failed) }
+{
+    for _ in 0..u64::MAX {
+        match reader.read(buffer) {
+            Ok(count) => return Ok(count),
+            Err(e) if e.kind() == ErrorKind::Interrupted => {}
+            Err(_) => return Err(Refusal::Numbered(Code::StreamFailed)),
+        }
+    }
+    Err(Refusal::Numbered(Code::StreamFailed))
+}
+
+/// All bytes that a reader gives, up to a number of them. A failed read is 61, and want of memory 50.
+pub fn read_at_most<R: Read>(alloc: Global, reader: &mut R, most: usize) -> Result<Vec<u8>, Refusal>
+    ensures limit { (read : List ℕ) × Consumes (R.remaining reader.old) (R.remaining reader.new) read × (length read ≤ most) }
+    ensures bytes { IfOk result (λ v. Consumes (R.remaining reader.old) (R.remaining reader.new) v.items) }
+    ensures bound { IfOk result (λ v. vec_len v ≤ most) }
+    ensures end { IfOk result (λ v. vec_len v < most → IsAtEnd (R.remaining reader.new)) }
+    ensures err { IfErr result (λ e. (e ≡ stream_failed) ⊎ (e ≡ no_memory)) }
+{
+    let mut bytes = Vec::new(alloc);
+    let mut buffer = [0; CHUNK];
+    while bytes.len() < most {
+        let room = (most - bytes.len()).min(CHUNK);
+        let count = read_some(reader, &mut buffer[..room])?;
+        if count == 0 {
+            break;
+        }
+        bytes.extend_from_slice(&buffer[..count])?;
+    }
+    Ok(bytes)
+}

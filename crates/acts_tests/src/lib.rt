@@ -1,0 +1,21 @@
+//! The tests of all crates, over their public calls. Nothing stands on this crate.
+#![tactic(auto)]
+
+#[cfg(test)]
+mod act_disk_tests;
+#[cfg(test)]
+mod acts_cli_tests;
+#[cfg(test)]
+mod matrix_expand_tests;
+#[cfg(test)]
+mod needs_graph_tests;
+#[cfg(test)]
+mod run_plan_tests;
+#[cfg(test)]
+mod run_table_tests;
+#[cfg(test)]
+mod wf_expr_tests;
+#[cfg(test)]
+mod wf_reader_tests;
+#[cfg(test)]
+mod wf_value_tests;

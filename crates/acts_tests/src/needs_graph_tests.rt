@@ -1,0 +1,4 @@
+//! Graphs of needs, conditions, results and conclusions.
+
+mod graph;
+mod outcomes;

@@ -1,0 +1,77 @@
+use crate::run_plan_tests::{BODY, expect_done, expect_memory, labels, number, ready, runner};
+use run_plan::{Claim, Command, Done};
+use std::alloc::Global;
+use std::process::Abort;
+use wf_value::{Outcome, Refusal};
+
+const OTHER_BODY: &str =
+    "{\"repo\":\"o/r\",\"path\":\"ci.json\",\"workflow\":{\"jobs\":{\"build\":{\"runs-on\":\"gpu\"}}}}";
+
+/// How many commands there are, of which no two are the same.
+const COMMANDS: usize = 16;
+
+/// The command at each place, from 0.
+fn command(alloc: Global, place: usize) -> Result<Command, Refusal> {
+    match place {
+        0 => admit(alloc, "d1", "push", BODY),
+        1 => admit(alloc, "d2", "push", BODY),
+        2 => admit(alloc, "d1", "fork", BODY),
+        3 => admit(alloc, "d1", "push", OTHER_BODY),
+        4 => claim(alloc, "r1", "1", "linux,x64"),
+        5 => claim(alloc, "r2", "1", "linux,x64"),
+        6 => claim(alloc, "r1", "2", "linux,x64"),
+        7 => claim(alloc, "r1", "1", "x64,linux"),
+        8 => claim(alloc, "r1", "1", "linux"),
+        9 => done(alloc, "r1", "1", "1", Outcome::Success),
+        10 => done(alloc, "r2", "1", "1", Outcome::Success),
+        11 => done(alloc, "r1", "2", "1", Outcome::Success),
+        12 => done(alloc, "r1", "1", "2", Outcome::Success),
+        13 => done(alloc, "r1", "1", "1", Outcome::Failure),
+        14 => Ok(Command::Look(number("1")?)),
+        _ => Ok(Command::Look(number("2")?)),
+    }
+}
+
+fn admit(alloc: Global, id: &str, event: &str, body: &str) -> Result<Command, Refusal> {
+    Ok(Command::Admit(ready(alloc, id, event, body)?))
+}
+
+fn claim(alloc: Global, name: &str, count: &str, asked: &str) -> Result<Command, Refusal> {
+    Ok(Command::Claim(Claim {
+        runner: runner(alloc, name)?,
+        number: number(count)?,
+        labels: labels(alloc, asked)?,
+    }))
+}
+
+fn done(
+    alloc: Global,
+    name: &str,
+    count: &str,
+    lease: &str,
+    outcome: Outcome,
+) -> Result<Command, Refusal> {
+    Ok(Command::Done(Done {
+        runner: runner(alloc, name)?,
+        number: number(count)?,
+        lease: number(lease)?,
+        result: outcome,
+    }))
+}
+
+fn tells_commands_apart(rt: &impl Abort, alloc: Global) -> Result<(), Refusal> {
+    for i in 0..COMMANDS {
+        let copy = command(alloc, i)?.copy(alloc)?;
+        for j in 0..COMMANDS {
+            let other = command(alloc, j)?;
+            assert_eq!(rt; copy.same(&other), i == j, "{i} {j}");
+        }
+    }
+    Ok(())
+}
+
+#[test]
+fn copies_commands_and_tells_them_apart(rt: HostRuntime) {
+    expect_memory(&rt, &tells_commands_apart(&rt, rt.alloc()));
+    expect_done(&rt, &tells_commands_apart(&rt, rt.alloc()));
+}

@@ -1,0 +1,121 @@
+use std::alloc::Global;
+use std::test::Fail;
+use wf_value::{Chars, Code, Combo, Ids, Matrix, Refusal, Scalar, Variable};
+
+fn text(alloc: Global, text: &str) -> Result<Scalar, Fail> {
+    Ok(Scalar::Text(Chars::from_str(alloc, text)?))
+}
+
+#[test]
+fn scalars_that_look_alike_differ(rt: HostRuntime) -> Result<(), Fail> {
+    let alloc = rt.alloc();
+    let scalars = [
+        Scalar::Null,
+        Scalar::Truth(true),
+        Scalar::Whole(1),
+        text(alloc, "1")?,
+        text(alloc, "true")?,
+        text(alloc, "")?,
+    ];
+    for (i, a) in scalars.iter().enumerate() {
+        for (j, b) in scalars.iter().enumerate() {
+            assert_eq!(rt; a.same(b), i == j);
+        }
+        assert!(rt; a.copy(alloc)?.same(a));
+    }
+    Ok(())
+}
+
+#[test]
+fn truth_and_text(rt: HostRuntime) -> Result<(), Fail> {
+    let alloc = rt.alloc();
+    let rows = [
+        (Scalar::Null, false, ""),
+        (Scalar::Truth(false), false, "false"),
+        (Scalar::Truth(true), true, "true"),
+        (Scalar::Whole(0), false, "0"),
+        (Scalar::Whole(i64::MIN), true, "-9223372036854775808"),
+        (Scalar::Whole(i64::MAX), true, "9223372036854775807"),
+        (text(alloc, "")?, false, ""),
+        (text(alloc, "0")?, true, "0"),
+        (text(alloc, "false")?, true, "false"),
+    ];
+    for (scalar, truthy, printed) in rows.iter() {
+        assert_eq!(rt; scalar.truthy(), *truthy);
+        assert_eq!(rt; scalar.text_of(alloc)?.as_str(), *printed);
+    }
+    Ok(())
+}
+
+#[test]
+fn refusals_print_what_they_carry(rt: HostRuntime) -> Result<(), Fail> {
+    let alloc = rt.alloc();
+    let mut ids = Vec::new(alloc);
+    ids.push(Chars::from_str(alloc, "a")?)?;
+    ids.push(Chars::from_str(alloc, "b")?)?;
+    let rows = [
+        (Refusal::Numbered(Code::NotJson), 10, "refused 10"),
+        (Refusal::Numbered(Code::InputTooLong), 76, "refused 76"),
+        (Refusal::Cycle(Ids::new(ids)), 14, "refused 14 a b"),
+        (Refusal::Turn(0), 43, "refused 43 0"),
+    ];
+    for (refusal, number, printed) in rows.iter() {
+        assert_eq!(rt; refusal.number(), *number);
+        assert_eq!(rt; refusal.text(alloc)?.as_str(), *printed);
+        assert_eq!(rt; format!(in alloc; "{refusal}")?.as_str(), *printed);
+    }
+    Ok(())
+}
+
+/// Variables of those names, without values.
+fn variables(alloc: Global, names: &[&str]) -> Result<Vec<Variable>, Fail> {
+    let mut variables = Vec::new(alloc);
+    for name in names {
+        let name = Chars::from_str(alloc, name)?;
+        variables.push(Variable::new(name, Vec::new(alloc)))?;
+    }
+    Ok(variables)
+}
+
+/// Pairs of those names.
+fn pairs(alloc: Global, names: &[&str]) -> Result<Vec<(Chars, Scalar)>, Fail> {
+    let mut pairs = Vec::new(alloc);
+    for name in names {
+        pairs.push((Chars::from_str(alloc, name)?, Scalar::Null))?;
+    }
+    Ok(pairs)
+}
+
+#[test]
+fn tells_the_order_of_names(rt: HostRuntime) -> Result<(), Fail> {
+    let rows: [(&[&str], bool); 5] = [
+        (&[], true),
+        (&["b"], true),
+        (&["B", "a", "ab"], true),
+        (&["a", "a"], false),
+        (&["a", "c", "b"], false),
+    ];
+    for (names, expected) in rows {
+        let variables = variables(rt.alloc(), names)?;
+        assert_eq!(rt; Matrix::names_rise(variables.as_slice()), expected);
+        let pairs = pairs(rt.alloc(), names)?;
+        assert_eq!(rt; Combo::names_rise(pairs.as_slice()), expected);
+    }
+    Ok(())
+}
+
+#[test]
+fn texts_and_lists_come_back(rt: HostRuntime) -> Result<(), Fail> {
+    let alloc = rt.alloc();
+    let chars = Chars::new(String::from_str(alloc, "build")?);
+    let copy = chars.copy(alloc)?;
+    assert!(rt; chars.same(&copy));
+    assert_eq!(rt; chars.into_string().as_str(), "build");
+    let mut ids = Vec::new(alloc);
+    ids.push(copy)?;
+    let ids = Ids::new(ids);
+    assert_eq!(rt; ids.as_slice().len(), 1);
+    assert_eq!(rt; ids.into_vec().len(), 1);
+    assert!(rt; Combo::new(alloc).is_empty());
+    Ok(())
+}
