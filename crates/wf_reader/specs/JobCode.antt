@@ -9,7 +9,8 @@ coded_text = coded_list coded_ℕ
 
 abbrev pub coded_job : Coded Job
 coded_job =
-    code_by (List ℕ × List (List ℕ)) (coded× coded_text (coded_list coded_text)) (λ j. (j.id, j.labels)) (λ p. record { id = p.0; labels = p.1 }) (λ _. refl)
+    code_by (List ℕ × List (List ℕ)) (coded× coded_text (coded_list coded_text)) (λ j. (j.id, j.labels))
+    (λ p. record { id = p.0; labels = p.1 }) (λ _. refl)
 
 abbrev pub coded_jobs : Coded (List Job)
 coded_jobs = coded_list coded_job

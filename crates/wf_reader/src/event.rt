@@ -3,12 +3,12 @@ ghost use Rattle.std.specs.Str.{is_utf8};
 ghost use Rattle.serde_json.specs.Find.{get};
 ghost use Rattle.serde_json.specs.View.{view};
 ghost use Rattle.wf_value.specs.Gives.{Gives};
-ghost use Rattle.wf_reader.specs.Event.{envelope_faults, envelope_of, event_faults, event_of};
+ghost use Rattle.wf_reader.specs.Event.{event_faults_in, event_in, event_faults, event_of};
 ghost use Rattle.wf_value.specs.declared.code.Code.TheVariants.{NotJson, TooLong, WrongKind};
 ghost use Rattle.wf_value.specs.declared.refusal.Refusal.TheVariants.{Numbered};
 ghost use Rattle.wf_reader.specs.Faults.{unless_faulty, required};
-ghost use Rattle.wf_reader.specs.Json.{value_at};
-ghost use Rattle.wf_reader.specs.Workflow.{value_faults, value_of};
+ghost use Rattle.wf_reader.specs.Json.{member_at};
+ghost use Rattle.wf_reader.specs.Workflow.{workflow_faults_in, workflow_in};
 
 use crate::body::read_body;
 use crate::fields::{check_context, read_filled_text, wrong_kind};
@@ -31,8 +31,8 @@ pub struct Event {
 fn read_inner(alloc: Global, envelope: &Value) -> Result<Workflow, Refusal>
     ensures { Gives (λ w. w) result
         (unless_faulty
-        (required WrongKind value_faults (get (codes "workflow") (view envelope.now)))
-        (value_of (value_at (codes "workflow") (view envelope.now)))) }
+        (required WrongKind workflow_faults_in (get (codes "workflow") (view envelope.now)))
+        (workflow_in (member_at (codes "workflow") (view envelope.now)))) }
 {
     match envelope.get("workflow") {
         Some(value) => workflow_in(alloc, value),
@@ -43,7 +43,7 @@ fn read_inner(alloc: Global, envelope: &Value) -> Result<Workflow, Refusal>
 /// The event of a value, or the first of its faults.
 fn event_in(alloc: Global, value: &Value) -> Result<Event, Refusal>
     ensures { Gives (λ e. e) result
-        (unless_faulty (envelope_faults (view value.now)) (envelope_of (view value.now))) }
+        (unless_faulty (event_faults_in (view value.now)) (event_in (view value.now))) }
 {
     if !value.is_object() {
         return Err(wrong_kind());

@@ -6,7 +6,7 @@ ghost use Rattle.wf_value.specs.declared.code.Code.TheVariants.{WrongKind};
 ghost use Rattle.wf_value.specs.declared.refusal.Refusal.TheVariants.{Numbered};
 ghost use Rattle.wf_reader.specs.Event.{filled_text_faults};
 ghost use Rattle.wf_reader.specs.Faults.{unless_faulty, optional, required, left_out, text_faults, object_faults};
-ghost use Rattle.wf_reader.specs.Json.{text_of, value_at};
+ghost use Rattle.wf_reader.specs.Json.{text_in, member_at};
 
 use serde_json::{Map, Value};
 use std::alloc::Global;
@@ -51,7 +51,7 @@ pub fn check_context(object: &Value, name: &str) -> Result<(), Refusal>
 pub fn read_text(alloc: Global, object: &Value, name: &str) -> Result<Chars, Refusal>
     ensures { Gives (λ c. c) result
         (unless_faulty (optional text_faults (get name.now (view object.now)))
-        (text_of (value_at name.now (view object.now)))) }
+        (text_in (member_at name.now (view object.now)))) }
 {
     let Some(member) = object.get(name) else {
         return Chars::from_str(alloc, "");
@@ -66,7 +66,7 @@ pub fn read_text(alloc: Global, object: &Value, name: &str) -> Result<Chars, Ref
 pub fn read_filled_text(alloc: Global, object: &Value, name: &str) -> Result<Chars, Refusal>
     ensures { Gives (λ c. c) result
         (unless_faulty (required WrongKind filled_text_faults (get name.now (view object.now)))
-        (text_of (value_at name.now (view object.now)))) }
+        (text_in (member_at name.now (view object.now)))) }
 {
     match object.get(name).and_then(Value::as_str) {
         Some(text) if !text.is_empty() => Chars::from_str(alloc, text),

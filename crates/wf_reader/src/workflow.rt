@@ -6,8 +6,8 @@ ghost use Rattle.wf_value.specs.declared.code.Code.TheVariants.{NotJson, TooLong
 ghost use Rattle.wf_value.specs.declared.refusal.Refusal.TheVariants.{Numbered};
 ghost use Rattle.wf_reader.specs.Faults.{unless_faulty};
 ghost use Rattle.wf_reader.specs.Job.{job_faults, job_of};
-ghost use Rattle.wf_reader.specs.Json.{members_of, value_at};
-ghost use Rattle.wf_reader.specs.Workflow.{jobs_faults, value_faults, value_of, workflow_faults, workflow_of};
+ghost use Rattle.wf_reader.specs.Json.{members_of, member_at};
+ghost use Rattle.wf_reader.specs.Workflow.{jobs_faults, workflow_faults_in, workflow_in, workflow_faults, workflow_of};
 
 use crate::body::read_body;
 use crate::fields::{members_at, read_text, refuse_left_out, wrong_kind};
@@ -45,8 +45,8 @@ fn read_each(alloc: Global, members: &Map<String, Value>) -> Result<Jobs, Refusa
 /// The jobs of a workflow: no object, or one without a member, is 11, and over 256 are 23.
 fn read_jobs(alloc: Global, workflow: &Value) -> Result<Jobs, Refusal>
     ensures { Gives (λ j. j) result
-        (unless_faulty (jobs_faults (members_of (value_at (codes "jobs") (view workflow.now))))
-        (map job_of (members_of (value_at (codes "jobs") (view workflow.now))))) }
+        (unless_faulty (jobs_faults (members_of (member_at (codes "jobs") (view workflow.now))))
+        (map job_of (members_of (member_at (codes "jobs") (view workflow.now))))) }
 {
     let Some(members) = members_at(workflow, "jobs") else {
         return Err(wrong_kind());
@@ -63,7 +63,7 @@ fn read_jobs(alloc: Global, workflow: &Value) -> Result<Jobs, Refusal>
 /// The workflow of a value, or the first of its faults.
 pub fn workflow_in(alloc: Global, value: &Value) -> Result<Workflow, Refusal>
     ensures { Gives (λ w. w) result
-        (unless_faulty (value_faults (view value.now)) (value_of (view value.now))) }
+        (unless_faulty (workflow_faults_in (view value.now)) (workflow_in (view value.now))) }
 {
     if !value.is_object() {
         return Err(wrong_kind());

@@ -1,5 +1,6 @@
 -- Lists whose names rise: what it says of their places, and what a comparison of neighbours says of it.
-use Rattle.std.proofs.Common.{◌≡◌, ℕ, zero, suc, ◌+◌, ◌<◌, List, [], ◌∷◌, Bool, true, false, ◌&&◌, length, get_or, ⊎_elim, sym, refl, subst, ap, ◌∙◌, arith}
+use Rattle.std.proofs.Common.{◌≡◌, ℕ, zero, suc, ◌+◌, ◌<◌, List, [], ◌∷◌, Bool, true, false, ◌&&◌, length, get_or, ⊎_elim, sym}
+use Rattle.std.proofs.Common.{refl, subst, ap, ◌∙◌, arith}
 use Rattle.std.specs.declared.cmp.Ordering.{Ordering}
 use Rattle.std.specs.declared.cmp.Ordering.TheVariants.{Less, Equal, Greater}
 use Rattle.std.specs.Cmp.Lexicographic.{slice_cmp, nat_list_cmp_total}
@@ -31,21 +32,25 @@ module _ {X : Type 0} (name : X → List ℕ) where
   rises_rest x (y ∷ ys) rises = (and_parts (is_lt (name_cmp (name x) (name y))) (rises_by name (y ∷ ys)) rises).1
 
   -- the first name is below each later one
-  pub first_below : (x : X) (xs : List X) (j : ℕ) (d : X) → rises_by name (x ∷ xs) ≡ true → j < length xs → name_cmp (name x) (name (get_or xs j d)) ≡ Less
+  pub first_below : (x : X) (xs : List X) (j : ℕ) (d : X) → rises_by name (x ∷ xs) ≡ true → j < length xs
+      → name_cmp (name x) (name (get_or xs j d)) ≡ Less
   first_below x [] j d rises within = absurd (omega arith)
   first_below x (y ∷ ys) zero d rises within = rises_next x y ys rises
   first_below x (y ∷ ys) (suc j) d rises within =
-      nat_list_cmp_total.trans (name x) (name y) (name (get_or ys j d)) (rises_next x y ys rises) (first_below y ys j d (rises_rest x (y ∷ ys) rises) (omega arith))
+      nat_list_cmp_total.trans (name x) (name y) (name (get_or ys j d)) (rises_next x y ys rises)
+      (first_below y ys j d (rises_rest x (y ∷ ys) rises) (omega arith))
 
   -- and so is each
-  pub earlier_below : (xs : List X) (i j : ℕ) (d : X) → rises_by name xs ≡ true → i < j → j < length xs → name_cmp (name (get_or xs i d)) (name (get_or xs j d)) ≡ Less
+  pub earlier_below : (xs : List X) (i j : ℕ) (d : X) → rises_by name xs ≡ true → i < j → j < length xs
+      → name_cmp (name (get_or xs i d)) (name (get_or xs j d)) ≡ Less
   earlier_below [] i j d rises before within = absurd (omega arith)
   earlier_below (x ∷ xs) i zero d rises before within = absurd (omega arith)
   earlier_below (x ∷ xs) zero (suc j) d rises before within = first_below x xs j d rises (omega arith)
   earlier_below (x ∷ xs) (suc i) (suc j) d rises before within = earlier_below xs i j d (rises_rest x xs rises) (omega arith) (omega arith)
 
   -- no two places have one name
-  pub names_apart : (xs : List X) (i j : ℕ) (d : X) → rises_by name xs ≡ true → i < length xs → j < length xs → name (get_or xs i d) ≡ name (get_or xs j d) → i ≡ j
+  pub names_apart : (xs : List X) (i j : ℕ) (d : X) → rises_by name xs ≡ true → i < length xs → j < length xs
+      → name (get_or xs i d) ≡ name (get_or xs j d) → i ≡ j
   names_apart xs i j d rises in_i in_j same =
       ⊎_elim
       (λ before.
@@ -68,7 +73,8 @@ module _ {X : Type 0} (name : X → List ℕ) where
   abbrev pub below : X → X → Bool
   below x y = is_lt (name_cmp (name x) (name y))
 
-  all_rise : (xs : List X) → ((k : ℕ) (d : X) → suc k < length xs → below (get_or xs k d) (get_or xs (suc k) d) ≡ true) → rises_by name xs ≡ true
+  all_rise : (xs : List X) → ((k : ℕ) (d : X) → suc k < length xs → below (get_or xs k d) (get_or xs (suc k) d) ≡ true)
+      → rises_by name xs ≡ true
   all_rise [] each = refl
   all_rise (x ∷ []) each = refl
   all_rise (x ∷ y ∷ ys) each = and_from _ _ (each zero x (omega arith)) (all_rise (y ∷ ys) (λ k d within. each (suc k) d (omega arith)))
@@ -77,15 +83,19 @@ module _ {X : Type 0} (name : X → List ℕ) where
   and_false true = refl
   and_false false = refl
 
-  one_falls : (xs : List X) (k : ℕ) → suc k < length xs → ((d : X) → below (get_or xs k d) (get_or xs (suc k) d) ≡ false) → rises_by name xs ≡ false
+  one_falls : (xs : List X) (k : ℕ) → suc k < length xs → ((d : X) → below (get_or xs k d) (get_or xs (suc k) d) ≡ false)
+      → rises_by name xs ≡ false
   one_falls [] k within falls = absurd (omega arith)
   one_falls (x ∷ []) k within falls = absurd (omega arith)
   one_falls (x ∷ y ∷ ys) zero within falls = ap (λ b. b && rises_by name (y ∷ ys)) (falls x)
-  one_falls (x ∷ y ∷ ys) (suc k) within falls = ap (λ b. below x y && b) (one_falls (y ∷ ys) k (omega arith) falls) ∙ and_false (below x y)
+  one_falls (x ∷ y ∷ ys) (suc k) within falls = ap (λ b. below x y && b) (one_falls (y ∷ ys) k (omega arith) falls)
+      ∙ and_false (below x y)
 
   pub rise_told : (xs : List X) (r : Bool) → IsAllAdjacentAnswer (λ x y b. b ≡ below x y) xs r → r ≡ rises_by name xs
   rise_told xs true each =
-      sym (all_rise xs (λ k d within. let next : k + 1 ≡ suc k = omega arith in subst (λ n. below (get_or xs k d) (get_or xs n d) ≡ true) next (sym (each k d (omega arith)))))
+      sym (all_rise xs (λ k d within. let next : k + 1 ≡ suc k = omega arith in subst
+      (λ n. below (get_or xs k d) (get_or xs n d) ≡ true) next (sym (each k d (omega arith)))))
   rise_told xs false some =
       let next : some.0 + 1 ≡ suc some.0 = omega arith in
-      sym (one_falls xs some.0 (omega (arith, some.1)) (λ d. subst (λ n. below (get_or xs some.0 d) (get_or xs n d) ≡ false) next (sym (some.2 d))))
+      sym (one_falls xs some.0 (omega (arith, some.1))
+      (λ d. subst (λ n. below (get_or xs some.0 d) (get_or xs n d) ≡ false) next (sym (some.2 d))))
