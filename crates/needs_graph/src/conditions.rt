@@ -1,5 +1,6 @@
-ghost use Rattle.std.specs.Prelude.{◌≡◌, None, map};
+ghost use Rattle.std.specs.Prelude.{◌≡◌, List, None, Option, map};
 ghost use Rattle.std.specs.List.{list_all, list_any, slice_index_or};
+ghost use Rattle.wf_value.specs.declared.outcome.JobResult.{JobResult};
 ghost use Rattle.needs_graph.specs.Conditions.{condition_value, has_failed, has_succeeded};
 
 use crate::ended::HasResult;
@@ -11,9 +12,39 @@ use wf_value::{Condition, JobResult};
 pub fn decide(condition: Condition, results: &[Option<JobResult>], stopping: bool) -> bool
     ensures { result ≡ condition_value condition results.now stopping }
 {
+    holds(
+        condition,
+        all_succeeded(results),
+        any_failed(results),
+        stopping,
+    )
+}
+
+fn all_succeeded(results: &[Option<JobResult>]) -> bool
+    ensures { result ≡ list_all has_succeeded results.now }
+{
+    results.iter().all(|r| has_succeeded(*r))
+}
+
+fn any_failed(results: &[Option<JobResult>]) -> bool
+    ensures { result ≡ list_any has_failed results.now }
+{
+    results.iter().any(|r| has_failed(*r))
+}
+
+/// Whether the condition holds where that is known of the ancestors' results.
+pub(crate) fn holds(
+    condition: Condition,
+    all_succeeded: bool,
+    any_failed: bool,
+    stopping: bool,
+) -> bool
+    ensures { (results : List (Option JobResult)) → all_succeeded ≡ list_all has_succeeded results
+        → any_failed ≡ list_any has_failed results → result ≡ condition_value condition results stopping }
+{
     match condition {
-        Condition::Success => !stopping && all_have_succeeded(results),
-        Condition::Failure => !stopping && any_has_failed(results),
+        Condition::Success => !stopping && all_succeeded,
+        Condition::Failure => !stopping && any_failed,
         Condition::Always => true,
         Condition::Cancelled => stopping,
         Condition::NotCancelled => !stopping,
@@ -31,18 +62,6 @@ pub(crate) fn has_failed(job: Option<JobResult>) -> bool
     ensures { result ≡ has_failed job }
 {
     job == Some(JobResult::Failure)
-}
-
-fn all_have_succeeded(results: &[Option<JobResult>]) -> bool
-    ensures { result ≡ list_all has_succeeded results.now }
-{
-    results.iter().all(|r| has_succeeded(*r))
-}
-
-fn any_has_failed(results: &[Option<JobResult>]) -> bool
-    ensures { result ≡ list_any has_failed results.now }
-{
-    results.iter().any(|r| has_failed(*r))
 }
 
 /// The result of the job at a place, if there is such a job and it has one.

@@ -6,7 +6,7 @@ ghost use Rattle.needs_graph.specs.Conditions.{ancestor_results, condition_value
 ghost use Rattle.needs_graph.specs.Needs.{ids_rise, needs_of, graph_of};
 ghost use Rattle.needs_graph.specs.Rows.{own_ids};
 
-use crate::conditions::{has_failed, has_succeeded, result_at};
+use crate::conditions::{has_failed, has_succeeded, holds, result_at};
 use crate::ended::HasResult;
 use crate::job_needs::JobNeeds;
 use crate::job_set::{JobSet, set_has};
@@ -14,16 +14,16 @@ use crate::marks::Marks;
 use crate::rows::{all_dependents, all_places, all_sets, closed_rows, needs_rows};
 use std::alloc::Global;
 use std::marker::Model;
-use wf_value::{Chars, Condition, Refusal, Sequence};
+use wf_value::{Chars, Condition, Refusal, Sequence, TryCopy};
 
 /// Which jobs each job of a workflow needs, directly and through others. Jobs are named by their
 /// places in the order of their ids, from 0, and no job is its own ancestor. A contract sees for
 /// each job the places of the jobs that it needs directly, in order.
 #[derive(Drop)]
 pub struct Graph {
-    needs: Vec<Sequence<usize>>,
-    ancestors: Vec<JobSet>,
-    dependents: Vec<Sequence<usize>>,
+    needs: Sequence<Sequence<usize>>,
+    ancestors: Sequence<JobSet>,
+    dependents: Sequence<Sequence<usize>>,
 }
 
 impl Model for Graph {
@@ -32,9 +32,9 @@ impl Model for Graph {
 
     ghost Value = { List (List ℕ) };
 
-    ghost view = { λ g. g.needs.items };
+    ghost view = { λ g. g.needs };
 
-    ghost invariant = { λ g. IsGraph g.needs.items g.ancestors.items g.dependents.items };
+    ghost invariant = { λ g. IsGraph g.needs g.ancestors g.dependents };
 }
 
 impl Graph {
@@ -75,7 +75,7 @@ impl Graph {
         requires { job < length self.now }
         ensures { result.now ≡ needs_at self.now job }
     {
-        self.needs[job].as_slice()
+        self.needs.as_slice()[job].as_slice()
     }
 
     /// The places of the jobs that need a job directly, in order.
@@ -83,7 +83,7 @@ impl Graph {
         requires { job < length self.now }
         ensures { result.now ≡ dependents_of self.now job }
     {
-        self.dependents[job].as_slice()
+        self.dependents.as_slice()[job].as_slice()
     }
 
     /// Whether the other job is an ancestor of the job: at the end of a walk of one or more needs
@@ -109,14 +109,9 @@ impl Graph {
     ) -> bool
         ensures { result ≡ condition_value condition (ancestor_results self.now (map J.job_result jobs.now) job) stopping }
     {
-        match condition {
-            Condition::Success => !stopping && self.all_ancestors_succeeded(job, jobs),
-            Condition::Failure => !stopping && self.any_ancestor_failed(job, jobs),
-            Condition::Always => true,
-            Condition::Cancelled => stopping,
-            Condition::NotCancelled => !stopping,
-            Condition::Never => false,
-        }
+        let all_succeeded = self.all_ancestors_succeeded(job, jobs);
+        let any_failed = self.any_ancestor_failed(job, jobs);
+        holds(condition, all_succeeded, any_failed, stopping)
     }
 
     fn all_ancestors_succeeded<J: HasResult>(&self, job: usize, jobs: &[J]) -> bool
@@ -139,6 +134,16 @@ impl Graph {
             }
         }
         false
+    }
+}
+
+impl TryCopy for Graph {
+    fn copy(&self, alloc: Global) -> Result<Self, Refusal> {
+        Ok(Graph {
+            needs: self.needs.copy(alloc)?,
+            ancestors: self.ancestors.copy(alloc)?,
+            dependents: self.dependents.copy(alloc)?,
+        })
     }
 }
 

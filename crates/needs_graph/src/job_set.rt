@@ -5,6 +5,7 @@ ghost use Rattle.needs_graph.specs.Marks.{is_marked};
 
 use std::alloc::{AllocError, Global};
 use std::marker::Model;
+use wf_value::{Refusal, TryCopy};
 
 /// A set of jobs in little room. A contract sees its words.
 #[derive(Drop)]
@@ -35,6 +36,14 @@ impl JobSet {
             Some(word) => (*word >> (job % 64)) & 1 == 1,
             None => false,
         }
+    }
+}
+
+impl TryCopy for JobSet {
+    fn copy(&self, alloc: Global) -> Result<Self, Refusal> {
+        Ok(JobSet {
+            words: Vec::from_slice(alloc, self.words.as_slice())?,
+        })
     }
 }
 

@@ -64,14 +64,17 @@ pub(crate) fn closed_rows(alloc: Global, rows: Vec<Marks>) -> Result<Vec<Marks>,
 }
 
 /// The jobs of each row, in order.
-pub(crate) fn all_places(alloc: Global, rows: &[Marks]) -> Result<Vec<Sequence<usize>>, Refusal>
-    ensures { Gives (λ v. v.items) result (Ok (map marked rows.now)) }
+pub(crate) fn all_places(
+    alloc: Global,
+    rows: &[Marks],
+) -> Result<Sequence<Sequence<usize>>, Refusal>
+    ensures { Gives (λ p. p) result (Ok (map marked rows.now)) }
 {
     let mut places = Vec::new(alloc);
     for row in rows {
         places.push(row.places(alloc)?)?;
     }
-    Ok(places)
+    Ok(Sequence::new(places))
 }
 
 /// The jobs whose rows have the job, in order.
@@ -86,23 +89,26 @@ fn dependents_on(alloc: Global, rows: &[Marks], job: usize) -> Result<Vec<usize>
 }
 
 /// For each job the jobs whose rows have it, in order.
-pub(crate) fn all_dependents(alloc: Global, rows: &[Marks]) -> Result<Vec<Sequence<usize>>, Refusal>
-    ensures { Gives (λ v. v.items) result (Ok (dependents_by rows.now)) }
+pub(crate) fn all_dependents(
+    alloc: Global,
+    rows: &[Marks],
+) -> Result<Sequence<Sequence<usize>>, Refusal>
+    ensures { Gives (λ d. d) result (Ok (dependents_by rows.now)) }
 {
     let mut dependents = Vec::new(alloc);
     for job in 0..rows.len() {
         dependents.push(Sequence::new(dependents_on(alloc, rows, job)?))?;
     }
-    Ok(dependents)
+    Ok(Sequence::new(dependents))
 }
 
 /// The jobs of each row, as a set.
-pub(crate) fn all_sets(alloc: Global, rows: &[Marks]) -> Result<Vec<JobSet>, AllocError>
-    ensures { IfOk result (λ v. IsSets v.items rows.now) }
+pub(crate) fn all_sets(alloc: Global, rows: &[Marks]) -> Result<Sequence<JobSet>, AllocError>
+    ensures { IfOk result (λ sets. IsSets sets rows.now) }
 {
     let mut sets = Vec::new(alloc);
     for row in rows {
         sets.push(row.set(alloc)?)?;
     }
-    Ok(sets)
+    Ok(Sequence::new(sets))
 }

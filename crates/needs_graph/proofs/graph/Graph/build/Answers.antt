@@ -45,13 +45,13 @@ pub invariant_of-result : goal.invariant_of-result
 invariant_of-result c =
     let jobs = c.args.jobs.now in
     let direct = c.in_ok-direct.direct.items in
-    let sets = c.in_ok-all_sets.field-0.items in
+    let sets = c.in_ok-all_sets.field-0 in
     let own = ids_are jobs direct c.as_slice-3.result.now c.in_ok-reached.reached.items c.in_ok-ids.ids.items c.in_ok-reached.ensures c.as_slice-3.ensures.value c.in_ok-ids.ensures in
     let none : c.in_ok-ids.ids.items ≡ [] = nil_from_length _ (grind (arith, nat_tests, c.if-not-is_empty.ensures)) in
-    let needs_are = places_are c.as_slice.result.now direct c.in_ok-needs.needs.items c.as_slice.ensures.value c.in_ok-needs.ensures in
+    let needs_are = places_are c.as_slice.result.now direct c.in_ok-needs.needs c.as_slice.ensures.value c.in_ok-needs.ensures ∙ sym c.needs.view_is in
     let P : List (List Bool) → Type 0 = λ rows. IsSets sets rows in
     let sets_are = subst P (c.as_slice-4.ensures.value ∙ c.in_ok-reached.ensures) c.in_ok-all_sets.ensures in
-    let listed = dependents_are c.as_slice-2.result.now direct c.in_ok-dependents.dependents.items c.as_slice-2.ensures.value c.in_ok-dependents.ensures in
+    let listed = dependents_are c.as_slice-2.result.now direct c.in_ok-dependents.dependents c.as_slice-2.ensures.value c.in_ok-dependents.ensures in
     rw (← needs_are) (graph_is_graph jobs direct sets _ c.in_ok-direct.ensures (own ∙ none) sets_are listed)
 
 pub returns-clause-graph : goal.returns-clause-graph
@@ -61,7 +61,7 @@ returns-clause-graph c =
     let own = ids_are jobs direct c.as_slice-3.result.now c.in_ok-reached.reached.items c.in_ok-ids.ids.items c.in_ok-reached.ensures c.as_slice-3.ensures.value c.in_ok-ids.ensures in
     let none : c.in_ok-ids.ids.items ≡ [] = nil_from_length _ (grind (arith, nat_tests, c.if-not-is_empty.ensures)) in
     graph_made jobs direct c.in_ok-direct.ensures (own ∙ none)
-    ∙ ap Ok (places_are c.as_slice.result.now direct c.in_ok-needs.needs.items c.as_slice.ensures.value c.in_ok-needs.ensures)
+    ∙ ap Ok (places_are c.as_slice.result.now direct c.in_ok-needs.needs c.as_slice.ensures.value c.in_ok-needs.ensures ∙ sym c.needs.view_is)
 
 pub returns-clause-walks : goal.returns-clause-walks
 returns-clause-walks c = walks_law c.args.jobs.now
