@@ -18,7 +18,7 @@ use std::alloc::Global;
 use wf_value::{Chars, Refusal};
 
 /// The body of an event: whose repository and which workflow it is for, and the workflow itself.
-#[derive(Debug, Drop)]
+#[derive(Drop)]
 pub struct Event {
     /// Not empty. Repositories compare by bytes.
     pub repo: Chars,

@@ -12,7 +12,7 @@ use std::alloc::Global;
 use wf_value::{Chars, Code, Refusal, Sequence};
 
 /// A job of a workflow. GitHub Docs, "Workflow syntax for GitHub Actions", `jobs.<job_id>`.
-#[derive(Debug, Drop)]
+#[derive(Drop)]
 pub struct Job {
     /// A letter or `_`, then letters, digits, `-` and `_`: 1 to 100 bytes.
     pub id: Chars,

@@ -15,6 +15,3 @@ pub use event::{Event, read_event};
 pub use job::Job;
 pub use jobs::Jobs;
 pub use workflow::{Workflow, read_workflow};
-
-/// Texts in order, as the labels of a job.
-pub type Texts = wf_value::Sequence<wf_value::Chars>;

@@ -21,7 +21,7 @@ use wf_value::{Chars, Code, Refusal};
 const MAX_JOBS: usize = 256;
 
 /// A workflow. GitHub Docs, "Workflow syntax for GitHub Actions".
-#[derive(Debug, Drop)]
+#[derive(Drop)]
 pub struct Workflow {
     /// The `name`, and the empty text where it is missing.
     pub name: Chars,

@@ -9,7 +9,7 @@ use std::alloc::Global;
 use std::marker::Model;
 
 /// A text. A contract sees the list of its bytes in UTF-8.
-#[derive(Debug, Drop)]
+#[derive(Drop)]
 pub struct Chars {
     text: String,
 }
@@ -52,20 +52,6 @@ impl Chars {
         ensures { result.now ≡ self.now }
     {
         self.text.as_str()
-    }
-
-    /// What `TryCopy` gives.
-    pub fn copy(&self, alloc: Global) -> Result<Self, Refusal>
-        ensures { Gives (λ c. c) result (Ok self.now) }
-    {
-        TryCopy::copy(self, alloc)
-    }
-
-    /// What `Same` tells.
-    pub fn same(&self, other: &Chars) -> bool
-        ensures { IsTrue result ↔ (self.now ≡ other.now) }
-    {
-        Same::same(self, other)
     }
 }
 

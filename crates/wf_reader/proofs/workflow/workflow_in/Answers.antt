@@ -1,4 +1,4 @@
-use Rattle.std.proofs.Common.{ap, codes, inr, sym}
+use Rattle.std.proofs.Common.{ap, codes, sym}
 use Rattle.std.proofs.Common.{Ok}
 use Rattle.serde_json.specs.Find.{get}
 use Rattle.serde_json.specs.View.{view}
