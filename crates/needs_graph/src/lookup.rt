@@ -8,7 +8,7 @@ use crate::job_needs::JobNeeds;
 use std::alloc::{AllocError, Global};
 use std::collections::HashMap;
 use std::marker::Model;
-use wf_value::{Chars, Refusal};
+use wf_value::{Chars, Refusal, Same};
 
 /// Jobs that are looked up by their ids, many times over. A contract sees the jobs.
 #[derive(Drop)]
