@@ -46,7 +46,8 @@ flagged flags entries = pairs_of (filter (λ e. slice_index_or flags e.0 false) 
 -- what the last of the objects with a flag and a name gives, where the first of them has this place
 abbrev pub added_value : List Bool → ℕ → List Combination → List ℕ → Option Scalar
 added_value flags place [] name = None
-added_value flags place (c ∷ cs) name = option_or (added_value flags (place + 1) cs name) (cond (slice_index_or flags place false) (value_at c name) None)
+added_value flags place (c ∷ cs) name = option_or (added_value flags (place + 1) cs name)
+    (cond (slice_index_or flags place false) (value_at c name) None)
 
 -- the entries are those of the objects, in the order of their names, a later object's before an earlier one's
 pub record SortsEntries (first : ℕ) (objects : List Combination) (entries : List EntryValue) : Type 0 where
@@ -68,4 +69,5 @@ flags_of patterns number = map (pattern_agrees number) patterns ++ true ∷ []
 
 -- the final combination of the original of a number
 abbrev pub final_from : List AxisValue → List PatternValue → List EntryValue → ℕ → Combination
-final_from axes patterns entries number = firsts_after None (flagged (flags_of patterns number) (merged entries (object_entries (length patterns) (original_at axes number))))
+final_from axes patterns entries number = firsts_after None
+    (flagged (flags_of patterns number) (merged entries (object_entries (length patterns) (original_at axes number))))

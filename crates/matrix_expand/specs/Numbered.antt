@@ -1,5 +1,6 @@
 -- The originals by their numbers, as the code goes over them.
-use Rattle.std.specs.Prelude.{ℕ, zero, suc, ◌/◌, ◌%◌, ◌&&◌, not, nat_lt, is_none, Bool, List, [], ◌∷◌, map, length, Option, cond, Result, Ok, Err}
+use Rattle.std.specs.Prelude.{ℕ, zero, suc, ◌/◌, ◌%◌, ◌&&◌, not, nat_lt, is_none, Bool, List, [], ◌∷◌, map, length, Option, cond, Result}
+use Rattle.std.specs.Prelude.{Ok, Err}
 use Rattle.std.specs.List.{slice_index_or, filter, filter_map, list_any, list_all, range_with_len}
 use Rattle.std.specs.Option.{option_map}
 use Rattle.std.specs.Ordering.{nat_cmp}

@@ -2,7 +2,8 @@ ghost use Rattle.std.specs.List.{list_any};
 ghost use Rattle.std.specs.Prelude.{◌≡◌, ◌↔◌, ◌+◌, ◌<◌, ◌≤◌, ◌++◌, map, IsTrue, IfOk, Ok};
 ghost use Rattle.wf_value.specs.Gives.{Gives};
 ghost use Rattle.wf_value.specs.Names.{names_rise};
-ghost use Rattle.matrix_expand.specs.Combinations.{choice_count, kept, final_combination, combinations, legs_or_refusal, combinations_or_refusal};
+ghost use Rattle.matrix_expand.specs.Combinations.{choice_count, kept, final_combination, combinations};
+ghost use Rattle.matrix_expand.specs.Combinations.{legs_or_refusal, combinations_or_refusal};
 ghost use Rattle.matrix_expand.specs.Numbered.{original_count, numbered_axes, pattern_of, pattern_agrees, kept_of, new_objects};
 
 use crate::axis::{Axis, axes};

@@ -83,10 +83,7 @@ impl Marks {
     pub(crate) fn places(&self, alloc: Global) -> Result<Sequence<usize>, Refusal>
         ensures { Gives (λ p. p) result (Ok (marked self.now)) }
     {
-        Ok(Sequence::new(marked_places(
-            alloc,
-            self.marks.as_slice(),
-        )?))
+        Ok(Sequence::new(marked_places(alloc, self.marks.as_slice())?))
     }
 }
 

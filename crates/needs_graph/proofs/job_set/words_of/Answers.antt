@@ -22,6 +22,9 @@ loop-job-preserved c =
           w.insert.ensures.others in
           (omega (arith, ap length items, w.insert.auto.words, ap length lent, so_far.0), λ job. ap (λ l. is_in l job) items ∙ next job)
       | else-mark w ↦
-          let items : c.if-mark.words.items ≡ c.loop-job.words.items = cc in
-          (ap length items ∙ so_far.0, λ job. ap (λ l. is_in l job) items ∙ next_is_out marks c.loop-job.words.items at below w.if-mark.false so_far.1 job)
+          let items : c.if-mark.words.items ≡ c.loop-job.words.items = cc in (
+            ap length items ∙ so_far.0,
+            λ job. ap (λ l. is_in l job) items
+                ∙ next_is_out marks c.loop-job.words.items at below w.if-mark.false so_far.1 job,
+          )
     ]

@@ -11,4 +11,5 @@ returns-in_err-needs_row c =
     passed_on _ _ _ _ c.in_err-needs_row.field-0.0 c.from_residual-in_err-needs_row.ensures.1 c.in_err-needs_row.ensures
     (λ refused.
     let here = ap (λ js. needs_row_of js c.needs.result.now) (sym same) ∙ refused in
-    rows_refused jobs c.loop-job.job-index c.job-item.result _ (omega arith) c.job-item.is (ap (needs_row_of jobs) (sym c.needs.ensures) ∙ here))
+    rows_refused jobs c.loop-job.job-index c.job-item.result _ (omega arith) c.job-item.is (ap (needs_row_of jobs) (sym c.needs.ensures)
+    ∙ here))

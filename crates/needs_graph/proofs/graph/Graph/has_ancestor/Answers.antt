@@ -12,7 +12,8 @@ returns c =
     let P : List (List ℕ) → Type 0 = λ l. IsGraph l sets lists in
     let graph = subst P c.self.view_is c.self.invariant in
     let value : c.set_has.result ≡ is_ancestor needs c.args.job c.args.other =
-        c.set_has.ensures ∙ (ap (λ l. is_in (get_or l c.args.job []) c.args.other) c.as_slice.ensures ∙ graph.reached c.args.job c.args.other) in
+    c.set_has.ensures
+    ∙ (ap (λ l. is_in (get_or l c.args.job []) c.args.other) c.as_slice.ensures ∙ graph.reached c.args.job c.args.other) in
     record {
       value = value;
       walks = let e = ends_a_walk needs sets lists graph c.args.job c.args.other in (λ h. e.0 (sym value ∙ h), λ w. value ∙ e.1 w);
