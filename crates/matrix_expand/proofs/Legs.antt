@@ -1,5 +1,6 @@
 -- The combinations as the code counts and makes them.
-use Rattle.std.proofs.Common.{◌≡◌, ℕ, zero, suc, ◌+◌, ◌<◌, ◌≤◌, min, true, cond, List, [], ◌∷◌, ◌++◌, map, length, Result, Ok, Err, refl, sym, ap, ◌∙◌, inl, inr, arith, length-append}
+use Rattle.std.proofs.Common.{◌≡◌, ℕ, zero, suc, ◌+◌, ◌<◌, ◌≤◌, min, true, cond, List, [], ◌∷◌, ◌++◌, map, length, Result, Ok, Err, refl}
+use Rattle.std.proofs.Common.{sym, ap, ◌∙◌, inl, inr, arith, length-append}
 use Rattle.std.specs.Ordering.{is_lt}
 use Rattle.std.proofs.lemmas.Bool.{lt-ltb, le-ltb, cases_lt, and_parts, and_from}
 use Rattle.std.proofs.lemmas.List.{length-map}
@@ -8,14 +9,16 @@ use Rattle.wf_value.specs.Names.{names_rise}
 use Rattle.wf_value.specs.declared.code.Code.TheVariants.{MatrixTooLarge, LegCount}
 use Rattle.wf_value.specs.declared.refusal.Refusal.{Refusal}
 use Rattle.wf_value.specs.declared.refusal.Refusal.TheVariants.{Numbered}
-use Rattle.matrix_expand.specs.Combinations.{Combination, choice_count, kept, final_combination, combinations, legs_or_refusal, within_choices, combinations_or_refusal}
+use Rattle.matrix_expand.specs.Combinations.{Combination, choice_count, kept, final_combination, combinations, legs_or_refusal}
+use Rattle.matrix_expand.specs.Combinations.{within_choices, combinations_or_refusal}
 use Rattle.matrix_expand.specs.Entries.{SortsEntries, final_from}
-use Rattle.matrix_expand.specs.Numbered.{axes_of, axes_where, numbered_axes, original_at, original_count, pattern_of, kept_from, kept_numbers, kept_of, added_of, new_objects, kept_or_refusal}
+use Rattle.matrix_expand.specs.Numbered.{axes_of, axes_where, numbered_axes, original_at, original_count, pattern_of, kept_from}
+use Rattle.matrix_expand.specs.Numbered.{kept_numbers, kept_of, added_of, new_objects, kept_or_refusal}
 use Rattle.matrix_expand.specs.Values.{AxisValue, PatternValue, EntryValue}
 use Rattle.matrix_expand.proofs.Agreement.{kept_is, new_is}
 use Rattle.matrix_expand.proofs.Finals.{final_is, map-map}
 use Rattle.matrix_expand.proofs.Merging.{same_Ok}
-use Rattle.matrix_expand.proofs.Rising.{name_cmp}
+use Rattle.wf_value.proofs.Rising.{name_cmp}
 
 pub legs_few : (cs : List Combination) → 0 < length cs → length cs ≤ 256 → legs_or_refusal cs ≡ Ok cs
 legs_few [] h l = absurd (omega arith)
@@ -36,15 +39,18 @@ pub length-combinations : (m : MatrixLists) → length (combinations m) ≡ leng
 length-combinations m =
     ap length (combinations_are m)
     ∙ length-append (map (final_combination m) (kept m)) (added_of m)
-    ∙ ap (λ n. n + length (added_of m)) (length-map (kept m) (final_combination m) ∙ ap length (kept_is m) ∙ length-map (kept_of m) (original_at (numbered_axes m.variables)))
+    ∙ ap (λ n. n + length (added_of m)) (length-map (kept m) (final_combination m) ∙ ap length (kept_is m)
+    ∙ length-map (kept_of m) (original_at (numbered_axes m.variables)))
 
 -- where so many are counted, the call gives this
-pub legs_counted : (m : MatrixLists) (kept added : ℕ) → kept ≡ length (kept_of m) → added ≡ length (added_of m) → (0 < kept + added) × (kept + added ≤ 256) → legs_or_refusal (combinations m) ≡ Ok (combinations m)
+pub legs_counted : (m : MatrixLists) (kept added : ℕ) → kept ≡ length (kept_of m) → added ≡ length (added_of m)
+    → (0 < kept + added) × (kept + added ≤ 256) → legs_or_refusal (combinations m) ≡ Ok (combinations m)
 legs_counted m kept added p q h =
     let long = length-combinations m in
     legs_few (combinations m) (omega (arith, h.0)) (omega (arith, h.1))
 
-pub legs_miscounted : (m : MatrixLists) (kept added : ℕ) → kept ≡ length (kept_of m) → added ≡ length (added_of m) → ¬ ((0 < kept + added) × (kept + added ≤ 256)) → legs_or_refusal (combinations m) ≡ Err (Numbered LegCount)
+pub legs_miscounted : (m : MatrixLists) (kept added : ℕ) → kept ≡ length (kept_of m) → added ≡ length (added_of m)
+    → ¬ ((0 < kept + added) × (kept + added ≤ 256)) → legs_or_refusal (combinations m) ≡ Err (Numbered LegCount)
 legs_miscounted m kept added p q h =
     let long = length-combinations m in
     elim (cases_lt 0 (kept + added)) [
@@ -62,21 +68,25 @@ not_Err : {X : Type 0} (x : X) (y : Refusal) → ◌≡◌ {A = Result X Refusal
 not_Err x y e = cc
 
 -- where the kept originals were refused
-pub legs_refused : (m : MatrixLists) (numbers : List ℕ) (e : Refusal) → numbers ≡ kept_of m → kept_or_refusal numbers ≡ Err e → legs_or_refusal (combinations m) ≡ Err e
+pub legs_refused : (m : MatrixLists) (numbers : List ℕ) (e : Refusal) → numbers ≡ kept_of m → kept_or_refusal numbers ≡ Err e
+    → legs_or_refusal (combinations m) ≡ Err e
 legs_refused m numbers e is h = elim (cases_lt 256 (length numbers)) [
   | inl many ↦
       let long = length-combinations m in
       let counted = ap length is in
-      let refused : e ≡ Numbered LegCount = same_Err _ _ (sym h ∙ ap (λ b. cond b (Err (Numbered LegCount)) (Ok numbers)) (lt-ltb 256 (length numbers) many)) in
+      let refused : e ≡ Numbered LegCount = same_Err _ _ (sym h
+      ∙ ap (λ b. cond b (Err (Numbered LegCount)) (Ok numbers)) (lt-ltb 256 (length numbers) many)) in
       legs_many (combinations m) (omega arith) ∙ ap Err (sym refused)
   | inr few ↦ absurd (not_Err _ _ (sym (ap (λ b. cond b (Err (Numbered LegCount)) (Ok numbers)) (le-ltb 256 (length numbers) few)) ∙ h))
 ]
 
 -- the choices decide
-pub too_large : (m : MatrixLists) (n : ℕ) → n ≡ min 4097 (choice_count m.variables) → 4096 < n → combinations_or_refusal m ≡ Err (Numbered MatrixTooLarge)
+pub too_large : (m : MatrixLists) (n : ℕ) → n ≡ min 4097 (choice_count m.variables) → 4096 < n
+    → combinations_or_refusal m ≡ Err (Numbered MatrixTooLarge)
 too_large m n e h = ap (λ b. within_choices b m) (lt-ltb 4096 (choice_count m.variables) (omega arith))
 
-pub small_enough : (m : MatrixLists) (n : ℕ) → n ≡ min 4097 (choice_count m.variables) → n ≤ 4096 → combinations_or_refusal m ≡ legs_or_refusal (combinations m)
+pub small_enough : (m : MatrixLists) (n : ℕ) → n ≡ min 4097 (choice_count m.variables) → n ≤ 4096
+    → combinations_or_refusal m ≡ legs_or_refusal (combinations m)
 small_enough m n e h = ap (λ b. within_choices b m) (le-ltb 4096 (choice_count m.variables) (omega arith))
 
 pub all_counted : (vs : List NamedValues) (n : ℕ) → n ≡ min 4097 (choice_count vs) → n ≤ 4096 → n ≡ choice_count vs
@@ -91,15 +101,25 @@ names_rise-axes (v ∷ w ∷ vs) h =
     and_from _ _ parts.0 (names_rise-axes (w ∷ vs) parts.1)
 
 -- the final combinations of the kept numbers are those of the kept originals
-finals_where : (m : MatrixLists) (n : ℕ) (entries : List EntryValue) (numbers : List ℕ) → names_rise (axes_where n m.variables) ≡ true → SortsEntries 0 m.include entries → (n ≡ 0 → numbers ≡ []) → map (final_from (axes_where n m.variables) (map (pattern_of (axes_where n m.variables)) m.include) entries) numbers ≡ map (final_combination m) (map (original_at (axes_where n m.variables)) numbers)
+finals_where : (m : MatrixLists) (n : ℕ) (entries : List EntryValue) (numbers : List ℕ) → names_rise (axes_where n m.variables) ≡ true
+    → SortsEntries 0 m.include entries → (n ≡ 0 → numbers ≡ [])
+    → map (final_from (axes_where n m.variables) (map (pattern_of (axes_where n m.variables)) m.include) entries) numbers ≡ map
+    (final_combination m) (map (original_at (axes_where n m.variables)) numbers)
 finals_where m zero entries numbers rise sorts none =
-    ap (map (final_from [] (map (pattern_of []) m.include) entries)) (none refl) ∙ ap (λ ns. map (final_combination m) (map (original_at []) ns)) (sym (none refl))
+    ap (map (final_from [] (map (pattern_of []) m.include) entries)) (none refl)
+    ∙ ap (λ ns. map (final_combination m) (map (original_at []) ns)) (sym (none refl))
 finals_where m (suc n) entries numbers rise sorts none =
-    sym (map-map (original_at (axes_of m.variables)) (final_combination m) (final_from (axes_of m.variables) (map (pattern_of (axes_of m.variables)) m.include) entries) (λ number. sym (final_is m entries number rise sorts)) numbers)
+    sym (map-map (original_at (axes_of m.variables)) (final_combination m)
+    (final_from (axes_of m.variables) (map (pattern_of (axes_of m.variables)) m.include) entries)
+    (λ number. sym (final_is m entries number rise sorts)) numbers)
 
-pub finals_are : (m : MatrixLists) (entries : List EntryValue) → names_rise (numbered_axes m.variables) ≡ true → SortsEntries 0 m.include entries → map (final_from (numbered_axes m.variables) (map (pattern_of (numbered_axes m.variables)) m.include) entries) (kept_of m) ≡ map (final_combination m) (kept m)
+pub finals_are : (m : MatrixLists) (entries : List EntryValue) → names_rise (numbered_axes m.variables) ≡ true
+    → SortsEntries 0 m.include entries
+    → map (final_from (numbered_axes m.variables) (map (pattern_of (numbered_axes m.variables)) m.include) entries) (kept_of m) ≡ map
+    (final_combination m) (kept m)
 finals_are m entries rise sorts =
-    finals_where m (original_count m.variables) entries (kept_of m) rise sorts (λ e. ap (λ n. kept_from (map (pattern_of (numbered_axes m.variables)) m.exclude) 0 n) e)
+    finals_where m (original_count m.variables) entries (kept_of m) rise sorts
+    (λ e. ap (λ n. kept_from (map (pattern_of (numbered_axes m.variables)) m.exclude) 0 n) e)
     ∙ ap (map (final_combination m)) (sym (kept_is m))
 
 pub axes_where_some : (n : ℕ) (vs : List NamedValues) → 0 < n → axes_where n vs ≡ axes_of vs
@@ -107,13 +127,20 @@ axes_where_some zero vs h = absurd (omega arith)
 axes_where_some (suc n) vs h = refl
 
 -- the patterns that the code has made of objects
-pub patterns_are : (m : MatrixLists) (objects : List Combination) (variables : List NamedValues) (axes axes_now : List AxisValue) (objects_now : List Combination) (patterns patterns_now : List PatternValue) → variables ≡ m.variables → ◌≡◌ {A = Result (List AxisValue) Refusal} (Ok (numbered_axes variables)) (Ok axes) → axes_now ≡ axes → objects_now ≡ objects → ◌≡◌ {A = Result (List PatternValue) Refusal} (Ok (map (pattern_of axes_now) objects_now)) (Ok patterns) → patterns_now ≡ patterns → patterns_now ≡ map (pattern_of (numbered_axes m.variables)) objects
+pub patterns_are : (m : MatrixLists) (objects : List Combination) (variables : List NamedValues) (axes axes_now : List AxisValue)
+    (objects_now : List Combination) (patterns patterns_now : List PatternValue) → variables ≡ m.variables → ◌≡◌
+    {A = Result (List AxisValue) Refusal} (Ok (numbered_axes variables)) (Ok axes) → axes_now ≡ axes → objects_now ≡ objects → ◌≡◌
+    {A = Result (List PatternValue) Refusal} (Ok (map (pattern_of axes_now) objects_now)) (Ok patterns) → patterns_now ≡ patterns →
+    patterns_now ≡ map (pattern_of (numbered_axes m.variables)) objects
 patterns_are m objects variables axes axes_now objects_now patterns patterns_now a b c d e f =
     let own : axes_now ≡ numbered_axes m.variables = c ∙ sym (same_Ok _ _ b) ∙ ap numbered_axes a in
     f ∙ sym (same_Ok _ _ e) ∙ ap (λ os. map (pattern_of axes_now) os) d ∙ ap (λ xs. map (pattern_of xs) objects) own
 
-pub numbers_are : (m : MatrixLists) (variables : List NamedValues) (excludes : List PatternValue) (count : ℕ) → variables ≡ m.variables → excludes ≡ map (pattern_of (numbered_axes m.variables)) m.exclude → count ≡ original_count variables → kept_numbers excludes count ≡ kept_of m
-numbers_are m variables excludes count a b c = ap (λ ps. kept_numbers ps count) b ∙ ap (kept_numbers (map (pattern_of (numbered_axes m.variables)) m.exclude)) (c ∙ ap original_count a)
+pub numbers_are : (m : MatrixLists) (variables : List NamedValues) (excludes : List PatternValue) (count : ℕ) → variables ≡ m.variables
+    → excludes ≡ map (pattern_of (numbered_axes m.variables)) m.exclude → count ≡ original_count variables
+    → kept_numbers excludes count ≡ kept_of m
+numbers_are m variables excludes count a b c = ap (λ ps. kept_numbers ps count) b
+    ∙ ap (kept_numbers (map (pattern_of (numbered_axes m.variables)) m.exclude)) (c ∙ ap original_count a)
 
 -- the kept numbers that were not refused
 pub kept_numbers_are : (numbers kept : List ℕ) → kept_or_refusal numbers ≡ Ok kept → kept ≡ numbers
@@ -122,5 +149,7 @@ kept_numbers_are numbers kept h = elim (cases_lt 256 (length numbers)) [
   | inr few ↦ same_Ok _ _ (sym h ∙ ap (λ b. cond b (Err (Numbered LegCount)) (Ok numbers)) (le-ltb 256 (length numbers) few))
 ]
 
-pub added_are : (m : MatrixLists) (includes : List PatternValue) (kept_now : List ℕ) → includes ≡ map (pattern_of (numbered_axes m.variables)) m.include → kept_now ≡ kept_of m → new_objects includes kept_now ≡ added_of m
-added_are m includes kept_now a b = ap (λ ps. new_objects ps kept_now) a ∙ ap (new_objects (map (pattern_of (numbered_axes m.variables)) m.include)) b
+pub added_are : (m : MatrixLists) (includes : List PatternValue) (kept_now : List ℕ)
+    → includes ≡ map (pattern_of (numbered_axes m.variables)) m.include → kept_now ≡ kept_of m → new_objects includes kept_now ≡ added_of m
+added_are m includes kept_now a b = ap (λ ps. new_objects ps kept_now) a
+    ∙ ap (new_objects (map (pattern_of (numbered_axes m.variables)) m.include)) b

@@ -1,5 +1,6 @@
 -- The originals by their numbers are the choices in order.
-use Rattle.std.proofs.Common.{◌≡◌, ℕ, zero, suc, ◌+◌, ◌*◌, ◌/◌, ◌%◌, ◌<◌, List, [], ◌∷◌, ◌++◌, map, length, get_or, refl, sym, ap, ◌∙◌, ◌⊎◌, inl, inr, arith, length-append}
+use Rattle.std.proofs.Common.{◌≡◌, ℕ, zero, suc, ◌+◌, ◌*◌, ◌/◌, ◌%◌, ◌<◌, List, [], ◌∷◌, ◌++◌, map, length, get_or, refl, sym, ap, ◌∙◌, ◌⊎◌}
+use Rattle.std.proofs.Common.{inl, inr, arith, length-append}
 use Rattle.std.specs.List.{flat_map, range_with_len}
 use Rattle.std.proofs.lemmas.List.{map-append, append_assoc, nil_from_length}
 use Rattle.std.proofs.lemmas.Nat.{div-mul-add}
@@ -21,7 +22,8 @@ range-append a (suc n) m =
     ap (range_with_len a) e ∙ ap (λ ns. a ∷ ns) (range-append (a + 1) n m ∙ ap (λ b. range_with_len (a + 1) n ++ range_with_len b m) f)
 
 -- functions that agree along two ranges
-map_ranges : {X : Type 0} (f g : ℕ → X) (a b n : ℕ) → ((r : ℕ) → r < n → f (a + r) ≡ g (b + r)) → map f (range_with_len a n) ≡ map g (range_with_len b n)
+map_ranges : {X : Type 0} (f g : ℕ → X) (a b n : ℕ) → ((r : ℕ) → r < n → f (a + r) ≡ g (b + r))
+    → map f (range_with_len a n) ≡ map g (range_with_len b n)
 map_ranges f g a b zero h = refl
 map_ranges f g a b (suc n) h =
     let e : a + 0 ≡ a = omega arith in
@@ -44,24 +46,30 @@ regroup : (k l c r : ℕ) → k * (l * c) + r ≡ (k * l) * c + r
 regroup k l c r = omega arith
 
 -- all the choices further, the same one comes again
-periodic : (vs : List NamedValues) (k r : ℕ) → 0 < choice_count vs → original_at (axes_of vs) (k * choice_count vs + r) ≡ original_at (axes_of vs) r
+periodic : (vs : List NamedValues) (k r : ℕ) → 0 < choice_count vs
+    → original_at (axes_of vs) (k * choice_count vs + r) ≡ original_at (axes_of vs) r
 periodic [] k r h = refl
 periodic (v ∷ vs) k r h =
     let l = length v.1 in
     let c = choice_count vs in
     let some : 0 < c = positive_right l c h in
     let number : k * (l * c) + r ≡ (k * l) * c + r = regroup k l c r in
-    let place : ((k * l) * c + r) / c % l ≡ r / c % l = ap (λ n. n % l) (mul-add-div_right some (k * l) r) ∙ mul-add-mod_self_right k l (r / c) in
+    let place : ((k * l) * c + r) / c % l ≡ r / c % l = ap (λ n. n % l) (mul-add-div_right some (k * l) r)
+    ∙ mul-add-mod_self_right k l (r / c) in
     ap (original_at (axes_of (v ∷ vs))) number
     ∙ ap (λ i. (v.0, get_or v.1 i Null) ∷ original_at (axes_of vs) ((k * l) * c + r)) place
     ∙ ap (λ o. (v.0, chosen (v.1, c) r) ∷ o) (periodic vs (k * l) r some)
 
 -- the originals that begin with a value of a place
-with_value : (v : NamedValues) (vs : List NamedValues) (j : ℕ) → j < length v.1 → 0 < choice_count vs → choices vs ≡ map (original_at (axes_of vs)) (range_with_len 0 (choice_count vs)) → map (λ c. (v.0, get_or v.1 j Null) ∷ c) (choices vs) ≡ map (original_at (axes_of (v ∷ vs))) (range_with_len (j * choice_count vs) (choice_count vs))
+with_value : (v : NamedValues) (vs : List NamedValues) (j : ℕ) → j < length v.1 → 0 < choice_count vs
+    → choices vs ≡ map (original_at (axes_of vs)) (range_with_len 0 (choice_count vs))
+    → map (λ c. (v.0, get_or v.1 j Null) ∷ c) (choices vs) ≡ map (original_at (axes_of (v ∷ vs)))
+    (range_with_len (j * choice_count vs) (choice_count vs))
 with_value v vs j l some all =
     ap (map (λ c. (v.0, get_or v.1 j Null) ∷ c)) all
     ∙ map-map (original_at (axes_of vs)) (λ c. (v.0, get_or v.1 j Null) ∷ c) (range_with_len 0 (choice_count vs))
-    ∙ map_ranges (λ n. (v.0, get_or v.1 j Null) ∷ original_at (axes_of vs) n) (original_at (axes_of (v ∷ vs))) 0 (j * choice_count vs) (choice_count vs) (λ r below.
+    ∙ map_ranges (λ n. (v.0, get_or v.1 j Null) ∷ original_at (axes_of vs) n) (original_at (axes_of (v ∷ vs))) 0 (j * choice_count vs)
+    (choice_count vs) (λ r below.
     let c = choice_count vs in
     let start : 0 + r ≡ r = omega arith in
     let place : (j * c + r) / c % length v.1 ≡ j = ap (λ n. n % length v.1) (div-mul-add j c r below) ∙ mod-eq_of_lt l in
@@ -79,7 +87,10 @@ get_or-behind [] rest x = refl
 get_or-behind (y ∷ front) rest x = get_or-behind front rest x
 
 -- the originals that begin with one of the last values
-from_values : (name : List ℕ) (vs : List NamedValues) (front rest : List Scalar) → (0 < choice_count vs) → choices vs ≡ map (original_at (axes_of vs)) (range_with_len 0 (choice_count vs)) → flat_map (λ value. map (λ c. (name, value) ∷ c) (choices vs)) rest ≡ map (original_at (axes_of ((name, front ++ rest) ∷ vs))) (range_with_len (length front * choice_count vs) (length rest * choice_count vs))
+from_values : (name : List ℕ) (vs : List NamedValues) (front rest : List Scalar) → (0 < choice_count vs)
+    → choices vs ≡ map (original_at (axes_of vs)) (range_with_len 0 (choice_count vs))
+    → flat_map (λ value. map (λ c. (name, value) ∷ c) (choices vs)) rest ≡ map (original_at (axes_of ((name, front ++ rest) ∷ vs)))
+    (range_with_len (length front * choice_count vs) (length rest * choice_count vs))
 from_values name vs front [] some all =
     let e : 0 * choice_count vs ≡ 0 = omega arith in
     ap (λ n. map (original_at (axes_of ((name, front ++ []) ∷ vs))) (range_with_len (length front * choice_count vs) n)) (sym e)
@@ -89,12 +100,14 @@ from_values name vs front (x ∷ rest) some all =
     let at = original_at (axes_of ((name, front ++ x ∷ rest) ∷ vs)) in
     let long : length (front ++ x ∷ rest) ≡ j + suc (length rest) = length-append front (x ∷ rest) in
     let here : map (λ o. (name, x) ∷ o) (choices vs) ≡ map at (range_with_len (j * c) c) =
-    ap (λ v. map (λ o. (name, v) ∷ o) (choices vs)) (sym (get_or-behind front rest x)) ∙ with_value (name, front ++ x ∷ rest) vs j (omega arith) some all in
+    ap (λ v. map (λ o. (name, v) ∷ o) (choices vs)) (sym (get_or-behind front rest x))
+    ∙ with_value (name, front ++ x ∷ rest) vs j (omega arith) some all in
     let moved : (front ++ x ∷ []) ++ rest ≡ front ++ x ∷ rest = append_assoc front (x ∷ []) rest in
     let next : length (front ++ x ∷ []) ≡ j + 1 = length-append front (x ∷ []) in
     let start : (j + 1) * c ≡ j * c + c = omega arith in
     let both : c + length rest * c ≡ suc (length rest) * c = omega arith in
-    let others : flat_map (λ value. map (λ o. (name, value) ∷ o) (choices vs)) rest ≡ map at (range_with_len (j * c + c) (length rest * c)) =
+    let others : flat_map (λ value. map (λ o. (name, value) ∷ o) (choices vs)) rest ≡ map at (range_with_len (j * c + c) (length rest * c))
+    =
     from_values name vs (front ++ x ∷ []) rest some all
     ∙ ap (λ xs. map (original_at (axes_of ((name, xs) ∷ vs))) (range_with_len (length (front ++ x ∷ []) * c) (length rest * c))) moved
     ∙ ap (λ n. map at (range_with_len n (length rest * c))) (ap (λ n. n * c) next ∙ start) in
@@ -103,7 +116,8 @@ from_values name vs front (x ∷ rest) some all =
     ∙ sym (map-append at (range_with_len (j * c) c) (range_with_len (j * c + c) (length rest * c)))
     ∙ ap (map at) (sym (range-append (j * c) c (length rest * c)) ∙ ap (range_with_len (j * c)) both)
 
-pub choices_are_numbered : (vs : List NamedValues) → 0 < choice_count vs → choices vs ≡ map (original_at (axes_of vs)) (range_with_len 0 (choice_count vs))
+pub choices_are_numbered : (vs : List NamedValues) → 0 < choice_count vs
+    → choices vs ≡ map (original_at (axes_of vs)) (range_with_len 0 (choice_count vs))
 choices_are_numbered [] h = refl
 choices_are_numbered (v ∷ vs) h =
     let some = positive_right (length v.1) (choice_count vs) h in

@@ -1,5 +1,6 @@
 -- Lists of pairs whose names rise: what is found in them, and that they are told apart by it.
-use Rattle.std.proofs.Common.{◌≡◌, ℕ, zero, suc, ◌+◌, ◌<◌, ◌≤◌, true, false, cond, List, [], ◌∷◌, length, get_or, Some, None, refl, sym, ap, ◌∙◌, subst, inl, inr, add-one, arith}
+use Rattle.std.proofs.Common.{◌≡◌, ℕ, zero, suc, ◌+◌, ◌<◌, ◌≤◌, true, false, cond, List, [], ◌∷◌, length, get_or, Some, None, refl, sym, ap}
+use Rattle.std.proofs.Common.{◌∙◌, subst, inl, inr, add-one, arith}
 use Rattle.std.specs.Prelude.{T}
 use Rattle.std.specs.Cmp.Lexicographic.{slice_cmp, nat_list_cmp_total}
 use Rattle.std.specs.Ordering.{nat_cmp, is_lt, is_eq, ordering_reverse, ordering_index}
@@ -16,14 +17,7 @@ use Rattle.std.proofs.lemmas.Bool.{and_parts, and_from, true≢false, cases_lt}
 use Rattle.std.proofs.lemmas.Cmp.{tied_back, eq_by_cmp_equiv}
 use Rattle.std.proofs.lemmas.Map.Lookups.{exact_bytes}
 use Rattle.wf_value.specs.Names.{names_rise}
-
-abbrev pub name_cmp : List ℕ → List ℕ → Ordering
-name_cmp = slice_cmp nat_cmp
-
-pub less_from : (o : Ordering) → is_lt o ≡ true → o ≡ Less
-less_from Less h = refl
-less_from Equal h = absurd (true≢false (sym h))
-less_from Greater h = absurd (true≢false (sym h))
+use Rattle.wf_value.proofs.Rising.{name_cmp, Less-from_is_lt}
 
 pub equal_from : (o : Ordering) → is_eq o ≡ true → o ≡ Equal
 equal_from Equal h = refl
@@ -51,18 +45,19 @@ not_eq_above Equal h = absurd (omega arith)
 not_eq_above Greater h = refl
 
 module _ {X : Type 0} where
-  pub below_all-less : (x y : List ℕ) (es : List (List ℕ × X)) → name_cmp x y ≡ Less → below_all name_cmp y es ≡ true → below_all name_cmp x es ≡ true
+  pub below_all-less : (x y : List ℕ) (es : List (List ℕ × X)) → name_cmp x y ≡ Less → below_all name_cmp y es ≡ true
+      → below_all name_cmp x es ≡ true
   below_all-less x y [] p h = refl
   below_all-less x y (e ∷ es) p h =
       let parts = and_parts (is_lt (name_cmp y e.0)) (below_all name_cmp y es) h in
-      and_from _ _ (ap is_lt (nat_list_cmp_total.trans x y e.0 p (less_from _ parts.0))) (below_all-less x y es p parts.1)
+      and_from _ _ (ap is_lt (nat_list_cmp_total.trans x y e.0 p (Less-from_is_lt _ parts.0))) (below_all-less x y es p parts.1)
 
   -- the first name is below all others
   pub below_all_first : (e : List ℕ × X) (es : List (List ℕ × X)) → names_rise (e ∷ es) ≡ true → below_all name_cmp e.0 es ≡ true
   below_all_first e [] h = refl
   below_all_first e (f ∷ es) h =
       let parts = and_parts (is_lt (name_cmp e.0 f.0)) (names_rise (f ∷ es)) h in
-      and_from _ _ parts.0 (below_all-less e.0 f.0 es (less_from _ parts.0) (below_all_first f es parts.1))
+      and_from _ _ parts.0 (below_all-less e.0 f.0 es (Less-from_is_lt _ parts.0) (below_all_first f es parts.1))
 
   pub rise_rest : (e : List ℕ × X) (es : List (List ℕ × X)) → names_rise (e ∷ es) ≡ true → names_rise es ≡ true
   rise_rest e [] h = refl
@@ -73,52 +68,63 @@ module _ {X : Type 0} where
   is_sorted-rise (e ∷ es) h = and_from _ _ (below_all_first e es h) (is_sorted-rise es (rise_rest e es h))
 
   -- and back
-  pub rise_from : (e : List ℕ × X) (es : List (List ℕ × X)) → below_all name_cmp e.0 es ≡ true → names_rise es ≡ true → names_rise (e ∷ es) ≡ true
+  pub rise_from : (e : List ℕ × X) (es : List (List ℕ × X)) → below_all name_cmp e.0 es ≡ true → names_rise es ≡ true
+      → names_rise (e ∷ es) ≡ true
   rise_from e [] b h = refl
   rise_from e (f ∷ es) b h = and_from _ _ (and_parts (is_lt (name_cmp e.0 f.0)) (below_all name_cmp e.0 es) b).0 h
 
   -- lists that rise are equal where the same is found in them
-  pub same_from_find : (es fs : List (List ℕ × X)) → names_rise es ≡ true → names_rise fs ≡ true → ((name : List ℕ) → find name_cmp name es ≡ find name_cmp name fs) → es ≡ fs
+  pub same_from_find : (es fs : List (List ℕ × X)) → names_rise es ≡ true → names_rise fs ≡ true
+      → ((name : List ℕ) → find name_cmp name es ≡ find name_cmp name fs) → es ≡ fs
   same_from_find es fs h g same =
-      same_entries name_cmp nat_list_cmp_total exact_bytes es fs (subst T (sym (is_sorted-rise es h)) tt) (subst T (sym (is_sorted-rise fs g)) tt) same
+      same_entries name_cmp nat_list_cmp_total exact_bytes es fs (subst T (sym (is_sorted-rise es h)) tt)
+      (subst T (sym (is_sorted-rise fs g)) tt) same
 
   -- what is found at a name below all others
   pub find_below : (name : List ℕ) (es : List (List ℕ × X)) → below_all name_cmp name es ≡ true → find name_cmp name es ≡ None
   find_below name [] h = refl
   find_below name (e ∷ es) h =
       let parts = and_parts (is_lt (name_cmp name e.0)) (below_all name_cmp name es) h in
-      ap (λ o. cond (is_eq o) (Some e.1) (find name_cmp name es)) (less_from _ parts.0) ∙ find_below name es parts.1
+      ap (λ o. cond (is_eq o) (Some e.1) (find name_cmp name es)) (Less-from_is_lt _ parts.0) ∙ find_below name es parts.1
 
   -- a name below all others is below each
-  pub below_at : (x : List ℕ) (es : List (List ℕ × X)) (i : ℕ) (d : List ℕ × X) → below_all name_cmp x es ≡ true → i < length es → name_cmp x (get_or es i d).0 ≡ Less
+  pub below_at : (x : List ℕ) (es : List (List ℕ × X)) (i : ℕ) (d : List ℕ × X) → below_all name_cmp x es ≡ true → i < length es
+      → name_cmp x (get_or es i d).0 ≡ Less
   below_at x [] i d h l = absurd (omega arith)
-  below_at x (e ∷ es) zero d h l = less_from _ (and_parts (is_lt (name_cmp x e.0)) (below_all name_cmp x es) h).0
+  below_at x (e ∷ es) zero d h l = Less-from_is_lt _ (and_parts (is_lt (name_cmp x e.0)) (below_all name_cmp x es) h).0
   below_at x (e ∷ es) (suc i) d h l = below_at x es i d (and_parts (is_lt (name_cmp x e.0)) (below_all name_cmp x es) h).1 (omega arith)
 
   -- what is found at the name of a place
-  pub find_at : (es : List (List ℕ × X)) (i : ℕ) (name : List ℕ) → names_rise es ≡ true → i < length es → ((d : List ℕ × X) → name_cmp (get_or es i d).0 name ≡ Equal) → option_map (λ e. e.1) (slice_get es i) ≡ find name_cmp name es
+  pub find_at : (es : List (List ℕ × X)) (i : ℕ) (name : List ℕ) → names_rise es ≡ true → i < length es
+      → ((d : List ℕ × X) → name_cmp (get_or es i d).0 name ≡ Equal) → option_map (λ e. e.1) (slice_get es i) ≡ find name_cmp name es
   find_at [] i name h l is = absurd (omega arith)
-  find_at (e ∷ es) zero name h l is = ap (λ o. cond (is_eq o) (Some e.1) (find name_cmp name es)) (sym (tied_back nat_list_cmp_total e.0 name (is e)))
+  find_at (e ∷ es) zero name h l is = ap (λ o. cond (is_eq o) (Some e.1) (find name_cmp name es))
+      (sym (tied_back nat_list_cmp_total e.0 name (is e)))
   find_at (e ∷ es) (suc i) name h l is =
       let same : (get_or es i e).0 ≡ name = exact_bytes _ _ (is e) in
-      let below : name_cmp e.0 name ≡ Less = subst (λ n. name_cmp e.0 n ≡ Less) same (below_at e.0 es i e (below_all_first e es h) (omega arith)) in
+      let below : name_cmp e.0 name ≡ Less = subst (λ n. name_cmp e.0 n ≡ Less) same
+      (below_at e.0 es i e (below_all_first e es h) (omega arith)) in
       find_at es i name (rise_rest e es h) (omega arith) (λ d. is d)
       ∙ ap (λ b. cond b (Some e.1) (find name_cmp name es)) (sym (not_equal_after e.0 name below))
 
   -- nothing is found at a name that no place has
-  pub find_absent : (es : List (List ℕ × X)) (name : List ℕ) → ((k : ℕ) (d : List ℕ × X) → k < length es → is_eq (name_cmp (get_or es k d).0 name) ≡ false) → find name_cmp name es ≡ None
+  pub find_absent : (es : List (List ℕ × X)) (name : List ℕ)
+      → ((k : ℕ) (d : List ℕ × X) → k < length es → is_eq (name_cmp (get_or es k d).0 name) ≡ false) → find name_cmp name es ≡ None
   find_absent [] name h = refl
   find_absent (e ∷ es) name h =
-      ap (λ b. cond b (Some e.1) (find name_cmp name es)) (sym (same_test e.0 name) ∙ h 0 e (omega arith)) ∙ find_absent es name (λ k d l. h (suc k) d (omega arith))
+      ap (λ b. cond b (Some e.1) (find name_cmp name es)) (sym (same_test e.0 name) ∙ h 0 e (omega arith))
+      ∙ find_absent es name (λ k d l. h (suc k) d (omega arith))
 
   -- each name is below the next
-  pub rise_at : (es : List (List ℕ × X)) (k : ℕ) (d : List ℕ × X) → names_rise es ≡ true → suc k < length es → name_cmp (get_or es k d).0 (get_or es (suc k) d).0 ≡ Less
+  pub rise_at : (es : List (List ℕ × X)) (k : ℕ) (d : List ℕ × X) → names_rise es ≡ true → suc k < length es
+      → name_cmp (get_or es k d).0 (get_or es (suc k) d).0 ≡ Less
   rise_at [] k d h l = absurd (omega arith)
   rise_at (e ∷ es) zero d h l = below_at e.0 es 0 d (below_all_first e es h) (omega arith)
   rise_at (e ∷ es) (suc k) d h l = rise_at es k d (rise_rest e es h) (omega arith)
 
   -- names do not fall
-  pub searchable : (es : List (List ℕ × X)) (name : List ℕ) → names_rise es ≡ true → IsNonDecreasingBy (λ e. ordering_index (name_cmp e.0 name)) es
+  pub searchable : (es : List (List ℕ × X)) (name : List ℕ) → names_rise es ≡ true
+      → IsNonDecreasingBy (λ e. ordering_index (name_cmp e.0 name)) es
   searchable es name h = searchable_from_sorted nat_list_cmp_total (λ (e : List ℕ × X). e.0) es name
       (λ k d _ l. rw add-one (ap is_lt (after_less (get_or es k d).0 (get_or es (suc k) d).0 (rise_at es k d h (omega arith)))))
 
@@ -130,20 +136,26 @@ module _ {X : Type 0} where
   abbrev pub IsAbove : List (List ℕ × X) → List ℕ → ℕ → Type 0
   IsAbove es name high = (k : ℕ) (d : List ℕ × X) → high ≤ k → k < length es → 2 ≤ ordering_index (name_cmp (get_or es k d).0 name)
 
-  pub IsBelow-more : (es : List (List ℕ × X)) (name : List ℕ) (m : ℕ) (e : List ℕ × X) → names_rise es ≡ true → m < length es → e ≡ get_or es m e → Less ≡ name_cmp e.0 name → IsBelow es name (m + 1)
+  pub IsBelow-more : (es : List (List ℕ × X)) (name : List ℕ) (m : ℕ) (e : List ℕ × X) → names_rise es ≡ true → m < length es
+      → e ≡ get_or es m e → Less ≡ name_cmp e.0 name → IsBelow es name (m + 1)
   IsBelow-more es name m e h l at is k d below =
-      let here : ordering_index (name_cmp (get_or es m d).0 name) ≡ 0 = ap (λ x. ordering_index (name_cmp x.0 name)) (sym (get_or_read es m e l at d)) ∙ ap ordering_index (sym is) in
+      let here : ordering_index (name_cmp (get_or es m d).0 name) ≡ 0 = ap (λ x. ordering_index (name_cmp x.0 name))
+      (sym (get_or_read es m e l at d)) ∙ ap ordering_index (sym is) in
       omega (arith, searchable es name h k m d (omega arith) l, here)
 
-  pub IsAbove-more : (es : List (List ℕ × X)) (name : List ℕ) (m : ℕ) (e : List ℕ × X) → names_rise es ≡ true → m < length es → e ≡ get_or es m e → Greater ≡ name_cmp e.0 name → IsAbove es name m
+  pub IsAbove-more : (es : List (List ℕ × X)) (name : List ℕ) (m : ℕ) (e : List ℕ × X) → names_rise es ≡ true → m < length es
+      → e ≡ get_or es m e → Greater ≡ name_cmp e.0 name → IsAbove es name m
   IsAbove-more es name m e h l at is k d above below =
-      let here : ordering_index (name_cmp (get_or es m d).0 name) ≡ 2 = ap (λ x. ordering_index (name_cmp x.0 name)) (sym (get_or_read es m e l at d)) ∙ ap ordering_index (sym is) in
+      let here : ordering_index (name_cmp (get_or es m d).0 name) ≡ 2 = ap (λ x. ordering_index (name_cmp x.0 name))
+      (sym (get_or_read es m e l at d)) ∙ ap ordering_index (sym is) in
       omega (arith, searchable es name h m k d above below, here)
 
-  pub found_at : (es : List (List ℕ × X)) (name : List ℕ) (m : ℕ) (e : List ℕ × X) → names_rise es ≡ true → m < length es → e ≡ get_or es m e → Equal ≡ name_cmp e.0 name → option_map (λ e. e.1) (slice_get es m) ≡ find name_cmp name es
+  pub found_at : (es : List (List ℕ × X)) (name : List ℕ) (m : ℕ) (e : List ℕ × X) → names_rise es ≡ true → m < length es
+      → e ≡ get_or es m e → Equal ≡ name_cmp e.0 name → option_map (λ e. e.1) (slice_get es m) ≡ find name_cmp name es
   found_at es name m e h l at is = find_at es m name h l (λ d. ap (λ x. name_cmp x.0 name) (sym (get_or_read es m e l at d)) ∙ sym is)
 
-  pub found_nowhere : (es : List (List ℕ × X)) (name : List ℕ) (low high : ℕ) → high ≤ low → IsBelow es name low → IsAbove es name high → None ≡ find name_cmp name es
+  pub found_nowhere : (es : List (List ℕ × X)) (name : List ℕ) (low high : ℕ) → high ≤ low → IsBelow es name low → IsAbove es name high
+      → None ≡ find name_cmp name es
   found_nowhere es name low high h below above =
       sym (find_absent es name (λ k d l. elim (cases_lt k low) [
         | inl before ↦ not_eq_below _ (below k d before)

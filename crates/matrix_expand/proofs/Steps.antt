@@ -1,5 +1,6 @@
 -- Steps of the loops over variables, members and numbers.
-use Rattle.std.proofs.Common.{◌≡◌, ℕ, zero, suc, ◌+◌, ◌-◌, ◌*◌, ◌/◌, ◌<◌, ◌≤◌, min, Bool, true, false, ◌||◌, not, cond, List, [], ◌∷◌, ◌++◌, length, get_or, drop, Some, None, refl, sym, ap, ◌∙◌, inl, inr, arith}
+use Rattle.std.proofs.Common.{◌≡◌, ℕ, zero, suc, ◌+◌, ◌-◌, ◌*◌, ◌/◌, ◌<◌, ◌≤◌, min, Bool, true, false, ◌||◌, not, cond, List, [], ◌∷◌, ◌++◌}
+use Rattle.std.proofs.Common.{length, get_or, drop, Some, None, refl, sym, ap, ◌∙◌, inl, inr, arith}
 use Rattle.std.specs.List.{list_any, slice_get}
 use Rattle.std.specs.Option.{option_map}
 use Rattle.std.proofs.lemmas.Bool.{cases_lt}
@@ -15,10 +16,14 @@ use Rattle.matrix_expand.specs.Values.{AxisValue, PatternValue}
 pub factors : (s a b : ℕ) → s ≡ a * b → 0 < s → (0 < a) × ((0 < b) × (s / a ≡ b))
 factors s zero b e h = absurd (omega arith)
 factors s (suc a) zero e h = absurd (omega arith)
-factors s (suc a) (suc b) e h = (omega arith, (omega arith, ap (λ n. n / suc a) (e ∙ mul_comm (suc a) (suc b) ∙ omega arith) ∙ div-mul-add (suc b) (suc a) 0 (omega arith)))
+factors s (suc a) (suc b) e h = (
+  omega arith,
+  (omega arith, ap (λ n. n / suc a) (e ∙ mul_comm (suc a) (suc b) ∙ omega arith) ∙ div-mul-add (suc b) (suc a) 0 (omega arith)),
+)
 
 -- the number of choices that are left, a variable on
-pub choices_more : (vs : List NamedValues) (i s : ℕ) (v : NamedValues) → i < length vs → v ≡ get_or vs i v → s ≡ choice_count (drop i vs) → 0 < s → (0 < length v.1) × ((0 < choice_count (drop (i + 1) vs)) × (s / length v.1 ≡ choice_count (drop (i + 1) vs)))
+pub choices_more : (vs : List NamedValues) (i s : ℕ) (v : NamedValues) → i < length vs → v ≡ get_or vs i v → s ≡ choice_count (drop i vs)
+    → 0 < s → (0 < length v.1) × ((0 < choice_count (drop (i + 1) vs)) × (s / length v.1 ≡ choice_count (drop (i + 1) vs)))
 choices_more vs i s v l is e h =
     factors s (length v.1) _ (e ∙ at_drop_more choice_count vs i v l ∙ ap (λ w. length w.1 * choice_count (drop (i + 1) vs)) (sym is)) h
 
@@ -39,7 +44,8 @@ capped_more most c l r =
     let turned : min (c * min l most) most ≡ min most (c * min l most) = omega arith in
     let inner : min l most ≡ min most l = omega arith in
     ap (λ n. min most (n * r)) turned ∙ min_mul most (c * min l most) r
-    ∙ ap (λ n. min most (c * n * r)) inner ∙ ap (min most) (regroup c (min most l) r) ∙ min_mul most l (c * r) ∙ ap (min most) (regroup' c l r)
+    ∙ ap (λ n. min most (c * n * r)) inner ∙ ap (min most) (regroup c (min most l) r) ∙ min_mul most l (c * r)
+    ∙ ap (min most) (regroup' c l r)
   where
     regroup : (c m r : ℕ) → c * m * r ≡ m * (c * r)
     regroup c m r = omega arith
@@ -52,7 +58,8 @@ slice_get_at [] i x l is = absurd (omega arith)
 slice_get_at (y ∷ ys) zero x l is = ap Some (sym is)
 slice_get_at (y ∷ ys) (suc i) x l is = slice_get_at ys i x (omega arith) is
 
-module _ (axes : List AxisValue) (items : Combination) (i : ℕ) (item : List ℕ × Scalar) (l : i < length items) (is : item ≡ get_or items i item) where
+module _ (axes : List AxisValue) (items : Combination) (i : ℕ) (item : List ℕ × Scalar) (l : i < length items)
+    (is : item ≡ get_or items i item) where
   wanted_at : wanted_of axes (drop i items) ≡ wanted_of axes (item ∷ drop (i + 1) items)
   wanted_at = at_drop_more (wanted_of axes) items i item l ∙ ap (λ p. wanted_of axes (p ∷ drop (i + 1) items)) (sym is)
 
@@ -60,7 +67,8 @@ module _ (axes : List AxisValue) (items : Combination) (i : ℕ) (item : List �
   others_at = at_drop_more (has_other axes) items i item l ∙ ap (λ p. has_other axes (p ∷ drop (i + 1) items)) (sym is)
 
   -- the name is a variable
-  module _ (place : ℕ) (axis : AxisValue) (m : place < length axes) (at : axis ≡ get_or axes place axis) (found : option_map (λ a. a.1) (slice_get axes place) ≡ choice_of axes item.0) where
+  module _ (place : ℕ) (axis : AxisValue) (m : place < length axes) (at : axis ≡ get_or axes place axis)
+      (found : option_map (λ a. a.1) (slice_get axes place) ≡ choice_of axes item.0) where
     its_choice : choice_of axes item.0 ≡ Some axis.1
     its_choice = sym found ∙ ap (option_map (λ a. a.1)) (slice_get_at axes place axis m at)
 
@@ -78,18 +86,23 @@ module _ (axes : List AxisValue) (items : Combination) (i : ℕ) (item : List �
   others_found none = others_at ∙ rw (← none) refl
 
 -- the numbers that are left, one on
-pub kept_more : (excludes : List PatternValue) (number count : ℕ) → number < count → kept_from excludes number (count - number) ≡ cond (not (list_any (pattern_removes number) excludes)) (number ∷ kept_from excludes (number + 1) (count - (number + 1))) (kept_from excludes (number + 1) (count - (number + 1)))
+pub kept_more : (excludes : List PatternValue) (number count : ℕ) → number < count
+    → kept_from excludes number (count - number) ≡ cond (not (list_any (pattern_removes number) excludes))
+    (number ∷ kept_from excludes (number + 1) (count - (number + 1))) (kept_from excludes (number + 1) (count - (number + 1)))
 kept_more excludes number count l =
     let e : count - number ≡ suc (count - (number + 1)) = omega arith in
     ap (kept_from excludes number) e
 
 -- one more of what is made, and one less of what is left
-pub pushed : {X : Type 0} (old now before rest total : List X) (x : X) → now ≡ old ++ x ∷ [] → before ≡ x ∷ rest → old ++ before ≡ total → now ++ rest ≡ total
+pub pushed : {X : Type 0} (old now before rest total : List X) (x : X) → now ≡ old ++ x ∷ [] → before ≡ x ∷ rest → old ++ before ≡ total
+    → now ++ rest ≡ total
 pushed old now before rest total x p q r = ap (λ xs. xs ++ rest) p ∙ append_assoc old (x ∷ []) rest ∙ ap (λ ys. old ++ ys) (sym q) ∙ r
 
 pub or-true : (b : Bool) → (b || true) ≡ true
 or-true true = refl
 or-true false = refl
 
-pub new_more : (ps : List PatternValue) (kept : List ℕ) (i : ℕ) (p : PatternValue) → i < length ps → p ≡ get_or ps i p → new_objects (drop i ps) kept ≡ cond (list_any (λ number. pattern_agrees number p) kept) (new_objects (drop (i + 1) ps) kept) (p.0 ∷ new_objects (drop (i + 1) ps) kept)
+pub new_more : (ps : List PatternValue) (kept : List ℕ) (i : ℕ) (p : PatternValue) → i < length ps → p ≡ get_or ps i p
+    → new_objects (drop i ps) kept ≡ cond (list_any (λ number. pattern_agrees number p) kept) (new_objects (drop (i + 1) ps) kept)
+    (p.0 ∷ new_objects (drop (i + 1) ps) kept)
 new_more ps kept i p l is = at_drop_more (λ qs. new_objects qs kept) ps i p l ∙ ap (λ q. new_objects (q ∷ drop (i + 1) ps) kept) (sym is)

@@ -1,9 +1,10 @@
 -- The pairs of the include objects in the order of their names, as the code goes over them once for each original.
-use Rattle.std.specs.Prelude.{◌≡◌, ℕ, ◌+◌, ◌&&◌, not, nat_eq, Bool, true, false, List, [], ◌∷◌, ◌++◌, map, length, Option, Some, None, cond, IsTrue}
+use Rattle.std.specs.Prelude.{◌≡◌, ℕ, ◌+◌, ◌&&◌, not, Bool, true, false, List, [], ◌∷◌, ◌++◌, map, length, Option, Some, None, cond, IsTrue}
 use Rattle.std.specs.List.{slice_index_or, filter, list_all}
 use Rattle.std.specs.Option.{option_or}
 use Rattle.std.specs.Ordering.{nat_cmp, is_lt, is_gt}
-use Rattle.std.specs.Cmp.Lexicographic.{slice_cmp, pointwise}
+use Rattle.std.specs.Cmp.Lexicographic.{slice_cmp}
+use Rattle.std.specs.Str.{bytes_eq}
 use Rattle.wf_value.specs.declared.scalar.Scalar.{Scalar}
 use Rattle.matrix_expand.specs.Combinations.{Combination, value_at}
 use Rattle.matrix_expand.specs.Numbered.{original_at, pattern_agrees}
@@ -45,7 +46,8 @@ flagged flags entries = pairs_of (filter (λ e. slice_index_or flags e.0 false) 
 -- what the last of the objects with a flag and a name gives, where the first of them has this place
 abbrev pub added_value : List Bool → ℕ → List Combination → List ℕ → Option Scalar
 added_value flags place [] name = None
-added_value flags place (c ∷ cs) name = option_or (added_value flags (place + 1) cs name) (cond (slice_index_or flags place false) (value_at c name) None)
+added_value flags place (c ∷ cs) name = option_or (added_value flags (place + 1) cs name)
+    (cond (slice_index_or flags place false) (value_at c name) None)
 
 -- the entries are those of the objects, in the order of their names, a later object's before an earlier one's
 pub record SortsEntries (first : ℕ) (objects : List Combination) (entries : List EntryValue) : Type 0 where
@@ -54,7 +56,7 @@ pub record SortsEntries (first : ℕ) (objects : List Combination) (entries : Li
 
 abbrev pub is_last : Option (List ℕ) → List ℕ → Bool
 is_last None name = false
-is_last (Some last) name = pointwise nat_eq last name
+is_last (Some last) name = bytes_eq last name
 
 -- the first pair of each name, where pairs of one name stand together, and none of the last name
 abbrev pub firsts_after : Option (List ℕ) → Combination → Combination
@@ -67,4 +69,5 @@ flags_of patterns number = map (pattern_agrees number) patterns ++ true ∷ []
 
 -- the final combination of the original of a number
 abbrev pub final_from : List AxisValue → List PatternValue → List EntryValue → ℕ → Combination
-final_from axes patterns entries number = firsts_after None (flagged (flags_of patterns number) (merged entries (object_entries (length patterns) (original_at axes number))))
+final_from axes patterns entries number = firsts_after None
+    (flagged (flags_of patterns number) (merged entries (object_entries (length patterns) (original_at axes number))))

@@ -1,5 +1,6 @@
 -- The originals by their numbers, as the code goes over them.
-use Rattle.std.specs.Prelude.{ℕ, zero, suc, ◌/◌, ◌%◌, ◌&&◌, not, nat_lt, is_none, Bool, List, [], ◌∷◌, map, length, Option, cond, Result, Ok, Err}
+use Rattle.std.specs.Prelude.{ℕ, zero, suc, ◌/◌, ◌%◌, ◌&&◌, not, nat_lt, is_none, Bool, List, [], ◌∷◌, map, length, Option, cond, Result}
+use Rattle.std.specs.Prelude.{Ok, Err}
 use Rattle.std.specs.List.{slice_index_or, filter, filter_map, list_any, list_all, range_with_len}
 use Rattle.std.specs.Option.{option_map}
 use Rattle.std.specs.Ordering.{nat_cmp}
@@ -9,9 +10,10 @@ use Rattle.wf_value.specs.Matrix.{NamedValues, MatrixLists}
 use Rattle.wf_value.specs.declared.code.Code.TheVariants.{LegCount}
 use Rattle.wf_value.specs.declared.refusal.Refusal.{Refusal}
 use Rattle.wf_value.specs.declared.refusal.Refusal.TheVariants.{Numbered}
+use Rattle.wf_value.specs.ScalarValue.{same_scalar}
 use Rattle.wf_value.specs.declared.scalar.Scalar.{Scalar}
 use Rattle.wf_value.specs.declared.scalar.Scalar.TheVariants.{Null}
-use Rattle.matrix_expand.specs.Combinations.{Combination, choice_count, same_scalar}
+use Rattle.matrix_expand.specs.Combinations.{Combination, choice_count}
 use Rattle.matrix_expand.specs.Values.{ChoiceValue, AxisValue, WantedValue, PatternValue}
 
 -- the value that the original of a number has

@@ -47,7 +47,8 @@ row_documented = refl
 abbrev a_is : ℕ → Combination
 a_is n = (codes "a", Whole (pos n)) ∷ []
 
-row_include_alone : combinations_or_refusal (record { variables = []; include = a_is 1 ∷ a_is 2 ∷ []; exclude = [] }) ≡ Ok (a_is 1 ∷ a_is 2 ∷ [])
+row_include_alone : combinations_or_refusal (record { variables = []; include = a_is 1 ∷ a_is 2 ∷ []; exclude = [] }) ≡ Ok
+    (a_is 1 ∷ a_is 2 ∷ [])
 row_include_alone = refl
 
 row_empty : combinations_or_refusal (record { variables = []; include = []; exclude = [] }) ≡ Err (Numbered LegCount)
@@ -70,7 +71,8 @@ abbrev count_and_last : Result (List Combination) Refusal → Result (ℕ × Opt
 count_and_last (Ok cs) = Ok (length cs, last_or None cs)
 count_and_last (Err e) = Err e
 
-row_square : count_and_last (combinations_or_refusal (square [] [])) ≡ Ok (256, Some ((codes "x", Whole (pos 15)) ∷ (codes "y", Whole (pos 15)) ∷ []))
+row_square : count_and_last (combinations_or_refusal (square [] [])) ≡ Ok
+    (256, Some ((codes "x", Whole (pos 15)) ∷ (codes "y", Whole (pos 15)) ∷ []))
 row_square = refl
 
 row_one_more : combinations_or_refusal (square (x_is_16 ∷ []) []) ≡ Err (Numbered LegCount)
@@ -83,7 +85,8 @@ row_excluded = refl
 abbrev two_valued : List ℕ → List NamedValues
 two_valued letters = map (λ letter. (letter ∷ [], Truth true ∷ Truth false ∷ [])) letters
 
-row_too_large : combinations_or_refusal (record { variables = two_valued (codes "abcdefghijklmnopq"); include = []; exclude = [] }) ≡ Err (Numbered MatrixTooLarge)
+row_too_large : combinations_or_refusal (record { variables = two_valued (codes "abcdefghijklmnopq"); include = []; exclude = [] }) ≡ Err
+    (Numbered MatrixTooLarge)
 row_too_large = refl
 
 -- the exclude objects leave one
@@ -107,10 +110,12 @@ row_kinds : combinations_or_refusal (record {
   variables = (codes "a", Whole (pos 1) ∷ Text (codes "1") ∷ Truth true ∷ Null ∷ []) ∷ [];
   include = ((codes "a", Text (codes "1")) ∷ (codes "b", Null) ∷ []) ∷ [];
   exclude = ((codes "a", Text (codes "true")) ∷ []) ∷ ((codes "a", Text []) ∷ []) ∷ [];
-}) ≡ Ok (((codes "a", Whole (pos 1)) ∷ []) ∷ ((codes "a", Text (codes "1")) ∷ (codes "b", Null) ∷ []) ∷ ((codes "a", Truth true) ∷ []) ∷ ((codes "a", Null) ∷ []) ∷ [])
+}) ≡ Ok (((codes "a", Whole (pos 1)) ∷ []) ∷ ((codes "a", Text (codes "1")) ∷ (codes "b", Null) ∷ []) ∷ ((codes "a", Truth true) ∷ []) ∷
+    ((codes "a", Null) ∷ []) ∷ [])
 row_kinds = refl
 
 -- a list's equal values are each chosen
-row_twice : combinations_or_refusal (record { variables = (codes "n", Whole (pos 1) ∷ Whole (pos 1) ∷ []) ∷ []; include = []; exclude = [] })
+row_twice : combinations_or_refusal
+    (record { variables = (codes "n", Whole (pos 1) ∷ Whole (pos 1) ∷ []) ∷ []; include = []; exclude = [] })
     ≡ Ok (((codes "n", Whole (pos 1)) ∷ []) ∷ ((codes "n", Whole (pos 1)) ∷ []) ∷ [])
 row_twice = refl

@@ -2,7 +2,8 @@ ghost use Rattle.std.specs.List.{list_any};
 ghost use Rattle.std.specs.Prelude.{◌≡◌, ◌↔◌, ◌+◌, ◌<◌, ◌≤◌, ◌++◌, map, IsTrue, IfOk, Ok};
 ghost use Rattle.wf_value.specs.Gives.{Gives};
 ghost use Rattle.wf_value.specs.Names.{names_rise};
-ghost use Rattle.matrix_expand.specs.Combinations.{choice_count, kept, final_combination, combinations, legs_or_refusal, combinations_or_refusal};
+ghost use Rattle.matrix_expand.specs.Combinations.{choice_count, kept, final_combination, combinations};
+ghost use Rattle.matrix_expand.specs.Combinations.{legs_or_refusal, combinations_or_refusal};
 ghost use Rattle.matrix_expand.specs.Numbered.{original_count, numbered_axes, pattern_of, pattern_agrees, kept_of, new_objects};
 
 use crate::axis::{Axis, axes};
@@ -11,7 +12,7 @@ use crate::entry::entries;
 use crate::original::{MOST_CHOICES, MOST_LEGS, capped_choices, kept_originals};
 use crate::pattern::{Pattern, patterns};
 use std::alloc::Global;
-use wf_value::{Code, Combo, Matrix, Refusal, Variable};
+use wf_value::{Code, Combo, Matrix, Refusal, TryCopy, Variable};
 
 /// The combinations of a matrix, in order. Refused 21 where the lengths of its variables' lists
 /// multiply to over 4,096, else 22 where there is no combination or more than 256.

@@ -1,33 +1,44 @@
 -- From rows of marks to the graph of the jobs, or to the refusal.
-use Rattle.std.proofs.Common.{◌≡◌, ◌↔◌, ℕ, zero, suc, ◌+◌, ◌<◌, List, [], ◌∷◌, Bool, true, false, cond, Result, Ok, Err, IsTrue, length, get_or, map, sym, refl, subst, ap, ◌∙◌, arith, add-zero, zero-add}
+use Rattle.std.proofs.Common.{◌≡◌, ◌↔◌, ℕ, zero, suc, ◌+◌, ◌<◌, List, [], ◌∷◌, Bool, true, false, cond, Result, Ok, Err, IsTrue, length}
+use Rattle.std.proofs.Common.{get_or, map, sym, refl, subst, ap, ◌∙◌, ⊎_elim, arith, add-zero, zero-add}
 use Rattle.std.specs.List.{list_all, filter, enumerate_from}
-use Rattle.std.proofs.lemmas.Bool.{false≢true, true≢false}
+use Rattle.std.proofs.lemmas.Bool.{cases_lt, false≢true, true≢false}
 use Rattle.std.proofs.lemmas.List.{get_or-map, length-map}
-use Rattle.std.proofs.lemmas.List.FromFn.{length-enumerate_from, get_or-enumerate_from}
+use Rattle.std.proofs.lemmas.List.FromFn.{length-enumerate_from, get_or-enumerate_from, length-map-range_with_len}
+use Rattle.std.proofs.lemmas.List.FromFn.{get_or-map-range_with_len}
 use Rattle.wf_value.specs.declared.refusal.Refusal.{Refusal}
 use Rattle.wf_value.specs.declared.refusal.Refusal.TheVariants.{Cycle}
 use Rattle.needs_graph.specs.Ancestors.{HasWalk, is_ancestor, IsClosed, IsGraph}
-use Rattle.needs_graph.specs.Marks.{marked, places, closed}
+use Rattle.needs_graph.specs.Marks.{is_marked, marked, places, closed}
 use Rattle.needs_graph.specs.Needs.{is_listed, is_job, needs_of, own_ancestors, unless_cycle, unknown_need, graph_of}
-use Rattle.needs_graph.specs.Rows.{needs_row, needs_rows, needs_rows_of, own_ids}
-use Rattle.needs_graph.specs.declared.job_needs.JobNeeds.{JobNeeds}
+use Rattle.needs_graph.specs.Rows.{needs_row, needs_rows, needs_rows_of, own_ids, dependents_by, IsSets}
+use Rattle.needs_graph.specs.JobNeeds.{JobNeeds}
 use Rattle.needs_graph.proofs.Closure.{bit, length-closed}
-use Rattle.needs_graph.proofs.Reach.{needs_by, IsSquare, needs_by-IsClosed, is_ancestor-is_closed, all_ancestors-by}
+use Rattle.needs_graph.proofs.Reach.{needs_by, IsSquare, needs_by-IsClosed, is_ancestor-is_closed, past_is_none, sets_reach, dependents-by}
 use Rattle.needs_graph.proofs.Walks.{walk_from_is_ancestor, is_ancestor-from_walk}
 
 -- ---- the rows say the needs
 
-places_from-map : {X : Type 0} (test : X → Bool) (xs : List X) (a : ℕ) → map (λ e. e.0) (filter (λ e. test e.1) (enumerate_from a xs)) ≡ map (λ e. e.0) (filter (λ e. e.1) (enumerate_from a (map test xs)))
+places_from-map : {X : Type 0} (test : X → Bool) (xs : List X) (a : ℕ)
+    → map (λ e. e.0) (filter (λ e. test e.1) (enumerate_from a xs)) ≡ map (λ e. e.0) (filter (λ e. e.1) (enumerate_from a (map test xs)))
 places_from-map test [] a = refl
 places_from-map test (x ∷ xs) a =
-    elim (test x) as (λ v. map (λ e. e.0) (cond v ((a, x) ∷ filter (λ e. test e.1) (enumerate_from (a + 1) xs)) (filter (λ e. test e.1) (enumerate_from (a + 1) xs))) ≡ map (λ e. e.0) (cond v ((a, v) ∷ filter (λ e. e.1) (enumerate_from (a + 1) (map test xs))) (filter (λ e. e.1) (enumerate_from (a + 1) (map test xs)))))
+    elim (test x) as
+    (λ v. map (λ e. e.0)
+    (cond v ((a, x) ∷ filter (λ e. test e.1) (enumerate_from (a + 1) xs)) (filter (λ e. test e.1) (enumerate_from (a + 1) xs))) ≡
+    map (λ e. e.0)
+    (cond v ((a, v) ∷ filter (λ e. e.1) (enumerate_from (a + 1) (map test xs)))
+    (filter (λ e. e.1) (enumerate_from (a + 1) (map test xs)))))
     [ true ↦ ap (λ l. a ∷ l) (places_from-map test xs (a + 1)) | false ↦ places_from-map test xs (a + 1) ]
 
-rows_say : (jobs others : List JobNeeds) → map (λ job. places (λ other. is_listed job.needs other.id) jobs) others ≡ map marked (map (λ job. needs_row jobs job.needs) others)
+rows_say : (jobs others : List JobNeeds)
+    → map (λ job. places (λ other. is_listed job.needs other.id) jobs) others ≡ map marked (map (λ job. needs_row jobs job.needs) others)
 rows_say jobs [] = refl
 rows_say jobs (job ∷ others) =
-    let first : places (λ (other : JobNeeds). is_listed job.needs other.id) jobs ≡ marked (needs_row jobs job.needs) = places_from-map (λ (other : JobNeeds). is_listed job.needs other.id) jobs 0 in
-    ap (λ l. l ∷ map (λ j. places (λ other. is_listed j.needs other.id) jobs) others) first ∙ ap (λ l. marked (needs_row jobs job.needs) ∷ l) (rows_say jobs others)
+    let first : places (λ (other : JobNeeds). is_listed job.needs other.id) jobs ≡ marked (needs_row jobs job.needs) = places_from-map
+    (λ (other : JobNeeds). is_listed job.needs other.id) jobs 0 in
+    ap (λ l. l ∷ map (λ j. places (λ other. is_listed j.needs other.id) jobs) others) first
+    ∙ ap (λ l. marked (needs_row jobs job.needs) ∷ l) (rows_say jobs others)
 
 pub needs_of-by : (jobs : List JobNeeds) → needs_of jobs ≡ needs_by (needs_rows jobs)
 needs_of-by jobs = rows_say jobs jobs
@@ -50,23 +61,27 @@ needs_of-IsClosed : (jobs : List JobNeeds) → IsClosed (needs_of jobs)
 needs_of-IsClosed jobs = subst IsClosed (sym (needs_of-by jobs)) (needs_by-IsClosed (needs_rows jobs) (needs_rows-IsSquare jobs))
 
 pub walks_law : (jobs : List JobNeeds) (job other : ℕ) → IsTrue (is_ancestor (needs_of jobs) job other) ↔ HasWalk (needs_of jobs) job other
-walks_law jobs job other = (walk_from_is_ancestor (needs_of jobs) job other, is_ancestor-from_walk (needs_of jobs) (needs_of-IsClosed jobs) job other)
+walks_law jobs job other =
+    (walk_from_is_ancestor (needs_of jobs) job other, is_ancestor-from_walk (needs_of jobs) (needs_of-IsClosed jobs) job other)
 
 -- ---- the jobs that reach themselves
 
-kept_alike : {X Y : Type 0} (f : X → Y) (b c : Bool) (x : X) (xs ys : List X) → b ≡ c → map f xs ≡ map f ys → map f (cond b (x ∷ xs) xs) ≡ map f (cond c (x ∷ ys) ys)
+kept_alike : {X Y : Type 0} (f : X → Y) (b c : Bool) (x : X) (xs ys : List X) → b ≡ c → map f xs ≡ map f ys
+    → map f (cond b (x ∷ xs) xs) ≡ map f (cond c (x ∷ ys) ys)
 kept_alike f true true x xs ys same h = ap (λ l. f x ∷ l) h
 kept_alike f true false x xs ys same h = absurd (true≢false same)
 kept_alike f false true x xs ys same h = absurd (false≢true same)
 kept_alike f false false x xs ys same h = h
 
 -- tests of the place that agree at each place pick the same elements
-picked_alike : {X Y : Type 0} (f : ℕ × X → Y) (xs : List X) (a : ℕ) (t u : ℕ → Bool) → ((k : ℕ) → k < length xs → t (a + k) ≡ u (a + k)) → map f (filter (λ e. t e.0) (enumerate_from a xs)) ≡ map f (filter (λ e. u e.0) (enumerate_from a xs))
+picked_alike : {X Y : Type 0} (f : ℕ × X → Y) (xs : List X) (a : ℕ) (t u : ℕ → Bool) → ((k : ℕ) → k < length xs → t (a + k) ≡ u (a + k))
+    → map f (filter (λ e. t e.0) (enumerate_from a xs)) ≡ map f (filter (λ e. u e.0) (enumerate_from a xs))
 picked_alike f [] a t u agree = refl
 picked_alike f (x ∷ xs) a t u agree =
     let first : t a ≡ u a = ap t (sym (add-zero a)) ∙ (agree zero (omega arith) ∙ ap u (add-zero a)) in
     kept_alike f (t a) (u a) (a, x) _ _ first
-    (picked_alike f xs (a + 1) t u (λ k below. let shift : a + 1 + k ≡ a + suc k = omega arith in ap t shift ∙ (agree (suc k) (omega arith) ∙ ap u (sym shift))))
+    (picked_alike f xs (a + 1) t u
+    (λ k below. let shift : a + 1 + k ≡ a + suc k = omega arith in ap t shift ∙ (agree (suc k) (omega arith) ∙ ap u (sym shift))))
 
 pub own_ids-closed : (jobs : List JobNeeds) → own_ids jobs (closed (length (needs_rows jobs)) (needs_rows jobs)) ≡ own_ancestors jobs
 own_ids-closed jobs =
@@ -83,7 +98,8 @@ none_first test x xs none =
     [ true ↦ λ h. absurd (cc) | false ↦ λ h. (refl, h) ]
     none
 
-none_picked : {X : Type 0} (test : X → Bool) (xs : List X) (i : ℕ) (d : X) → filter test xs ≡ [] → i < length xs → test (get_or xs i d) ≡ false
+none_picked : {X : Type 0} (test : X → Bool) (xs : List X) (i : ℕ) (d : X) → filter test xs ≡ [] → i < length xs
+    → test (get_or xs i d) ≡ false
 none_picked test [] i d none below = absurd (omega arith)
 none_picked test (x ∷ xs) zero d none below = (none_first test x xs none).0
 none_picked test (x ∷ xs) (suc i) d none below = none_picked test xs i d (none_first test x xs none).1 (omega arith)
@@ -97,7 +113,8 @@ none_own jobs none k below =
     let each = map_none _ (filter (λ (e : ℕ × JobNeeds). is_ancestor (needs_of jobs) e.0 e.0) (enumerate_from 0 jobs)) none in
     let blank_pair : ℕ × JobNeeds = (0, blank) in
     let at = get_or-enumerate_from 0 jobs k blank_pair below in
-    let here = none_picked (λ (e : ℕ × JobNeeds). is_ancestor (needs_of jobs) e.0 e.0) (enumerate_from 0 jobs) k blank_pair each (omega (arith, length-enumerate_from 0 jobs)) in
+    let here = none_picked (λ (e : ℕ × JobNeeds). is_ancestor (needs_of jobs) e.0 e.0) (enumerate_from 0 jobs) k blank_pair each
+    (omega (arith, length-enumerate_from 0 jobs)) in
     let place : (get_or (enumerate_from 0 jobs) k blank_pair).0 ≡ k = ap (λ (e : ℕ × JobNeeds). e.0) at ∙ zero-add k in
     ap (λ n. is_ancestor (needs_of jobs) n n) (sym place) ∙ here
 
@@ -109,18 +126,21 @@ rows_if known rows = cond known (Ok rows) (Err unknown_need)
 abbrev graph_if : Bool → Result (List (List ℕ)) Refusal → Result (List (List ℕ)) Refusal
 graph_if known graph = cond known graph (Err unknown_need)
 
-refused_if : (known : Bool) (rows : List (List Bool)) (graph : Result (List (List ℕ)) Refusal) (e : Refusal) → rows_if known rows ≡ Err e → graph_if known graph ≡ Err e
+refused_if : (known : Bool) (rows : List (List Bool)) (graph : Result (List (List ℕ)) Refusal) (e : Refusal) → rows_if known rows ≡ Err e
+    → graph_if known graph ≡ Err e
 refused_if true rows graph e h = absurd (cc)
 refused_if false rows graph e h = cc
 
-made_if : (known : Bool) (rows made : List (List Bool)) (graph : Result (List (List ℕ)) Refusal) → rows_if known rows ≡ Ok made → (rows ≡ made) × (graph_if known graph ≡ graph)
+made_if : (known : Bool) (rows made : List (List Bool)) (graph : Result (List (List ℕ)) Refusal) → rows_if known rows ≡ Ok made
+    → (rows ≡ made) × (graph_if known graph ≡ graph)
 made_if true rows made graph h = (cc, refl)
 made_if false rows made graph h = absurd (cc)
 
 -- 13: where there are no rows there is no graph, for the same reason
 pub graph_refused : (jobs : List JobNeeds) (e : Refusal) → needs_rows_of jobs ≡ Err e → graph_of jobs ≡ Err e
 graph_refused jobs e h =
-    refused_if (list_all (λ job. list_all (is_job jobs) job.needs) jobs) (needs_rows jobs) (unless_cycle (own_ancestors jobs) (needs_of jobs)) e h
+    refused_if (list_all (λ job. list_all (is_job jobs) job.needs) jobs) (needs_rows jobs)
+    (unless_cycle (own_ancestors jobs) (needs_of jobs)) e h
 
 -- what the rows of the jobs say
 record Made (jobs : List JobNeeds) (rows : List (List Bool)) : Type 0 where
@@ -129,35 +149,55 @@ record Made (jobs : List JobNeeds) (rows : List (List Bool)) : Type 0 where
 
 made : (jobs : List JobNeeds) (rows : List (List Bool)) → needs_rows_of jobs ≡ Ok rows → Made jobs rows
 made jobs rows h =
-    let parts = made_if (list_all (λ job. list_all (is_job jobs) job.needs) jobs) (needs_rows jobs) rows (unless_cycle (own_ancestors jobs) (needs_of jobs)) h in
+    let parts = made_if (list_all (λ job. list_all (is_job jobs) job.needs) jobs) (needs_rows jobs) rows
+    (unless_cycle (own_ancestors jobs) (needs_of jobs)) h in
     record { same = parts.0; graph = parts.1 }
 
 pub length-made : (jobs : List JobNeeds) (rows : List (List Bool)) → needs_rows_of jobs ≡ Ok rows → length rows ≡ length jobs
 length-made jobs rows h = ap length (sym (made jobs rows h).same) ∙ length-needs_rows jobs
 
-own_ids-made : (jobs : List JobNeeds) (rows : List (List Bool)) → needs_rows_of jobs ≡ Ok rows → own_ids jobs (closed (length rows) rows) ≡ own_ancestors jobs
+own_ids-made : (jobs : List JobNeeds) (rows : List (List Bool)) → needs_rows_of jobs ≡ Ok rows
+    → own_ids jobs (closed (length rows) rows) ≡ own_ancestors jobs
 own_ids-made jobs rows h = ap (λ r. own_ids jobs (closed (length r) r)) (sym (made jobs rows h).same) ∙ own_ids-closed jobs
 
 -- 14: with the ids of the jobs that reach themselves
-pub graph_cyclic : (jobs : List JobNeeds) (rows : List (List Bool)) (ids : List (List ℕ)) → needs_rows_of jobs ≡ Ok rows → own_ids jobs (closed (length rows) rows) ≡ ids → (ids ≡ [] → ⊥) → graph_of jobs ≡ Err (Cycle ids)
+pub graph_cyclic : (jobs : List JobNeeds) (rows : List (List Bool)) (ids : List (List ℕ)) → needs_rows_of jobs ≡ Ok rows
+    → own_ids jobs (closed (length rows) rows) ≡ ids → (ids ≡ [] → ⊥) → graph_of jobs ≡ Err (Cycle ids)
 graph_cyclic jobs rows [] h own some = absurd (some refl)
 graph_cyclic jobs rows (id ∷ ids) h own some =
     (made jobs rows h).graph ∙ ap (λ l. unless_cycle l (needs_of jobs)) (sym (own_ids-made jobs rows h) ∙ own)
 
 -- the graph, where no job reaches itself
-pub graph_made : (jobs : List JobNeeds) (rows : List (List Bool)) → needs_rows_of jobs ≡ Ok rows → own_ids jobs (closed (length rows) rows) ≡ [] → graph_of jobs ≡ Ok (map marked rows)
+pub graph_made : (jobs : List JobNeeds) (rows : List (List Bool)) → needs_rows_of jobs ≡ Ok rows
+    → own_ids jobs (closed (length rows) rows) ≡ [] → graph_of jobs ≡ Ok (map marked rows)
 graph_made jobs rows h none =
     (made jobs rows h).graph
-    ∙ (ap (λ l. unless_cycle l (needs_of jobs)) (sym (own_ids-made jobs rows h) ∙ none) ∙ ap Ok (needs_of-by jobs ∙ ap needs_by (made jobs rows h).same))
+    ∙ (ap (λ l. unless_cycle l (needs_of jobs)) (sym (own_ids-made jobs rows h) ∙ none)
+    ∙ ap Ok (needs_of-by jobs ∙ ap needs_by (made jobs rows h).same))
 
-pub graph_is_graph : (jobs : List JobNeeds) (rows : List (List Bool)) → needs_rows_of jobs ≡ Ok rows → own_ids jobs (closed (length rows) rows) ≡ [] → IsGraph (map marked rows) (map marked (closed (length rows) rows))
-graph_is_graph jobs rows h none =
+pub graph_is_graph : (jobs : List JobNeeds) (rows : List (List Bool)) (sets dependents : List (List ℕ)) → needs_rows_of jobs ≡ Ok rows
+    → own_ids jobs (closed (length rows) rows) ≡ [] → IsSets sets (closed (length rows) rows) → dependents_by rows ≡ dependents
+    → IsGraph (map marked rows) sets dependents
+graph_is_graph jobs rows sets dependents h none are listed =
     let square : IsSquare rows = subst IsSquare (made jobs rows h).same (needs_rows-IsSquare jobs) in
     let needs : needs_of jobs ≡ needs_by rows = needs_of-by jobs ∙ ap needs_by (made jobs rows h).same in
+    let closed_needs = needs_by-IsClosed rows square in
     record {
-      within = needs_by-IsClosed rows square;
-      acyclic = λ job below. ap (λ n. is_ancestor n job job) (sym needs) ∙ none_own jobs (sym (own_ids-made jobs rows h) ∙ none) job (omega (arith, length-map rows marked, length-made jobs rows h));
-      kept = all_ancestors-by rows square;
+      within = closed_needs;
+      acyclic = λ job.
+          ⊎_elim
+          (λ below. ap (λ n. is_ancestor n job job) (sym needs)
+          ∙ none_own jobs (sym (own_ids-made jobs rows h) ∙ none) job (omega (arith, length-made jobs rows h)))
+          (λ past. past_is_none (needs_by rows) closed_needs job job (omega (arith, length-map rows marked)))
+          (cases_lt job (length rows));
+      reached = sets_reach sets rows square are;
+      as_many = ap length (sym listed)
+          ∙ (length-map-range_with_len (λ job. places (λ row. is_marked row job) rows) 0 (length rows) ∙ sym (length-map rows marked));
+      needed = λ job below.
+          ap (λ l. get_or l job []) (sym listed)
+          ∙ (get_or-map-range_with_len (λ job. places (λ row. is_marked row job) rows) 0 (length rows) job job []
+          (omega (arith, length-map rows marked)) (zero-add job)
+          ∙ dependents-by rows job);
     }
 
 -- ---- the steps of building, as the calls tell them
@@ -168,16 +208,20 @@ gave x = Ok x
 same_from_gave : {X : Type 0} (x y : X) → gave x ≡ gave y → x ≡ y
 same_from_gave x y e = cc
 
-pub reached_is : (lent direct reached : List (List Bool)) → lent ≡ direct → gave (closed (length lent) lent) ≡ gave reached → reached ≡ closed (length direct) direct
-reached_is lent direct reached same told =
-    sym (same_from_gave _ _ told) ∙ ap (λ rows. closed (length rows) rows) same
-
-pub length-reached : (jobs : List JobNeeds) (direct lent reached : List (List Bool)) → needs_rows_of jobs ≡ Ok direct → reached ≡ closed (length direct) direct → lent ≡ reached → length jobs ≡ length lent
+pub length-reached : (jobs : List JobNeeds) (direct lent reached : List (List Bool)) → needs_rows_of jobs ≡ Ok direct
+    → reached ≡ closed (length direct) direct → lent ≡ reached → length jobs ≡ length lent
 length-reached jobs direct lent reached made_so is same =
     sym (ap length (same ∙ is) ∙ (length-closed (length direct) direct ∙ length-made jobs direct made_so))
 
-pub ids_are : (jobs : List JobNeeds) (direct lent reached : List (List Bool)) (ids : List (List ℕ)) → reached ≡ closed (length direct) direct → lent ≡ reached → gave (own_ids jobs lent) ≡ gave ids → own_ids jobs (closed (length direct) direct) ≡ ids
+pub ids_are : (jobs : List JobNeeds) (direct lent reached : List (List Bool)) (ids : List (List ℕ))
+    → reached ≡ closed (length direct) direct → lent ≡ reached → gave (own_ids jobs lent) ≡ gave ids
+    → own_ids jobs (closed (length direct) direct) ≡ ids
 ids_are jobs direct lent reached ids is same told = ap (own_ids jobs) (sym (same ∙ is)) ∙ same_from_gave _ _ told
 
-pub places_are : (lent rows : List (List Bool)) (told_places : List (List ℕ)) → lent ≡ rows → gave (map marked lent) ≡ gave told_places → map marked rows ≡ told_places
+pub places_are : (lent rows : List (List Bool)) (told_places : List (List ℕ)) → lent ≡ rows → gave (map marked lent) ≡ gave told_places
+    → map marked rows ≡ told_places
 places_are lent rows told_places same told = ap (map marked) (sym same) ∙ same_from_gave _ _ told
+
+pub dependents_are : (lent rows : List (List Bool)) (told : List (List ℕ)) → lent ≡ rows → gave (dependents_by lent) ≡ gave told
+    → dependents_by rows ≡ told
+dependents_are lent rows told same told_so = ap dependents_by (sym same) ∙ same_from_gave _ _ told_so

@@ -1,36 +1,46 @@
 -- One more job among those that are looked up.
-use Rattle.std.proofs.Common.{◌≡◌, ◌≢◌, ℕ, ◌+◌, ◌<◌, List, Option, None, Some, true, false, cond, length, get_or, take, sym, ap, refl, ◌∙◌, ⊎_elim, arith}
+use Rattle.std.proofs.Common.{◌≡◌, ◌≢◌, ℕ, ◌+◌, ◌<◌, List, Option, None, Some, true, false, cond, length, get_or, take, sym, ap, refl, ◌∙◌}
+use Rattle.std.proofs.Common.{⊎_elim, arith}
 use Rattle.std.specs.Str.{bytes_eq}
 use Rattle.std.proofs.lemmas.Bool.{cases_eq, true≢false}
 use Rattle.std.proofs.lemmas.List.{get_or-take, get_or_default, length-take-le}
 use Rattle.std.proofs.lemmas.Slice.Eq.{bytes_eq-Decides}
 use Rattle.needs_graph.specs.Lookup.{Finds}
-use Rattle.needs_graph.specs.declared.job_needs.JobNeeds.{JobNeeds}
+use Rattle.needs_graph.specs.JobNeeds.{JobNeeds}
 
 -- the job at a place, among the first ones
-at_place : (jobs : List JobNeeds) (n place : ℕ) (d e : JobNeeds) → place < n → place < length jobs → get_or (take n jobs) place d ≡ get_or jobs place e
+at_place : (jobs : List JobNeeds) (n place : ℕ) (d e : JobNeeds) → place < n → place < length jobs
+    → get_or (take n jobs) place d ≡ get_or jobs place e
 at_place jobs n place d e before within = get_or-take n jobs place d before ∙ get_or_default jobs place d e within
 
-found_here : (jobs : List JobNeeds) (i : ℕ) (job : JobNeeds) (id : List ℕ) → i < length jobs → job ≡ get_or jobs i job → job.id ≡ id → Finds (take (i + 1) jobs) id (Some i)
+found_here : (jobs : List JobNeeds) (i : ℕ) (job : JobNeeds) (id : List ℕ) → i < length jobs → job ≡ get_or jobs i job → job.id ≡ id
+    → Finds (take (i + 1) jobs) id (Some i)
 found_here jobs i job id below is_job same =
     let wide : length (take (i + 1) jobs) ≡ i + 1 = length-take-le (i + 1) jobs (omega arith) in
     (omega arith, λ d. ap (λ j. j.id) (at_place jobs (i + 1) i d job (omega arith) below ∙ sym is_job) ∙ same)
 
-found_before : (jobs : List JobNeeds) (i : ℕ) (id : List ℕ) (place : ℕ) → i < length jobs → Finds (take i jobs) id (Some place) → Finds (take (i + 1) jobs) id (Some place)
+found_before : (jobs : List JobNeeds) (i : ℕ) (id : List ℕ) (place : ℕ) → i < length jobs → Finds (take i jobs) id (Some place)
+    → Finds (take (i + 1) jobs) id (Some place)
 found_before jobs i id place below held =
     let before : length (take i jobs) ≡ i = length-take-le i jobs (omega arith) in
     let wide : length (take (i + 1) jobs) ≡ i + 1 = length-take-le (i + 1) jobs (omega arith) in
-    let first = held.0 in
-    (omega arith, λ d. ap (λ j. j.id) (at_place jobs (i + 1) place d d (omega arith) (omega arith) ∙ sym (at_place jobs i place d d (omega arith) (omega arith))) ∙ held.1 d)
+    let first = held.0 in (
+      omega arith,
+      λ d. ap (λ j. j.id)
+          (at_place jobs (i + 1) place d d (omega arith) (omega arith) ∙ sym (at_place jobs i place d d (omega arith) (omega arith)))
+          ∙ held.1 d,
+    )
 
-found_nowhere : (jobs : List JobNeeds) (i : ℕ) (job : JobNeeds) (id : List ℕ) → i < length jobs → job ≡ get_or jobs i job → job.id ≢ id → Finds (take i jobs) id None → Finds (take (i + 1) jobs) id None
+found_nowhere : (jobs : List JobNeeds) (i : ℕ) (job : JobNeeds) (id : List ℕ) → i < length jobs → job ≡ get_or jobs i job → job.id ≢ id
+    → Finds (take i jobs) id None → Finds (take (i + 1) jobs) id None
 found_nowhere jobs i job id below is_job other none =
     let before : length (take i jobs) ≡ i = length-take-le i jobs (omega arith) in
     let wide : length (take (i + 1) jobs) ≡ i + 1 = length-take-le (i + 1) jobs (omega arith) in
     λ k d within same.
     ⊎_elim
     (λ last.
-    let at : get_or (take (i + 1) jobs) k d ≡ job = at_place jobs (i + 1) k d job (omega arith) (omega arith) ∙ (ap (λ n. get_or jobs n job) last ∙ sym is_job) in
+    let at : get_or (take (i + 1) jobs) k d ≡ job = at_place jobs (i + 1) k d job (omega arith) (omega arith)
+    ∙ (ap (λ n. get_or jobs n job) last ∙ sym is_job) in
     other (ap (λ j. j.id) (sym at) ∙ same))
     (λ apart.
     let at = at_place jobs i k d d (omega arith) (omega arith) ∙ sym (at_place jobs (i + 1) k d d (omega arith) (omega arith)) in
@@ -38,7 +48,8 @@ found_nowhere jobs i job id below is_job other none =
     (cases_eq k i)
 
 -- what the first jobs gave is kept, but at the id of the job that comes next
-pub finds_more : (jobs : List JobNeeds) (i : ℕ) (job : JobNeeds) (id : List ℕ) (before : Option ℕ) → i < length jobs → job ≡ get_or jobs i job → Finds (take i jobs) id before → Finds (take (i + 1) jobs) id (cond (bytes_eq job.id id) (Some i) before)
+pub finds_more : (jobs : List JobNeeds) (i : ℕ) (job : JobNeeds) (id : List ℕ) (before : Option ℕ) → i < length jobs
+    → job ≡ get_or jobs i job → Finds (take i jobs) id before → Finds (take (i + 1) jobs) id (cond (bytes_eq job.id id) (Some i) before)
 finds_more jobs i job id before below is_job held =
     elim (bytes_eq job.id id)
     as (λ v. bytes_eq job.id id ≡ v → Finds (take (i + 1) jobs) id (cond v (Some i) before)) [

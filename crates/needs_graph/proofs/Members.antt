@@ -30,10 +30,13 @@ Has-append_cases xs ys x h = or_cases _ _ (sym (list_any-append (eqb x) xs ys) �
 pub Has-flat_map : (f : ℕ → List ℕ) (xs : List ℕ) (x y : ℕ) → Has xs x → Has (f x) y → Has (flat_map f xs) y
 Has-flat_map f [] x y h g = absurd (false≢true h)
 Has-flat_map f (z ∷ zs) x y h g =
-    Has-append (f z) (flat_map f zs) y (⊎_elim (λ e. inl (let P : ℕ → Type 0 = λ n. Has (f n) y in subst P (eqb-true x z e) g)) (λ r. inr (Has-flat_map f zs x y r g)) (or_cases _ _ h))
+    Has-append (f z) (flat_map f zs) y
+    (⊎_elim (λ e. inl (let P : ℕ → Type 0 = λ n. Has (f n) y in subst P (eqb-true x z e) g)) (λ r. inr (Has-flat_map f zs x y r g))
+    (or_cases _ _ h))
 
 -- and the other way round
 pub Has-flat_map_from : (f : ℕ → List ℕ) (xs : List ℕ) (y : ℕ) → Has (flat_map f xs) y → (x : ℕ) × Has xs x × Has (f x) y
 Has-flat_map_from f [] y h = absurd (false≢true h)
 Has-flat_map_from f (z ∷ zs) y h =
-    ⊎_elim (λ g. (z, or_left _ _ (eq-eqb z z refl), g)) (λ g. let w = Has-flat_map_from f zs y g in (w.0, or_right _ _ w.1, w.2)) (Has-append_cases (f z) (flat_map f zs) y h)
+    ⊎_elim (λ g. (z, or_left _ _ (eq-eqb z z refl), g)) (λ g. let w = Has-flat_map_from f zs y g in (w.0, or_right _ _ w.1, w.2))
+    (Has-append_cases (f z) (flat_map f zs) y h)

@@ -1,5 +1,6 @@
 -- The places of the elements that pass a test.
-use Rattle.std.proofs.Common.{◌≡◌, ℕ, zero, suc, ◌+◌, ◌<◌, List, [], ◌∷◌, Bool, true, false, cond, eqb, length, get_or, map, sym, refl, ap, ◌∙◌, ⊎_elim, arith, add-zero, zero-add}
+use Rattle.std.proofs.Common.{◌≡◌, ℕ, zero, suc, ◌+◌, ◌<◌, List, [], ◌∷◌, Bool, true, false, cond, eqb, length, get_or, map, sym, refl, ap}
+use Rattle.std.proofs.Common.{◌∙◌, ⊎_elim, arith, add-zero, zero-add}
 use Rattle.std.proofs.lemmas.Bool.{true≢false, false≢true, or_cases, or_left, or_right, eqb-true, eq-eqb, cond_both}
 use Rattle.std.proofs.lemmas.List.Folds.{list_any_at}
 use Rattle.std.proofs.lemmas.List.FromFn.{length-range_with_len, get_or-range_with_len}
@@ -8,22 +9,28 @@ use Rattle.std.specs.List.{range_with_len, enumerate_from, filter}
 use Rattle.needs_graph.specs.Marks.{places, is_marked, marked}
 use Rattle.needs_graph.proofs.Members.{Has}
 
-kept : {X : Type 0} (b c : Bool) (a : ℕ) (x : X) (es : List (ℕ × X)) (ns : List ℕ) → b ≡ c → map (λ e. e.0) es ≡ ns → map (λ e. e.0) (cond b ((a, x) ∷ es) es) ≡ cond c (a ∷ ns) ns
+kept : {X : Type 0} (b c : Bool) (a : ℕ) (x : X) (es : List (ℕ × X)) (ns : List ℕ) → b ≡ c → map (λ e. e.0) es ≡ ns
+    → map (λ e. e.0) (cond b ((a, x) ∷ es) es) ≡ cond c (a ∷ ns) ns
 kept true true a x es ns same h = ap (λ l. a ∷ l) h
 kept true false a x es ns same h = absurd (true≢false same)
 kept false true a x es ns same h = absurd (false≢true same)
 kept false false a x es ns same h = h
 
 -- the places are a filter of all places, by any test that agrees
-places_from : {X : Type 0} (test : X → Bool) (xs : List X) (a : ℕ) (t : ℕ → Bool) → ((k : ℕ) (d : X) → k < length xs → test (get_or xs k d) ≡ t (a + k)) → map (λ e. e.0) (filter (λ e. test e.1) (enumerate_from a xs)) ≡ filter t (range_with_len a (length xs))
+places_from : {X : Type 0} (test : X → Bool) (xs : List X) (a : ℕ) (t : ℕ → Bool)
+    → ((k : ℕ) (d : X) → k < length xs → test (get_or xs k d) ≡ t (a + k))
+    → map (λ e. e.0) (filter (λ e. test e.1) (enumerate_from a xs)) ≡ filter t (range_with_len a (length xs))
 places_from test [] a t agree = refl
 places_from test (x ∷ xs) a t agree =
-    kept (test x) (t a) a x _ _ (agree zero x (omega arith) ∙ ap t (add-zero a)) (places_from test xs (a + 1) t (λ k d below. agree (suc k) d (omega arith) ∙ ap t (omega arith)))
+    kept (test x) (t a) a x _ _ (agree zero x (omega arith)
+    ∙ ap t (add-zero a)) (places_from test xs (a + 1) t (λ k d below. agree (suc k) d (omega arith) ∙ ap t (omega arith)))
 
-pub places_by : {X : Type 0} (test : X → Bool) (xs : List X) (t : ℕ → Bool) → ((k : ℕ) (d : X) → k < length xs → test (get_or xs k d) ≡ t k) → places test xs ≡ filter t (range_with_len 0 (length xs))
+pub places_by : {X : Type 0} (test : X → Bool) (xs : List X) (t : ℕ → Bool) → ((k : ℕ) (d : X) → k < length xs → test (get_or xs k d) ≡ t k)
+    → places test xs ≡ filter t (range_with_len 0 (length xs))
 places_by test xs t agree = places_from test xs 0 t (λ k d below. agree k d below ∙ ap t (sym (zero-add k)))
 
-pub marked_by : (marks : List Bool) (t : ℕ → Bool) → ((k : ℕ) → k < length marks → is_marked marks k ≡ t k) → marked marks ≡ filter t (range_with_len 0 (length marks))
+pub marked_by : (marks : List Bool) (t : ℕ → Bool) → ((k : ℕ) → k < length marks → is_marked marks k ≡ t k)
+    → marked marks ≡ filter t (range_with_len 0 (length marks))
 marked_by marks t agree = places_by (λ mark. mark) marks t (λ k d below. get_or_default marks k d false below ∙ agree k below)
 
 Has-filter : (t : ℕ → Bool) (xs : List ℕ) (i : ℕ) → Has (filter t xs) i → Has xs i × (t i ≡ true)
@@ -33,7 +40,8 @@ Has-filter t (x ∷ xs) i h =
     as (λ v. t x ≡ v → Has (cond v (x ∷ filter t xs) (filter t xs)) i → Has (x ∷ xs) i × (t i ≡ true)) [
       | true ↦
           λ e g.
-          ⊎_elim (λ same. (or_left _ _ same, ap t (eqb-true i x same) ∙ e)) (λ later. let rest = Has-filter t xs i later in (or_right _ _ rest.0, rest.1)) (or_cases _ _ g)
+          ⊎_elim (λ same. (or_left _ _ same, ap t (eqb-true i x same) ∙ e))
+          (λ later. let rest = Has-filter t xs i later in (or_right _ _ rest.0, rest.1)) (or_cases _ _ g)
       | false ↦ λ e g. let rest = Has-filter t xs i g in (or_right _ _ rest.0, rest.1)
     ]
     refl
@@ -44,7 +52,8 @@ Has-filter_from t [] i h passes = absurd (false≢true h)
 Has-filter_from t (x ∷ xs) i h passes =
     cond_both (t x) (x ∷ filter t xs) (filter t xs) (λ ys. Has ys i)
     (λ e. ⊎_elim (λ same. or_left _ _ same) (λ later. or_right _ _ (Has-filter_from t xs i later passes)) (or_cases _ _ h))
-    (λ e. ⊎_elim (λ same. absurd (false≢true (sym e ∙ (ap t (sym (eqb-true i x same)) ∙ passes)))) (λ later. Has-filter_from t xs i later passes) (or_cases _ _ h))
+    (λ e. ⊎_elim (λ same. absurd (false≢true (sym e ∙ (ap t (sym (eqb-true i x same)) ∙ passes))))
+    (λ later. Has-filter_from t xs i later passes) (or_cases _ _ h))
 
 Has-range : (a n i : ℕ) → Has (range_with_len a n) i → i < a + n
 Has-range a zero i h = absurd (false≢true h)
@@ -60,4 +69,5 @@ Has-filter_range t n i h =
 pub Has-filter_range_from : (t : ℕ → Bool) (n i : ℕ) → i < n → t i ≡ true → Has (filter t (range_with_len 0 n)) i
 Has-filter_range_from t n i below passes =
     let at = get_or-range_with_len 0 n i 0 below ∙ zero-add i in
-    Has-filter_from t (range_with_len 0 n) i (list_any_at (eqb i) (range_with_len 0 n) i 0 (rw length-range_with_len below) (eq-eqb i _ (sym at))) passes
+    Has-filter_from t (range_with_len 0 n) i
+    (list_any_at (eqb i) (range_with_len 0 n) i 0 (rw length-range_with_len below) (eq-eqb i _ (sym at))) passes

@@ -1,5 +1,6 @@
 -- One more id of those that a job lists.
-use Rattle.std.proofs.Common.{◌≡◌, ◌≢◌, ℕ, ◌+◌, ◌<◌, List, [], ◌∷◌, Bool, true, false, ◌||◌, Result, Ok, Err, All, IsTrue, cond, length, get_or, set, take, replicate, sym, refl, subst, ap, ◌∙◌, ⊎_elim, arith}
+use Rattle.std.proofs.Common.{◌≡◌, ◌≢◌, ℕ, ◌+◌, ◌<◌, List, [], ◌∷◌, Bool, true, false, ◌||◌, Result, Ok, Err, All, IsTrue, cond, length}
+use Rattle.std.proofs.Common.{get_or, set, take, replicate, sym, refl, subst, ap, ◌∙◌, ⊎_elim, arith}
 use Rattle.std.specs.List.{HoldsAt, list_all}
 use Rattle.std.specs.Str.{bytes_eq}
 use Rattle.std.proofs.lemmas.Bool.{and_from, cases_eq, cond-false, false_from_ne_true, or_right}
@@ -9,9 +10,9 @@ use Rattle.std.proofs.lemmas.Slice.Eq.{bytes_eq-Decides}
 use Rattle.needs_graph.specs.Needs.{ids_rise, is_listed, is_job, unknown_need}
 use Rattle.needs_graph.specs.Rows.{needs_row, needs_row_of, needs_rows_of}
 use Rattle.wf_value.specs.declared.refusal.Refusal.{Refusal}
-use Rattle.needs_graph.specs.declared.job_needs.JobNeeds.{JobNeeds}
+use Rattle.needs_graph.specs.JobNeeds.{JobNeeds}
 use Rattle.needs_graph.proofs.Closure.{or_false}
-use Rattle.needs_graph.proofs.IdOrder.{ids_apart}
+use Rattle.wf_value.proofs.Rising.{names_apart}
 
 -- no id is listed so far, and no job is marked
 pub row_none : (jobs : List JobNeeds) → replicate (length jobs) false ≡ needs_row jobs []
@@ -28,7 +29,9 @@ bytes_apart : (a b : List ℕ) → a ≢ b → bytes_eq a b ≡ false
 bytes_apart a b ne = false_from_ne_true _ (λ e. ne ((bytes_eq-Decides a b).0 e))
 
 -- the id at a place is a job's: that job is marked, and no other
-pub row_more : (jobs : List JobNeeds) → IsTrue (ids_rise jobs) → (ids : List (List ℕ)) (i place : ℕ) (id : List ℕ) → i < length ids → id ≡ get_or ids i id → place < length jobs → HoldsAt (λ job. job.id ≡ id) jobs place → set (needs_row jobs (take i ids)) place true ≡ needs_row jobs (take (i + 1) ids)
+pub row_more : (jobs : List JobNeeds) → IsTrue (ids_rise jobs) → (ids : List (List ℕ)) (i place : ℕ) (id : List ℕ) → i < length ids
+    → id ≡ get_or ids i id → place < length jobs → HoldsAt (λ job. job.id ≡ id) jobs place
+    → set (needs_row jobs (take i ids)) place true ≡ needs_row jobs (take (i + 1) ids)
 row_more jobs rise ids i place id in_ids is_id in_jobs held =
     let before = needs_row jobs (take i ids) in
     let width : length before ≡ length jobs = length-map jobs (λ job. is_listed (take i ids) job.id) in
@@ -38,7 +41,8 @@ row_more jobs rise ids i place id in_ids is_id in_jobs held =
     (λ k d below.
     let in_k : k < length jobs = omega arith in
     let here = (get_or jobs k blank).id in
-    let after = get_or-map (λ job. is_listed (take (i + 1) ids) job.id) jobs k blank d in_k ∙ list_any_more (bytes_eq here) ids i id in_ids in
+    let after = get_or-map (λ job. is_listed (take (i + 1) ids) job.id) jobs k blank d in_k
+    ∙ list_any_more (bytes_eq here) ids i id in_ids in
     ⊎_elim
     (λ same.
     let P : ℕ → Type 0 = λ n. get_or (set before place true) n d ≡ true in
@@ -47,19 +51,24 @@ row_more jobs rise ids i place id in_ids is_id in_jobs held =
     marked_here ∙ sym (after ∙ or_right _ _ (bytes_same here (get_or ids i id) (at_k ∙ is_id))))
     (λ other.
     let stays = get_or-set_other before place k true d other ∙ get_or-map (λ job. is_listed (take i ids) job.id) jobs k blank d in_k in
-    let not_here : bytes_eq here (get_or ids i id) ≡ false = bytes_apart _ _ (λ e. other (ids_apart jobs rise k place blank in_k in_jobs (e ∙ (sym is_id ∙ sym (held blank))))) in
+    let not_here : bytes_eq here (get_or ids i id) ≡ false = bytes_apart _ _
+    (λ e. other (names_apart (λ (job : JobNeeds). job.id) jobs k place blank rise in_k in_jobs (e ∙ (sym is_id ∙ sym (held blank))))) in
     stays ∙ (or_false (is_listed (take i ids) here) ∙ (ap (λ b. is_listed (take i ids) here || b) (sym not_here) ∙ sym after)))
     (cases_eq k place))
 
-pub known_more : (jobs : List JobNeeds) (ids : List (List ℕ)) (i place : ℕ) (id : List ℕ) → i < length ids → id ≡ get_or ids i id → place < length jobs → HoldsAt (λ job. job.id ≡ id) jobs place → list_all (is_job jobs) (take i ids) ≡ true → list_all (is_job jobs) (take (i + 1) ids) ≡ true
+pub known_more : (jobs : List JobNeeds) (ids : List (List ℕ)) (i place : ℕ) (id : List ℕ) → i < length ids → id ≡ get_or ids i id
+    → place < length jobs → HoldsAt (λ job. job.id ≡ id) jobs place → list_all (is_job jobs) (take i ids) ≡ true
+    → list_all (is_job jobs) (take (i + 1) ids) ≡ true
 known_more jobs ids i place id in_ids is_id in_jobs held so_far =
     list_all_more (is_job jobs) ids i id in_ids
-    ∙ and_from _ _ so_far (list_any_at (λ job. bytes_eq (get_or ids i id) job.id) jobs place blank in_jobs (bytes_same _ _ (sym (held blank ∙ is_id))))
+    ∙ and_from _ _ so_far
+    (list_any_at (λ job. bytes_eq (get_or ids i id) job.id) jobs place blank in_jobs (bytes_same _ _ (sym (held blank ∙ is_id))))
 
 is_job_not : (jobs : List JobNeeds) (id : List ℕ) → All (λ job. job.id ≢ id) jobs → is_job jobs id ≡ false
 is_job_not jobs id none = list_any_none (λ job. bytes_eq id job.id) jobs (λ k d below. bytes_apart _ _ (λ e. none k d below (sym e)))
 
-pub unknown_at : (jobs : List JobNeeds) (ids : List (List ℕ)) (i : ℕ) (id : List ℕ) → i < length ids → id ≡ get_or ids i id → All (λ job. job.id ≢ id) jobs → needs_row_of jobs ids ≡ Err unknown_need
+pub unknown_at : (jobs : List JobNeeds) (ids : List (List ℕ)) (i : ℕ) (id : List ℕ) → i < length ids → id ≡ get_or ids i id
+    → All (λ job. job.id ≢ id) jobs → needs_row_of jobs ids ≡ Err unknown_need
 unknown_at jobs ids i id in_ids is_id none =
     cond-false _ _ _ (list_all_at (is_job jobs) ids i id in_ids (ap (is_job jobs) (sym is_id) ∙ is_job_not jobs id none))
 
@@ -72,7 +81,8 @@ unknown_from_row : (known : Bool) (row : List Bool) (e : Refusal) → row_if kno
 unknown_from_row true row e h = absurd (cc)
 unknown_from_row false row e h = (cc, refl)
 
-pub rows_refused : (jobs : List JobNeeds) (i : ℕ) (job : JobNeeds) (e : Refusal) → i < length jobs → job ≡ get_or jobs i job → needs_row_of jobs job.needs ≡ Err e → needs_rows_of jobs ≡ Err e
+pub rows_refused : (jobs : List JobNeeds) (i : ℕ) (job : JobNeeds) (e : Refusal) → i < length jobs → job ≡ get_or jobs i job
+    → needs_row_of jobs job.needs ≡ Err e → needs_rows_of jobs ≡ Err e
 rows_refused jobs i job e below is_job_i refused =
     let h = unknown_from_row (list_all (is_job jobs) job.needs) (needs_row jobs job.needs) e refused in
     let test = λ (other : JobNeeds). list_all (is_job jobs) other.needs in

@@ -1,4 +1,4 @@
-use needs_graph::{LegEnd, conclude, decide, gather};
+use needs_graph::{HasEnd, HasResult, LegEnd, conclude, decide, gather};
 use wf_value::{Condition, JobResult, Outcome};
 
 /// A leg's end, and how much it weighs in its job's result: 0 for nothing, 1 for cancelled and 2
@@ -12,11 +12,35 @@ const LEGS: [(Outcome, bool, u8); 6] = [
     (Outcome::Failure, false, 2),
 ];
 
-fn leg(row: (Outcome, bool, u8)) -> LegEnd {
-    LegEnd {
+/// A leg, of which only its end is known.
+#[derive(Clone, Copy)]
+struct Leg(Option<LegEnd>);
+
+impl HasEnd for Leg {
+    ghost leg_end = { λ leg. leg.0 };
+
+    fn leg_end(&self) -> Option<LegEnd> {
+        self.0
+    }
+}
+
+/// A job, of which only its result is known.
+#[derive(Clone, Copy)]
+struct Settled(Option<JobResult>);
+
+impl HasResult for Settled {
+    ghost job_result = { λ job. job.0 };
+
+    fn job_result(&self) -> Option<JobResult> {
+        self.0
+    }
+}
+
+fn ended_leg(row: (Outcome, bool, u8)) -> Leg {
+    Leg(Some(LegEnd {
         outcome: row.0,
         continue_on_error: row.1,
-    }
+    }))
 }
 
 fn result_of_weight(weight: u8) -> JobResult {
@@ -29,44 +53,67 @@ fn result_of_weight(weight: u8) -> JobResult {
 
 #[test]
 fn gathers_up_to_three_legs(rt: HostRuntime) {
-    assert_eq!(rt; gather(&[]), JobResult::Success);
     for a in LEGS {
-        assert_eq!(rt; gather(&[leg(a)]), result_of_weight(a.2));
+        assert_eq!(rt; gather(&[ended_leg(a)]), result_of_weight(a.2));
         for b in LEGS {
             let two = a.2.max(b.2);
-            assert_eq!(rt; gather(&[leg(a), leg(b)]), result_of_weight(two));
+            assert_eq!(rt;
+                gather(&[ended_leg(a), ended_leg(b)]),
+                result_of_weight(two)
+            );
             for c in LEGS {
                 let three = two.max(c.2);
-                assert_eq!(rt; gather(&[leg(a), leg(b), leg(c)]), result_of_weight(three));
+                assert_eq!(rt;
+                    gather(&[ended_leg(a), ended_leg(b), ended_leg(c)]),
+                    result_of_weight(three)
+                );
             }
         }
     }
 }
 
+/// A leg that has not ended says nothing of its job's result.
+#[test]
+fn gathers_what_has_ended(rt: HostRuntime) {
+    let running = Leg(None);
+    for a in LEGS {
+        assert_eq!(rt;
+            gather(&[running, ended_leg(a), running]),
+            result_of_weight(a.2)
+        );
+    }
+    let none: [Leg; 0] = [];
+    assert_eq!(rt; gather(&none), JobResult::Success);
+}
+
+const SUCCEEDED: Settled = Settled(Some(JobResult::Success));
+
+const FAILED: Settled = Settled(Some(JobResult::Failure));
+
+const CANCELLED: Settled = Settled(Some(JobResult::Cancelled));
+
+const SKIPPED: Settled = Settled(Some(JobResult::Skipped));
+
+const OPEN: Settled = Settled(None);
+
 #[test]
 fn concludes_runs(rt: HostRuntime) {
-    assert_eq!(rt; conclude(&[]), Outcome::Success);
-    assert_eq!(rt;
-        conclude(&[JobResult::Success, JobResult::Skipped]),
-        Outcome::Success
-    );
-    assert_eq!(rt; conclude(&[JobResult::Skipped]), Outcome::Success);
-    assert_eq!(rt;
-        conclude(&[JobResult::Cancelled, JobResult::Skipped]),
-        Outcome::Cancelled
-    );
-    assert_eq!(rt;
-        conclude(&[JobResult::Cancelled, JobResult::Failure]),
-        Outcome::Failure
-    );
-    assert_eq!(rt;
-        conclude(&[JobResult::Failure, JobResult::Success]),
-        Outcome::Failure
-    );
+    let rows: [(&[Settled], Outcome); 7] = [
+        (&[], Outcome::Success),
+        (&[SUCCEEDED, SKIPPED], Outcome::Success),
+        (&[SKIPPED], Outcome::Success),
+        (&[OPEN, SUCCEEDED], Outcome::Success),
+        (&[CANCELLED, SKIPPED], Outcome::Cancelled),
+        (&[CANCELLED, FAILED], Outcome::Failure),
+        (&[FAILED, SUCCEEDED], Outcome::Failure),
+    ];
+    for (jobs, expected) in rows {
+        assert_eq!(rt; conclude(jobs), expected);
+    }
 }
 
 /// What `success()`, `failure()`, `always()`, `cancelled()`, `!cancelled()` and `false` are.
-fn all_conditions(results: &[JobResult], stopping: bool) -> [bool; 6] {
+fn all_conditions(results: &[Option<JobResult>], stopping: bool) -> [bool; 6] {
     [
         decide(Condition::Success, results, stopping),
         decide(Condition::Failure, results, stopping),
@@ -83,14 +130,31 @@ fn decides_while_running(rt: HostRuntime) {
     let failed = [false, true, true, false, true, false];
     let neither = [false, false, true, false, true, false];
 
-    let rows: [(&[JobResult], [bool; 6]); 7] = [
+    let rows: [(&[Option<JobResult>], [bool; 6]); 9] = [
         (&[], succeeded),
-        (&[JobResult::Success], succeeded),
-        (&[JobResult::Success, JobResult::Success], succeeded),
-        (&[JobResult::Success, JobResult::Failure], failed),
-        (&[JobResult::Skipped, JobResult::Failure], failed),
-        (&[JobResult::Success, JobResult::Skipped], neither),
-        (&[JobResult::Cancelled, JobResult::Success], neither),
+        (&[Some(JobResult::Success)], succeeded),
+        (
+            &[Some(JobResult::Success), Some(JobResult::Success)],
+            succeeded,
+        ),
+        (
+            &[Some(JobResult::Success), Some(JobResult::Failure)],
+            failed,
+        ),
+        (
+            &[Some(JobResult::Skipped), Some(JobResult::Failure)],
+            failed,
+        ),
+        (
+            &[Some(JobResult::Success), Some(JobResult::Skipped)],
+            neither,
+        ),
+        (
+            &[Some(JobResult::Cancelled), Some(JobResult::Success)],
+            neither,
+        ),
+        (&[None, Some(JobResult::Success)], neither),
+        (&[None, Some(JobResult::Failure)], failed),
     ];
     for (results, expected) in rows {
         assert_eq!(rt; all_conditions(results, false), expected);
@@ -107,9 +171,9 @@ fn decides_while_stopping(rt: HostRuntime) {
         JobResult::Cancelled,
         JobResult::Skipped,
     ] {
-        assert_eq!(rt; all_conditions(&[result], true), expected);
+        assert_eq!(rt; all_conditions(&[Some(result)], true), expected);
         assert_eq!(rt;
-            all_conditions(&[result, JobResult::Failure], true),
+            all_conditions(&[Some(result), Some(JobResult::Failure)], true),
             expected
         );
     }

@@ -6,7 +6,8 @@ pub loop-low-preserved-in-Less : goal.loop-low-preserved-in-Less
 loop-low-preserved-in-Less c = record {
   in_order = omega arith;
   within = omega arith;
-  below = IsBelow-more c.args.axes.now c.args.name.now _ c.index-axes-middle.result c.requires (omega arith) c.index-axes-middle.is c.in-Less.ensures;
+  below = IsBelow-more c.args.axes.now c.args.name.now _ c.index-axes-middle.result c.requires (omega arith) c.index-axes-middle.is
+      c.in-Less.ensures;
   above = c.loop-low.invariant.above;
 }
 
@@ -19,9 +20,11 @@ loop-low-preserved c = record {
   in_order = omega arith;
   within = omega arith;
   below = c.loop-low.invariant.below;
-  above = IsAbove-more c.args.axes.now c.args.name.now _ c.index-axes-middle.result c.requires (omega arith) c.index-axes-middle.is c.in-Greater.ensures;
+  above = IsAbove-more c.args.axes.now c.args.name.now _ c.index-axes-middle.result c.requires (omega arith) c.index-axes-middle.is
+      c.in-Greater.ensures;
 }
 
 pub returns-clause-value : goal.returns-clause-value
 returns-clause-value c =
-    found_nowhere c.args.axes.now c.args.name.now c.loop-low.low c.loop-low.high (omega arith) c.loop-low.invariant.below c.loop-low.invariant.above
+    found_nowhere c.args.axes.now c.args.name.now c.loop-low.low c.loop-low.high (omega arith) c.loop-low.invariant.below
+    c.loop-low.invariant.above

@@ -5,4 +5,5 @@ use Rattle.matrix_expand.proofs.combination.firsts.Given as goal
 
 -- the pairs so far and those that are left are all
 abbrev pub invariant-loop-entry : goal.invariant-loop-entry
-invariant-loop-entry l = l.combo ++ firsts_after (option_copied l.last) (flagged l.flags (drop l.entry-index l.entries)) ≡ firsts_after None (flagged l.flags l.entries)
+invariant-loop-entry l = l.combo ++ firsts_after (option_copied l.last) (flagged l.flags (drop l.entry-index l.entries)) ≡ firsts_after None
+    (flagged l.flags l.entries)

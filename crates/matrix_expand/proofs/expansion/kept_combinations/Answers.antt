@@ -9,8 +9,10 @@ use Rattle.matrix_expand.proofs.expansion.kept_combinations.Goals as goal
 pub returns : goal.returns
 returns c =
     let m = c.args.matrix.now in
-    let sorts : SortsEntries 0 m.include c.as_slice.result.now = rw c.as_slice.ensures.value (rw c.include.ensures at c.in_ok-entries.ensures.sorted) in
+    let sorts : SortsEntries 0 m.include c.as_slice.result.now = rw c.as_slice.ensures.value
+    (rw c.include.ensures at c.in_ok-entries.ensures.sorted) in
     let rise : names_rise (numbered_axes m.variables) ≡ true = ap names_rise (sym c.requires.axes) ∙ c.requires.in_order in
-    let same : map (final_from c.args.axes.now c.args.includes.now c.as_slice.result.now) c.args.numbers.now ≡ map (final_combination m) (kept m) =
+    let same : map (final_from c.args.axes.now c.args.includes.now c.as_slice.result.now) c.args.numbers.now ≡ map (final_combination m)
+    (kept m) =
     rw (c.requires.includes, c.requires.axes, c.requires.numbers) (finals_are m c.as_slice.result.now rise sorts) in
     rw (← same) c.final_combinations.ensures

@@ -15,10 +15,13 @@ loop-include-preserved c =
     let rest = new_objects (drop (i + 1) ps) kept in
     elim c.if-not-agrees_with_some.branch [
       | then-not-agrees_with_some+in_ok-push w ↦ rw w.added-is
-          (pushed (map (λ c. c.now) c.loop-include.added.items) (map (λ c. c.now) w.push.new.self.items) (new_objects (drop i ps) kept) rest (new_objects ps kept) p.0
-          (ap (map (λ c. c.now)) w.in_ok-push.ensures.items ∙ map_push (λ c. c.now) c.loop-include.added.items w.object.result ∙ ap (λ o. map (λ c. c.now) c.loop-include.added.items ++ o ∷ []) w.object.ensures)
+          (pushed (map (λ c. c.now) c.loop-include.added.items) (map (λ c. c.now) w.push.new.self.items) (new_objects (drop i ps) kept) rest
+          (new_objects ps kept) p.0
+          (ap (map (λ c. c.now)) w.in_ok-push.ensures.items ∙ map_push (λ c. c.now) c.loop-include.added.items w.object.result
+          ∙ ap (λ o. map (λ c. c.now) c.loop-include.added.items ++ o ∷ []) w.object.ensures)
           (more ∙ ap (λ b. cond b rest (p.0 ∷ rest)) (sym w.if-not-agrees_with_some.ensures))
           c.loop-include.invariant)
       | else-not-agrees_with_some w ↦ rw w.added-is
-          (ap (λ os. map (λ c. c.now) c.loop-include.added.items ++ os) (sym (more ∙ ap (λ b. cond b rest (p.0 ∷ rest)) (sym w.if-not-agrees_with_some.ensures))) ∙ c.loop-include.invariant)
+          (ap (λ os. map (λ c. c.now) c.loop-include.added.items ++ os)
+          (sym (more ∙ ap (λ b. cond b rest (p.0 ∷ rest)) (sym w.if-not-agrees_with_some.ensures))) ∙ c.loop-include.invariant)
     ]

@@ -7,4 +7,5 @@ use Rattle.matrix_expand.proofs.expansion.number_variables.Goals as goal
 
 pub returns-else-originals-eq0-clause-in_order : goal.returns-else-originals-eq0-clause-in_order
 returns-else-originals-eq0-clause-in_order c =
-    ok_gives (λ v. v.items) c.axes.result (axes_of c.args.variables.now) (λ axes. IsTrue (names_rise axes)) c.axes.ensures (names_rise-axes c.args.variables.now c.requires.in_order)
+    ok_gives (λ v. v.items) c.axes.result (axes_of c.args.variables.now) (λ axes. IsTrue (names_rise axes)) c.axes.ensures
+    (names_rise-axes c.args.variables.now c.requires.in_order)

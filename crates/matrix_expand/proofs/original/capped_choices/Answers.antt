@@ -9,7 +9,8 @@ loop-variable-preserved c =
     let vs = c.args.variables.now in
     let i = c.loop-variable.variable-index in
     let rest = choice_count (drop (i + 1) vs) in
-    let here = at_drop_more choice_count vs i c.variable-item.result c.loop-variable-test.true ∙ ap (λ w. length w.1 * rest) (sym c.variable-item.is) in
+    let here = at_drop_more choice_count vs i c.variable-item.result c.loop-variable-test.true
+    ∙ ap (λ w. length w.1 * rest) (sym c.variable-item.is) in
     record {
       capped = omega arith;
       product = rw (c.min-count.ensures, c.min.ensures, c.values.ensures)

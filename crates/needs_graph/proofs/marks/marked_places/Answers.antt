@@ -22,4 +22,5 @@ returns c =
     let end = c.end_of.result in
     let first = take end marks in
     let wide = length-take-le end marks c.end_of.ensures.within in
-    c.loop-job.invariant ∙ (ap marked (take_all c.loop-job.job first (omega (arith, wide))) ∙ marked_trimmed marks end c.end_of.ensures.rest)
+    c.loop-job.invariant
+    ∙ (ap marked (take_all c.loop-job.job first (omega (arith, wide))) ∙ marked_trimmed marks end c.end_of.ensures.rest)

@@ -9,4 +9,5 @@ loop-row-preserved c =
     let before = c.args.rows.now in
     let below : at < length before = omega arith in
     ap (λ row. set c.loop-row.rows at row) (c.lead_through.ensures ∙ ap (through c.args.job c.args.others.now) (sym c.row-item.is))
-    ∙ map_over_more (through c.args.job c.args.others.now) before c.loop-row.rows at c.row-item.result below c.loop-row.invariant c.row-item.is
+    ∙ map_over_more (through c.args.job c.args.others.now) before c.loop-row.rows at c.row-item.result below c.loop-row.invariant
+    c.row-item.is

@@ -7,4 +7,5 @@ use Rattle.needs_graph.proofs.rows.needs_rows.Given as goal
 -- the jobs so far list jobs alone, and have their rows
 abbrev pub invariant-loop-job : goal.invariant-loop-job
 invariant-loop-job l =
-    (l.rows.items ≡ map (λ job. needs_row l.jobs job.needs) (take l.job-index l.jobs)) × (list_all (λ job. list_all (is_job l.jobs) job.needs) (take l.job-index l.jobs) ≡ true)
+    (l.rows.items ≡ map (λ job. needs_row l.jobs job.needs) (take l.job-index l.jobs)) ×
+    (list_all (λ job. list_all (is_job l.jobs) job.needs) (take l.job-index l.jobs) ≡ true)

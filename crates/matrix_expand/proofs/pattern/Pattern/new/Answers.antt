@@ -12,11 +12,14 @@ loop-name-preserved c =
     let item = c.loop-name-item.result in
     elim c.match-place_of.branch [
       | in-Some+in_ok-push-in-Some w ↦
-          let more = wanted_more axes items i item c.loop-name-test.true c.loop-name-item.is w.in-Some.place w.index-axes-place.result w.in-Some.ensures.found w.index-axes-place.is w.in-Some.ensures.value in
-          let others = others_more axes items i item c.loop-name-test.true c.loop-name-item.is w.in-Some.place w.index-axes-place.result w.in-Some.ensures.found w.index-axes-place.is w.in-Some.ensures.value in
+          let more = wanted_more axes items i item c.loop-name-test.true c.loop-name-item.is w.in-Some.place w.index-axes-place.result
+          w.in-Some.ensures.found w.index-axes-place.is w.in-Some.ensures.value in
+          let others = others_more axes items i item c.loop-name-test.true c.loop-name-item.is w.in-Some.place w.index-axes-place.result
+          w.in-Some.ensures.found w.index-axes-place.is w.in-Some.ensures.value in
           let made : w.new.result ≡ (w.index-axes-place.result.1, item.1) = w.new.ensures ∙ rw (w.again.ensures, w.choice.ensures) refl in
           record {
-            wanted = rw w.wanted-is (pushed c.loop-name.wanted.items w.push.new.self.items _ _ _ w.new.result w.in_ok-push-in-Some.ensures.items
+            wanted = rw w.wanted-is
+                (pushed c.loop-name.wanted.items w.push.new.self.items _ _ _ w.new.result w.in_ok-push-in-Some.ensures.items
                 (more ∙ ap (λ p. p ∷ wanted_of axes (drop (i + 1) items)) (sym made)) c.loop-name.invariant.wanted);
             others = rw w.has_other-is (ap (λ b. c.loop-name.has_other || b) (sym others) ∙ c.loop-name.invariant.others);
           }
@@ -25,6 +28,7 @@ loop-name-preserved c =
           let found = others_found axes items i item c.loop-name-test.true c.loop-name-item.is w.in-None.ensures.value in
           record {
             wanted = rw w.wanted-is (ap (λ ws. c.loop-name.wanted.items ++ ws) (sym skips) ∙ c.loop-name.invariant.wanted);
-            others = rw w.has_other-is (sym (or-true c.loop-name.has_other) ∙ ap (λ b. c.loop-name.has_other || b) (sym found) ∙ c.loop-name.invariant.others);
+            others = rw w.has_other-is (sym (or-true c.loop-name.has_other) ∙ ap (λ b. c.loop-name.has_other || b) (sym found)
+                ∙ c.loop-name.invariant.others);
           }
     ]
