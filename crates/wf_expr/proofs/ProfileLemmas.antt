@@ -1,31 +1,24 @@
 -- The tests of a profile and what they tell.
-use Rattle.std.proofs.Common.{◌≡◌, ◌⊎◌, ◌≤◌, ℕ, Bool, true, false, cond, List, [], ◌∷◌, refl, ap, sym, ◌∙◌, inl, inr, leb-true, le-leb}
-use Rattle.std.specs.Prelude.{◌&&◌, ◌||◌, Option, Some, None, Result, Ok, Err, codes, All, sum_by}
+use Rattle.std.proofs.Common.{◌≡◌, ◌⊎◌, ◌≤◌, ℕ, Bool, true, false, List, [], ◌∷◌, refl, ap, sym, ◌∙◌, inl, inr, leb-true, le-leb}
+use Rattle.std.specs.Prelude.{◌&&◌, ◌||◌, codes, All, sum_by}
 use Rattle.std.specs.List.{list_all, AllByRecursion}
 use Rattle.std.specs.Str.{bytes_eq}
 use Rattle.std.specs.Cmp.Lexicographic.{same_text}
 use Rattle.std.proofs.lemmas.List.Elements.{recursion_from_All, All-from_recursion}
-use Rattle.wf_value.specs.declared.refusal.Refusal.{Refusal}
-use Rattle.wf_value.specs.Gives.{Gives}
-use Rattle.wf_expr.specs.ContextValue.{same_path}
-use Rattle.wf_expr.specs.Faults.{wrong_expression, wrong_place}
-use Rattle.wf_expr.specs.Profile.{IsShared, IsInContext, InProfile, IsAllowed, OfReference, OfReferences, IsInProfile, AllowedIn, Spells, reference_count}
-use Rattle.wf_expr.specs.Parsing.{is_shared, is_in_context, is_path, is_allowed, of_reference, of_references, is_in_profile, is_allowed_in, judged, template_of}
-use Rattle.wf_expr.specs.Reading.{pieces_of, needed}
-use Rattle.wf_expr.specs.Outcome.{IsOutcome, SpellsNone}
+use Rattle.wf_expr.specs.Profile.{IsShared, IsInContext, InProfile, IsAllowed, OfReference, OfReferences, IsInProfile, AllowedIn, reference_count}
+use Rattle.wf_expr.specs.Parsing.{same_path, is_shared, is_in_context, is_path, is_allowed, of_reference, of_references, is_in_profile, is_allowed_in}
 use Rattle.wf_expr.specs.declared.place.Place.{Place}
 use Rattle.wf_expr.specs.declared.place.Place.TheVariants.{Workflow, Job}
 use Rattle.wf_expr.specs.declared.piece.Operand.{Operand}
 use Rattle.wf_expr.specs.declared.piece.Operand.TheVariants.{Quoted, Reference}
 use Rattle.wf_expr.specs.declared.piece.Piece.{Piece}
 use Rattle.wf_expr.specs.declared.piece.Piece.TheVariants.{Plain, Braced}
-use Rattle.wf_expr.proofs.FindLemmas.{same_path-self, same_path-same, same_name-self}
-use Rattle.wf_expr.proofs.SpellLemmas.{spelled-read, read-spelled}
+use Rattle.wf_expr.proofs.NameLemmas.{same_path-self, same_path-same, same_name-self}
 
 -- a test that says exactly the fact
-record Tests (b : Bool) (P : Type 0) : Type 0 where
-  yes : b ≡ true → P
-  back : P → b ≡ true
+pub record Tests (b : Bool) (P : Type 0) : Type 0 where
+  pub yes : b ≡ true → P
+  pub back : P → b ≡ true
 
 Tests-or : {P Q : Type 0} (a b : Bool) → Tests a P → Tests b Q → Tests (a || b) (P ⊎ Q)
 Tests-or true b s t = record { yes = λ e. inl (s.yes refl); back = λ h. refl }
@@ -81,47 +74,12 @@ Tests-references : (p : List (List ℕ) → Bool) (P : List (List ℕ) → Type 
 Tests-references p P t (Plain text) = always
 Tests-references p P t (Braced os) = Tests-all (of_reference p) (OfReference P) (Tests-reference p P t) os
 
-Tests-profile : (ts : List Piece) → Tests (is_in_profile ts) (IsInProfile ts)
+pub Tests-profile : (ts : List Piece) → Tests (is_in_profile ts) (IsInProfile ts)
 Tests-profile ts =
     let each = Tests-all (of_references is_path) (OfReferences InProfile) (Tests-references is_path InProfile Tests-in_profile) ts in
     let few : Tests _ (sum_by reference_count ts ≤ 32) = record { yes = λ e. leb-true _ _ e; back = λ h. le-leb _ _ h } in
     let both = Tests-and _ _ each few in
     record { yes = λ e. let h = both.yes e in record { each = h.0; few = h.1 }; back = λ h. both.back (h.each, h.few) }
 
-Tests-allowed_in : (place : Place) (ts : List Piece) → Tests (is_allowed_in place ts) (AllowedIn place ts)
+pub Tests-allowed_in : (place : Place) (ts : List Piece) → Tests (is_allowed_in place ts) (AllowedIn place ts)
 Tests-allowed_in place ts = Tests-all (of_references (is_allowed place)) (OfReferences (IsAllowed place)) (Tests-references (is_allowed place) (IsAllowed place) (Tests-allowed place)) ts
-
--- what was read, judged
-judged-ok : (place : Place) (t : List Piece) → IsInProfile t → AllowedIn place t → judged place (Some t) ≡ Ok t
-judged-ok place t p a =
-    ap (λ b. cond b (cond (is_allowed_in place t) (Ok t) (Err wrong_place)) (Err wrong_expression)) (Tests.back (Tests-profile t) p)
-    ∙ ap (λ b. cond b (Ok t) (Err wrong_place)) (Tests.back (Tests-allowed_in place t) a)
-
-off : {P : Type 0} (b : Bool) → Tests b P → ¬ P → b ≡ false
-off true t n = absurd (n (t.yes refl))
-off false t n = refl
-
-judged-elsewhere : (place : Place) (t : List Piece) → IsInProfile t → ¬ (AllowedIn place t) → judged place (Some t) ≡ Err wrong_place
-judged-elsewhere place t p n =
-    ap (λ b. cond b (cond (is_allowed_in place t) (Ok t) (Err wrong_place)) (Err wrong_expression)) (Tests.back (Tests-profile t) p)
-    ∙ ap (λ b. cond b (Ok t) (Err wrong_place)) (off (is_allowed_in place t) (Tests-allowed_in place t) n)
-
-judged-off : (place : Place) (t : List Piece) → ¬ (IsInProfile t) → judged place (Some t) ≡ Err wrong_expression
-judged-off place t n =
-    ap (λ b. cond b (cond (is_allowed_in place t) (Ok t) (Err wrong_place)) (Err wrong_expression)) (off (is_in_profile t) (Tests-profile t) n)
-
-needed-some : (o : Option (List Piece)) (t : List Piece) → needed o ≡ Ok t → o ≡ Some t
-needed-some None t e = cc
-needed-some (Some u) t e = cc
-
-read-of : (text : List ℕ) (t : List Piece) → Spells text t → pieces_of text ≡ Some t
-read-of text t s = needed-some (pieces_of text) t (spelled-read text t s)
-
-judged-none : (text : List ℕ) (place : Place) (o : Option (List Piece)) → pieces_of text ≡ o → SpellsNone text → judged place o ≡ Err wrong_expression
-judged-none text place None e n = refl
-judged-none text place (Some t) e n = judged-off place t (λ p. n t (read-spelled text t (ap needed e) p))
-
--- an outcome is what the function gives
-pub outcome-gives : (text : List ℕ) (place : Place) (r : Result (List Piece) Refusal) → IsOutcome text place r → Gives (λ p. p) r (template_of text place)
-outcome-gives text place (Ok t) o = ap (judged place) (read-of text t o.0) ∙ judged-ok place t o.0.profile o.1
-outcome-gives text place (Err e) o = λ m. elim (o m) [ inl p ↦ judged-none text place (pieces_of text) refl p.1 ∙ ap Err (sym p.0) | inr p ↦ ap (judged place) (read-of text p.1.0 p.1.1) ∙ (judged-elsewhere place p.1.0 p.1.1.profile p.1.2 ∙ ap Err (sym p.0)) ]

@@ -1,9 +1,9 @@
 -- Parsing a text for a place, as a function: what `Outcome` says, computed.
-use Rattle.std.specs.Prelude.{ℕ, List, [], ◌∷◌, Bool, true, false, ◌&&◌, ◌||◌, Option, Some, None, Result, Ok, Err, codes, sum_by, nat_le, if◌then◌else◌}
+use Rattle.std.specs.Prelude.{ℕ, List, [], ◌∷◌, Bool, true, false, ◌&&◌, ◌||◌, Option, Some, None, Result, Ok, Err, codes, sum_by, nat_eq, nat_le, if◌then◌else◌}
 use Rattle.std.specs.List.{list_all}
 use Rattle.std.specs.Str.{bytes_eq}
+use lib.Pointwise.{pointwise}
 use Rattle.wf_value.specs.declared.refusal.Refusal.{Refusal}
-use Rattle.wf_expr.specs.ContextValue.{same_path}
 use Rattle.wf_expr.specs.Faults.{wrong_expression, wrong_place}
 use Rattle.wf_expr.specs.Profile.{reference_count}
 use Rattle.wf_expr.specs.Reading.{pieces_of}
@@ -13,6 +13,10 @@ use Rattle.wf_expr.specs.declared.piece.Operand.{Operand}
 use Rattle.wf_expr.specs.declared.piece.Operand.TheVariants.{Quoted, Reference}
 use Rattle.wf_expr.specs.declared.piece.Piece.{Piece}
 use Rattle.wf_expr.specs.declared.piece.Piece.TheVariants.{Plain, Braced}
+
+-- whether two paths have the same names
+abbrev pub same_path : List (List ℕ) → List (List ℕ) → Bool
+same_path = pointwise (pointwise nat_eq)
 
 abbrev pub is_shared : List ℕ → Bool
 is_shared name = bytes_eq name (codes "github") || (bytes_eq name (codes "inputs") || bytes_eq name (codes "vars"))

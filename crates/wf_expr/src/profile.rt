@@ -85,7 +85,7 @@ fn piece_in_profile(piece: &Piece) -> bool
 {
     match piece {
         Piece::Plain(_) => true,
-        Piece::Braced(expression) => operands_in_profile(expression.as_slice()),
+        Piece::Braced(operands) => operands_in_profile(operands.as_slice()),
     }
 }
 
@@ -117,7 +117,7 @@ fn piece_allowed(place: Place, piece: &Piece) -> bool
 {
     match piece {
         Piece::Plain(_) => true,
-        Piece::Braced(expression) => operands_allowed(place, expression.as_slice()),
+        Piece::Braced(operands) => operands_allowed(place, operands.as_slice()),
     }
 }
 
@@ -142,7 +142,7 @@ fn references(piece: &Piece) -> usize
 {
     match piece {
         Piece::Plain(_) => 0,
-        Piece::Braced(expression) => references_of(expression.as_slice()),
+        Piece::Braced(operands) => references_of(operands.as_slice()),
     }
 }
 

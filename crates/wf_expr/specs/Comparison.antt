@@ -1,0 +1,16 @@
+-- Comparing texts with or without ASCII case. RFC 4790, section 9.2.1 (i;ascii-casemap).
+use Rattle.std.specs.Prelude.{◌≡◌, ◌↔◌, ℕ, List, ◌++◌, Option, map}
+use Rattle.std.specs.Char.{to_ascii_lowercase}
+use Rattle.std.specs.Option.{MatchOption}
+use Rattle.wf_expr.specs.declared.case.Case.{Case}
+use Rattle.wf_expr.specs.declared.case.Case.TheVariants.{Sensitive, Insensitive}
+
+-- what is compared of a text
+abbrev pub folded : Case → List ℕ → List ℕ
+folded Sensitive text = text
+folded Insensitive text = map to_ascii_lowercase text
+
+-- what is left of a text behind its front: nothing where it begins with another
+abbrev pub IsBehind : Case → List ℕ → List ℕ → Option (List ℕ) → Type 0
+IsBehind case front text rest =
+    (more : List ℕ) → (folded case (front ++ more) ≡ folded case text) ↔ MatchOption rest ⊥ (λ r. folded case more ≡ folded case r)
