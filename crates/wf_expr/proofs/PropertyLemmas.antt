@@ -13,7 +13,7 @@ use Rattle.std.specs.Ordering.{nat_cmp, is_eq}
 use Rattle.std.specs.String.{string_bytes, string_cmp}
 use Rattle.std.proofs.lemmas.Map.Text.{btree_map_updates_text}
 use Rattle.wf_value.specs.declared.scalar.Scalar.{Scalar}
-use Rattle.wf_expr.specs.Properties.{value_at, AreSame, DifferAt}
+use Rattle.wf_expr.specs.Properties.{value_at, AreSame, DifferAt, BeginsWith, DifferBehind}
 use Rattle.wf_expr.specs.declared.properties.Properties.{Properties}
 use Rattle.wf_expr.specs.declared.properties.Properties.TheOpen.{Properties-F}
 use Rattle.wf_expr.specs.declared.properties.Properties.TheViews.{out-Properties, roll-Properties, out-roll-Properties}
@@ -66,16 +66,21 @@ first-and-rest (n ∷ ns) name h e =
     let all : length (n ∷ ns) - 1 ≡ length ns = omega arith in
     ap (λ m. m ∷ ns) (sym e) ∙ ap (λ m. name ∷ m) (sym (ap (λ k. take k ns) all ∙ take-length ns))
 
--- the path of a name and of a rest, where each path behind the name is as it is told
-pub differ-within : (after before : Properties) (name : List ℕ) (more : List (List ℕ)) → value_at after [] ≡ value_at before [] → ((first : List ℕ) (p : List (List ℕ)) → first ≢ name → value_at after (first ∷ p) ≡ value_at before (first ∷ p)) → ((p : List (List ℕ)) → p ≢ more → value_at after (name ∷ p) ≡ value_at before (name ∷ p)) → DifferAt (name ∷ more) after before
-differ-within after before name more itself others within [] n = itself
-differ-within after before name more itself others within (first ∷ p) n =
-    elim (told first name) [ inl e ↦ ap (λ m. value_at after (m ∷ p)) e ∙ (within p (λ h. n (ap (λ m. m ∷ p) e ∙ ap (λ q. name ∷ q) h)) ∙ ap (λ m. value_at before (m ∷ p)) (sym e)) | inr e ↦ others first p e.0 ]
+-- the paths that do not begin with the name
+pub behind-others : (after before : Properties) (name : List ℕ) (inner : Option Properties) → ChangesAt after before name inner → DifferBehind name after before
+behind-others after before name inner h [] n = h.itself
+behind-others after before name inner h (first ∷ p) n = miss after before name inner h first p (λ e. n (p, ap (λ m. m ∷ p) e))
+
+-- those that do
+differ-within : (after before : Properties) (name : List ℕ) (more : List (List ℕ)) → DifferBehind name after before → ((p : List (List ℕ)) → p ≢ more → value_at after (name ∷ p) ≡ value_at before (name ∷ p)) → DifferAt (name ∷ more) after before
+differ-within after before name more others within [] n = others [] (λ b. let e = b.1 in cc)
+differ-within after before name more others within (first ∷ p) n =
+    elim (told first name) [ inl e ↦ ap (λ m. value_at after (m ∷ p)) e ∙ (within p (λ h. n (ap (λ m. m ∷ p) e ∙ ap (λ q. name ∷ q) h)) ∙ ap (λ m. value_at before (m ∷ p)) (sym e)) | inr e ↦ others (first ∷ p) (λ b. let whole = b.1 in let f : first ≡ name = cc in e.0 f) ]
 
 -- a change of the tree at a name
 pub changed-others : (after before new old : Properties) (name : List ℕ) (more : List (List ℕ)) → ChangesAt after before name (Some new) → inner_at before name ≡ Some old → DifferAt more new old → DifferAt (name ∷ more) after before
 changed-others after before new old name more h was d =
-    differ-within after before name more h.itself (miss after before name (Some new) h) (λ p n. hit after before name (Some new) h p ∙ (d p n ∙ ap (λ t. given t p) (sym was)))
+    differ-within after before name more (behind-others after before name (Some new) h) (λ p n. hit after before name (Some new) h p ∙ (d p n ∙ ap (λ t. given t p) (sym was)))
 
 pub changed-same : (after before new old : Properties) (name : List ℕ) → ChangesAt after before name (Some new) → inner_at before name ≡ Some old → AreSame new old → AreSame after before
 changed-same after before new old name h was s [] = h.itself
@@ -83,9 +88,9 @@ changed-same after before new old name h was s (first ∷ p) =
     elim (told first name) [ inl e ↦ ap (λ m. value_at after (m ∷ p)) e ∙ (hit after before name (Some new) h p ∙ (s p ∙ (ap (λ t. given t p) (sym was) ∙ ap (λ m. value_at before (m ∷ p)) (sym e)))) | inr e ↦ miss after before name (Some new) h first p e.0 ]
 
 -- a tree of one path put at a name at which there was none
-pub nested-others : (after before new : Properties) (name : List ℕ) (more : List (List ℕ)) → value_at after [] ≡ value_at before [] → ((first : List ℕ) (p : List (List ℕ)) → first ≢ name → value_at after (first ∷ p) ≡ value_at before (first ∷ p)) → ((p : List (List ℕ)) → value_at after (name ∷ p) ≡ value_at new p) → ((p : List (List ℕ)) → p ≢ more → value_at new p ≡ None) → inner_at before name ≡ None → DifferAt (name ∷ more) after before
-nested-others after before new name more itself others within alone none =
-    differ-within after before name more itself others (λ p n. within p ∙ (alone p n ∙ ap (λ t. given t p) (sym none)))
+pub nested-others : (after before new : Properties) (name : List ℕ) (more : List (List ℕ)) → DifferBehind name after before → ((p : List (List ℕ)) → value_at after (name ∷ p) ≡ value_at new p) → ((p : List (List ℕ)) → p ≢ more → value_at new p ≡ None) → inner_at before name ≡ None → DifferAt (name ∷ more) after before
+nested-others after before new name more others within alone none =
+    differ-within after before name more others (λ p n. within p ∙ (alone p n ∙ ap (λ t. given t p) (sym none)))
 
 -- the same look-ups, and so the same values
 pub same-found : (after before : Properties) → (out-Properties after).value ≡ (out-Properties before).value → ((n : List ℕ) → inner_at after n ≡ inner_at before n) → AreSame after before
@@ -105,9 +110,9 @@ pub on-err : {T E P Q : Type 0} (r : Result T E) → OnErr r P → (P → Q) →
 on-err (Ok x) p f = tt
 on-err (Err e) p f = f p
 
-pub on-ok-all : {T E : Type 0} (P Q R S : Type 0) (r : Result T E) → OnOk r P → OnOk r Q → OnOk r R → (P → Q → R → S) → OnOk r S
-on-ok-all P Q R S (Ok x) p q i f = f p q i
-on-ok-all P Q R S (Err e) p q i f = tt
+pub on-ok-both : {T E : Type 0} (P Q R : Type 0) (r : Result T E) → OnOk r P → OnOk r Q → (P → Q → R) → OnOk r R
+on-ok-both P Q R (Ok x) p q f = f p q
+on-ok-both P Q R (Err e) p q f = tt
 
 -- one name further
 pub descend : (tree inner : Properties) (path : List (List ℕ)) (i : ℕ) (name : List ℕ) (whole : Option Scalar) → i < length path → name ≡ get_or path i name → inner_at tree name ≡ Some inner → value_at tree (drop i path) ≡ whole → value_at inner (drop (i + 1) path) ≡ whole
@@ -143,6 +148,6 @@ alone-others parts [] h none (first ∷ p) n = ap (λ t. given t p) (empty-withi
 alone-others parts (m ∷ ms) h none p n = absurd (omega arith)
 
 -- a tree of one path behind a name
-pub made-others : (after before new : Properties) (name : List ℕ) (more path : List (List ℕ)) → path ≡ name ∷ more → ((p : List (List ℕ)) → value_at before p ≡ None) → value_at after [] ≡ value_at before [] → ((first : List ℕ) (p : List (List ℕ)) → first ≢ name → value_at after (first ∷ p) ≡ value_at before (first ∷ p)) → ((p : List (List ℕ)) → value_at after (name ∷ p) ≡ value_at new p) → ((p : List (List ℕ)) → p ≢ more → value_at new p ≡ None) → (p : List (List ℕ)) → p ≢ path → value_at after p ≡ None
-made-others after before new name more path is empty itself others within alone p n =
-    differ-within after before name more itself others (λ q m. within q ∙ (alone q m ∙ sym (empty (name ∷ q)))) p (λ e. n (e ∙ sym is)) ∙ empty p
+pub made-others : (after before new : Properties) (name : List ℕ) (more path : List (List ℕ)) → path ≡ name ∷ more → ((p : List (List ℕ)) → value_at before p ≡ None) → DifferBehind name after before → ((p : List (List ℕ)) → value_at after (name ∷ p) ≡ value_at new p) → ((p : List (List ℕ)) → p ≢ more → value_at new p ≡ None) → (p : List (List ℕ)) → p ≢ path → value_at after p ≡ None
+made-others after before new name more path is empty others within alone p n =
+    differ-within after before name more others (λ q m. within q ∙ (alone q m ∙ sym (empty (name ∷ q)))) p (λ e. n (e ∙ sym is)) ∙ empty p

@@ -1,5 +1,6 @@
 -- Parsing a text for a place, as a function: what `Outcome` says, computed.
-use Rattle.std.specs.Prelude.{ℕ, List, [], ◌∷◌, Bool, true, false, ◌&&◌, ◌||◌, Option, Some, None, Result, Ok, Err, codes, sum_by, nat_eq, nat_le, if◌then◌else◌}
+use Rattle.std.specs.Prelude.{ℕ, List, [], ◌∷◌, Bool, true, false, ◌&&◌, ◌||◌, Option, Some, None, Result, Ok, Err}
+use Rattle.std.specs.Prelude.{codes, sum_by, nat_eq, nat_le, if◌then◌else◌}
 use Rattle.std.specs.List.{list_all}
 use Rattle.std.specs.Str.{bytes_eq}
 use lib.Pointwise.{pointwise}
@@ -23,7 +24,9 @@ is_shared name = bytes_eq name (codes "github") || (bytes_eq name (codes "inputs
 
 abbrev pub is_in_context : List ℕ → List (List ℕ) → Bool
 is_in_context context names =
-    is_shared context || (bytes_eq context (codes "strategy") || (bytes_eq context (codes "matrix") || (bytes_eq context (codes "needs") && same_path names (codes "result" ∷ []))))
+    is_shared context
+    || (bytes_eq context (codes "strategy")
+    || (bytes_eq context (codes "matrix") || (bytes_eq context (codes "needs") && same_path names (codes "result" ∷ []))))
 
 abbrev pub is_path : List (List ℕ) → Bool
 is_path [] = false

@@ -18,3 +18,11 @@ AreSame one other = (path : List (List ℕ)) → value_at one path ≡ value_at 
 -- both give each path the same value, but for one
 abbrev pub DifferAt : List (List ℕ) → Properties → Properties → Type 0
 DifferAt path one other = (p : List (List ℕ)) → p ≢ path → value_at one p ≡ value_at other p
+
+-- whether a path begins with the name
+abbrev pub BeginsWith : List ℕ → List (List ℕ) → Type 0
+BeginsWith name path = (rest : List (List ℕ)) × (path ≡ name ∷ rest)
+
+-- both give the same value to each path that does not begin with the name
+abbrev pub DifferBehind : List ℕ → Properties → Properties → Type 0
+DifferBehind name one other = (path : List (List ℕ)) → ¬ (BeginsWith name path) → value_at one path ≡ value_at other path

@@ -15,5 +15,6 @@ pub fn spells_one_template()
 /// spells, where the place allows its contexts; 17 exactly where it spells none; and 18 exactly where it
 /// spells one with a context that the place does not allow.
 pub fn template_of_is_the_grammars()
-    ensures { (text : List ℕ) (place : Place) (outcome : Result (List Piece) Refusal) → IsOutcome text place outcome ↔ (template_of text place ≡ outcome) }
+    ensures { (text : List ℕ) (place : Place) (outcome : Result (List Piece) Refusal) →
+        IsOutcome text place outcome ↔ (template_of text place ≡ outcome) }
 {}

@@ -1,5 +1,6 @@
 ghost use Rattle.std.specs.Prelude.{◌≡◌, ◌↔◌, ◌≤◌, [], ◌∷◌, IsTrue, All, codes, count_by, sum_by};
-ghost use Rattle.wf_expr.specs.Profile.{IsShared, IsInContext, InProfile, IsAllowed, OfReference, OfReferences, AllowedIn, IsInProfile, is_reference, reference_count};
+ghost use Rattle.wf_expr.specs.Profile.{IsShared, IsInContext, InProfile, IsAllowed, OfReference, OfReferences, AllowedIn};
+ghost use Rattle.wf_expr.specs.Profile.{IsInProfile, is_reference, reference_count};
 
 use crate::piece::{Operand, Piece};
 use crate::place::Place;

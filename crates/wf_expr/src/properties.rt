@@ -15,7 +15,7 @@ pub struct Properties {
 }
 
 impl Properties {
-    ghost use Rattle.wf_expr.specs.Properties.{value_at, AreSame, DifferAt};
+    ghost use Rattle.wf_expr.specs.Properties.{value_at, AreSame, DifferAt, DifferBehind};
 
     /// The tree in which no path has a value.
     pub fn new(alloc: Global) -> Self
@@ -86,8 +86,7 @@ impl Properties {
     /// Sets all paths that begin with a name: each has the value that the inner tree gives the rest of it.
     pub fn nest(&mut self, alloc: Global, name: &Chars, inner: Properties) -> Result<(), Refusal>
         ensures within { OnOk result ((path : List (List ℕ)) → value_at self.new (name.now ∷ path) ≡ value_at inner path) }
-        ensures others { OnOk result ((first : List ℕ) (path : List (List ℕ)) → first ≢ name.now → value_at self.new (first ∷ path) ≡ value_at self.old (first ∷ path)) }
-        ensures itself { OnOk result (value_at self.new [] ≡ value_at self.old []) }
+        ensures others { OnOk result (DifferBehind name.now self.new self.old) }
         ensures err { OnErr result (AreSame self.new self.old) }
         ensures memory { IfErr result (λ e. e ≡ no_memory) }
     {

@@ -1,5 +1,5 @@
-ghost use Rattle.std.specs.Prelude.{◌≡◌, ◌↔◌, ◌⊎◌, List, ℕ, IsTrue, Result, IfOk, IfErr, Ok, Err, map};
-ghost use Rattle.std.specs.Char.{to_ascii_lowercase};
+ghost use Rattle.std.specs.Prelude.{◌≡◌, ◌↔◌, ◌⊎◌, List, ℕ, IsTrue, Result, IfOk, IfErr, Ok, Err};
+ghost use Rattle.wf_expr.specs.Comparison.{lowered};
 ghost use Rattle.wf_value.specs.Gives.{Gives, no_memory};
 ghost use Rattle.wf_value.specs.ScalarValue.{scalar_text};
 ghost use Rattle.wf_expr.specs.declared.piece.Piece.{Piece};
@@ -76,7 +76,8 @@ impl Template {
 
     /// The same without the case of ASCII letters, as labels are compared. It takes no memory.
     pub fn is_text_ignoring_ascii_case<C: Context>(&self, context: &C, text: &[u8]) -> bool
-        ensures { IsTrue result ↔ (map to_ascii_lowercase (scalar_text (template_value (C.values context.now) self.now)) ≡ map to_ascii_lowercase text.now) }
+        ensures { IsTrue result ↔
+            (lowered (scalar_text (template_value (C.values context.now) self.now)) ≡ lowered text.now) }
     {
         are_text(self.pieces(), context, text, Case::Insensitive)
     }

@@ -3,7 +3,7 @@ use Rattle.std.specs.BTreeMap.{get_by_text}
 use Rattle.std.specs.Option.{option_copied_mut}
 use Rattle.wf_expr.specs.Properties.{value_at, DifferAt}
 use Rattle.wf_expr.specs.declared.properties.Properties.TheViews.{out-Properties, roll-Properties}
-use Rattle.wf_expr.proofs.PropertyLemmas.{changed, hit, first-and-rest, rest, alike, kept, changed-others, changed-same, nested-others, set-itself, set-itself-others, on-ok, on-err, on-ok-all}
+use Rattle.wf_expr.proofs.PropertyLemmas.{changed, hit, first-and-rest, rest, alike, kept, changed-others, changed-same, nested-others, set-itself, set-itself-others, on-ok, on-err, on-ok-both}
 use Rattle.wf_expr.proofs.properties.Properties.+insert.Goals as goal
 
 pub returns-in-Some-clause-value : goal.returns-in-Some-clause-value
@@ -42,4 +42,4 @@ returns-in_ok-inner-in-len1-up-clause-others t c =
     let same = ap (λ m. m.entries) c.get_mut.follows.holds-at-none in
     let none = alike parts c.args.self.now same c.name-item.result ∙ (ap (get_by_text (out-Properties c.args.self.now).inner) (sym c.as_str.ensures) ∙ (sym c.get_mut.ensures.value ∙ ap option_copied_mut c.in_default.is)) in
     let P : List (List ℕ) → Type 0 = λ p. DifferAt p c.nest.new.self c.args.self.now in
-    on-ok-all _ _ _ _ c.nest.result c.nest.ensures.itself c.nest.ensures.others c.nest.ensures.within (λ i o w. subst P (sym path) (λ p n. nested-others _ (roll-Properties parts) c.in_ok-inner-in-len1-up.inner _ _ i o w c.in_ok-inner-in-len1-up.ensures.others none p n ∙ kept parts c.args.self.now refl same p))
+    on-ok-both _ _ _ c.nest.result c.nest.ensures.others c.nest.ensures.within (λ o w. subst P (sym path) (λ p n. nested-others _ (roll-Properties parts) c.in_ok-inner-in-len1-up.inner _ _ o w c.in_ok-inner-in-len1-up.ensures.others none p n ∙ kept parts c.args.self.now refl same p))

@@ -12,4 +12,4 @@ pub returns-in_ok-nest-in-len1-up-clause-others : goal.returns-in_ok-nest-in-len
 returns-in_ok-nest-in-len1-up-clause-others t c =
     made-others c.nest.new.self c.new-tree.result c.in_ok-inner-in-len1-up.inner c.name-item.result (rest c.args.path.now) c.args.path.now
     (first-and-rest c.args.path.now c.name-item.result (omega arith) c.name-item.is)
-    c.new-tree.ensures c.in_ok-nest-in-len1-up.ensures.itself c.in_ok-nest-in-len1-up.ensures.others c.in_ok-nest-in-len1-up.ensures.within c.in_ok-inner-in-len1-up.ensures.others
+    c.new-tree.ensures c.in_ok-nest-in-len1-up.ensures.others c.in_ok-nest-in-len1-up.ensures.within c.in_ok-inner-in-len1-up.ensures.others
