@@ -5,3 +5,4 @@ pub mod RefusalText
 pub mod ScalarCode
 pub mod ScalarValue
 pub mod SpacedText
+pub mod Words

@@ -1,4 +1,5 @@
 ghost use Rattle.std.specs.Prelude.{◌≡◌, ◌↔◌, [], IsTrue, Ok, string_bytes};
+ghost use Rattle.std.specs.Str.{bytes_eq};
 ghost use Rattle.wf_value.specs.Gives.{Gives};
 
 use crate::refusal::Refusal;
@@ -8,7 +9,7 @@ use std::alloc::Global;
 use std::marker::Model;
 
 /// A text. A contract sees the list of its bytes in UTF-8.
-#[derive(Debug, Drop)]
+#[derive(Drop)]
 pub struct Chars {
     text: String,
 }
@@ -52,20 +53,6 @@ impl Chars {
     {
         self.text.as_str()
     }
-
-    /// What `TryCopy` gives.
-    pub fn copy(&self, alloc: Global) -> Result<Self, Refusal>
-        ensures { Gives (λ c. c) result (Ok self.now) }
-    {
-        TryCopy::copy(self, alloc)
-    }
-
-    /// What `Same` tells.
-    pub fn same(&self, other: &Chars) -> bool
-        ensures { IsTrue result ↔ (self.now ≡ other.now) }
-    {
-        Same::same(self, other)
-    }
 }
 
 impl TryCopy for Chars {
@@ -79,7 +66,11 @@ impl TryCopy for Chars {
 }
 
 impl Same for Chars {
-    fn same(&self, other: &Self) -> bool {
+    /// Whether both are the same bytes.
+    fn same(&self, other: &Self) -> bool
+        ensures equal { IsTrue result ↔ (self.now ≡ other.now) }
+        ensures test { result ≡ bytes_eq self.now other.now }
+    {
         self.as_str() == other.as_str()
     }
 }

@@ -12,7 +12,7 @@ use std::marker::Model;
 
 /// A combination of a matrix: a value for each of its names, in the order of the names' bytes.
 /// A contract sees the list of the pairs. GitHub Docs, "Running variations of jobs in a workflow".
-#[derive(Debug, Drop)]
+#[derive(Drop)]
 pub struct Combo {
     pairs: Vec<(Chars, Scalar)>,
 }
@@ -98,13 +98,6 @@ impl Combo {
         let pair = (name.copy(alloc)?, value.copy(alloc)?);
         self.pairs.push(pair)?;
         Ok(())
-    }
-
-    /// What `TryCopy` gives.
-    pub fn copy(&self, alloc: Global) -> Result<Self, Refusal>
-        ensures { Gives (λ c. c) result (Ok self.now) }
-    {
-        TryCopy::copy(self, alloc)
     }
 }
 

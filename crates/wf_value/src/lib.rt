@@ -24,7 +24,4 @@ pub use refusal::Refusal;
 pub use same::{Same, same_items};
 pub use scalar::Scalar;
 pub use sequence::Sequence;
-pub use try_copy::TryCopy;
-
-/// The ids of jobs, in order.
-pub type Ids = Sequence<Chars>;
+pub use try_copy::{TryCopy, copy_items};

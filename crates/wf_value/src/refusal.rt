@@ -37,7 +37,7 @@ fn push_spaced(target: &mut String, texts: &[Chars]) -> Result<(), AllocError>
 }
 
 /// Why a call was refused.
-#[derive(Debug, Drop, Error)]
+#[derive(Drop, Error)]
 pub enum Refusal {
     #[error("refused {}", .0.number())]
     Numbered(Code),
@@ -87,6 +87,13 @@ impl Refusal {
     }
 }
 
+/// As `Display` prints it.
+impl fmt::Debug for Refusal {
+    fn fmt<W: fmt::Write>(&self, f: &mut fmt::Formatter<W>) -> fmt::Result {
+        write!(f, "{self}")
+    }
+}
+
 impl TryCopy for Refusal {
     ghost use Rattle.wf_value.specs.Gives.{Gives};
     ghost use Rattle.wf_value.specs.RefusalText.{ids_of_cycle};
@@ -98,7 +105,7 @@ impl TryCopy for Refusal {
     {
         match self {
             Refusal::Numbered(code) => Ok(Refusal::Numbered(*code)),
-            Refusal::Cycle(ids) => Ok(Refusal::Cycle(TryCopy::copy(ids, alloc)?)),
+            Refusal::Cycle(ids) => Ok(Refusal::Cycle(ids.copy(alloc)?)),
             Refusal::Turn(last) => Ok(Refusal::Turn(*last)),
         }
     }
@@ -109,7 +116,7 @@ impl Same for Refusal {
     fn same(&self, other: &Self) -> bool {
         match (self, other) {
             (Refusal::Numbered(one), Refusal::Numbered(other)) => *one == *other,
-            (Refusal::Cycle(one), Refusal::Cycle(other)) => Same::same(one, other),
+            (Refusal::Cycle(one), Refusal::Cycle(other)) => one.same(other),
             (Refusal::Turn(one), Refusal::Turn(other)) => *one == *other,
             _ => false,
         }

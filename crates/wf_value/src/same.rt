@@ -7,6 +7,18 @@ pub trait Same {
         ensures { IsTrue result ↔ (self.now ≡ other.now) };
 }
 
+impl Same for u64 {
+    fn same(&self, other: &Self) -> bool {
+        *self == *other
+    }
+}
+
+impl Same for usize {
+    fn same(&self, other: &Self) -> bool {
+        *self == *other
+    }
+}
+
 impl<A: Same, B: Same> Same for (A, B) {
     fn same(&self, other: &Self) -> bool {
         self.0.same(&other.0) && self.1.same(&other.1)

@@ -10,7 +10,7 @@ use std::alloc::Global;
 
 /// A value of an expression or of a matrix: null, a truth value, a signed whole number of 64 bits
 /// or a text. GitHub Docs, "Evaluate expressions in workflows and actions", Literals.
-#[derive(Debug, Drop)]
+#[derive(Drop)]
 pub enum Scalar {
     Null,
     Truth(bool),
@@ -29,20 +29,6 @@ fn text_of_whole(alloc: Global, n: i64) -> Result<Chars, Refusal>
 impl Scalar {
     ghost use Rattle.wf_value.specs.ScalarValue.{is_truthy, scalar_text};
 
-    /// What `TryCopy` gives.
-    pub fn copy(&self, alloc: Global) -> Result<Self, Refusal>
-        ensures { Gives (λ s. s) result (Ok self.now) }
-    {
-        TryCopy::copy(self, alloc)
-    }
-
-    /// What `Same` tells.
-    pub fn same(&self, other: &Scalar) -> bool
-        ensures { IsTrue result ↔ (self.now ≡ other.now) }
-    {
-        Same::same(self, other)
-    }
-
     /// Whether the value counts as true: `false`, `0`, the empty text and null do not.
     pub fn truthy(&self) -> bool
         ensures { result ≡ is_truthy self.now }
@@ -56,7 +42,7 @@ impl Scalar {
     }
 
     /// The text of the value. The empty one takes no memory.
-    pub fn text_of(&self, alloc: Global) -> Result<Chars, Refusal>
+    pub fn text(&self, alloc: Global) -> Result<Chars, Refusal>
         ensures gives { Gives (λ c. c) result (Ok (scalar_text self.now)) }
         ensures answers { scalar_text self.now ≡ [] → result ≡ Ok [] }
     {
@@ -65,7 +51,7 @@ impl Scalar {
             Scalar::Truth(true) => Chars::from_str(alloc, "true"),
             Scalar::Truth(false) => Chars::from_str(alloc, "false"),
             Scalar::Whole(n) => text_of_whole(alloc, *n),
-            Scalar::Text(text) => TryCopy::copy(text, alloc),
+            Scalar::Text(text) => text.copy(alloc),
         }
     }
 }
@@ -82,19 +68,24 @@ impl TryCopy for Scalar {
             Scalar::Null => Ok(Scalar::Null),
             Scalar::Truth(truth) => Ok(Scalar::Truth(*truth)),
             Scalar::Whole(whole) => Ok(Scalar::Whole(*whole)),
-            Scalar::Text(text) => Ok(Scalar::Text(TryCopy::copy(text, alloc)?)),
+            Scalar::Text(text) => Ok(Scalar::Text(text.copy(alloc)?)),
         }
     }
 }
 
 impl Same for Scalar {
+    ghost use Rattle.wf_value.specs.ScalarValue.{same_scalar};
+
     /// Whether kind and value are the same.
-    fn same(&self, other: &Self) -> bool {
+    fn same(&self, other: &Self) -> bool
+        ensures equal { IsTrue result ↔ (self.now ≡ other.now) }
+        ensures test { result ≡ same_scalar self.now other.now }
+    {
         match (self, other) {
             (Scalar::Null, Scalar::Null) => true,
             (Scalar::Truth(a), Scalar::Truth(b)) => *a == *b,
             (Scalar::Whole(a), Scalar::Whole(b)) => *a == *b,
-            (Scalar::Text(a), Scalar::Text(b)) => Same::same(a, b),
+            (Scalar::Text(a), Scalar::Text(b)) => a.same(b),
             _ => false,
         }
     }

@@ -8,7 +8,7 @@ use std::alloc::Global;
 use std::marker::Model;
 
 /// Values in order. A contract sees the list of them.
-#[derive(Debug, Drop)]
+#[derive(Drop)]
 pub struct Sequence<T> {
     items: Vec<T>,
 }

@@ -11,6 +11,22 @@ pub trait TryCopy {
         ensures { Gives (λ c. c) result (Ok self.now) };
 }
 
+impl TryCopy for u64 {
+    fn copy(&self, _alloc: Global) -> Result<Self, Refusal>
+        ensures { result ≡ Ok self.now }
+    {
+        Ok(*self)
+    }
+}
+
+impl TryCopy for usize {
+    fn copy(&self, _alloc: Global) -> Result<Self, Refusal>
+        ensures { result ≡ Ok self.now }
+    {
+        Ok(*self)
+    }
+}
+
 impl<A: TryCopy + Drop, B: TryCopy + Drop> TryCopy for (A, B) {
     fn copy(&self, alloc: Global) -> Result<Self, Refusal> {
         Ok((self.0.copy(alloc)?, self.1.copy(alloc)?))

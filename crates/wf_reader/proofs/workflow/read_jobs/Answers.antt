@@ -15,4 +15,6 @@ pub returns : goal.returns
 returns c =
     let filled : 0 < length c.in-Some.members.now.entries = grind (arith, common_steps) in
     let few : length c.in-Some.members.now.entries ≤ 256 = omega (arith, c.len.ensures.len) in
-    subst (Gives (λ j. j) c.read_each.result) (jobs_here (get (codes "jobs") (view c.args.workflow.now)) c.in-Some.members.now.entries c.in-Some.ensures filled few) c.read_each.ensures
+    subst (Gives (λ j. j) c.read_each.result)
+    (jobs_here (get (codes "jobs") (view c.args.workflow.now)) c.in-Some.members.now.entries c.in-Some.ensures filled few)
+    c.read_each.ensures
