@@ -3,7 +3,7 @@ use std::alloc::Global;
 use std::process::Abort;
 use std::test::Fail;
 use wf_expr::{Over, Place, Properties, Template, is_flag_set};
-use wf_value::{Chars, Refusal, Scalar, TryCopy};
+use wf_value::{Chars, Refusal, Same, Scalar, TryCopy};
 
 fn assert_text(rt: &impl Abort, alloc: Global, text: &str, want: &str) -> Result<(), Refusal> {
     match value_of(alloc, text)? {
