@@ -3,17 +3,16 @@ use Rattle.std.proofs.Common.{◌≡◌, ◌⊎◌, ◌≤◌, ℕ, Bool, true, 
 use Rattle.std.specs.Prelude.{◌&&◌, ◌||◌, codes, All, sum_by}
 use Rattle.std.specs.List.{list_all, AllByRecursion}
 use Rattle.std.specs.Str.{bytes_eq}
-use Rattle.std.specs.Cmp.Lexicographic.{same_text}
+use Rattle.std.proofs.lemmas.Slice.Eq.{bytes_eq-Decides}
 use Rattle.std.proofs.lemmas.List.Elements.{recursion_from_All, All-from_recursion}
 use Rattle.wf_expr.specs.Profile.{IsShared, IsInContext, InProfile, IsAllowed, OfReference, OfReferences, IsInProfile, AllowedIn, reference_count}
-use Rattle.wf_expr.specs.Parsing.{same_path, is_shared, is_in_context, is_path, is_allowed, of_reference, of_references, is_in_profile, is_allowed_in}
+use Rattle.wf_expr.specs.Parsing.{is_result, is_shared, is_in_context, is_path, is_allowed, of_reference, of_references, is_in_profile, is_allowed_in}
 use Rattle.wf_expr.specs.declared.place.Place.{Place}
 use Rattle.wf_expr.specs.declared.place.Place.TheVariants.{Workflow, Job}
 use Rattle.wf_expr.specs.declared.piece.Operand.{Operand}
 use Rattle.wf_expr.specs.declared.piece.Operand.TheVariants.{Quoted, Reference}
 use Rattle.wf_expr.specs.declared.piece.Piece.{Piece}
 use Rattle.wf_expr.specs.declared.piece.Piece.TheVariants.{Plain, Braced}
-use Rattle.wf_expr.proofs.NameLemmas.{same_path-self, same_path-same, same_name-self}
 
 -- a test that says exactly the fact
 pub record Tests (b : Bool) (P : Type 0) : Type 0 where
@@ -29,17 +28,21 @@ Tests-and true b s t = record { yes = λ e. (s.yes refl, t.yes e); back = λ h. 
 Tests-and false b s t = record { yes = λ e. let c : false ≡ true = e in cc; back = λ h. s.back h.0 }
 
 Tests-name : (m n : List ℕ) → Tests (bytes_eq m n) (m ≡ n)
-Tests-name m n = record { yes = λ e. same_text m n (sym e); back = λ e. ap (bytes_eq m) (sym e) ∙ same_name-self m }
+Tests-name m n = let d = bytes_eq-Decides m n in record { yes = d.0; back = d.1 }
 
-Tests-path : (p q : List (List ℕ)) → Tests (same_path p q) (p ≡ q)
-Tests-path p q = record { yes = same_path-same p q; back = λ e. ap (same_path p) (sym e) ∙ same_path-self p }
+Tests-result : (ns : List (List ℕ)) → Tests (is_result ns) (ns ≡ codes "result" ∷ [])
+Tests-result [] = record { yes = λ e. cc; back = λ e. cc }
+Tests-result (n ∷ []) =
+    let t = Tests-name n (codes "result") in
+    record { yes = λ e. ap (λ m. m ∷ []) (t.yes e); back = λ e. t.back (cc) }
+Tests-result (n ∷ m ∷ ns) = record { yes = λ e. cc; back = λ e. cc }
 
 Tests-shared : (n : List ℕ) → Tests (is_shared n) (IsShared n)
 Tests-shared n = Tests-or _ _ (Tests-name n (codes "github")) (Tests-or _ _ (Tests-name n (codes "inputs")) (Tests-name n (codes "vars")))
 
 Tests-in_context : (c : List ℕ) (ns : List (List ℕ)) → Tests (is_in_context c ns) (IsInContext c ns)
 Tests-in_context c ns =
-    Tests-or _ _ (Tests-shared c) (Tests-or _ _ (Tests-name c (codes "strategy")) (Tests-or _ _ (Tests-name c (codes "matrix")) (Tests-and _ _ (Tests-name c (codes "needs")) (Tests-path ns (codes "result" ∷ [])))))
+    Tests-or _ _ (Tests-shared c) (Tests-or _ _ (Tests-name c (codes "strategy")) (Tests-or _ _ (Tests-name c (codes "matrix")) (Tests-and _ _ (Tests-name c (codes "needs")) (Tests-result ns))))
 
 never : Tests false ⊥
 never = record { yes = λ e. cc; back = λ h. absurd h }

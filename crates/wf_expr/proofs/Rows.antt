@@ -1,15 +1,16 @@
 -- Rows of the documentation and of the issue, computed from the definitions alone.
 use Rattle.std.proofs.Common.{◌≡◌, ℕ, List, [], ◌∷◌, refl, false}
 use Rattle.std.specs.Prelude.{Ok, Err, codes, find}
+use Rattle.std.specs.Cmp.Lexicographic.{pointwise}
 use Rattle.std.specs.Option.{option_map}
-use Rattle.std.specs.Str.{chars}
+use Rattle.std.specs.Str.{bytes_eq, chars}
 use lib.Utf8.{encode}
 use Rattle.wf_value.specs.declared.scalar.Scalar.{Scalar}
 use Rattle.wf_value.specs.declared.scalar.Scalar.TheVariants.{Null, Truth, Text}
 use Rattle.wf_expr.specs.ContextValue.{Values}
 use Rattle.wf_expr.specs.Faults.{wrong_expression, wrong_place}
 use Rattle.wf_expr.specs.Letters.{begins_name, continues_name}
-use Rattle.wf_expr.specs.Parsing.{same_path, template_of}
+use Rattle.wf_expr.specs.Parsing.{template_of}
 use Rattle.wf_expr.specs.Reading.{run}
 use Rattle.wf_expr.specs.TemplateValue.{template_value}
 use Rattle.wf_expr.specs.declared.place.Place.TheVariants.{Workflow, Job}
@@ -30,7 +31,7 @@ row-read = refl
 
 -- the values of these paths alone
 abbrev of_list : List (List (List ℕ) × Scalar) → Values
-of_list entries path = option_map (λ e. e.1) (find (λ e. same_path e.0 path) entries)
+of_list entries path = option_map (λ e. e.1) (find (λ e. pointwise bytes_eq e.0 path) entries)
 
 row-value : template_value (of_list ((codes "github" ∷ codes "workflow" ∷ [], Text (codes "ci.json")) ∷ (codes "github" ∷ codes "run_id" ∷ [], Text (codes "1")) ∷ [])) run_name ≡ Text (codes "ci.json-1")
 row-value = refl
