@@ -1,5 +1,6 @@
 -- What parsing gives is the grammar's answer, and no other is.
 use Rattle.std.proofs.Common.{◌≡◌, ◌↔◌, ◌⊎◌, ℕ, Bool, true, false, cond, List, refl, ap, sym, ◌∙◌, inl, inr, subst}
+use Rattle.std.specs.Bool.{Decides}
 use Rattle.std.specs.Prelude.{Option, Some, None, Result, Ok, Err, IfOk, IfErr}
 use Rattle.wf_value.specs.declared.refusal.Refusal.{Refusal}
 use Rattle.wf_value.specs.Gives.{Gives, no_memory}
@@ -10,28 +11,28 @@ use Rattle.wf_expr.specs.Profile.{Spells, IsInProfile, AllowedIn}
 use Rattle.wf_expr.specs.Reading.{needed, pieces_of}
 use Rattle.wf_expr.specs.declared.piece.Piece.{Piece}
 use Rattle.wf_expr.specs.declared.place.Place.{Place}
-use Rattle.wf_expr.proofs.ProfileLemmas.{Tests, Tests-profile, Tests-allowed_in}
+use Rattle.wf_expr.proofs.ProfileLemmas.{Decides-profile, Decides-allowed_in}
 use Rattle.wf_expr.proofs.SpellLemmas.{spelled-read, read-spelled}
 
 -- what was read, judged
-off : {P : Type 0} (b : Bool) → Tests b P → ¬ P → b ≡ false
-off true t n = absurd (n (t.yes refl))
+off : {P : Type 0} (b : Bool) → Decides b P → ¬ P → b ≡ false
+off true t n = absurd (n (t.0 refl))
 off false t n = refl
 
 pub judged-off : (place : Place) (t : List Piece) → ¬ (IsInProfile t) → judged place (Some t) ≡ Err wrong_expression
 judged-off place t n =
-    ap (λ b. cond b (cond (is_allowed_in place t) (Ok t) (Err wrong_place)) (Err wrong_expression)) (off (is_in_profile t) (Tests-profile t) n)
+    ap (λ b. cond b (cond (is_allowed_in place t) (Ok t) (Err wrong_place)) (Err wrong_expression)) (off (is_in_profile t) (Decides-profile t) n)
 
 in-profile : (place : Place) (t : List Piece) → IsInProfile t → judged place (Some t) ≡ cond (is_allowed_in place t) (Ok t) (Err wrong_place)
 in-profile place t p =
-    ap (λ b. cond b (cond (is_allowed_in place t) (Ok t) (Err wrong_place)) (Err wrong_expression)) (Tests.back (Tests-profile t) p)
+    ap (λ b. cond b (cond (is_allowed_in place t) (Ok t) (Err wrong_place)) (Err wrong_expression)) ((Decides-profile t).1 p)
 
 pub judged-ok : (place : Place) (t : List Piece) → IsInProfile t → AllowedIn place t → judged place (Some t) ≡ Ok t
-judged-ok place t p a = in-profile place t p ∙ ap (λ b. cond b (Ok t) (Err wrong_place)) (Tests.back (Tests-allowed_in place t) a)
+judged-ok place t p a = in-profile place t p ∙ ap (λ b. cond b (Ok t) (Err wrong_place)) ((Decides-allowed_in place t).1 a)
 
 pub judged-elsewhere : (place : Place) (t : List Piece) → IsInProfile t → ¬ (AllowedIn place t) → judged place (Some t) ≡ Err wrong_place
 judged-elsewhere place t p n =
-    in-profile place t p ∙ ap (λ b. cond b (Ok t) (Err wrong_place)) (off (is_allowed_in place t) (Tests-allowed_in place t) n)
+    in-profile place t p ∙ ap (λ b. cond b (Ok t) (Err wrong_place)) (off (is_allowed_in place t) (Decides-allowed_in place t) n)
 
 -- from what the reading gave
 pub read-some : (o : Option (List Piece)) (t : List Piece) → needed o ≡ Ok t → o ≡ Some t
@@ -46,10 +47,10 @@ read-none place (Some t) e h = cc
 judged-outcome : (text : List ℕ) (place : Place) (t : List Piece) → needed (pieces_of text) ≡ Ok t → (p a : Bool) → is_in_profile t ≡ p → is_allowed_in place t ≡ a → IsOutcome text place (cond p (cond a (Ok t) (Err wrong_place)) (Err wrong_expression))
 judged-outcome text place t read false a e f =
     let P : List Piece → Type 0 = IsInProfile in
-    inl (refl, λ u s. let ok = spelled-read text u s in let same : u ≡ t = cc in let yes = Tests.back (Tests-profile t) (subst P same s.profile) in cc)
-judged-outcome text place t read true true e f = (read-spelled text t read (Tests.yes (Tests-profile t) e), Tests.yes (Tests-allowed_in place t) f)
+    inl (refl, λ u s. let ok = spelled-read text u s in let same : u ≡ t = cc in let yes = (Decides-profile t).1 (subst P same s.profile) in cc)
+judged-outcome text place t read true true e f = (read-spelled text t read ((Decides-profile t).0 e), (Decides-allowed_in place t).0 f)
 judged-outcome text place t read true false e f =
-    inr (refl, (t, read-spelled text t read (Tests.yes (Tests-profile t) e), λ a. let yes = Tests.back (Tests-allowed_in place t) a in cc))
+    inr (refl, (t, read-spelled text t read ((Decides-profile t).0 e), λ a. let yes = (Decides-allowed_in place t).1 a in cc))
 
 given : (text : List ℕ) (place : Place) (o : Option (List Piece)) → pieces_of text ≡ o → IsOutcome text place (judged place o)
 given text place None e = inl (refl, λ t s. let ok = spelled-read text t s in cc)
