@@ -4,7 +4,7 @@ mod reading;
 mod values;
 
 use std::alloc::Global;
-use wf_expr::{Context, Path, Place, Template};
+use wf_expr::{Place, Properties, Template};
 use wf_value::{Chars, Refusal, Scalar};
 
 pub fn text_of(alloc: Global, text: &str) -> Result<Scalar, Refusal> {
@@ -12,26 +12,26 @@ pub fn text_of(alloc: Global, text: &str) -> Result<Scalar, Refusal> {
 }
 
 /// The path of the names, of which `.` stands between each two.
-pub fn path_of(alloc: Global, names: &str) -> Result<Path, Refusal> {
-    let mut path = Path::new(alloc);
+pub fn path_of(alloc: Global, names: &str) -> Result<Vec<Chars>, Refusal> {
+    let mut path = Vec::new(alloc);
     for name in names.split('.') {
-        path = path.with(Chars::from_str(alloc, name)?)?;
+        path.push(Chars::from_str(alloc, name)?)?;
     }
     Ok(path)
 }
 
 pub fn set(
     alloc: Global,
-    context: &mut Context,
+    properties: &mut Properties,
     names: &str,
     value: Scalar,
 ) -> Result<(), Refusal> {
-    context.insert(path_of(alloc, names)?, value)
+    properties.insert(alloc, path_of(alloc, names)?.as_slice(), value)
 }
 
 /// The context of the rows.
-pub fn example(alloc: Global) -> Result<Context, Refusal> {
-    let mut context = Context::new(alloc);
+pub fn example(alloc: Global) -> Result<Properties, Refusal> {
+    let mut context = Properties::new(alloc);
     set(
         alloc,
         &mut context,

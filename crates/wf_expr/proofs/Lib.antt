@@ -1,7 +1,9 @@
+pub mod ComparisonLemmas
 pub mod Complete
-pub mod FindLemmas
 pub mod NameLemmas
+pub mod OutcomeLemmas
 pub mod ProfileLemmas
+pub mod PropertyLemmas
 mod Rows
 pub mod RunLemmas
 pub mod Sound

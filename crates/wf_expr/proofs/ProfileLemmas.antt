@@ -1,127 +1,68 @@
 -- The tests of a profile and what they tell.
-use Rattle.std.proofs.Common.{◌≡◌, ◌⊎◌, ◌≤◌, ℕ, Bool, true, false, cond, List, [], ◌∷◌, refl, ap, sym, ◌∙◌, inl, inr, leb-true, le-leb}
-use Rattle.std.specs.Prelude.{◌&&◌, ◌||◌, Option, Some, None, Result, Ok, Err, codes, All, sum_by}
+use Rattle.std.proofs.Common.{◌≡◌, ◌⊎◌, ◌≤◌, ℕ, Bool, true, false, List, [], ◌∷◌, refl, ap, sym, ◌∙◌, inl, inr, leb-true, le-leb}
+use Rattle.std.specs.Prelude.{◌&&◌, ◌||◌, codes, All, sum_by}
 use Rattle.std.specs.List.{list_all, AllByRecursion}
 use Rattle.std.specs.Str.{bytes_eq}
-use Rattle.std.specs.Cmp.Lexicographic.{same_text}
+use Rattle.std.specs.Bool.{Decides}
+use Rattle.std.proofs.lemmas.Bool.Decides.{Decides-and, Decides-or, Decides-by_and}
+use Rattle.std.proofs.lemmas.Slice.Eq.{bytes_eq-Decides}
 use Rattle.std.proofs.lemmas.List.Elements.{recursion_from_All, All-from_recursion}
-use Rattle.wf_value.specs.declared.refusal.Refusal.{Refusal}
-use Rattle.wf_value.specs.Gives.{Gives}
-use Rattle.wf_expr.specs.ContextValue.{same_path}
-use Rattle.wf_expr.specs.Faults.{wrong_expression, wrong_place}
-use Rattle.wf_expr.specs.Profile.{IsShared, IsInContext, InProfile, IsAllowed, OfReference, OfReferences, IsInProfile, AllowedIn, Spells, reference_count}
-use Rattle.wf_expr.specs.Parsing.{is_shared, is_in_context, is_path, is_allowed, of_reference, of_references, is_in_profile, is_allowed_in, judged, template_of}
-use Rattle.wf_expr.specs.Reading.{pieces_of, needed}
-use Rattle.wf_expr.specs.Outcome.{IsOutcome, SpellsNone}
+use Rattle.wf_expr.specs.Profile.{IsShared, IsInContext, InProfile, IsAllowed, OfReference, OfReferences, IsInProfile, AllowedIn, reference_count}
+use Rattle.wf_expr.specs.Parsing.{is_result, is_shared, is_in_context, is_path, is_allowed, of_reference, of_references, is_in_profile, is_allowed_in}
 use Rattle.wf_expr.specs.declared.place.Place.{Place}
 use Rattle.wf_expr.specs.declared.place.Place.TheVariants.{Workflow, Job}
 use Rattle.wf_expr.specs.declared.piece.Operand.{Operand}
 use Rattle.wf_expr.specs.declared.piece.Operand.TheVariants.{Quoted, Reference}
 use Rattle.wf_expr.specs.declared.piece.Piece.{Piece}
 use Rattle.wf_expr.specs.declared.piece.Piece.TheVariants.{Plain, Braced}
-use Rattle.wf_expr.proofs.FindLemmas.{same_path-self, same_path-same, same_name-self}
-use Rattle.wf_expr.proofs.SpellLemmas.{spelled-read, read-spelled}
 
--- a test that says exactly the fact
-record Tests (b : Bool) (P : Type 0) : Type 0 where
-  yes : b ≡ true → P
-  back : P → b ≡ true
+Decides-result : (ns : List (List ℕ)) → Decides (is_result ns) (ns ≡ codes "result" ∷ [])
+Decides-result [] = (λ e. cc, λ e. cc)
+Decides-result (n ∷ []) =
+    let d = bytes_eq-Decides n (codes "result") in
+    (λ e. ap (λ m. m ∷ []) (d.0 e), λ e. d.1 (cc))
+Decides-result (n ∷ m ∷ ns) = (λ e. cc, λ e. cc)
 
-Tests-or : {P Q : Type 0} (a b : Bool) → Tests a P → Tests b Q → Tests (a || b) (P ⊎ Q)
-Tests-or true b s t = record { yes = λ e. inl (s.yes refl); back = λ h. refl }
-Tests-or false b s t = record { yes = λ e. inr (t.yes e); back = λ h. elim h [ inl p ↦ let e = s.back p in cc | inr q ↦ t.back q ] }
+Decides-shared : (n : List ℕ) → Decides (is_shared n) (IsShared n)
+Decides-shared n = Decides-or _ _ (bytes_eq-Decides n (codes "github")) (Decides-or _ _ (bytes_eq-Decides n (codes "inputs")) (bytes_eq-Decides n (codes "vars")))
 
-Tests-and : {P Q : Type 0} (a b : Bool) → Tests a P → Tests b Q → Tests (a && b) (P × Q)
-Tests-and true b s t = record { yes = λ e. (s.yes refl, t.yes e); back = λ h. t.back h.1 }
-Tests-and false b s t = record { yes = λ e. let c : false ≡ true = e in cc; back = λ h. s.back h.0 }
+Decides-in_context : (c : List ℕ) (ns : List (List ℕ)) → Decides (is_in_context c ns) (IsInContext c ns)
+Decides-in_context c ns =
+    Decides-or _ _ (Decides-shared c) (Decides-or _ _ (bytes_eq-Decides c (codes "strategy")) (Decides-or _ _ (bytes_eq-Decides c (codes "matrix")) (Decides-and _ _ (bytes_eq-Decides c (codes "needs")) (Decides-result ns))))
 
-Tests-name : (m n : List ℕ) → Tests (bytes_eq m n) (m ≡ n)
-Tests-name m n = record { yes = λ e. same_text m n (sym e); back = λ e. ap (bytes_eq m) (sym e) ∙ same_name-self m }
+never : Decides false ⊥
+never = (λ e. cc, λ h. absurd h)
 
-Tests-path : (p q : List (List ℕ)) → Tests (same_path p q) (p ≡ q)
-Tests-path p q = record { yes = same_path-same p q; back = λ e. ap (same_path p) (sym e) ∙ same_path-self p }
+always : Decides true (Unit {0})
+always = (λ e. tt, λ h. refl)
 
-Tests-shared : (n : List ℕ) → Tests (is_shared n) (IsShared n)
-Tests-shared n = Tests-or _ _ (Tests-name n (codes "github")) (Tests-or _ _ (Tests-name n (codes "inputs")) (Tests-name n (codes "vars")))
+Decides-in_profile : (path : List (List ℕ)) → Decides (is_path path) (InProfile path)
+Decides-in_profile [] = never
+Decides-in_profile (c ∷ []) = never
+Decides-in_profile (c ∷ n ∷ ns) = Decides-in_context c ns
 
-Tests-in_context : (c : List ℕ) (ns : List (List ℕ)) → Tests (is_in_context c ns) (IsInContext c ns)
-Tests-in_context c ns =
-    Tests-or _ _ (Tests-shared c) (Tests-or _ _ (Tests-name c (codes "strategy")) (Tests-or _ _ (Tests-name c (codes "matrix")) (Tests-and _ _ (Tests-name c (codes "needs")) (Tests-path ns (codes "result" ∷ [])))))
+Decides-allowed : (place : Place) (path : List (List ℕ)) → Decides (is_allowed place path) (IsAllowed place path)
+Decides-allowed Job path = always
+Decides-allowed Workflow [] = never
+Decides-allowed Workflow (c ∷ ns) = Decides-shared c
 
-never : Tests false ⊥
-never = record { yes = λ e. cc; back = λ h. absurd h }
+Decides-all : {X : Type 0} (p : X → Bool) (P : X → Type 0) → ((x : X) → Decides (p x) (P x)) → (xs : List X) → Decides (list_all p xs) (All P xs)
+Decides-all p P t xs = Decides-by_and p P (list_all p) t refl (λ _ _. refl) xs
 
-always : Tests true (Unit {0})
-always = record { yes = λ e. tt; back = λ h. refl }
+Decides-reference : (p : List (List ℕ) → Bool) (P : List (List ℕ) → Type 0) → ((path : List (List ℕ)) → Decides (p path) (P path)) → (o : Operand) → Decides (of_reference p o) (OfReference P o)
+Decides-reference p P t (Quoted text) = always
+Decides-reference p P t (Reference path) = t path
 
-Tests-in_profile : (path : List (List ℕ)) → Tests (is_path path) (InProfile path)
-Tests-in_profile [] = never
-Tests-in_profile (c ∷ []) = never
-Tests-in_profile (c ∷ n ∷ ns) = Tests-in_context c ns
+Decides-references : (p : List (List ℕ) → Bool) (P : List (List ℕ) → Type 0) → ((path : List (List ℕ)) → Decides (p path) (P path)) → (q : Piece) → Decides (of_references p q) (OfReferences P q)
+Decides-references p P t (Plain text) = always
+Decides-references p P t (Braced os) = Decides-all (of_reference p) (OfReference P) (Decides-reference p P t) os
 
-Tests-allowed : (place : Place) (path : List (List ℕ)) → Tests (is_allowed place path) (IsAllowed place path)
-Tests-allowed Job path = always
-Tests-allowed Workflow [] = never
-Tests-allowed Workflow (c ∷ ns) = Tests-shared c
+pub Decides-profile : (ts : List Piece) → Decides (is_in_profile ts) (IsInProfile ts)
+Decides-profile ts =
+    let each = Decides-all (of_references is_path) (OfReferences InProfile) (Decides-references is_path InProfile Decides-in_profile) ts in
+    let few : Decides _ (sum_by reference_count ts ≤ 32) = (λ e. leb-true _ _ e, λ h. le-leb _ _ h) in
+    let both = Decides-and _ _ each few in
+    (λ e. let h = both.0 e in record { each = h.0; few = h.1 }, λ h. both.1 (h.each, h.few))
 
-Tests-list : {X : Type 0} (p : X → Bool) (P : X → Type 0) → ((x : X) → Tests (p x) (P x)) → (xs : List X) → Tests (list_all p xs) (AllByRecursion P xs)
-Tests-list p P t [] = always
-Tests-list p P t (x ∷ xs) = Tests-and (p x) (list_all p xs) (t x) (Tests-list p P t xs)
-
-Tests-all : {X : Type 0} (p : X → Bool) (P : X → Type 0) → ((x : X) → Tests (p x) (P x)) → (xs : List X) → Tests (list_all p xs) (All P xs)
-Tests-all p P t xs =
-    let r = Tests-list p P t xs in
-    record { yes = λ e. All-from_recursion P xs (r.yes e); back = λ h. r.back (recursion_from_All P xs h) }
-
-Tests-reference : (p : List (List ℕ) → Bool) (P : List (List ℕ) → Type 0) → ((path : List (List ℕ)) → Tests (p path) (P path)) → (o : Operand) → Tests (of_reference p o) (OfReference P o)
-Tests-reference p P t (Quoted text) = always
-Tests-reference p P t (Reference path) = t path
-
-Tests-references : (p : List (List ℕ) → Bool) (P : List (List ℕ) → Type 0) → ((path : List (List ℕ)) → Tests (p path) (P path)) → (q : Piece) → Tests (of_references p q) (OfReferences P q)
-Tests-references p P t (Plain text) = always
-Tests-references p P t (Braced os) = Tests-all (of_reference p) (OfReference P) (Tests-reference p P t) os
-
-Tests-profile : (ts : List Piece) → Tests (is_in_profile ts) (IsInProfile ts)
-Tests-profile ts =
-    let each = Tests-all (of_references is_path) (OfReferences InProfile) (Tests-references is_path InProfile Tests-in_profile) ts in
-    let few : Tests _ (sum_by reference_count ts ≤ 32) = record { yes = λ e. leb-true _ _ e; back = λ h. le-leb _ _ h } in
-    let both = Tests-and _ _ each few in
-    record { yes = λ e. let h = both.yes e in record { each = h.0; few = h.1 }; back = λ h. both.back (h.each, h.few) }
-
-Tests-allowed_in : (place : Place) (ts : List Piece) → Tests (is_allowed_in place ts) (AllowedIn place ts)
-Tests-allowed_in place ts = Tests-all (of_references (is_allowed place)) (OfReferences (IsAllowed place)) (Tests-references (is_allowed place) (IsAllowed place) (Tests-allowed place)) ts
-
--- what was read, judged
-judged-ok : (place : Place) (t : List Piece) → IsInProfile t → AllowedIn place t → judged place (Some t) ≡ Ok t
-judged-ok place t p a =
-    ap (λ b. cond b (cond (is_allowed_in place t) (Ok t) (Err wrong_place)) (Err wrong_expression)) (Tests.back (Tests-profile t) p)
-    ∙ ap (λ b. cond b (Ok t) (Err wrong_place)) (Tests.back (Tests-allowed_in place t) a)
-
-off : {P : Type 0} (b : Bool) → Tests b P → ¬ P → b ≡ false
-off true t n = absurd (n (t.yes refl))
-off false t n = refl
-
-judged-elsewhere : (place : Place) (t : List Piece) → IsInProfile t → ¬ (AllowedIn place t) → judged place (Some t) ≡ Err wrong_place
-judged-elsewhere place t p n =
-    ap (λ b. cond b (cond (is_allowed_in place t) (Ok t) (Err wrong_place)) (Err wrong_expression)) (Tests.back (Tests-profile t) p)
-    ∙ ap (λ b. cond b (Ok t) (Err wrong_place)) (off (is_allowed_in place t) (Tests-allowed_in place t) n)
-
-judged-off : (place : Place) (t : List Piece) → ¬ (IsInProfile t) → judged place (Some t) ≡ Err wrong_expression
-judged-off place t n =
-    ap (λ b. cond b (cond (is_allowed_in place t) (Ok t) (Err wrong_place)) (Err wrong_expression)) (off (is_in_profile t) (Tests-profile t) n)
-
-needed-some : (o : Option (List Piece)) (t : List Piece) → needed o ≡ Ok t → o ≡ Some t
-needed-some None t e = cc
-needed-some (Some u) t e = cc
-
-read-of : (text : List ℕ) (t : List Piece) → Spells text t → pieces_of text ≡ Some t
-read-of text t s = needed-some (pieces_of text) t (spelled-read text t s)
-
-judged-none : (text : List ℕ) (place : Place) (o : Option (List Piece)) → pieces_of text ≡ o → SpellsNone text → judged place o ≡ Err wrong_expression
-judged-none text place None e n = refl
-judged-none text place (Some t) e n = judged-off place t (λ p. n t (read-spelled text t (ap needed e) p))
-
--- an outcome is what the function gives
-pub outcome-gives : (text : List ℕ) (place : Place) (r : Result (List Piece) Refusal) → IsOutcome text place r → Gives (λ p. p) r (template_of text place)
-outcome-gives text place (Ok t) o = ap (judged place) (read-of text t o.0) ∙ judged-ok place t o.0.profile o.1
-outcome-gives text place (Err e) o = λ m. elim (o m) [ inl p ↦ judged-none text place (pieces_of text) refl p.1 ∙ ap Err (sym p.0) | inr p ↦ ap (judged place) (read-of text p.1.0 p.1.1) ∙ (judged-elsewhere place p.1.0 p.1.1.profile p.1.2 ∙ ap Err (sym p.0)) ]
+pub Decides-allowed_in : (place : Place) (ts : List Piece) → Decides (is_allowed_in place ts) (AllowedIn place ts)
+Decides-allowed_in place ts = Decides-all (of_references (is_allowed place)) (OfReferences (IsAllowed place)) (Decides-references (is_allowed place) (IsAllowed place) (Decides-allowed place)) ts

@@ -1,10 +1,13 @@
 -- Rows of the documentation and of the issue, computed from the definitions alone.
-use Rattle.std.proofs.Common.{◌≡◌, List, [], ◌∷◌, refl, false}
-use Rattle.std.specs.Prelude.{Ok, Err, codes}
-use Rattle.std.specs.Str.{chars}
+use Rattle.std.proofs.Common.{◌≡◌, ℕ, List, [], ◌∷◌, refl, false}
+use Rattle.std.specs.Prelude.{Ok, Err, codes, find}
+use Rattle.std.specs.Cmp.Lexicographic.{pointwise}
+use Rattle.std.specs.Option.{option_map}
+use Rattle.std.specs.Str.{bytes_eq, chars}
 use lib.Utf8.{encode}
+use Rattle.wf_value.specs.declared.scalar.Scalar.{Scalar}
 use Rattle.wf_value.specs.declared.scalar.Scalar.TheVariants.{Null, Truth, Text}
-use Rattle.wf_expr.specs.ContextValue.{Entries}
+use Rattle.wf_expr.specs.ContextValue.{Values}
 use Rattle.wf_expr.specs.Faults.{wrong_expression, wrong_place}
 use Rattle.wf_expr.specs.Letters.{begins_name, continues_name}
 use Rattle.wf_expr.specs.Parsing.{template_of}
@@ -26,7 +29,11 @@ row-read : template_of (codes "${{ github.workflow }}-${{ github.head_ref || git
 unfolding run chars encode begins_name continues_name
 row-read = refl
 
-row-value : template_value ((codes "github" ∷ codes "workflow" ∷ [], Text (codes "ci.json")) ∷ (codes "github" ∷ codes "run_id" ∷ [], Text (codes "1")) ∷ []) run_name ≡ Text (codes "ci.json-1")
+-- the values of these paths alone
+abbrev of_list : List (List (List ℕ) × Scalar) → Values
+of_list entries path = option_map (λ e. e.1) (find (λ e. pointwise bytes_eq e.0 path) entries)
+
+row-value : template_value (of_list ((codes "github" ∷ codes "workflow" ∷ [], Text (codes "ci.json")) ∷ (codes "github" ∷ codes "run_id" ∷ [], Text (codes "1")) ∷ [])) run_name ≡ Text (codes "ci.json-1")
 row-value = refl
 
 row-quote : template_of (codes "${{ 'it''s' }}") Workflow ≡ Ok (Braced (Quoted (codes "it's") ∷ []) ∷ [])
@@ -65,8 +72,8 @@ row-first_fault : template_of (codes "${{ matrix.x }}${{") Workflow ≡ Err wron
 unfolding run chars encode begins_name continues_name
 row-first_fault = refl
 
-abbrev falses : Entries
-falses = (codes "inputs" ∷ codes "none" ∷ [], Null) ∷ (codes "inputs" ∷ codes "no" ∷ [], Truth false) ∷ []
+abbrev falses : Values
+falses = of_list ((codes "inputs" ∷ codes "none" ∷ [], Null) ∷ (codes "inputs" ∷ codes "no" ∷ [], Truth false) ∷ [])
 
 -- the last where none is true, and the value itself where the piece stands alone
 row-last : template_value falses (Braced (Reference (codes "inputs" ∷ codes "none" ∷ []) ∷ Reference (codes "inputs" ∷ codes "no" ∷ []) ∷ []) ∷ []) ≡ Truth false

@@ -114,4 +114,5 @@ MayFollow (Braced os) ps = Unit {0}
 -- pieces, one after another
 abbrev pub SpellsPieces : List ℕ → List Piece → Type 0
 SpellsPieces text [] = text ≡ []
-SpellsPieces text (p ∷ ps) = (first rest : List ℕ) × (text ≡ first ++ rest) × SpellsPiece first p × MayFollow p ps × SpellsPieces rest ps
+SpellsPieces text (p ∷ ps) =
+    (first rest : List ℕ) × (text ≡ first ++ rest) × SpellsPiece first p × MayFollow p ps × SpellsPieces rest ps

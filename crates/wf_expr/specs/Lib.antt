@@ -1,3 +1,4 @@
+pub mod Comparison
 pub mod ContextValue
 pub mod Faults
 pub mod FlagValue
@@ -6,5 +7,7 @@ pub mod Letters
 pub mod Outcome
 pub mod Parsing
 pub mod Profile
+pub mod Properties
 pub mod Reading
+pub mod ScalarView
 pub mod TemplateValue

@@ -1,9 +1,9 @@
 -- Parsing a text for a place, as a function: what `Outcome` says, computed.
-use Rattle.std.specs.Prelude.{ℕ, List, [], ◌∷◌, Bool, true, false, ◌&&◌, ◌||◌, Option, Some, None, Result, Ok, Err, codes, sum_by, nat_le, if◌then◌else◌}
+use Rattle.std.specs.Prelude.{ℕ, List, [], ◌∷◌, Bool, true, false, ◌&&◌, ◌||◌, Option, Some, None, Result, Ok, Err}
+use Rattle.std.specs.Prelude.{codes, sum_by, nat_le, if◌then◌else◌}
 use Rattle.std.specs.List.{list_all}
 use Rattle.std.specs.Str.{bytes_eq}
 use Rattle.wf_value.specs.declared.refusal.Refusal.{Refusal}
-use Rattle.wf_expr.specs.ContextValue.{same_path}
 use Rattle.wf_expr.specs.Faults.{wrong_expression, wrong_place}
 use Rattle.wf_expr.specs.Profile.{reference_count}
 use Rattle.wf_expr.specs.Reading.{pieces_of}
@@ -14,12 +14,20 @@ use Rattle.wf_expr.specs.declared.piece.Operand.TheVariants.{Quoted, Reference}
 use Rattle.wf_expr.specs.declared.piece.Piece.{Piece}
 use Rattle.wf_expr.specs.declared.piece.Piece.TheVariants.{Plain, Braced}
 
+-- whether the one name is `result`
+abbrev pub is_result : List (List ℕ) → Bool
+is_result [] = false
+is_result (name ∷ []) = bytes_eq name (codes "result")
+is_result (name ∷ other ∷ names) = false
+
 abbrev pub is_shared : List ℕ → Bool
 is_shared name = bytes_eq name (codes "github") || (bytes_eq name (codes "inputs") || bytes_eq name (codes "vars"))
 
 abbrev pub is_in_context : List ℕ → List (List ℕ) → Bool
 is_in_context context names =
-    is_shared context || (bytes_eq context (codes "strategy") || (bytes_eq context (codes "matrix") || (bytes_eq context (codes "needs") && same_path names (codes "result" ∷ []))))
+    is_shared context
+    || (bytes_eq context (codes "strategy")
+    || (bytes_eq context (codes "matrix") || (bytes_eq context (codes "needs") && is_result names)))
 
 abbrev pub is_path : List (List ℕ) → Bool
 is_path [] = false

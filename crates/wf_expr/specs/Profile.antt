@@ -17,7 +17,10 @@ IsShared name = (name ≡ codes "github") ⊎ (name ≡ codes "inputs") ⊎ (nam
 -- whether the context has paths with these names behind the first: `needs` has `needs.ID.result` alone
 abbrev pub IsInContext : List ℕ → List (List ℕ) → Type 0
 IsInContext context names =
-    IsShared context ⊎ (context ≡ codes "strategy") ⊎ (context ≡ codes "matrix") ⊎ ((context ≡ codes "needs") × (names ≡ codes "result" ∷ []))
+    IsShared context
+    ⊎ (context ≡ codes "strategy")
+    ⊎ (context ≡ codes "matrix")
+    ⊎ ((context ≡ codes "needs") × (names ≡ codes "result" ∷ []))
 
 -- one of the six contexts, and one or more names
 abbrev pub InProfile : List (List ℕ) → Type 0

@@ -12,7 +12,8 @@ use Rattle.wf_expr.specs.declared.piece.Operand.TheVariants.{Quoted, Reference}
 use Rattle.wf_expr.specs.declared.piece.Piece.{Piece}
 use Rattle.wf_expr.specs.declared.piece.Piece.TheVariants.{Plain, Braced}
 use Rattle.wf_expr.specs.declared.reader.Reader.{Reader}
-use Rattle.wf_expr.specs.declared.reader.Reader.TheVariants.{InText, AfterDollar, AfterBrace, OperandDue, InName, AfterName, NameDue, InQuoted, AfterQuote, AfterOperand, AfterBar, AfterClose}
+use Rattle.wf_expr.specs.declared.reader.Reader.TheVariants.{InText, AfterDollar, AfterBrace, OperandDue, InName, AfterName}
+use Rattle.wf_expr.specs.declared.reader.Reader.TheVariants.{NameDue, InQuoted, AfterQuote, AfterOperand, AfterBar, AfterClose}
 
 -- 17 where there is nothing
 abbrev pub needed : {X : Type 0} → Option X → Result X Refusal
@@ -29,11 +30,16 @@ in_text ps word c = if c == 36 then AfterDollar ps word else InText ps (word ++ 
 
 abbrev pub after_operand : List Piece → List Operand → ℕ → Option Reader
 after_operand ps os c =
-    if c == 32 then Some (AfterOperand ps os) else if c == 124 then Some (AfterBar ps os) else if c == 125 then Some (AfterClose ps os) else None
+    if c == 32 then Some (AfterOperand ps os)
+    else if c == 124 then Some (AfterBar ps os)
+    else if c == 125 then Some (AfterClose ps os)
+    else None
 
 abbrev pub after_name : List Piece → List Operand → List (List ℕ) → ℕ → Option Reader
 after_name ps os names c =
-    if c == 32 then Some (AfterName ps os names) else if c == 46 then Some (NameDue ps os names) else after_operand ps (os ++ Reference names ∷ []) c
+    if c == 32 then Some (AfterName ps os names)
+    else if c == 46 then Some (NameDue ps os names)
+    else after_operand ps (os ++ Reference names ∷ []) c
 
 -- what one more character makes of it, or nothing where no template goes on so
 abbrev pub taken : Reader → ℕ → Option Reader
@@ -41,7 +47,10 @@ taken (InText ps word) c = Some (in_text ps word c)
 taken (AfterDollar ps word) c = if c == 123 then Some (AfterBrace ps word) else Some (in_text ps (word ++ codes "$") c)
 taken (AfterBrace ps word) c = if c == 123 then Some (OperandDue (ps ++ plain_piece word) []) else Some (in_text ps (word ++ codes "${") c)
 taken (OperandDue ps os) c =
-    if c == 32 then Some (OperandDue ps os) else if c == 39 then Some (InQuoted ps os []) else if begins_name c then Some (InName ps os [] (encode_utf8 c)) else None
+    if c == 32 then Some (OperandDue ps os)
+    else if c == 39 then Some (InQuoted ps os [])
+    else if begins_name c then Some (InName ps os [] (encode_utf8 c))
+    else None
 taken (NameDue ps os names) c =
     if c == 32 then Some (NameDue ps os names) else if begins_name c then Some (InName ps os names (encode_utf8 c)) else None
 taken (InName ps os names word) c =

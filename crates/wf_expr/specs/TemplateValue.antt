@@ -5,16 +5,16 @@ use Rattle.std.specs.List.{flat_map}
 use Rattle.wf_value.specs.declared.scalar.Scalar.{Scalar}
 use Rattle.wf_value.specs.declared.scalar.Scalar.TheVariants.{Text}
 use Rattle.wf_value.specs.ScalarValue.{is_truthy, scalar_text}
-use Rattle.wf_expr.specs.ContextValue.{Entries, value_at}
+use Rattle.wf_expr.specs.ContextValue.{Values}
 use Rattle.wf_expr.specs.declared.piece.Operand.{Operand}
 use Rattle.wf_expr.specs.declared.piece.Operand.TheVariants.{Quoted, Reference}
 use Rattle.wf_expr.specs.declared.piece.Piece.{Piece}
 use Rattle.wf_expr.specs.declared.piece.Piece.TheVariants.{Plain, Braced}
 
 -- a quoted text, or the context's value of the path, which is the empty text where it has none
-abbrev pub operand_value : Entries → Operand → Scalar
-operand_value context (Quoted text) = Text text
-operand_value context (Reference path) = unwrap_or (value_at context path) (Text [])
+abbrev pub operand_value : Values → Operand → Scalar
+operand_value values (Quoted text) = Text text
+operand_value values (Reference path) = unwrap_or (values path) (Text [])
 
 -- the last value, or the other where there is none
 abbrev pub last_or : Scalar → List Scalar → Scalar
@@ -25,14 +25,14 @@ last_or other (v ∷ vs) = last_or v vs
 abbrev pub first_true : Scalar → List Scalar → Scalar
 first_true other values = unwrap_or (find is_truthy values) (last_or other values)
 
-abbrev pub expression_value : Entries → List Operand → Scalar
-expression_value context operands = first_true (Text []) (map (operand_value context) operands)
+abbrev pub expression_value : Values → List Operand → Scalar
+expression_value values operands = first_true (Text []) (map (operand_value values) operands)
 
-abbrev pub piece_text : Entries → Piece → List ℕ
-piece_text context (Plain text) = text
-piece_text context (Braced operands) = scalar_text (expression_value context operands)
+abbrev pub piece_text : Values → Piece → List ℕ
+piece_text values (Plain text) = text
+piece_text values (Braced operands) = scalar_text (expression_value values operands)
 
 -- an expression alone gives its value, and any other template the text of its pieces
-abbrev pub template_value : Entries → List Piece → Scalar
-template_value context (Braced operands ∷ []) = expression_value context operands
-template_value context pieces = Text (flat_map (piece_text context) pieces)
+abbrev pub template_value : Values → List Piece → Scalar
+template_value values (Braced operands ∷ []) = expression_value values operands
+template_value values pieces = Text (flat_map (piece_text values) pieces)

@@ -1,61 +1,51 @@
-ghost use Rattle.std.specs.Prelude.{◌≡◌, ◌≢◌, ℕ, List, [], ◌∷◌, ◌++◌, OnOk, OnErr, IfErr, Some};
-ghost use Rattle.std.specs.Option.{option_copied};
-ghost use Rattle.wf_value.specs.Gives.{no_memory};
-ghost use Rattle.wf_expr.specs.ContextValue.{value_at};
+ghost use Rattle.std.specs.Prelude.{◌≡◌};
+ghost use Rattle.std.specs.Option.{option_map, option_or};
 
-use crate::path::Path;
-use std::alloc::Global;
-use std::marker::Model;
-use wf_value::{Refusal, Scalar};
+use crate::properties::Properties;
+use crate::scalar_view::ScalarView;
+use wf_value::Chars;
 
-/// A finite map from paths to scalars: the value of a path is that of its last entry. A contract sees
-/// the entries, in order.
-#[derive(Debug, Drop)]
-pub struct Context {
-    entries: Vec<(Path, Scalar)>,
+/// What gives the paths of references their values: a finite map from paths, which are lists of names,
+/// to scalars. GitHub Docs, "Contexts reference".
+pub trait Context {
+    ghost use Rattle.std.specs.Prelude.{ℕ, List, Option};
+    ghost use Rattle.wf_value.specs.declared.scalar.Scalar.{Scalar};
+    ghost use Rattle.wf_expr.specs.ScalarView.{shown};
+
+    ghost values: { Self → List (List ℕ) → Option Scalar };
+
+    /// The value of a path, if it has one. It takes no memory.
+    fn value_of(&self, path: &[Chars]) -> Option<ScalarView<'_>>
+        ensures { option_map shown result ≡ values self.now path.now };
 }
 
-impl Model for Context {
-    ghost use Rattle.wf_expr.specs.ContextValue.{Entries, coded_entries};
+impl Context for Properties {
+    ghost use Rattle.wf_expr.specs.Properties.{value_at};
 
-    ghost Value = { Entries };
+    ghost values = { value_at };
 
-    ghost coded = { coded_entries };
-
-    ghost view = { λ c. c.entries.items };
+    fn value_of(&self, path: &[Chars]) -> Option<ScalarView<'_>> {
+        match self.get(path) {
+            Some(value) => Some(ScalarView::of(value)),
+            None => None,
+        }
+    }
 }
 
-impl Context {
-    /// The context that holds no path.
-    pub fn new(alloc: Global) -> Self
-        ensures { result ≡ [] }
-    {
-        Context {
-            entries: Vec::new(alloc),
-        }
-    }
+/// A layer over another: where the upper one has no value for a path, the lower one's is looked up.
+#[derive(Drop)]
+pub struct Over<'a, U, L> {
+    pub upper: &'a U,
+    pub lower: &'a L,
+}
 
-    /// Sets the value of a path, in place of the one that it had.
-    pub fn insert(&mut self, path: Path, value: Scalar) -> Result<(), Refusal>
-        ensures ok { OnOk result (self.new ≡ self.old ++ (path, value) ∷ []) }
-        ensures value { OnOk result (value_at self.new path ≡ Some value) }
-        ensures others { OnOk result ((other : List (List ℕ)) → other ≢ path → value_at self.new other ≡ value_at self.old other) }
-        ensures err { OnErr result (self.new ≡ self.old) }
-        ensures memory { IfErr result (λ e. e ≡ no_memory) }
-    {
-        self.entries.push((path, value))?;
-        Ok(())
-    }
+impl<'a, U: Context, L: Context> Context for Over<'a, U, L> {
+    ghost values = { λ layers path. option_or (U.values layers.upper.now path) (L.values layers.lower.now path) };
 
-    /// The value of a path, if it has one.
-    pub fn get(&self, path: &Path) -> Option<&Scalar>
-        ensures { option_copied result ≡ value_at self.now path.now }
-    {
-        for entry in self.entries.iter().rev() {
-            if entry.0.same(path) {
-                return Some(&entry.1);
-            }
+    fn value_of(&self, path: &[Chars]) -> Option<ScalarView<'_>> {
+        match self.upper.value_of(path) {
+            Some(value) => Some(value),
+            None => self.lower.value_of(path),
         }
-        None
     }
 }

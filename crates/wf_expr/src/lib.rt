@@ -2,22 +2,26 @@
 //! expressions in workflows and actions" and "Contexts reference".
 #![tactic(auto)]
 
+mod case;
+mod comparison;
 mod context;
 mod flag;
 mod grammar;
 mod letters;
-mod path;
 mod piece;
 mod place;
 mod profile;
+mod properties;
 mod reader;
+mod scalar_view;
 mod template;
 mod value;
 
-pub use context::Context;
+pub use context::{Context, Over};
 pub use flag::is_flag_set;
-pub use grammar::spells_one_template;
-pub use path::Path;
-pub use piece::{Expression, Operand, Piece};
+pub use grammar::{spells_one_template, template_of_is_the_grammars};
+pub use piece::{Operand, Piece};
 pub use place::Place;
+pub use properties::Properties;
+pub use scalar_view::ScalarView;
 pub use template::Template;

@@ -1,62 +1,35 @@
-ghost use Rattle.std.specs.Prelude.{◌≡◌, ◌++◌, [], ◌∷◌, Ok};
-ghost use Rattle.wf_value.specs.Gives.{Gives};
-
-use crate::path::Path;
 use std::alloc::Global;
-use std::marker::Model;
-use wf_value::{Chars, Refusal};
+use wf_value::{Chars, Refusal, Sequence, TryCopy};
 
-/// An operand of an expression: a text in single quotes, or a reference.
-#[derive(Debug, Drop)]
+/// An operand of an expression: a text in single quotes, or a reference, which is the list of its
+/// names, that of its context first, as `github` and `head_ref` of `github.head_ref`.
+#[derive(Drop)]
 pub enum Operand {
     Quoted(Chars),
-    Reference(Path),
+    Reference(Sequence<Chars>),
 }
 
-/// The operands that `||` joins, from left to right. A contract sees their list.
-#[derive(Debug, Drop)]
-pub struct Expression {
-    operands: Vec<Operand>,
-}
-
-impl Model for Expression {
-    ghost use Rattle.std.specs.Prelude.{List};
-    ghost use Rattle.wf_expr.specs.declared.piece.Operand.{Operand};
-
-    ghost Value = { List Operand };
-
-    ghost view = { λ e. e.operands.items };
-}
-
-/// A piece of a template: text as it stands, or an expression in `${{ }}`.
-#[derive(Debug, Drop)]
+/// A piece of a template: text as it stands, or the operands that `||` joins in `${{ }}`.
+#[derive(Drop)]
 pub enum Piece {
     Plain(Chars),
-    Braced(Expression),
+    Braced(Sequence<Operand>),
 }
 
-impl Expression {
-    /// The expression of no operand, to which operands are added.
-    pub fn new(alloc: Global) -> Self
-        ensures { result ≡ [] }
-    {
-        Expression {
-            operands: Vec::new(alloc),
+impl TryCopy for Operand {
+    fn copy(&self, alloc: Global) -> Result<Self, Refusal> {
+        match self {
+            Operand::Quoted(text) => Ok(Operand::Quoted(text.copy(alloc)?)),
+            Operand::Reference(names) => Ok(Operand::Reference(names.copy(alloc)?)),
         }
     }
+}
 
-    /// The expression with one more operand at its end.
-    pub fn with(self, operand: Operand) -> Result<Self, Refusal>
-        ensures { Gives (λ e. e) result (Ok (self ++ operand ∷ [])) }
-    {
-        let Expression { mut operands } = self;
-        operands.push(operand)?;
-        Ok(Expression { operands })
-    }
-
-    pub fn as_slice(&self) -> &[Operand]
-        ensures { result.now ≡ self.now }
-    {
-        self.operands.as_slice()
+impl TryCopy for Piece {
+    fn copy(&self, alloc: Global) -> Result<Self, Refusal> {
+        match self {
+            Piece::Plain(text) => Ok(Piece::Plain(text.copy(alloc)?)),
+            Piece::Braced(operands) => Ok(Piece::Braced(operands.copy(alloc)?)),
+        }
     }
 }

@@ -1,5 +1,6 @@
 ghost use Rattle.std.specs.Prelude.{◌≡◌, ◌↔◌, ◌≤◌, [], ◌∷◌, IsTrue, All, codes, count_by, sum_by};
-ghost use Rattle.wf_expr.specs.Profile.{IsShared, IsInContext, InProfile, IsAllowed, OfReference, OfReferences, AllowedIn, IsInProfile, is_reference, reference_count};
+ghost use Rattle.wf_expr.specs.Profile.{IsShared, IsInContext, InProfile, IsAllowed, OfReference, OfReferences, AllowedIn};
+ghost use Rattle.wf_expr.specs.Profile.{IsInProfile, is_reference, reference_count};
 
 use crate::piece::{Operand, Piece};
 use crate::place::Place;
@@ -85,7 +86,7 @@ fn piece_in_profile(piece: &Piece) -> bool
 {
     match piece {
         Piece::Plain(_) => true,
-        Piece::Braced(expression) => operands_in_profile(expression.as_slice()),
+        Piece::Braced(operands) => operands_in_profile(operands.as_slice()),
     }
 }
 
@@ -117,7 +118,7 @@ fn piece_allowed(place: Place, piece: &Piece) -> bool
 {
     match piece {
         Piece::Plain(_) => true,
-        Piece::Braced(expression) => operands_allowed(place, expression.as_slice()),
+        Piece::Braced(operands) => operands_allowed(place, operands.as_slice()),
     }
 }
 
@@ -142,7 +143,7 @@ fn references(piece: &Piece) -> usize
 {
     match piece {
         Piece::Plain(_) => 0,
-        Piece::Braced(expression) => references_of(expression.as_slice()),
+        Piece::Braced(operands) => references_of(operands.as_slice()),
     }
 }
 

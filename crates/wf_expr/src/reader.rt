@@ -5,36 +5,34 @@ ghost use Rattle.wf_expr.specs.Letters.{begins_name};
 ghost use Rattle.wf_expr.specs.Reading.{needed, taken, ended, plain_piece, in_text, after_name, after_operand, pieces_of};
 
 use crate::letters::{begins_name, continues_name};
-use crate::path::Path;
-use crate::piece::{Expression, Operand, Piece};
-use crate::template::Template;
+use crate::piece::{Operand, Piece};
 use std::alloc::Global;
-use wf_value::{Chars, Code, Refusal};
+use wf_value::{Chars, Code, Refusal, Sequence};
 
 /// How far the reading of a template has come: the pieces so far, and of the present piece its
 /// operands, the names of the present reference and the present word, as far as they go.
-#[derive(Debug, Drop)]
+#[derive(Drop)]
 pub(crate) enum Reader {
     /// In text as it stands.
-    InText(Template, Chars),
+    InText(Sequence<Piece>, Chars),
     /// Behind a `$` that may begin a piece.
-    AfterDollar(Template, Chars),
+    AfterDollar(Sequence<Piece>, Chars),
     /// Behind a `${` that may begin a piece.
-    AfterBrace(Template, Chars),
+    AfterBrace(Sequence<Piece>, Chars),
     /// Where an operand is due.
-    OperandDue(Template, Expression),
-    InName(Template, Expression, Path, Chars),
-    AfterName(Template, Expression, Path),
+    OperandDue(Sequence<Piece>, Sequence<Operand>),
+    InName(Sequence<Piece>, Sequence<Operand>, Sequence<Chars>, Chars),
+    AfterName(Sequence<Piece>, Sequence<Operand>, Sequence<Chars>),
     /// Behind a dot.
-    NameDue(Template, Expression, Path),
-    InQuoted(Template, Expression, Chars),
+    NameDue(Sequence<Piece>, Sequence<Operand>, Sequence<Chars>),
+    InQuoted(Sequence<Piece>, Sequence<Operand>, Chars),
     /// Behind a quote, which ends the text or is the first of two.
-    AfterQuote(Template, Expression, Chars),
-    AfterOperand(Template, Expression),
+    AfterQuote(Sequence<Piece>, Sequence<Operand>, Chars),
+    AfterOperand(Sequence<Piece>, Sequence<Operand>),
     /// Behind the first `|` of two.
-    AfterBar(Template, Expression),
+    AfterBar(Sequence<Piece>, Sequence<Operand>),
     /// Behind the first `}` of two.
-    AfterClose(Template, Expression),
+    AfterClose(Sequence<Piece>, Sequence<Operand>),
 }
 
 fn with_char(word: Chars, c: char) -> Result<Chars, Refusal>
@@ -51,6 +49,21 @@ fn with_text(word: Chars, more: &str) -> Result<Chars, Refusal>
     let mut text = word.into_string();
     text.push_str(more)?;
     Ok(Chars::new(text))
+}
+
+/// The list with one more at its end.
+fn with<T: Drop>(list: Sequence<T>, item: T) -> Result<Sequence<T>, Refusal>
+    ensures { Gives (λ l. l) result (Ok (list ++ item ∷ [])) }
+{
+    let mut items = list.into_vec();
+    items.push(item)?;
+    Ok(Sequence::new(items))
+}
+
+fn none<T>(alloc: Global) -> Sequence<T>
+    ensures { result ≡ [] }
+{
+    Sequence::new(Vec::new(alloc))
 }
 
 fn empty(alloc: Global) -> Chars
@@ -70,7 +83,7 @@ impl Reader {
     pub(crate) fn new(alloc: Global) -> Reader
         ensures { result ≡ Reader.InText [] [] }
     {
-        Reader::InText(Template::new(alloc), empty(alloc))
+        Reader::InText(none(alloc), empty(alloc))
     }
 
     /// Takes one more character; 17 where no template goes on so.
@@ -99,7 +112,7 @@ impl Reader {
     }
 
     /// The template at the end of the text; 17 inside a piece `${{ .. }}`.
-    pub(crate) fn end(self) -> Result<Template, Refusal>
+    pub(crate) fn end(self) -> Result<Sequence<Piece>, Refusal>
         ensures { Gives (λ t. t) result (needed (ended self)) }
     {
         match self {
@@ -112,17 +125,17 @@ impl Reader {
 }
 
 /// The template with the text as one more piece, if there is some.
-fn with_plain(pieces: Template, word: Chars) -> Result<Template, Refusal>
+fn with_plain(pieces: Sequence<Piece>, word: Chars) -> Result<Sequence<Piece>, Refusal>
     ensures { Gives (λ t. t) result (Ok (pieces ++ plain_piece word)) }
 {
     if word.as_str().is_empty() {
         Ok(pieces)
     } else {
-        pieces.with(Piece::Plain(word))
+        with(pieces, Piece::Plain(word))
     }
 }
 
-fn in_text(pieces: Template, word: Chars, c: char) -> Result<Reader, Refusal>
+fn in_text(pieces: Sequence<Piece>, word: Chars, c: char) -> Result<Reader, Refusal>
     ensures { Gives (λ r. r) result (Ok (in_text pieces word c)) }
 {
     match c {
@@ -131,7 +144,7 @@ fn in_text(pieces: Template, word: Chars, c: char) -> Result<Reader, Refusal>
     }
 }
 
-fn after_dollar(pieces: Template, word: Chars, c: char) -> Result<Reader, Refusal>
+fn after_dollar(pieces: Sequence<Piece>, word: Chars, c: char) -> Result<Reader, Refusal>
     ensures { Gives (λ r. r) result (needed (taken (Reader.AfterDollar pieces word) c)) }
 {
     match c {
@@ -140,19 +153,24 @@ fn after_dollar(pieces: Template, word: Chars, c: char) -> Result<Reader, Refusa
     }
 }
 
-fn after_brace(alloc: Global, pieces: Template, word: Chars, c: char) -> Result<Reader, Refusal>
+fn after_brace(
+    alloc: Global,
+    pieces: Sequence<Piece>,
+    word: Chars,
+    c: char,
+) -> Result<Reader, Refusal>
     ensures { Gives (λ r. r) result (needed (taken (Reader.AfterBrace pieces word) c)) }
 {
     match c {
-        '{' => Ok(Reader::OperandDue(with_plain(pieces, word)?, Expression::new(alloc))),
+        '{' => Ok(Reader::OperandDue(with_plain(pieces, word)?, none(alloc))),
         _ => in_text(pieces, with_text(word, "${")?, c),
     }
 }
 
 fn operand_due(
     alloc: Global,
-    pieces: Template,
-    operands: Expression,
+    pieces: Sequence<Piece>,
+    operands: Sequence<Operand>,
     c: char,
 ) -> Result<Reader, Refusal>
     ensures { Gives (λ r. r) result (needed (taken (Reader.OperandDue pieces operands) c)) }
@@ -160,16 +178,16 @@ fn operand_due(
     match c {
         ' ' => Ok(Reader::OperandDue(pieces, operands)),
         '\'' => Ok(Reader::InQuoted(pieces, operands, empty(alloc))),
-        _ => name_from(alloc, pieces, operands, Path::new(alloc), c),
+        _ => name_from(alloc, pieces, operands, none(alloc), c),
     }
 }
 
 /// The begin of a name.
 fn name_from(
     alloc: Global,
-    pieces: Template,
-    operands: Expression,
-    names: Path,
+    pieces: Sequence<Piece>,
+    operands: Sequence<Operand>,
+    names: Sequence<Chars>,
     c: char,
 ) -> Result<Reader, Refusal>
     ensures { Gives (λ r. r) result (needed (if begins_name c then Some (Reader.InName pieces operands names (encode_utf8 c)) else None)) }
@@ -183,9 +201,9 @@ fn name_from(
 
 fn name_due(
     alloc: Global,
-    pieces: Template,
-    operands: Expression,
-    names: Path,
+    pieces: Sequence<Piece>,
+    operands: Sequence<Operand>,
+    names: Sequence<Chars>,
     c: char,
 ) -> Result<Reader, Refusal>
     ensures { Gives (λ r. r) result (needed (taken (Reader.NameDue pieces operands names) c)) }
@@ -197,9 +215,9 @@ fn name_due(
 }
 
 fn in_name(
-    pieces: Template,
-    operands: Expression,
-    names: Path,
+    pieces: Sequence<Piece>,
+    operands: Sequence<Operand>,
+    names: Sequence<Chars>,
     word: Chars,
     c: char,
 ) -> Result<Reader, Refusal>
@@ -209,13 +227,13 @@ fn in_name(
         let word = with_char(word, c)?;
         return Ok(Reader::InName(pieces, operands, names, word));
     }
-    after_name(pieces, operands, names.with(word)?, c)
+    after_name(pieces, operands, with(names, word)?, c)
 }
 
 fn after_name(
-    pieces: Template,
-    operands: Expression,
-    names: Path,
+    pieces: Sequence<Piece>,
+    operands: Sequence<Operand>,
+    names: Sequence<Chars>,
     c: char,
 ) -> Result<Reader, Refusal>
     ensures { Gives (λ r. r) result (needed (after_name pieces operands names c)) }
@@ -223,13 +241,13 @@ fn after_name(
     match c {
         ' ' => Ok(Reader::AfterName(pieces, operands, names)),
         '.' => Ok(Reader::NameDue(pieces, operands, names)),
-        _ => after_operand(pieces, operands.with(Operand::Reference(names))?, c),
+        _ => after_operand(pieces, with(operands, Operand::Reference(names))?, c),
     }
 }
 
 fn in_quoted(
-    pieces: Template,
-    operands: Expression,
+    pieces: Sequence<Piece>,
+    operands: Sequence<Operand>,
     word: Chars,
     c: char,
 ) -> Result<Reader, Refusal>
@@ -242,8 +260,8 @@ fn in_quoted(
 }
 
 fn after_quote(
-    pieces: Template,
-    operands: Expression,
+    pieces: Sequence<Piece>,
+    operands: Sequence<Operand>,
     word: Chars,
     c: char,
 ) -> Result<Reader, Refusal>
@@ -251,11 +269,15 @@ fn after_quote(
 {
     match c {
         '\'' => Ok(Reader::InQuoted(pieces, operands, with_char(word, c)?)),
-        _ => after_operand(pieces, operands.with(Operand::Quoted(word))?, c),
+        _ => after_operand(pieces, with(operands, Operand::Quoted(word))?, c),
     }
 }
 
-fn after_operand(pieces: Template, operands: Expression, c: char) -> Result<Reader, Refusal>
+fn after_operand(
+    pieces: Sequence<Piece>,
+    operands: Sequence<Operand>,
+    c: char,
+) -> Result<Reader, Refusal>
     ensures { Gives (λ r. r) result (needed (after_operand pieces operands c)) }
 {
     match c {
@@ -268,15 +290,15 @@ fn after_operand(pieces: Template, operands: Expression, c: char) -> Result<Read
 
 fn after_close(
     alloc: Global,
-    pieces: Template,
-    operands: Expression,
+    pieces: Sequence<Piece>,
+    operands: Sequence<Operand>,
     c: char,
 ) -> Result<Reader, Refusal>
     ensures { Gives (λ r. r) result (needed (taken (Reader.AfterClose pieces operands) c)) }
 {
     match c {
         '}' => {
-            let pieces = pieces.with(Piece::Braced(operands))?;
+            let pieces = with(pieces, Piece::Braced(operands))?;
             Ok(Reader::InText(pieces, empty(alloc)))
         }
         _ => fault(),
@@ -284,7 +306,7 @@ fn after_close(
 }
 
 /// The pieces of a text; 17 where no template is spelled so.
-pub(crate) fn read(alloc: Global, text: &str) -> Result<Template, Refusal>
+pub(crate) fn read(alloc: Global, text: &str) -> Result<Sequence<Piece>, Refusal>
     ensures { Gives (λ t. t) result (needed (pieces_of text.now)) }
 {
     let mut reader = Reader::new(alloc);

@@ -1,21 +1,31 @@
-ghost use Rattle.std.specs.Prelude.{◌≡◌, ◌⊎◌, List, ◌++◌, [], ◌∷◌, IfOk, IfErr};
+ghost use Rattle.std.specs.Prelude.{◌≡◌, ◌↔◌, ◌⊎◌, List, ℕ, IsTrue, Result, IfOk, IfErr, Ok, Err};
+ghost use Rattle.wf_expr.specs.Comparison.{lowered};
 ghost use Rattle.wf_value.specs.Gives.{Gives, no_memory};
-ghost use Rattle.wf_expr.specs.Outcome.{IsOutcome};
+ghost use Rattle.wf_value.specs.ScalarValue.{scalar_text};
+ghost use Rattle.wf_expr.specs.declared.piece.Piece.{Piece};
+ghost use Rattle.wf_value.specs.declared.refusal.Refusal.{Refusal};
+ghost use Rattle.wf_expr.specs.Faults.{wrong_expression, wrong_place};
+ghost use Rattle.wf_expr.specs.Outcome.{IsOutcome, SpellsNone, SpellsElsewhere};
+ghost use Rattle.wf_expr.specs.Parsing.{template_of};
+ghost use Rattle.wf_expr.specs.Profile.{Spells, AllowedIn};
+ghost use Rattle.wf_expr.specs.TemplateValue.{template_value};
 
+use crate::case::Case;
+use crate::comparison::are_text;
 use crate::context::Context;
 use crate::piece::Piece;
 use crate::place::Place;
 use crate::profile::{are_in_profile, pieces_allowed};
 use crate::reader::read;
-use crate::value::{joined, of_expression};
+use crate::value::{expression_value, joined};
 use std::alloc::Global;
 use std::marker::Model;
-use wf_value::{Code, Refusal, Scalar};
+use wf_value::{Code, Refusal, Scalar, Sequence, TryCopy};
 
 /// A text with pieces `${{ .. }}`. A contract sees the list of its pieces.
-#[derive(Debug, Drop)]
+#[derive(Drop)]
 pub struct Template {
-    pieces: Vec<Piece>,
+    pieces: Sequence<Piece>,
 }
 
 impl Model for Template {
@@ -24,52 +34,21 @@ impl Model for Template {
 
     ghost Value = { List Piece };
 
-    ghost view = { λ t. t.pieces.items };
+    ghost view = { λ t. t.pieces };
 }
 
 impl Template {
-    ghost use Rattle.wf_expr.specs.declared.piece.Piece.{Piece};
-    ghost use Rattle.wf_expr.specs.Faults.{wrong_expression, wrong_place};
-    ghost use Rattle.wf_expr.specs.Outcome.{SpellsNone, SpellsElsewhere};
-    ghost use Rattle.wf_expr.specs.Parsing.{template_of};
-    ghost use Rattle.wf_expr.specs.Profile.{Spells, AllowedIn};
-    ghost use Rattle.wf_expr.specs.TemplateValue.{template_value};
-
-    /// The template of no piece, which the empty text spells.
-    pub(crate) fn new(alloc: Global) -> Self
-        ensures { result ≡ [] }
-    {
-        Template {
-            pieces: Vec::new(alloc),
-        }
-    }
-
     /// The template that a text spells: 17 where it spells none, else 18 where a reference's context
     /// is not allowed in the place, and 50 where memory was refused.
     pub fn parse(alloc: Global, text: &str, place: Place) -> Result<Template, Refusal>
         ensures exact { Gives (λ p. p) result (template_of text.now place) }
+        ensures grammar { (outcome : Result (List Piece) Refusal) → IsOutcome text.now place outcome → Gives (λ p. p) result outcome }
         ensures ok { IfOk result (λ t. Spells text.now t × AllowedIn place t) }
-        ensures read { (t : List Piece) → Spells text.now t → AllowedIn place t → Gives (λ p. p) result (Ok t) }
-
-        // 17 exactly where the text spells no template.
         ensures expression { result ≡ Err wrong_expression → SpellsNone text.now }
-        ensures no_template { SpellsNone text.now → Gives (λ p. p) result (Err wrong_expression) }
-
-        // 18 exactly where it spells one with a context that the place does not allow.
         ensures place { result ≡ Err wrong_place → SpellsElsewhere text.now place }
-        ensures not_allowed { SpellsElsewhere text.now place → Gives (λ p. p) result (Err wrong_place) }
         ensures errors { IfErr result (λ e. (e ≡ wrong_expression) ⊎ (e ≡ wrong_place) ⊎ (e ≡ no_memory)) }
     {
         parsed(alloc, text, place)
-    }
-
-    /// The template with one more piece at its end.
-    pub(crate) fn with(self, piece: Piece) -> Result<Self, Refusal>
-        ensures { Gives (λ t. t) result (Ok (self ++ piece ∷ [])) }
-    {
-        let Template { mut pieces } = self;
-        pieces.push(piece)?;
-        Ok(Template { pieces })
     }
 
     pub fn pieces(&self) -> &[Piece]
@@ -79,25 +58,48 @@ impl Template {
     }
 
     /// The value of the template in the context. Its `Err` is 50 alone.
-    pub fn eval(&self, alloc: Global, context: &Context) -> Result<Scalar, Refusal>
-        ensures { Gives (λ s. s) result (Ok (template_value context.now self.now)) }
+    pub fn eval<C: Context>(&self, alloc: Global, context: &C) -> Result<Scalar, Refusal>
+        ensures { Gives (λ s. s) result (Ok (template_value (C.values context.now) self.now)) }
     {
         match self.pieces() {
-            [Piece::Braced(expression)] => of_expression(alloc, expression, context),
+            [Piece::Braced(operands)] => expression_value(operands.as_slice(), context).copy(alloc),
             pieces => Ok(Scalar::Text(joined(alloc, pieces, context)?)),
         }
+    }
+
+    /// Whether the text of the template's value in the context is this text. It takes no memory.
+    pub fn is_text<C: Context>(&self, context: &C, text: &[u8]) -> bool
+        ensures { IsTrue result ↔ (scalar_text (template_value (C.values context.now) self.now) ≡ text.now) }
+    {
+        are_text(self.pieces(), context, text, Case::Sensitive)
+    }
+
+    /// The same without the case of ASCII letters, as labels are compared. It takes no memory.
+    pub fn is_text_ignoring_ascii_case<C: Context>(&self, context: &C, text: &[u8]) -> bool
+        ensures { IsTrue result ↔
+            (lowered (scalar_text (template_value (C.values context.now) self.now)) ≡ lowered text.now) }
+    {
+        are_text(self.pieces(), context, text, Case::Insensitive)
+    }
+}
+
+impl TryCopy for Template {
+    fn copy(&self, alloc: Global) -> Result<Self, Refusal> {
+        Ok(Template {
+            pieces: self.pieces.copy(alloc)?,
+        })
     }
 }
 
 fn parsed(alloc: Global, text: &str, place: Place) -> Result<Template, Refusal>
-    ensures { IsOutcome text.now place result }
+    ensures { Gives (λ p. p) result (template_of text.now place) }
 {
-    let template = read(alloc, text)?;
-    if !are_in_profile(template.pieces()) {
+    let pieces = read(alloc, text)?;
+    if !are_in_profile(pieces.as_slice()) {
         return Err(Refusal::Numbered(Code::Expression));
     }
-    if !pieces_allowed(place, template.pieces()) {
+    if !pieces_allowed(place, pieces.as_slice()) {
         return Err(Refusal::Numbered(Code::PlaceOfContext));
     }
-    Ok(template)
+    Ok(Template { pieces })
 }

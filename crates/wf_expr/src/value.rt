@@ -1,83 +1,90 @@
-ghost use Rattle.std.specs.Prelude.{◌≡◌, ◌++◌, [], Ok, OnOk, IfErr, string_bytes};
+ghost use Rattle.std.specs.Prelude.{◌≡◌, ◌++◌, Ok, OnOk, IfErr, string_bytes};
 ghost use Rattle.std.specs.List.{flat_map};
 ghost use Rattle.wf_value.specs.Gives.{Gives, no_memory};
+ghost use Rattle.wf_value.specs.ScalarValue.{scalar_text};
+ghost use Rattle.wf_expr.specs.ScalarView.{shown};
 ghost use Rattle.wf_expr.specs.TemplateValue.{operand_value, expression_value, piece_text};
 
 use crate::context::Context;
-use crate::piece::{Expression, Operand, Piece};
+use crate::piece::{Operand, Piece};
+use crate::scalar_view::ScalarView;
+use itoa::Buffer;
 use std::alloc::Global;
-use wf_value::{Chars, Refusal, Scalar};
+use wf_value::{Chars, Refusal};
 
-fn empty_text(alloc: Global) -> Scalar
-    ensures { result ≡ Scalar.Text [] }
-{
-    Scalar::Text(Chars::new(String::new(alloc)))
-}
-
-/// The value of an operand; of a path that the context does not hold, the empty text.
-fn of_operand(alloc: Global, operand: &Operand, context: &Context) -> Result<Scalar, Refusal>
-    ensures { Gives (λ s. s) result (Ok (operand_value context.now operand.now)) }
+/// The value of an operand; of a path that the context has no value for, the empty text.
+fn operand_value<'a, C: Context>(operand: &'a Operand, context: &'a C) -> ScalarView<'a>
+    ensures { shown result ≡ operand_value (C.values context.now) operand.now }
 {
     match operand {
-        Operand::Quoted(text) => Ok(Scalar::Text(text.copy(alloc)?)),
-        Operand::Reference(path) => match context.get(path) {
-            Some(value) => value.copy(alloc),
-            None => Ok(empty_text(alloc)),
+        Operand::Quoted(text) => ScalarView::Text(text.as_str()),
+        Operand::Reference(names) => match context.value_of(names.as_slice()) {
+            Some(value) => value,
+            None => ScalarView::Text(""),
         },
     }
 }
 
 /// The first true value of the operands, else the last.
-fn of_operands(alloc: Global, operands: &[Operand], context: &Context) -> Result<Scalar, Refusal>
-    ensures { Gives (λ s. s) result (Ok (expression_value context.now operands.now)) }
+pub(crate) fn expression_value<'a, C: Context>(
+    operands: &'a [Operand],
+    context: &'a C,
+) -> ScalarView<'a>
+    ensures { shown result ≡ expression_value (C.values context.now) operands.now }
 {
-    let mut last = empty_text(alloc);
+    let mut last = ScalarView::Text("");
     for operand in operands {
-        last = of_operand(alloc, operand, context)?;
+        last = operand_value(operand, context);
         if last.truthy() {
-            return Ok(last);
+            return last;
         }
     }
-    Ok(last)
+    last
 }
 
-pub(crate) fn of_expression(
-    alloc: Global,
-    expression: &Expression,
-    context: &Context,
-) -> Result<Scalar, Refusal>
-    ensures { Gives (λ s. s) result (Ok (expression_value context.now expression.now)) }
-{
-    of_operands(alloc, expression.as_slice(), context)
-}
-
-/// Adds the text of a piece.
-fn push_piece(
-    alloc: Global,
-    text: &mut String,
-    piece: &Piece,
-    context: &Context,
-) -> Result<(), Refusal>
-    ensures ok { OnOk result (string_bytes text.new ≡ string_bytes text.old ++ piece_text context.now piece.now) }
+/// Adds the text of a scalar.
+fn push_scalar(text: &mut String, value: ScalarView<'_>) -> Result<(), Refusal>
+    ensures ok { OnOk result (string_bytes text.new ≡ string_bytes text.old ++ scalar_text (shown value.entry)) }
     ensures memory { IfErr result (λ e. e ≡ no_memory) }
 {
-    match piece {
-        Piece::Plain(plain) => text.push_str(plain.as_str())?,
-        Piece::Braced(expression) => {
-            let value = of_expression(alloc, expression, context)?;
-            text.push_str(value.text_of(alloc)?.as_str())?;
-        }
+    match value {
+        ScalarView::Null => {}
+        ScalarView::Truth(true) => text.push_str("true")?,
+        ScalarView::Truth(false) => text.push_str("false")?,
+        ScalarView::Whole(whole) => text.push_str(Buffer::new().format(whole))?,
+        ScalarView::Text(characters) => text.push_str(characters)?,
     }
     Ok(())
 }
 
+/// Adds the text of a piece.
+fn push_piece<C: Context>(text: &mut String, piece: &Piece, context: &C) -> Result<(), Refusal>
+    ensures ok { OnOk result (string_bytes text.new ≡ string_bytes text.old ++ piece_text (C.values context.now) piece.now) }
+    ensures memory { IfErr result (λ e. e ≡ no_memory) }
+{
+    match piece {
+        Piece::Plain(plain) => {
+            text.push_str(plain.as_str())?;
+            Ok(())
+        }
+        Piece::Braced(operands) => push_scalar(
+            text,
+            expression_value(operands.as_slice(), context),
+        ),
+    }
+}
+
 /// The text of the pieces, one after another.
-pub(crate) fn joined(alloc: Global, pieces: &[Piece], context: &Context) -> Result<Chars, Refusal>
-    ensures { Gives (λ t. t) result (Ok (flat_map (piece_text context.now) pieces.now)) }
+pub(crate) fn joined<C: Context>(
+    alloc: Global,
+    pieces: &[Piece],
+    context: &C,
+) -> Result<Chars, Refusal>
+    ensures { Gives (λ t. t) result (Ok (flat_map (piece_text (C.values context.now)) pieces.now)) }
 {
     let mut text = String::new(alloc);
     for piece in pieces {
-        push_piece(alloc, &mut text, piece, context)?;
+        push_piece(&mut text, piece, context)?;
     }
     Ok(Chars::new(text))
 }

@@ -2,8 +2,8 @@ use crate::wf_expr_tests::path_of;
 use std::alloc::Global;
 use std::process::Abort;
 use std::test::Fail;
-use wf_expr::{Expression, Operand, Piece, Place, Template};
-use wf_value::Refusal;
+use wf_expr::{Operand, Piece, Place, Template};
+use wf_value::{Refusal, same_items};
 
 fn assert_number(rt: &impl Abort, outcome: Result<Template, Refusal>, number: u64, text: &str) {
     match outcome {
@@ -152,15 +152,16 @@ fn shows_pieces(rt: HostRuntime) -> Result<(), Fail> {
     let pieces = template.pieces();
     assert_eq!(rt; pieces.len(), 2);
     match (&pieces[0], &pieces[1]) {
-        (Piece::Plain(text), Piece::Braced(expression)) => {
+        (Piece::Plain(text), Piece::Braced(operands)) => {
             assert_eq!(rt; text.as_str(), "a");
-            let operands = expression.as_slice();
+            let operands = operands.as_slice();
             assert_eq!(rt; operands.len(), 2);
             match (&operands[0], &operands[1]) {
                 (Operand::Quoted(text), Operand::Reference(path)) => {
                     assert_eq!(rt; text.as_str(), "b");
-                    assert!(rt; path.same(&path_of(alloc, "github.c-d.e")?));
-                    assert_eq!(rt; path.as_slice().len(), 3);
+                    assert!(rt;
+                        same_items(path.as_slice(), path_of(alloc, "github.c-d.e")?.as_slice())
+                    );
                 }
                 _ => panic!(rt; "other operands"),
             }
@@ -171,6 +172,5 @@ fn shows_pieces(rt: HostRuntime) -> Result<(), Fail> {
         Template::parse(alloc, "", Place::Workflow)?.pieces().len(),
         0
     );
-    assert_eq!(rt; Expression::new(alloc).as_slice().len(), 0);
     Ok(())
 }

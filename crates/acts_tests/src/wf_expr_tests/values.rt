@@ -1,9 +1,9 @@
-use crate::wf_expr_tests::{path_of, set, text_of, value_of};
+use crate::wf_expr_tests::{example, path_of, set, text_of, value_of};
 use std::alloc::Global;
 use std::process::Abort;
 use std::test::Fail;
-use wf_expr::{Context, is_flag_set};
-use wf_value::{Refusal, Scalar};
+use wf_expr::{Over, Place, Properties, Template, is_flag_set};
+use wf_value::{Chars, Refusal, Same, Scalar, TryCopy};
 
 fn assert_text(rt: &impl Abort, alloc: Global, text: &str, want: &str) -> Result<(), Refusal> {
     match value_of(alloc, text)? {
@@ -82,27 +82,116 @@ fn keeps_the_scalar_of_a_sole_piece(rt: HostRuntime) -> Result<(), Fail> {
 #[test]
 fn keeps_the_newest_value_of_a_path(rt: HostRuntime) -> Result<(), Fail> {
     let alloc = rt.alloc();
-    let mut context = Context::new(alloc);
+    let mut properties = Properties::new(alloc);
     let path = path_of(alloc, "github.workflow")?;
-    assert!(rt; context.get(&path).is_none());
-    set(alloc, &mut context, "github.workflow", Scalar::Whole(1))?;
-    set(alloc, &mut context, "github.workflow.x", Scalar::Whole(2))?;
-    set(alloc, &mut context, "github.workflow", Scalar::Whole(3))?;
+    assert!(rt; properties.get(path.as_slice()).is_none());
+    set(alloc, &mut properties, "github.workflow", Scalar::Whole(1))?;
+    set(
+        alloc,
+        &mut properties,
+        "github.workflow.x",
+        Scalar::Whole(2),
+    )?;
+    set(alloc, &mut properties, "github.workflow", Scalar::Whole(3))?;
+    for (names, want) in [("github.workflow", 3), ("github.workflow.x", 2)] {
+        let path = path_of(alloc, names)?;
+        let value = properties.get(path.as_slice()).expect(&rt, "a value");
+        assert!(rt; value.same(&Scalar::Whole(want)), "{names}");
+    }
     assert!(rt;
-        context
-            .get(&path)
-            .expect(&rt, "a value")
-            .same(&Scalar::Whole(3))
+        properties
+            .get(path_of(alloc, "github")?.as_slice())
+            .is_none()
     );
-    let longer = path_of(alloc, "github.workflow.x")?;
     assert!(rt;
-        context
-            .get(&longer)
-            .expect(&rt, "a value")
-            .same(&Scalar::Whole(2))
+        properties
+            .get(path_of(alloc, "github.workflow.y")?.as_slice())
+            .is_none()
     );
-    assert!(rt; context.get(&path_of(alloc, "github")?).is_none());
-    assert!(rt; !path.same(&longer));
+    Ok(())
+}
+
+#[test]
+fn puts_a_tree_at_a_name(rt: HostRuntime) -> Result<(), Fail> {
+    let alloc = rt.alloc();
+    let mut inner = Properties::new(alloc);
+    set(alloc, &mut inner, "a", Scalar::Whole(1))?;
+    set(alloc, &mut inner, "b.c", Scalar::Whole(2))?;
+    let mut properties = Properties::new(alloc);
+    set(alloc, &mut properties, "inputs.old", Scalar::Whole(3))?;
+    set(alloc, &mut properties, "vars.a", Scalar::Whole(4))?;
+    properties.nest(alloc, &Chars::from_str(alloc, "inputs")?, inner)?;
+    for (names, want) in [("inputs.a", 1), ("inputs.b.c", 2), ("vars.a", 4)] {
+        let path = path_of(alloc, names)?;
+        let value = properties.get(path.as_slice()).expect(&rt, "a value");
+        assert!(rt; value.same(&Scalar::Whole(want)), "{names}");
+    }
+    assert!(rt;
+        properties
+            .get(path_of(alloc, "inputs.old")?.as_slice())
+            .is_none()
+    );
+    Ok(())
+}
+
+#[test]
+fn looks_from_the_upper_layer_down(rt: HostRuntime) -> Result<(), Fail> {
+    let alloc = rt.alloc();
+    let lower = example(alloc)?;
+    let mut upper = Properties::new(alloc);
+    set(alloc, &mut upper, "matrix.os", text_of(alloc, "linux")?)?;
+    set(alloc, &mut upper, "github.run_id", Scalar::Null)?;
+    let layers = Over {
+        upper: &upper,
+        lower: &lower,
+    };
+    for (text, want) in [
+        ("${{ matrix.os }}-${{ github.workflow }}", "linux-ci.json"),
+        ("<${{ github.run_id }}>", "<>"),
+        ("${{ matrix.x || inputs.most }}", "9223372036854775807"),
+    ] {
+        let template = Template::parse(alloc, text, Place::Job)?;
+        assert!(rt; template.is_text(&layers, want.as_bytes()), "{text}");
+    }
+    Ok(())
+}
+
+#[test]
+fn compares_with_a_text(rt: HostRuntime) -> Result<(), Fail> {
+    let alloc = rt.alloc();
+    let context = example(alloc)?;
+    for (text, other, same, alike) in [
+        ("Linux", "Linux", true, true),
+        ("Linux", "linux", false, true),
+        ("Linux", "linu", false, false),
+        ("Linux", "linux2", false, false),
+        ("", "", true, true),
+        ("${{ inputs.none }}", "", true, true),
+        ("${{ inputs.none }}", "x", false, false),
+        ("${{ inputs.yes }}", "true", true, true),
+        ("${{ inputs.no }}", "FALSE", false, true),
+        ("v${{ inputs.least }}", "V-9223372036854775808", false, true),
+        ("${{ inputs.a-b_C9 }}.", "7.", true, true),
+        (
+            "${{ github.workflow }}-${{ 'A' }}",
+            "CI.json-a",
+            false,
+            true,
+        ),
+        ("é", "É", false, false),
+    ] {
+        let template = Template::parse(alloc, text, Place::Job)?.copy(alloc)?;
+        assert_eq!(rt;
+            template.is_text(&context, other.as_bytes()),
+            same,
+            "{text} {other}"
+        );
+        assert_eq!(rt;
+            template.is_text_ignoring_ascii_case(&context, other.as_bytes()),
+            alike,
+            "{text} {other}"
+        );
+    }
     Ok(())
 }
 

@@ -1,6 +1,6 @@
 use Rattle.std.proofs.lemmas.Iterator.{YieldsList-from_chars}
 use Rattle.std.proofs.lemmas.Iterator.Consumers.{YieldsList-turn, YieldsList-end}
-use Rattle.std.proofs.lemmas.Result.{err_from_is_err_and}
+use Rattle.wf_value.proofs.PassedOn.{passed_on}
 use Rattle.wf_expr.proofs.RunLemmas.{run-ok, run-err, run-end}
 use Rattle.wf_expr.proofs.reader.read.Goals as goal
 
@@ -20,5 +20,4 @@ returns c =
 pub returns-in_err-reader : goal.returns-in_err-reader
 returns-in_err-reader c =
     let t = YieldsList-turn (YieldsList-from_chars c.args.text.now c.utf8.text cc) c.loop-c.yielded _ c.loop-c.yielded_by _ _ c.in-Some.c c.in-Some.is c.next.ensures.steps in
-    let p = err_from_is_err_and c.from_residual.result c.from_residual.ensures.1 in
-    rw (p.1, p.2) (λ h. run-err _ _ _ _ _ _ t c.loop-c.invariant (c.in_err-reader.ensures h))
+    passed_on _ _ _ _ c.in_err-reader.field-0.0 c.from_residual.ensures.1 c.in_err-reader.ensures (run-err _ _ _ _ _ _ t c.loop-c.invariant)

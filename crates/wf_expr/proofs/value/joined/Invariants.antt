@@ -6,4 +6,5 @@ use Rattle.wf_expr.proofs.value.joined.Given as goal
 
 -- the pieces so far have been joined
 abbrev pub invariant-loop-piece : goal.invariant-loop-piece
-invariant-loop-piece l = string_bytes l.text ≡ flat_map (piece_text l.context) (take l.piece-index l.pieces)
+invariant-loop-piece g l =
+    string_bytes l.text ≡ flat_map (piece_text (g.C.Context.values l.context)) (take l.piece-index l.pieces)

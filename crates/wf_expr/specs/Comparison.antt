@@ -1,0 +1,21 @@
+-- Comparing texts with or without ASCII case. RFC 4790, section 9.2.1 (i;ascii-casemap).
+use Rattle.std.specs.Prelude.{◌≡◌, ◌↔◌, ℕ, List, ◌++◌, Option, map}
+use Rattle.std.specs.Char.{to_ascii_lowercase}
+use Rattle.std.specs.Option.{MatchOption}
+use Rattle.wf_expr.specs.declared.case.Case.{Case}
+use Rattle.wf_expr.specs.declared.case.Case.TheVariants.{Sensitive, Insensitive}
+
+-- the text with small letters for the large ones of ASCII
+abbrev pub lowered : List ℕ → List ℕ
+lowered = map to_ascii_lowercase
+
+-- what is compared of a text
+abbrev pub folded : Case → List ℕ → List ℕ
+folded Sensitive text = text
+folded Insensitive text = lowered text
+
+-- what is left of a text behind its front: nothing where it begins with another
+abbrev pub IsBehind : Case → List ℕ → List ℕ → Option (List ℕ) → Type 0
+IsBehind case front text rest =
+    (more : List ℕ) → (folded case (front ++ more) ≡ folded case text)
+    ↔ MatchOption rest ⊥ (λ r. folded case more ≡ folded case r)
