@@ -1,7 +1,5 @@
-mod GateLemmas
 mod ImageLemmas
 mod LaidLemmas
 mod RealFileLemmas
 mod RecordLemmas
-pub mod Since
-pub mod TornLemmas
+pub mod Walks

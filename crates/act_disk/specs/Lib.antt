@@ -1,9 +1,10 @@
+pub mod Failed
 pub mod Fuse
-pub mod Gate
 pub mod Image
 pub mod Images
-pub mod Failed
+pub mod Kept
 pub mod Laid
+pub mod Moments
+pub mod RealFile
 pub mod Record
 pub mod RecordLaws
-pub mod RealFile

@@ -7,6 +7,7 @@ use Rattle.std.specs.Prelude.{ℕ, List, []}
 pub record FileState : Type 0 where
   pub len : ℕ
   pub faults : ℕ
+  pub made : ℕ
 
 -- the premise that this file is as the disk model says, and that nobody else writes it
 pub IsHonestFile : FileState → Type 0

@@ -5,19 +5,23 @@ use Rattle.act_disk.specs.Laid.{laid}
 use Rattle.act_disk.specs.declared.call.Call.{Call}
 use Rattle.act_disk.specs.declared.call.Call.TheVariants.{Write, Sync}
 
--- A disk in memory: its bytes at first, the calls that it did, the first of them first, and how many calls failed.
+-- A disk in memory: its bytes at first, the writes and syncs that it did, the first of them first, how many calls failed,
+-- and how many were made, reads and failed ones among them.
 pub record Record : Type 0 where
   pub first : List ℕ
   pub calls : List Call
   pub faults : ℕ
+  pub made : ℕ
 
 -- a call of a disk in memory: done and noted in the record, or failed and counted
 abbrev pub Notes : {T E : Type 0} → Result T E → Call → Record → Record → Type 0
-Notes result call old new = MatchResult result (λ _. new ≡ record old { calls = old.calls ++ call ∷ [] }) (λ _. new ≡ record old { faults = old.faults + 1 })
+Notes result call old new = MatchResult result
+    (λ _. new ≡ record old { calls = old.calls ++ call ∷ []; made = old.made + 1 })
+    (λ _. new ≡ record old { faults = old.faults + 1; made = old.made + 1 })
 
 -- a disk with these bytes that has done nothing yet
 abbrev pub fresh : List ℕ → Record
-fresh bytes = record { first = bytes; calls = []; faults = 0 }
+fresh bytes = record { first = bytes; calls = []; faults = 0; made = 0 }
 
 -- In the next four the calls come newest first.
 

@@ -3,6 +3,7 @@ ghost use Rattle.act_disk.specs.Failed.{cannot_open};
 
 use crate::disk::Disk;
 use crate::fault::{DiskFault, counted};
+use crate::tally::CallTally;
 use std::fs::{File, Files, OpenOptions};
 use std::io;
 use std::marker::Model;
@@ -17,6 +18,7 @@ pub struct FileDisk {
     file: File,
     len: u64,
     faults: u64,
+    tally: CallTally,
 }
 
 impl Model for FileDisk {
@@ -24,7 +26,7 @@ impl Model for FileDisk {
 
     ghost Value = { FileState };
 
-    ghost view = { λ f. record { len = f.len; faults = f.faults } };
+    ghost view = { λ f. record { len = f.len; faults = f.faults; made = f.tally.calls } };
 }
 
 impl FileDisk {
@@ -62,6 +64,7 @@ impl FileDisk {
                 file,
                 len,
                 faults: 0,
+                tally: CallTally::new(),
             }),
             Err(_) => Err(Refusal::Numbered(Code::StreamFailed)),
         }
@@ -124,6 +127,8 @@ impl Disk for FileDisk {
 
     ghost size = { λ f. f.len };
 
+    ghost calls = { λ f. f.made };
+
     ghost fault_count = { λ f. f.faults };
 
     ghost honest = { IsHonestFile };
@@ -145,11 +150,13 @@ impl Disk for FileDisk {
     }
 
     fn read(&mut self, at: u64, buf: &mut [u8]) -> Result<(), DiskFault> {
+        self.tally.count();
         let outcome = self.file.read_exact_at(buf, at);
         counted(outcome, &mut self.faults)
     }
 
     fn write_at(&mut self, at: u64, bytes: &[u8]) -> Result<(), DiskFault> {
+        self.tally.count();
         let outcome = write_whole(&self.file, self.len, at, bytes);
         self.len = match outcome {
             Ok(reached) => reached,
@@ -159,6 +166,7 @@ impl Disk for FileDisk {
     }
 
     fn sync(&mut self) -> Result<(), DiskFault> {
+        self.tally.count();
         let outcome = self.file.sync_data();
         counted(outcome, &mut self.faults)
     }

@@ -7,9 +7,10 @@ mod failing;
 mod fault;
 mod file;
 mod fuse;
-mod gate;
 mod image;
 mod memory;
+mod synced;
+mod tally;
 
 pub use call::{Bytes, Call, Fill};
 pub use disk::Disk;
@@ -17,5 +18,5 @@ pub use failing::Failing;
 pub use fault::DiskFault;
 pub use file::FileDisk;
 pub use fuse::FuseDisk;
-pub use gate::write_behind_gate;
 pub use memory::MemoryDisk;
+pub use synced::write_synced;

@@ -1,4 +1,4 @@
-use act_disk::{Call, Disk, DiskFault, FileDisk, Fill, FuseDisk, MemoryDisk, write_behind_gate};
+use act_disk::{Call, Disk, DiskFault, FileDisk, Fill, FuseDisk, MemoryDisk, write_synced};
 use std::alloc::Global;
 use std::fs;
 use std::process::Abort;
@@ -175,17 +175,17 @@ fn fuse_fails_from_a_call_on(rt: HostRuntime) -> Result<(), Fail> {
 }
 
 #[test]
-fn body_stands_behind_its_gate(rt: HostRuntime) -> Result<(), Fail> {
+fn write_and_sync_are_two_calls(rt: HostRuntime) -> Result<(), Fail> {
     let alloc = rt.alloc();
     let mut disk = MemoryDisk::from_slice(alloc, &[0; 6])?;
-    assert!(rt; disk.len() == 6 && disk.faults() == 0);
-    write_behind_gate(&mut disk, 1, b"abc", 0, 0xA5)?;
-    assert_eq!(rt; disk.bytes(), [0xA5, 97, 98, 99, 0, 0].as_slice());
-    assert_eq!(rt; disk.calls().len(), 4);
-    let image = disk.image(alloc, 2, Fill::Gates)?;
-    assert_eq!(rt; image.bytes(), [0xA5, 97, 98, 99, 0, 0].as_slice());
-    let image = disk.image(alloc, 1, Fill::Half)?;
+    assert!(rt; disk.faults() == 0);
+    write_synced(&mut disk, 1, b"abc")?;
+    assert_eq!(rt; disk.bytes(), [0, 97, 98, 99, 0, 0].as_slice());
+    assert_eq!(rt; disk.calls().len(), 2);
+    let image = disk.image(alloc, 0, Fill::Half)?;
     assert_eq!(rt; image.bytes(), [0, 97, 0, 0, 0, 0].as_slice());
+    let image = disk.image(alloc, 1, Fill::Gates)?;
+    assert_eq!(rt; image.bytes(), [0, 0xA5, 0xA5, 0xA5, 0, 0].as_slice());
     Ok(())
 }
 

@@ -1,4 +1,4 @@
--- How a run of calls goes on.
+-- How a run of calls is put together from its calls: what each image since its start has.
 use Rattle.std.proofs.Common.{◌≡◌, inl, inr, ⊎_elim, ℕ, List, sym, subst, arith, Result, Ok, Err, OnOk, OnErr}
 use Rattle.act_disk.specs.Images.{Only, SameImages, Elapses, EachSince}
 
@@ -20,6 +20,14 @@ module _ {D : Type 0} (moment : D → ℕ) (images_since : D → ℕ → List �
     later = omega (arith, so_far.later, time.later);
     each = λ c left. ⊎_elim (so_far.each c) (here c) (time.nothing_else (moment old) c so_far.later left);
     before = λ t c le left. ⊎_elim (so_far.before t c le) (λ now. inr (here c now)) (time.nothing_else t c (omega (arith, le, so_far.later)) left);
+  }
+
+  -- a run whose images have more said of them than is asked
+  pub weakened : (old new : D) (P Q : List ℕ → Type 0) → EachSince moment images_since old new P → ((c : List ℕ) → P c → Q c) → EachSince moment images_since old new Q
+  weakened old new P Q since weaker = record {
+    later = since.later;
+    each = λ c left. weaker c (since.each c left);
+    before = λ t c le left. ⊎_elim inl (λ holds. inr (weaker c holds)) (since.before t c le left);
   }
 
   -- two runs, one after the other

@@ -2,7 +2,10 @@
 use Rattle.std.proofs.Common.{◌≡◌, ◌⊎◌, inl, inr, ℕ, ◌+◌, ◌-◌, ◌≤◌, min, List, ◌++◌, length, take, drop, sym, ◌∙◌, ap, arith}
 use Rattle.std.proofs.lemmas.List.{take-take, drop-take, drop-drop, take-append-drop}
 use Rattle.act_disk.specs.Images.{Torn, IsWritten}
-use Rattle.act_disk.specs.Gate.{SameRange}
+
+-- the same bytes stand in this range
+abbrev pub SameRange : ℕ → ℕ → List ℕ → List ℕ → Type 0
+SameRange from count old new = take count (drop from new) ≡ take count (drop from old)
 
 module _ (at n : ℕ) (old new : List ℕ) (torn : Torn at n old new) where
   -- what lies below the write and below the old end
