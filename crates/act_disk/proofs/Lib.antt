@@ -1,5 +1,7 @@
 mod ImageLemmas
 mod LaidLemmas
-mod RealFileLemmas
+mod ReadLemmas
 mod RecordLemmas
 pub mod Walks
+mod SyncLemmas
+mod WriteLemmas

@@ -1,10 +1,16 @@
 pub mod Failed
+pub mod FileCalls
+pub mod FileDisk
 pub mod Fuse
+pub mod HostFile
 pub mod Image
 pub mod Images
 pub mod Kept
 pub mod Laid
 pub mod Moments
-pub mod RealFile
+pub mod Noted
+pub mod Past
 pub mod Record
 pub mod RecordLaws
+pub mod SystemCalls
+pub mod SystemLaws

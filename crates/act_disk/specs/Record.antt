@@ -2,6 +2,7 @@
 use Rattle.std.specs.Prelude.{◌≡◌, ℕ, ◌+◌, ◌≤◌, List, [], ◌∷◌, ◌++◌, length, reverse, Result, MatchResult}
 use Rattle.act_disk.specs.Images.{Torn}
 use Rattle.act_disk.specs.Laid.{laid}
+use Rattle.act_disk.specs.Past.{LeftSince}
 use Rattle.act_disk.specs.declared.call.Call.{Call}
 use Rattle.act_disk.specs.declared.call.Call.TheVariants.{Write, Sync}
 
@@ -23,7 +24,7 @@ Notes result call old new = MatchResult result
 abbrev pub fresh : List ℕ → Record
 fresh bytes = record { first = bytes; calls = []; faults = 0; made = 0 }
 
--- In the next four the calls come newest first.
+-- In the next two the calls come newest first.
 
 -- what a read gives after these calls
 abbrev pub seen_after : List ℕ → List Call → List ℕ
@@ -37,10 +38,6 @@ LeftAfter first [] c = c ≡ first
 LeftAfter first (Write at bytes ∷ earlier) c = (d : List ℕ) × LeftAfter first earlier d × Torn at (length bytes) d c
 LeftAfter first (Sync ∷ earlier) c = c ≡ seen_after first earlier
 
--- a stop when t of these calls were done, or more of them, might have left this image
-abbrev pub LeftSince : List ℕ → List Call → ℕ → List ℕ → Type 0
-LeftSince first calls t c = (later : List Call) × (earlier : List Call) × (calls ≡ later ++ earlier) × (t ≤ length earlier) × LeftAfter first earlier c
-
 -- what a read gives
 abbrev pub bytes_of : Record → List ℕ
 bytes_of m = seen_after m.first (reverse m.calls)
@@ -50,4 +47,4 @@ abbrev pub MayLeave : Record → List ℕ → Type 0
 MayLeave m c = LeftAfter m.first (reverse m.calls) c
 
 abbrev pub MayHaveLeft : Record → ℕ → List ℕ → Type 0
-MayHaveLeft m t c = LeftSince m.first (reverse m.calls) t c
+MayHaveLeft m t c = LeftSince (LeftAfter m.first) (reverse m.calls) t c
