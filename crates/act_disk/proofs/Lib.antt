@@ -5,3 +5,4 @@ mod RecordLemmas
 pub mod Walks
 mod SyncLemmas
 mod WriteLemmas
+mod ZeroLemmas

@@ -1,6 +1,6 @@
 -- Reads of the system, one after another, as one read.
-use Rattle.std.proofs.Common.{◌≡◌, ◌+◌, ◌-◌, ◌≤◌, ◌↔◌, ℕ, List, [], ◌∷◌, ◌++◌, length, take, drop, IsTrue, refl, sym, ◌∙◌, ap, subst, arith}
-use Rattle.std.proofs.lemmas.List.{length-take-le, drop-drop, take_all, take-append-le, length-append, drop_at, take_at}
+use Rattle.std.proofs.Common.{◌≡◌, ◌+◌, ◌-◌, ◌≤◌, ℕ, List, ◌∷◌, ◌++◌, length, take, drop, IsTrue, refl, sym, ◌∙◌, ap, arith}
+use Rattle.std.proofs.lemmas.List.{length-take-le, drop-drop, take-append-le, drop_at, take_at}
 use Rattle.std.proofs.Math.Seq.{take-add}
 use borrow.Rule.Slice.PartMut.{put_mid}
 use Rattle.act_disk.specs.Past.{elapses_same, elapses_push, elapses_then}
@@ -23,8 +23,8 @@ module _ (left : List ℕ → Type 0) (held : List ℕ) where
         same = so_far.same;
         images = so_far.images;
         passed =
-        elapses_then (length old) (length mid) (length new) (MayHaveLeft left held old) (MayHaveLeft left held mid) (MayHaveLeft left held new) (MayLeave left held mid) (MayLeave left held new)
-        so_far.passed (elapses_push (MayLeave left held) (Gave at bytes) mid (length mid) (length new) (omega arith)) (λ c now. now);
+            elapses_then (length old) (length mid) (length new) (MayHaveLeft left held old) (MayHaveLeft left held mid) (MayHaveLeft left held new) (MayLeave left held mid) (MayLeave left held new)
+            so_far.passed (elapses_push (MayLeave left held) (Gave at bytes) mid (length mid) (length new) (omega arith)) (λ c now. now);
         honest = λ h. so_far.honest h.0;
         sound = so_far.sound;
       }

@@ -1,5 +1,5 @@
 -- One call more in the record of a disk in memory.
-use Rattle.std.proofs.Common.{◌≡◌, ◌⊎◌, inl, inr, ℕ, ◌+◌, ◌≤◌, List, [], ◌∷◌, ◌++◌, length, reverse, sym, ◌∙◌, ap, subst, arith, Result, Ok, Err, OnOk, OnErr, is_ok}
+use Rattle.std.proofs.Common.{◌≡◌, ℕ, List, [], ◌∷◌, ◌++◌, length, reverse, sym, ◌∙◌, ap, subst, arith, Result, Ok, Err, OnOk, OnErr, is_ok}
 use Rattle.std.proofs.lemmas.List.{reverse-append, length-append}
 use Rattle.act_disk.specs.Images.{Torn, IsWritten, Follows, LeavesAny, Elapses}
 use Rattle.act_disk.specs.Laid.{torn_refl, written_laid}

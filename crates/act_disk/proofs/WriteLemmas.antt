@@ -1,12 +1,12 @@
 -- Writes of the system, one after another, as one write.
-use Rattle.std.proofs.Common.{◌≡◌, ◌⊎◌, ◌↔◌, inl, inr, ⊎_elim, ℕ, zero, suc, ◌+◌, ◌-◌, ◌^◌, ◌<◌, ◌≤◌, min, max, List, [], ◌∷◌, ◌++◌, length, take, drop, replicate, refl, sym, ◌∙◌, ap, subst, arith, append_assoc}
-use Rattle.std.proofs.lemmas.List.{length-append, length-take-le, length-take, length-drop, length-replicate, take-take, take_all, take_at, drop_at, drop-drop, take-append-drop}
+use Rattle.std.proofs.Common.{◌≡◌, ◌↔◌, ⊎_elim, ℕ, zero, suc, ◌+◌, ◌-◌, ◌^◌, ◌<◌, ◌≤◌, min, List, [], ◌∷◌, ◌++◌, length, take, drop, replicate, refl, sym, ◌∙◌, ap, subst, arith, append_assoc}
+use Rattle.std.proofs.lemmas.List.{length-append, length-take-le, length-drop, length-replicate, take_at, drop_at, drop-drop}
 use Rattle.std.proofs.Math.Seq.{take-add}
-use Rattle.act_disk.specs.Images.{Torn, From, Follows, LeavesAny, Elapses}
+use Rattle.act_disk.specs.Images.{Torn, From, Follows}
 use Rattle.act_disk.specs.Kept.{front_kept, rest_kept}
-use Rattle.act_disk.specs.Laid.{laid, torn_refl, length-laid}
+use Rattle.act_disk.specs.Laid.{laid, torn_refl}
 use Rattle.act_disk.specs.Past.{elapses_same, elapses_push, elapses_then}
-use Rattle.act_disk.specs.SystemCalls.{FileCall, Wrote, WriteFailed, Grew, GrowthFailed, contents, MayLeave, MayHaveLeft, IsHonest}
+use Rattle.act_disk.specs.SystemCalls.{FileCall, Wrote, WriteFailed, Grew, GrowthFailed, contents, MayLeave, MayHaveLeft}
 use Rattle.act_disk.specs.FileCalls.{Puts, Breaks, MayHaveFailed, Passed, partly}
 
 -- a write within a range, after one of the range, is one of the range
@@ -138,9 +138,9 @@ module _ (left : List ℕ → Type 0) (held : List ℕ) where
     follows_more : (new : List FileCall) → Follows (Torn (at + count) (length rest)) (Images mid) (Images new) → Follows (Torn at (length bytes)) (Images old) (Images new)
     follows_more new more = record {
       each = λ c now.
-      let second = more.each c now in
-      let first = so_far.follows.each second.0 second.1 in
-      (first.0, first.1, torn_within at (length bytes) (at + count) (length rest) first.0 second.0 c (omega arith) (omega (arith, size-rest)) first.2 second.2);
+          let second = more.each c now in
+          let first = so_far.follows.each second.0 second.1 in
+          (first.0, first.1, torn_within at (length bytes) (at + count) (length rest) first.0 second.0 c (omega arith) (omega (arith, size-rest)) first.2 second.2);
       keeps = λ c now. more.keeps c (so_far.follows.keeps c now);
     }
 

@@ -1,5 +1,5 @@
 -- What one call of a disk makes of a file by calls of the system, the newest first: `old` are those before it, and `new` those after it.
-use Rattle.std.specs.Prelude.{◌≡◌, ◌⊎◌, ◌↔◌, ℕ, zero, suc, ◌+◌, ◌^◌, ◌<◌, ◌≤◌, max, List, [], ◌∷◌, length, take, drop, IsTrue, Bool, false}
+use Rattle.std.specs.Prelude.{◌≡◌, ◌⊎◌, ◌↔◌, ℕ, zero, suc, ◌+◌, ◌^◌, ◌<◌, ◌≤◌, max, List, ◌∷◌, length, take, IsTrue, Bool, false}
 use Rattle.act_disk.specs.Images.{Torn, Follows, LeavesAny, SameImages, Elapses}
 use Rattle.act_disk.specs.Laid.{laid}
 use Rattle.act_disk.specs.SystemCalls.{FileCall, is_sound, contents, MayLeave, MayHaveLeft, IsHonest}

@@ -1,5 +1,5 @@
 -- A disk in memory: what its calls make of its bytes, and of what a stop may leave.
-use Rattle.std.specs.Prelude.{◌≡◌, ℕ, ◌+◌, ◌≤◌, List, [], ◌∷◌, ◌++◌, length, reverse, Result, MatchResult}
+use Rattle.std.specs.Prelude.{◌≡◌, ℕ, ◌+◌, List, [], ◌∷◌, ◌++◌, length, reverse, Result, MatchResult}
 use Rattle.act_disk.specs.Images.{Torn}
 use Rattle.act_disk.specs.Laid.{laid}
 use Rattle.act_disk.specs.Past.{LeftSince}

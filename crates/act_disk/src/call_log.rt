@@ -28,8 +28,7 @@ impl CallLog {
     /// One call more.
     fn note(&mut self, _call: &SystemCall<'_>)
         ensures { self.new.calls ≡ call_of _call.now ∷ self.old.calls }
-    {
-    }
+    {}
 
     pub(crate) fn measured(&mut self, answer: Result<u64, CallError>)
         ensures { self.new.calls ≡ measured answer self.old.calls }

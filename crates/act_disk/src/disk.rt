@@ -54,7 +54,8 @@ pub trait Disk {
         ensures bytes { OnOk result (honest self.new → buf.new ≡ take (length buf.old) (drop at (seen self.old))) }
         ensures seen { honest self.new → seen self.new ≡ seen self.old }
         ensures images { honest self.new → SameImages (images self.old) (images self.new) }
-        ensures time { honest self.new → Elapses (moment self.old) (moment self.new) (images_since self.old) (images_since self.new) (images self.new) }
+        ensures time { honest self.new → Elapses (moment self.old) (moment self.new)
+            (images_since self.old) (images_since self.new) (images self.new) }
         ensures size { size self.new ≡ size self.old }
         ensures calls { calls self.new ≡ calls self.old + 1 }
         ensures faults { CountsFault result (fault_count self.old) (fault_count self.new) }
@@ -68,7 +69,8 @@ pub trait Disk {
         ensures failed { OnErr result (honest self.old → Torn at (length bytes.now) (seen self.old) (seen self.new)) }
         ensures images { honest self.old → Follows (Torn at (length bytes.now)) (images self.old) (images self.new) }
         ensures any { OnOk result (honest self.old → LeavesAny (Torn at (length bytes.now)) (images self.old) (images self.new)) }
-        ensures time { honest self.old → Elapses (moment self.old) (moment self.new) (images_since self.old) (images_since self.new) (images self.new) }
+        ensures time { honest self.old → Elapses (moment self.old) (moment self.new)
+            (images_since self.old) (images_since self.new) (images self.new) }
         ensures size { OnOk result (size self.new ≡ max (size self.old) (at + length bytes.now)) }
         ensures no_shorter { size self.old ≤ size self.new }
         ensures calls { calls self.new ≡ calls self.old + 1 }
@@ -81,7 +83,8 @@ pub trait Disk {
         ensures stable { OnOk result (honest self.old → Only (seen self.old) (images self.new)) }
         ensures failed { OnErr result (honest self.old → SameImages (images self.old) (images self.new)) }
         ensures seen { honest self.old → seen self.new ≡ seen self.old }
-        ensures time { honest self.old → Elapses (moment self.old) (moment self.new) (images_since self.old) (images_since self.new) (images self.new) }
+        ensures time { honest self.old → Elapses (moment self.old) (moment self.new)
+            (images_since self.old) (images_since self.new) (images self.new) }
         ensures size { size self.new ≡ size self.old }
         ensures calls { calls self.new ≡ calls self.old + 1 }
         ensures faults { CountsFault result (fault_count self.old) (fault_count self.new) }

@@ -54,7 +54,11 @@ impl<F: SystemFile> FileDisk<F> {
     pub fn into_file(self) -> F
         ensures { result ≡ file_of self }
     {
-        let FileDisk { file, tally: _tally, .. } = self;
+        let FileDisk {
+            file,
+            tally: _tally,
+            ..
+        } = self;
         file
     }
 }
@@ -93,7 +97,8 @@ impl<F: SystemFile> Disk for FileDisk<F> {
 
     ghost honest = { λ d. IsHonest F.SystemFile.held (F.SystemFile.calls d.file) };
 
-    ghost seen_is_image = { λ d _. contents_left F.SystemFile.left F.SystemFile.held F.SystemFile.held_is_left (F.SystemFile.calls d.file) };
+    ghost seen_is_image = { λ d _.
+        contents_left F.SystemFile.left F.SystemFile.held F.SystemFile.held_is_left (F.SystemFile.calls d.file) };
 
     ghost seen_length = { λ d honest. sym (d.known honest) };
 

@@ -1,7 +1,9 @@
 //! One call of a disk by calls of the system: whole ranges, and again where a signal interrupts.
-ghost use Rattle.std.specs.Prelude.{◌≡◌, ◌+◌, ◌<◌, ◌≤◌, ◌^◌, ◌∷◌, [], false, length, take, drop, IsTrue, MatchResult, IfOk, IfErr, OnOk, OnErr};
+ghost use Rattle.std.specs.Prelude.{◌≡◌, ◌+◌, ◌<◌, ◌≤◌, ◌^◌, ◌∷◌, [], false};
+ghost use Rattle.std.specs.Prelude.{length, take, drop, IsTrue, MatchResult, IfOk, IfErr, OnOk, OnErr};
 ghost use Rattle.act_disk.specs.FileCalls.{MayHaveFailed, Puts, Breaks, Reads};
-ghost use Rattle.act_disk.specs.SystemCalls.{Measured, Gave, Wrote, WriteFailed, Grew, GrowthFailed, Synced, SyncFailed, is_sound, contents, IsHonest};
+ghost use Rattle.act_disk.specs.SystemCalls.{Measured, Gave, Wrote, WriteFailed, Grew};
+ghost use Rattle.act_disk.specs.SystemCalls.{GrowthFailed, Synced, SyncFailed, is_sound, contents, IsHonest};
 
 use crate::fault::DiskFault;
 use crate::system_file::{CallError, SystemFile};

@@ -124,7 +124,8 @@ impl<D: Disk> Disk for FuseDisk<D> {
             (D.images_since self.old.disk) (D.images_since self.new.disk) (D.images self.new.disk) }
         ensures size { D.size self.new.disk ≡ D.size self.old.disk }
         ensures calls { self.new.made ≡ self.old.made + 1 }
-        ensures faults { CountsFault result (D.fault_count self.old.disk + self.old.refused) (D.fault_count self.new.disk + self.new.refused) }
+        ensures faults { CountsFault result (D.fault_count self.old.disk + self.old.refused)
+            (D.fault_count self.new.disk + self.new.refused) }
         ensures honest { D.honest self.new.disk → D.honest self.old.disk }
     {
         self.tally.count();
@@ -141,7 +142,8 @@ impl<D: Disk> Disk for FuseDisk<D> {
         ensures written { OnOk result (D.honest self.old.disk → IsWritten at bytes.now (D.seen self.old.disk) (D.seen self.new.disk)) }
         ensures failed { OnErr result (D.honest self.old.disk → Torn at (length bytes.now) (D.seen self.old.disk) (D.seen self.new.disk)) }
         ensures images { D.honest self.old.disk → Follows (Torn at (length bytes.now)) (D.images self.old.disk) (D.images self.new.disk) }
-        ensures any { OnOk result (D.honest self.old.disk → LeavesAny (Torn at (length bytes.now)) (D.images self.old.disk) (D.images self.new.disk)) }
+        ensures any { OnOk result (D.honest self.old.disk → LeavesAny (Torn at (length bytes.now))
+            (D.images self.old.disk) (D.images self.new.disk)) }
         ensures refused { self.old.refused < self.new.refused → D.honest self.old.disk
             → LeavesAny (Torn at (length bytes.now)) (D.images self.old.disk) (D.images self.new.disk) }
         ensures time { D.honest self.old.disk → Elapses (D.moment self.old.disk) (D.moment self.new.disk)
@@ -149,7 +151,8 @@ impl<D: Disk> Disk for FuseDisk<D> {
         ensures size { OnOk result (D.size self.new.disk ≡ max (D.size self.old.disk) (at + length bytes.now)) }
         ensures no_shorter { D.size self.old.disk ≤ D.size self.new.disk }
         ensures calls { self.new.made ≡ self.old.made + 1 }
-        ensures faults { CountsFault result (D.fault_count self.old.disk + self.old.refused) (D.fault_count self.new.disk + self.new.refused) }
+        ensures faults { CountsFault result (D.fault_count self.old.disk + self.old.refused)
+            (D.fault_count self.new.disk + self.new.refused) }
         ensures honest { D.honest self.new.disk ↔ D.honest self.old.disk }
     {
         self.tally.count();
@@ -173,7 +176,8 @@ impl<D: Disk> Disk for FuseDisk<D> {
             (D.images_since self.old.disk) (D.images_since self.new.disk) (D.images self.new.disk) }
         ensures size { D.size self.new.disk ≡ D.size self.old.disk }
         ensures calls { self.new.made ≡ self.old.made + 1 }
-        ensures faults { CountsFault result (D.fault_count self.old.disk + self.old.refused) (D.fault_count self.new.disk + self.new.refused) }
+        ensures faults { CountsFault result (D.fault_count self.old.disk + self.old.refused)
+            (D.fault_count self.new.disk + self.new.refused) }
         ensures honest { D.honest self.new.disk ↔ D.honest self.old.disk }
     {
         self.tally.count();

@@ -19,6 +19,7 @@ mod synced;
 mod system_call;
 mod system_file;
 mod tally;
+mod zeros;
 
 pub use call::{Bytes, Call, Fill};
 pub use disk::Disk;
@@ -32,3 +33,4 @@ pub use scripted_file::{ScriptedFile, Turn};
 pub use start::{Empty, Start};
 pub use synced::write_synced;
 pub use system_file::{CallError, SystemFile};
+pub use zeros::grow_to;

@@ -1,4 +1,5 @@
-ghost use Rattle.std.specs.Prelude.{◌≡◌, ◌↔◌, ◌+◌, ◌-◌, ◌^◌, ◌<◌, ◌≤◌, [], ◌∷◌, ◌++◌, max, length, take, drop, replicate, Ok, OnOk, OnErr, IsOk};
+ghost use Rattle.std.specs.Prelude.{◌≡◌, ◌↔◌, ◌+◌, ◌-◌, ◌^◌, ◌<◌, ◌≤◌, [], ◌∷◌};
+ghost use Rattle.std.specs.Prelude.{◌++◌, max, length, take, drop, replicate, Ok, OnOk, OnErr, IsOk};
 ghost use Rattle.act_disk.specs.declared.call.Call.TheVariants.{Write, Sync as Synced};
 ghost use Rattle.act_disk.specs.Images.{Torn, IsWritten, Follows, LeavesAny, SameImages, Only, Elapses, CountsFault};
 ghost use Rattle.act_disk.specs.Laid.{laid};
@@ -199,7 +200,8 @@ impl Disk for MemoryDisk {
         ensures bytes { OnOk result (buf.new ≡ take (length buf.old) (drop at (bytes_of self.old))) }
         ensures seen { bytes_of self.new ≡ bytes_of self.old }
         ensures images { SameImages (MayLeave self.old) (MayLeave self.new) }
-        ensures time { Elapses (length self.old.calls) (length self.new.calls) (MayHaveLeft self.old) (MayHaveLeft self.new) (MayLeave self.new) }
+        ensures time { Elapses (length self.old.calls) (length self.new.calls)
+            (MayHaveLeft self.old) (MayHaveLeft self.new) (MayLeave self.new) }
         ensures size { length (bytes_of self.new) ≡ length (bytes_of self.old) }
         ensures calls { self.new.made ≡ self.old.made + 1 }
         ensures faults { CountsFault result self.old.faults self.new.faults }
@@ -219,7 +221,8 @@ impl Disk for MemoryDisk {
         ensures failed { OnErr result (Torn at (length bytes.now) (bytes_of self.old) (bytes_of self.new)) }
         ensures images { Follows (Torn at (length bytes.now)) (MayLeave self.old) (MayLeave self.new) }
         ensures any { OnOk result (LeavesAny (Torn at (length bytes.now)) (MayLeave self.old) (MayLeave self.new)) }
-        ensures time { Elapses (length self.old.calls) (length self.new.calls) (MayHaveLeft self.old) (MayHaveLeft self.new) (MayLeave self.new) }
+        ensures time { Elapses (length self.old.calls) (length self.new.calls)
+            (MayHaveLeft self.old) (MayHaveLeft self.new) (MayLeave self.new) }
         ensures size { OnOk result (length (bytes_of self.new) ≡ max (length (bytes_of self.old)) (at + length bytes.now)) }
         ensures no_shorter { length (bytes_of self.old) ≤ length (bytes_of self.new) }
         ensures calls { self.new.made ≡ self.old.made + 1 }
@@ -238,7 +241,8 @@ impl Disk for MemoryDisk {
         ensures stable { OnOk result (Only (bytes_of self.old) (MayLeave self.new)) }
         ensures failed { OnErr result (SameImages (MayLeave self.old) (MayLeave self.new)) }
         ensures seen { bytes_of self.new ≡ bytes_of self.old }
-        ensures time { Elapses (length self.old.calls) (length self.new.calls) (MayHaveLeft self.old) (MayHaveLeft self.new) (MayLeave self.new) }
+        ensures time { Elapses (length self.old.calls) (length self.new.calls)
+            (MayHaveLeft self.old) (MayHaveLeft self.new) (MayLeave self.new) }
         ensures size { length (bytes_of self.new) ≡ length (bytes_of self.old) }
         ensures calls { self.new.made ≡ self.old.made + 1 }
         ensures faults { CountsFault result self.old.faults self.new.faults }

@@ -9,7 +9,7 @@ use std::alloc::Global;
 use std::marker::Model;
 
 /// How a call of a scripted file goes.
-#[derive(Clone, Copy, PartialEq, Eq)]
+#[derive(Clone, Copy)]
 pub enum Turn {
     Whole,
     /// So many bytes at most, and one at least. A call that moves none is whole.

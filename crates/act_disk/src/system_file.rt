@@ -2,7 +2,7 @@ ghost use Rattle.std.specs.Prelude.{◌≡◌, ◌<◌, ◌≤◌, List, ℕ, le
 ghost use Rattle.act_disk.specs.SystemCalls.{FileCall, measured, gave, wrote, grew, synced};
 
 /// Why a call of the system gave no answer.
-#[derive(Clone, Copy, PartialEq, Eq)]
+#[derive(Clone, Copy)]
 pub enum CallError {
     /// A signal came before it did anything.
     Interrupted,

@@ -24,6 +24,5 @@ impl CallTally {
     /// One call more.
     pub(crate) fn count(&mut self)
         ensures { self.new.calls ≡ self.old.calls + 1 }
-    {
-    }
+    {}
 }

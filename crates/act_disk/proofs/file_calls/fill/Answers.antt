@@ -1,7 +1,7 @@
-use Rattle.std.proofs.Common.{◌≡◌, ◌+◌, ◌-◌, ◌≤◌, List, length, take, drop, sym, subst, ◌∙◌, rules, arith}
+use Rattle.std.proofs.Common.{◌≡◌, ◌+◌, ◌-◌, ◌≤◌, List, length, take, drop, sym, subst, rules, arith}
 use Rattle.std.proofs.lemmas.List.{places, length-take, length-drop}
 use Rattle.act_disk.specs.FileCalls.{Reads}
-use Rattle.act_disk.specs.SystemCalls.{FileCall, Gave, contents, IsHonest}
+use Rattle.act_disk.specs.SystemCalls.{FileCall, contents, IsHonest}
 use Rattle.act_disk.proofs.ReadLemmas.{read_more, gave_bytes, filled_more}
 use Rattle.act_disk.proofs.file_calls.fill.Goals as goal
 
@@ -21,8 +21,8 @@ loop-count-preserved g c =
       within = search (rules, places);
       reads = subst (λ (l : List FileCall). Reads file.left file.held old l) (sym noted) (read_more file.left file.held from bytes old mid c.loop-count.invariant.reads);
       bytes = λ sound honest.
-      let now = subst (λ (l : List FileCall). IsHonest file.held l) noted honest in
-      filled_more c.args.at c.loop-count.count count c.loop-count.buf c.read_some.new.buf (contents file.held old) c.loop-count.invariant.within fits
-      (c.loop-count.invariant.bytes sound now.0)
-      (gave_bytes file.left file.held from bytes old mid c.loop-count.invariant.reads sound now);
+          let now = subst (λ (l : List FileCall). IsHonest file.held l) noted honest in
+          filled_more c.args.at c.loop-count.count count c.loop-count.buf c.read_some.new.buf (contents file.held old) c.loop-count.invariant.within fits
+          (c.loop-count.invariant.bytes sound now.0)
+          (gave_bytes file.left file.held from bytes old mid c.loop-count.invariant.reads sound now);
     }

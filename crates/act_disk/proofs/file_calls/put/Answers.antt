@@ -1,4 +1,4 @@
-use Rattle.std.proofs.Common.{◌≡◌, ◌==◌, ℕ, Bool, true, List, [], ◌∷◌, length, refl, sym, arith, rules}
+use Rattle.std.proofs.Common.{◌≡◌, ◌==◌, ℕ, true, List, [], ◌∷◌, length, refl, rules}
 use Rattle.act_disk.proofs.WriteLemmas.{grown_puts, growth_breaks}
 use Rattle.act_disk.proofs.file_calls.put.Goals as goal
 use Rattle.act_disk.proofs.file_calls.put.Goals.{in-Ok, in-Err}

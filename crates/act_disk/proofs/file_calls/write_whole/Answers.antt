@@ -1,5 +1,5 @@
-use Rattle.std.proofs.Common.{◌≡◌, ◌+◌, ◌-◌, ◌<◌, ◌≤◌, ◌∷◌, ℕ, List, length, take, drop, sym, subst, arith}
-use Rattle.std.proofs.lemmas.List.{length-take, length-drop, take_all}
+use Rattle.std.proofs.Common.{◌≡◌, ◌+◌, ◌-◌, ◌≤◌, ◌∷◌, ℕ, List, length, take, drop, sym, subst, arith}
+use Rattle.std.proofs.lemmas.List.{length-drop, take_all}
 use Rattle.act_disk.specs.FileCalls.{Puts, MayHaveFailed}
 use Rattle.act_disk.specs.SystemCalls.{FileCall, Wrote, WriteFailed}
 use Rattle.act_disk.proofs.WriteLemmas.{put_one, put_more, broke_first, broke_later}
@@ -20,7 +20,7 @@ loop-count-init g c =
       within = c.in-Ok.ensures.count;
       some = c.in-Ok.ensures.some;
       puts = subst (λ (l : List FileCall). Puts file.left file.held c.args.at c.args.bytes.now c.in-Ok.count old l) (sym c.in-Ok.ensures.calls)
-      (put_one file.left file.held c.args.at c.args.bytes.now c.in-Ok.count old);
+          (put_one file.left file.held c.args.at c.args.bytes.now c.in-Ok.count old);
     }
 
 pub loop-count-preserved : goal.loop-count-preserved
@@ -39,8 +39,8 @@ loop-count-preserved g c =
       within = omega (arith, short, length-drop count bytes, inv.within);
       some = λ here. omega (arith, inv.some here);
       puts = put_more file.left file.held c.args.at bytes count inv.within old mid inv.puts more new
-      (subst (λ (l : List FileCall). Puts file.left file.held (c.args.at + count) (drop count bytes) more mid l) (sym noted)
-      (put_one file.left file.held (c.args.at + count) (drop count bytes) more mid));
+          (subst (λ (l : List FileCall). Puts file.left file.held (c.args.at + count) (drop count bytes) more mid l) (sym noted)
+          (put_one file.left file.held (c.args.at + count) (drop count bytes) more mid));
     }
 
 pub returns-in-Err-write_some-clause-err : goal.returns-in-Err-write_some-clause-err
