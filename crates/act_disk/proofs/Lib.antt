@@ -1,7 +1,8 @@
-mod GateLemmas
 mod ImageLemmas
 mod LaidLemmas
-mod RealFileLemmas
+mod ReadLemmas
 mod RecordLemmas
-pub mod Since
-pub mod TornLemmas
+pub mod Walks
+mod SyncLemmas
+mod WriteLemmas
+mod ZeroLemmas

@@ -1,9 +1,10 @@
 -- One call more in the record of a disk in memory.
-use Rattle.std.proofs.Common.{◌≡◌, ◌⊎◌, inl, inr, ℕ, ◌+◌, ◌≤◌, List, [], ◌∷◌, ◌++◌, length, reverse, sym, ◌∙◌, ap, subst, arith, Result, Ok, Err, OnOk, OnErr, is_ok}
+use Rattle.std.proofs.Common.{◌≡◌, ℕ, List, [], ◌∷◌, ◌++◌, length, reverse, sym, ◌∙◌, ap, subst, arith, Result, Ok, Err, OnOk, OnErr, is_ok}
 use Rattle.std.proofs.lemmas.List.{reverse-append, length-append}
 use Rattle.act_disk.specs.Images.{Torn, IsWritten, Follows, LeavesAny, Elapses}
 use Rattle.act_disk.specs.Laid.{torn_refl, written_laid}
-use Rattle.act_disk.specs.Record.{Record, seen_after, LeftAfter, LeftSince, bytes_of, MayLeave, MayHaveLeft}
+use Rattle.act_disk.specs.Past.{LeftSince, elapses_same, elapses_push}
+use Rattle.act_disk.specs.Record.{Record, seen_after, LeftAfter, bytes_of, MayLeave, MayHaveLeft}
 use Rattle.act_disk.specs.declared.call.Call.{Call}
 use Rattle.act_disk.specs.declared.call.Call.TheVariants.{Write}
 
@@ -32,21 +33,6 @@ module _ (first : List ℕ) (calls : List Call) where
 
   any_write : (at : ℕ) (bytes : List ℕ) → LeavesAny (Torn at (length bytes)) (LeftAfter first calls) (LeftAfter first (Write at bytes ∷ calls))
   any_write at bytes = λ d c left torn. (d, left, torn)
-
-  elapses_same : (n : ℕ) → Elapses n n (LeftSince first calls) (LeftSince first calls) (LeftAfter first calls)
-  elapses_same n = record { later = omega arith; nothing_else = λ t c le left. inl left; keeps = λ t c le left. left }
-
-  since_more : (call : Call) (t : ℕ) (c : List ℕ) (later earlier : List Call) → call ∷ calls ≡ later ++ earlier → t ≤ length earlier → LeftAfter first earlier c
-      → LeftSince first calls t c ⊎ LeftAfter first (call ∷ calls) c
-  since_more call t c [] earlier split le left = inr (subst (λ (l : List Call). LeftAfter first l c) (sym split) left)
-  since_more call t c (x ∷ later) earlier split le left = inl (later, earlier, cc, le, left)
-
-  elapses_push : (call : Call) (n m : ℕ) → m ≡ n + 1 → Elapses n m (LeftSince first calls) (LeftSince first (call ∷ calls)) (LeftAfter first (call ∷ calls))
-  elapses_push call n m next = record {
-    later = omega arith;
-    nothing_else = λ t c le left. since_more call t c left.0 left.1 left.2 left.3 left.4;
-    keeps = λ t c le left. (call ∷ left.0, left.1, ap (λ (l : List Call). call ∷ l) left.2, left.3, left.4);
-  }
 
 -- The calls come oldest first.
 module _ (m n : Record) (first : n.first ≡ m.first) where
@@ -80,10 +66,10 @@ module _ (m n : Record) (first : n.first ≡ m.first) where
       where
         pushed : Grown call → Elapses (length m.calls) (length n.calls) (MayHaveLeft m) (MayHaveLeft n) (MayLeave n)
         pushed grown =
-            at_new (λ f calls. Elapses (length m.calls) (length n.calls) (MayHaveLeft m) (LeftSince f calls) (LeftAfter f calls)) call grown
-            (elapses_push m.first (reverse m.calls) call (length m.calls) (length n.calls) (omega (arith, ap length grown, length-append m.calls (call ∷ []))))
+            at_new (λ f calls. Elapses (length m.calls) (length n.calls) (MayHaveLeft m) (LeftSince (LeftAfter f) calls) (LeftAfter f calls)) call grown
+            (elapses_push (LeftAfter m.first) call (reverse m.calls) (length m.calls) (length n.calls) (omega (arith, ap length grown, length-append m.calls (call ∷ []))))
 
         kept : n.calls ≡ m.calls → Elapses (length m.calls) (length n.calls) (MayHaveLeft m) (MayHaveLeft n) (MayLeave n)
         kept same =
-            at_same (λ f calls. Elapses (length m.calls) (length n.calls) (MayHaveLeft m) (LeftSince f calls) (LeftAfter f calls)) same
-            (subst (λ (k : ℕ). Elapses (length m.calls) k (MayHaveLeft m) (MayHaveLeft m) (MayLeave m)) (sym (ap length same)) (elapses_same m.first (reverse m.calls) (length m.calls)))
+            at_same (λ f calls. Elapses (length m.calls) (length n.calls) (MayHaveLeft m) (LeftSince (LeftAfter f) calls) (LeftAfter f calls)) same
+            (subst (λ (k : ℕ). Elapses (length m.calls) k (MayHaveLeft m) (MayHaveLeft m) (MayLeave m)) (sym (ap length same)) (elapses_same (LeftAfter m.first) (length m.calls) (reverse m.calls)))

@@ -3,11 +3,12 @@ use Rattle.std.specs.Prelude.{◌≡◌, ℕ, ◌-◌, ◌==◌, Bool, false, if
 use Rattle.act_disk.specs.declared.failing.Failing.{Failing}
 use Rattle.act_disk.specs.declared.failing.Failing.TheVariants.{Once, From, Never}
 
--- the disk inside, which calls are to fail, and how many were failed
+-- the disk inside, which calls are to fail, how many were failed, and how many were made
 pub record Fused (D : Type 0) : Type 0 where
   pub disk : D
   pub failing : Failing
   pub refused : ℕ
+  pub made : ℕ
 
 -- whether the next call is to fail
 abbrev pub fails_now : Failing → Bool

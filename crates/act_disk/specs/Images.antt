@@ -19,9 +19,13 @@ pub record IsWritten (at : ℕ) (bytes old new : List ℕ) : Type 0 where
   pub torn : Torn at (length bytes) old new
   pub held : Holds new at bytes
 
+-- what the step may make of one of these images
+abbrev pub From : (List ℕ → List ℕ → Type 0) → (List ℕ → Type 0) → List ℕ → Type 0
+From step images c = (d : List ℕ) × images d × step d c
+
 -- each image after a step is what the step made of one before it, and those before it stay
 pub record Follows (step : List ℕ → List ℕ → Type 0) (old new : List ℕ → Type 0) : Type 0 where
-  pub each : (c : List ℕ) → new c → (d : List ℕ) × old d × step d c
+  pub each : (c : List ℕ) → new c → From step old c
   pub keeps : (c : List ℕ) → old c → new c
 
 -- whatever the step may make of an image before it is an image after it

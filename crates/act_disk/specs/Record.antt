@@ -1,25 +1,30 @@
 -- A disk in memory: what its calls make of its bytes, and of what a stop may leave.
-use Rattle.std.specs.Prelude.{◌≡◌, ℕ, ◌+◌, ◌≤◌, List, [], ◌∷◌, ◌++◌, length, reverse, Result, MatchResult}
+use Rattle.std.specs.Prelude.{◌≡◌, ℕ, ◌+◌, List, [], ◌∷◌, ◌++◌, length, reverse, Result, MatchResult}
 use Rattle.act_disk.specs.Images.{Torn}
 use Rattle.act_disk.specs.Laid.{laid}
+use Rattle.act_disk.specs.Past.{LeftSince}
 use Rattle.act_disk.specs.declared.call.Call.{Call}
 use Rattle.act_disk.specs.declared.call.Call.TheVariants.{Write, Sync}
 
--- A disk in memory: its bytes at first, the calls that it did, the first of them first, and how many calls failed.
+-- A disk in memory: its bytes at first, the writes and syncs that it did, the first of them first, how many calls failed,
+-- and how many were made, reads and failed ones among them.
 pub record Record : Type 0 where
   pub first : List ℕ
   pub calls : List Call
   pub faults : ℕ
+  pub made : ℕ
 
 -- a call of a disk in memory: done and noted in the record, or failed and counted
 abbrev pub Notes : {T E : Type 0} → Result T E → Call → Record → Record → Type 0
-Notes result call old new = MatchResult result (λ _. new ≡ record old { calls = old.calls ++ call ∷ [] }) (λ _. new ≡ record old { faults = old.faults + 1 })
+Notes result call old new = MatchResult result
+    (λ _. new ≡ record old { calls = old.calls ++ call ∷ []; made = old.made + 1 })
+    (λ _. new ≡ record old { faults = old.faults + 1; made = old.made + 1 })
 
 -- a disk with these bytes that has done nothing yet
 abbrev pub fresh : List ℕ → Record
-fresh bytes = record { first = bytes; calls = []; faults = 0 }
+fresh bytes = record { first = bytes; calls = []; faults = 0; made = 0 }
 
--- In the next four the calls come newest first.
+-- In the next two the calls come newest first.
 
 -- what a read gives after these calls
 abbrev pub seen_after : List ℕ → List Call → List ℕ
@@ -33,10 +38,6 @@ LeftAfter first [] c = c ≡ first
 LeftAfter first (Write at bytes ∷ earlier) c = (d : List ℕ) × LeftAfter first earlier d × Torn at (length bytes) d c
 LeftAfter first (Sync ∷ earlier) c = c ≡ seen_after first earlier
 
--- a stop when t of these calls were done, or more of them, might have left this image
-abbrev pub LeftSince : List ℕ → List Call → ℕ → List ℕ → Type 0
-LeftSince first calls t c = (later : List Call) × (earlier : List Call) × (calls ≡ later ++ earlier) × (t ≤ length earlier) × LeftAfter first earlier c
-
 -- what a read gives
 abbrev pub bytes_of : Record → List ℕ
 bytes_of m = seen_after m.first (reverse m.calls)
@@ -46,4 +47,4 @@ abbrev pub MayLeave : Record → List ℕ → Type 0
 MayLeave m c = LeftAfter m.first (reverse m.calls) c
 
 abbrev pub MayHaveLeft : Record → ℕ → List ℕ → Type 0
-MayHaveLeft m t c = LeftSince m.first (reverse m.calls) t c
+MayHaveLeft m t c = LeftSince (LeftAfter m.first) (reverse m.calls) t c

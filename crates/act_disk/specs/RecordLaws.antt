@@ -1,8 +1,9 @@
 -- A disk in memory meets the laws of a disk.
-use Rattle.std.specs.Prelude.{◌≡◌, ℕ, ◌≤◌, List, [], ◌∷◌, ◌++◌, length, reverse}
-use Rattle.std.proofs.Common.{refl, sym, ap, subst, arith}
-use Rattle.std.proofs.lemmas.List.{length-append, length-reverse}
+use Rattle.std.specs.Prelude.{ℕ, ◌≤◌, List, [], ◌∷◌, length, reverse}
+use Rattle.std.proofs.Common.{refl, arith}
+use Rattle.std.proofs.lemmas.List.{length-reverse}
 use Rattle.act_disk.specs.Laid.{torn_laid}
+use Rattle.act_disk.specs.Past as past
 use Rattle.act_disk.specs.Record.{Record, seen_after, LeftAfter, bytes_of, MayLeave, MayHaveLeft}
 use Rattle.act_disk.specs.declared.call.Call.{Call}
 use Rattle.act_disk.specs.declared.call.Call.TheVariants.{Write, Sync}
@@ -16,11 +17,7 @@ pub seen_may_stay : (m : Record) → MayLeave m (bytes_of m)
 seen_may_stay m = seen_left m.first (reverse m.calls)
 
 pub left_now : (m : Record) (t : ℕ) (c : List ℕ) → t ≤ length m.calls → MayLeave m c → MayHaveLeft m t c
-left_now m t c le left = ([], reverse m.calls, refl, omega (arith, length-reverse m.calls), left)
-
-last_left : (first : List ℕ) (calls : List Call) (c : List ℕ) (later earlier : List Call) → calls ≡ later ++ earlier → length calls ≤ length earlier → LeftAfter first earlier c → LeftAfter first calls c
-last_left first calls c [] earlier split le left = subst (λ (l : List Call). LeftAfter first l c) (sym split) left
-last_left first calls c (x ∷ later) earlier split le left = absurd (omega (arith, ap length split, length-append later earlier))
+left_now m t c le left = past.left_now (LeftAfter m.first) (reverse m.calls) t c (omega (arith, le, length-reverse m.calls)) left
 
 pub left_last : (m : Record) (c : List ℕ) → MayHaveLeft m (length m.calls) c → MayLeave m c
-left_last m c left = last_left m.first (reverse m.calls) c left.0 left.1 left.2 (omega (arith, length-reverse m.calls, left.3)) left.4
+left_last m c left = past.left_last (LeftAfter m.first) (reverse m.calls) c (left.0, left.1, left.2, omega (arith, length-reverse m.calls, left.3), left.4)

@@ -3,7 +3,7 @@ ghost use Rattle.std.specs.Prelude.{◌≡◌};
 use std::marker::Model;
 
 /// Bytes that a call gave to a disk. A contract sees the list of them.
-#[derive(Debug, Drop)]
+#[derive(Drop)]
 pub struct Bytes {
     bytes: Vec<u8>,
 }
@@ -32,7 +32,7 @@ impl Bytes {
 }
 
 /// A call that a disk in memory did.
-#[derive(Debug, Drop)]
+#[derive(Drop)]
 pub enum Call {
     /// These bytes were written from this offset on.
     Write { at: u64, bytes: Bytes },
@@ -40,7 +40,7 @@ pub enum Call {
 }
 
 /// What an image has of the writes since the last sync.
-#[derive(Clone, Copy, Debug, PartialEq, Eq)]
+#[derive(Clone, Copy, PartialEq, Eq)]
 pub enum Fill {
     /// Nothing.
     Old,

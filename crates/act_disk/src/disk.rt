@@ -9,8 +9,9 @@ use crate::fault::DiskFault;
 /// end may hold any bytes after a stop; other bytes stay. After a sync that succeeded a stop leaves
 /// what a read gives. A sync that failed and a read make nothing stable.
 ///
-/// What is said of bytes and images holds of an honest disk, and a call can't change whether a disk
-/// is honest. The length and the count of faults are right of any disk.
+/// What is said of bytes and images holds of an honest disk. A write and a sync leave a disk as honest
+/// as it was. A read may end that, by bytes that the disk never held: what is said of a read holds where
+/// the disk is honest after it. The length and the counts of calls and faults are right of any disk.
 pub trait Disk {
     /// The bytes that a read gives.
     ghost seen: { Self → List ℕ };
@@ -27,6 +28,9 @@ pub trait Disk {
 
     /// The length in bytes, as a call finds it.
     ghost size: { Self → ℕ };
+
+    /// How many calls of `read`, `write_at` and `sync` were made, those that failed among them.
+    ghost calls: { Self → ℕ };
 
     /// How many calls have failed.
     ghost fault_count: { Self → ℕ };
@@ -47,13 +51,15 @@ pub trait Disk {
     fn read(&mut self, at: u64, buf: &mut [u8]) -> Result<(), DiskFault>
         requires within { at + length buf.old ≤ size self.old }
         requires countable { fault_count self.old < u64.MAX }
-        ensures bytes { OnOk result (honest self.old → buf.new ≡ take (length buf.old) (drop at (seen self.old))) }
-        ensures seen { honest self.old → seen self.new ≡ seen self.old }
-        ensures images { honest self.old → SameImages (images self.old) (images self.new) }
-        ensures time { honest self.old → Elapses (moment self.old) (moment self.new) (images_since self.old) (images_since self.new) (images self.new) }
+        ensures bytes { OnOk result (honest self.new → buf.new ≡ take (length buf.old) (drop at (seen self.old))) }
+        ensures seen { honest self.new → seen self.new ≡ seen self.old }
+        ensures images { honest self.new → SameImages (images self.old) (images self.new) }
+        ensures time { honest self.new → Elapses (moment self.old) (moment self.new)
+            (images_since self.old) (images_since self.new) (images self.new) }
         ensures size { size self.new ≡ size self.old }
+        ensures calls { calls self.new ≡ calls self.old + 1 }
         ensures faults { CountsFault result (fault_count self.old) (fault_count self.new) }
-        ensures honest { honest self.new ↔ honest self.old };
+        ensures honest { honest self.new → honest self.old };
 
     /// Writes over what is there, and past the end. Past the old end a disk may hold any bytes up to
     /// `at`. A write that fails may have done anything in its range and past the old end.
@@ -63,9 +69,11 @@ pub trait Disk {
         ensures failed { OnErr result (honest self.old → Torn at (length bytes.now) (seen self.old) (seen self.new)) }
         ensures images { honest self.old → Follows (Torn at (length bytes.now)) (images self.old) (images self.new) }
         ensures any { OnOk result (honest self.old → LeavesAny (Torn at (length bytes.now)) (images self.old) (images self.new)) }
-        ensures time { honest self.old → Elapses (moment self.old) (moment self.new) (images_since self.old) (images_since self.new) (images self.new) }
+        ensures time { honest self.old → Elapses (moment self.old) (moment self.new)
+            (images_since self.old) (images_since self.new) (images self.new) }
         ensures size { OnOk result (size self.new ≡ max (size self.old) (at + length bytes.now)) }
         ensures no_shorter { size self.old ≤ size self.new }
+        ensures calls { calls self.new ≡ calls self.old + 1 }
         ensures faults { CountsFault result (fault_count self.old) (fault_count self.new) }
         ensures honest { honest self.new ↔ honest self.old };
 
@@ -75,8 +83,10 @@ pub trait Disk {
         ensures stable { OnOk result (honest self.old → Only (seen self.old) (images self.new)) }
         ensures failed { OnErr result (honest self.old → SameImages (images self.old) (images self.new)) }
         ensures seen { honest self.old → seen self.new ≡ seen self.old }
-        ensures time { honest self.old → Elapses (moment self.old) (moment self.new) (images_since self.old) (images_since self.new) (images self.new) }
+        ensures time { honest self.old → Elapses (moment self.old) (moment self.new)
+            (images_since self.old) (images_since self.new) (images self.new) }
         ensures size { size self.new ≡ size self.old }
+        ensures calls { calls self.new ≡ calls self.old + 1 }
         ensures faults { CountsFault result (fault_count self.old) (fault_count self.new) }
         ensures honest { honest self.new ↔ honest self.old };
 

@@ -1,140 +1,110 @@
-ghost use Rattle.std.specs.Prelude.{◌≡◌, ◌+◌, ◌≤◌, max, length, IfOk, IfErr};
-ghost use Rattle.act_disk.specs.Failed.{cannot_open};
+ghost use Rattle.std.specs.Prelude.{◌≡◌, ◌+◌, ◌<◌, ◌^◌};
+ghost use Rattle.act_disk.specs.FileCalls.{IsLong, IsSoundUntil, length_after};
 
 use crate::disk::Disk;
 use crate::fault::{DiskFault, counted};
-use std::fs::{File, Files, OpenOptions};
-use std::io;
-use std::marker::Model;
-use std::os::unix::fs::FileExt;
-use std::path::Path;
+use crate::file_calls::{measure, put, read_whole, sync_whole};
+use crate::system_file::SystemFile;
+use crate::tally::CallTally;
 use wf_value::{Code, Refusal};
 
-/// A disk over a file of the system. That the file is an honest disk, and that nobody else writes it, is
-/// a premise.
+/// A disk over a file of the system, whose calls may be short, be interrupted, and fail.
+///
+/// After a write or a sync that failed it makes no call of the system any more, and each read, write and
+/// sync fails, until the file is opened anew: the system may have dropped what it could not write, and
+/// would say of a later sync that it succeeded.
 #[derive(Drop)]
-pub struct FileDisk {
-    file: File,
+pub struct FileDisk<F: SystemFile> {
+    file: F,
     len: u64,
     faults: u64,
+    failed: bool,
+    tally: CallTally,
+    ghost known: { IsLong F.SystemFile.held (F.SystemFile.calls file) len },
+    ghost sound: { IsSoundUntil failed (F.SystemFile.calls file) },
 }
 
-impl Model for FileDisk {
-    ghost use Rattle.act_disk.specs.RealFile.{FileState};
+impl<F: SystemFile> FileDisk<F> {
+    ghost use Rattle.std.specs.Prelude.{◌≡◌, ◌∷◌, IsTrue, IfOk, IfErr};
+    ghost use Rattle.act_disk.specs.Failed.{cannot_open};
+    ghost use Rattle.act_disk.specs.FileDisk.{file_of, len_of, faults_of};
+    ghost use Rattle.act_disk.specs.SystemCalls.{Measured, is_sound};
 
-    ghost Value = { FileState };
-
-    ghost view = { λ f. record { len = f.len; faults = f.faults } };
-}
-
-impl FileDisk {
-    /// Opens a file that is there, to be read and written. 61 where it can't be opened.
-    pub fn open<R: Files<File = File>>(rt: &R, path: &str) -> Result<FileDisk, Refusal>
-        ensures faults { IfOk result (λ disk. disk.faults ≡ 0) }
+    /// A disk over an open file, of which no call has failed. 61 where the system doesn't tell its length.
+    pub fn over(file: F) -> Result<Self, Refusal>
+        requires { IsTrue (is_sound (F.calls file)) }
+        ensures calls { IfOk result (λ disk. F.calls (file_of disk) ≡ Measured (len_of disk) ∷ F.calls file) }
+        ensures faults { IfOk result (λ disk. faults_of disk ≡ 0) }
         ensures refused { IfErr result (λ refusal. refusal ≡ cannot_open) }
     {
-        let opened = OpenOptions::new().read(true).write(true).open(rt, path);
-        FileDisk::over(opened)
-    }
-
-    /// Opens a file, and makes an empty one first where there is none. Its folder is synced, so that
-    /// the file stays under its name. 61 where it can't be opened, or its folder can't be synced.
-    pub fn create<R: Files<File = File>>(rt: &R, path: &str) -> Result<FileDisk, Refusal>
-        ensures faults { IfOk result (λ disk. disk.faults ≡ 0) }
-        ensures refused { IfErr result (λ refusal. refusal ≡ cannot_open) }
-    {
-        let opened = OpenOptions::new()
-            .read(true)
-            .write(true)
-            .create(true)
-            .open(rt, path);
-        let disk = FileDisk::over(opened)?;
-        sync_folder(rt, path).map_err(|_| Refusal::Numbered(Code::StreamFailed))?;
-        Ok(disk)
-    }
-
-    fn over(opened: io::Result<File>) -> Result<FileDisk, Refusal>
-        ensures faults { IfOk result (λ disk. disk.faults ≡ 0) }
-        ensures refused { IfErr result (λ refusal. refusal ≡ cannot_open) }
-    {
-        match measured(opened) {
-            Ok((file, len)) => Ok(FileDisk {
+        let mut file = file;
+        match measure(&mut file) {
+            Ok(len) => Ok(FileDisk {
                 file,
                 len,
                 faults: 0,
+                failed: false,
+                tally: CallTally::new(),
             }),
             Err(_) => Err(Refusal::Numbered(Code::StreamFailed)),
         }
     }
+
+    /// The file.
+    pub fn into_file(self) -> F
+        ensures { result ≡ file_of self }
+    {
+        let FileDisk {
+            file,
+            tally: _tally,
+            ..
+        } = self;
+        file
+    }
 }
 
-/// An open file with its length in bytes.
-fn measured(opened: io::Result<File>) -> io::Result<(File, u64)> {
-    let file = opened?;
-    let len = file.metadata()?.len();
-    Ok((file, len))
-}
-
-/// Makes the names in a file's folder stable.
-fn sync_folder<R: Files<File = File>>(rt: &R, path: &str) -> io::Result<()> {
-    let folder = match Path::new(path).parent() {
-        Some(folder) if !folder.as_str().is_empty() => folder,
-        _ => Path::new("."),
-    };
-    File::open(rt, folder)?.sync_all()
-}
-
-/// Writes the whole range, and says how long the file is then. A write of no bytes past the end makes
-/// the file longer too.
-fn write_whole(file: &File, len: u64, at: u64, bytes: &[u8]) -> io::Result<u64>
-    ensures { IfOk result (λ reached. reached ≡ max len (at + length bytes.now)) }
+/// The length of a file after the first so many bytes of a write.
+fn partly_long(len: u64, at: u64, count: usize) -> u64
+    requires { 0 < count → at + count < 2 ^ 64 }
+    ensures { result ≡ length_after at count len }
 {
-    let count = bytes.len() as u64;
-    if count > u64::MAX - at {
-        return Err(io::ErrorKind::InvalidInput.into());
+    if count == 0 {
+        return len;
     }
-    if count == 0 && at > len {
-        file.set_len(at)?;
-    } else {
-        file.write_all_at(bytes, at)?;
-    }
-    Ok(len.max(at + count))
+    len.max(at + count as u64)
 }
 
-/// The length after a write that failed, which may have made the file longer.
-fn length_after_fault(file: &File, len: u64) -> u64
-    ensures { len ≤ result }
-{
-    match file.metadata() {
-        Ok(found) => len.max(found.len()),
-        Err(_) => len,
-    }
-}
+impl<F: SystemFile> Disk for FileDisk<F> {
+    ghost use Rattle.std.specs.Prelude.{length};
+    ghost use Rattle.std.proofs.Common.{sym};
+    ghost use Rattle.act_disk.specs.Past.{left_now, left_last};
+    ghost use Rattle.act_disk.specs.SystemCalls.{contents, MayLeave, MayHaveLeft, IsHonest};
+    ghost use Rattle.act_disk.specs.SystemLaws.{contents_left};
 
-impl Disk for FileDisk {
-    ghost use Rattle.act_disk.specs.RealFile.{IsHonestFile, file_seen, FileMayLeave, FileMayHaveLeft, by_premise};
+    ghost seen = { λ d. contents F.SystemFile.held (F.SystemFile.calls d.file) };
 
-    ghost seen = { file_seen };
+    ghost images = { λ d. MayLeave F.SystemFile.left F.SystemFile.held (F.SystemFile.calls d.file) };
 
-    ghost images = { FileMayLeave };
+    ghost moment = { λ d. length (F.SystemFile.calls d.file) };
 
-    ghost moment = { λ _. 0 };
+    ghost images_since = { λ d. MayHaveLeft F.SystemFile.left F.SystemFile.held (F.SystemFile.calls d.file) };
 
-    ghost images_since = { FileMayHaveLeft };
+    ghost size = { λ d. d.len };
 
-    ghost size = { λ f. f.len };
+    ghost calls = { λ d. d.tally.calls };
 
-    ghost fault_count = { λ f. f.faults };
+    ghost fault_count = { λ d. d.faults };
 
-    ghost honest = { IsHonestFile };
+    ghost honest = { λ d. IsHonest F.SystemFile.held (F.SystemFile.calls d.file) };
 
-    ghost seen_is_image = { λ f. by_premise f };
+    ghost seen_is_image = { λ d _.
+        contents_left F.SystemFile.left F.SystemFile.held F.SystemFile.held_is_left (F.SystemFile.calls d.file) };
 
-    ghost seen_length = { λ f. by_premise f };
+    ghost seen_length = { λ d honest. sym (d.known honest) };
 
-    ghost counts_now = { λ f. by_premise f };
+    ghost counts_now = { λ d _. left_now (MayLeave F.SystemFile.left F.SystemFile.held) (F.SystemFile.calls d.file) };
 
-    ghost only_now = { λ f. by_premise f };
+    ghost only_now = { λ d _. left_last (MayLeave F.SystemFile.left F.SystemFile.held) (F.SystemFile.calls d.file) };
 
     fn len(&self) -> u64 {
         self.len
@@ -145,21 +115,32 @@ impl Disk for FileDisk {
     }
 
     fn read(&mut self, at: u64, buf: &mut [u8]) -> Result<(), DiskFault> {
-        let outcome = self.file.read_exact_at(buf, at);
+        self.tally.count();
+        let _len = self.len;
+        let outcome = read_whole(&mut self.file, self.failed, at, buf);
         counted(outcome, &mut self.faults)
     }
 
     fn write_at(&mut self, at: u64, bytes: &[u8]) -> Result<(), DiskFault> {
-        let outcome = write_whole(&self.file, self.len, at, bytes);
-        self.len = match outcome {
-            Ok(reached) => reached,
-            Err(_) => length_after_fault(&self.file, self.len),
-        };
-        counted(outcome, &mut self.faults)
+        self.tally.count();
+        match put(&mut self.file, self.failed, self.len, at, bytes) {
+            Ok(()) => {
+                self.len = self.len.max(at + bytes.len() as u64);
+                Ok(())
+            }
+            Err(count) => {
+                self.len = partly_long(self.len, at, count);
+                self.failed = true;
+                self.faults += 1;
+                Err(DiskFault)
+            }
+        }
     }
 
     fn sync(&mut self) -> Result<(), DiskFault> {
-        let outcome = self.file.sync_data();
+        self.tally.count();
+        let outcome = sync_whole(&mut self.file, self.failed);
+        self.failed = outcome.is_err();
         counted(outcome, &mut self.faults)
     }
 }

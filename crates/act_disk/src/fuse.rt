@@ -6,6 +6,7 @@ ghost use Rattle.act_disk.specs.declared.failing.Failing.TheVariants.{Once, From
 use crate::disk::Disk;
 use crate::failing::Failing;
 use crate::fault::DiskFault;
+use crate::tally::CallTally;
 use std::marker::Model;
 
 /// A disk that fails a call, or all calls from one on: of its reads, writes and syncs, counted from 0.
@@ -18,6 +19,7 @@ pub struct FuseDisk<D: Disk> {
     disk: D,
     failing: Failing,
     refused: u64,
+    tally: CallTally,
 }
 
 impl<D: Disk> Model for FuseDisk<D> {
@@ -26,7 +28,7 @@ impl<D: Disk> Model for FuseDisk<D> {
 
     ghost Value = { Fused D };
 
-    ghost view = { λ f. record { disk = f.disk; failing = f.failing; refused = f.refused } };
+    ghost view = { λ f. record { disk = f.disk; failing = f.failing; refused = f.refused; made = f.tally.calls } };
 
     ghost invariant = { λ f. D.Disk.fault_count f.disk + f.refused < 2 ^ 64 };
 }
@@ -34,26 +36,27 @@ impl<D: Disk> Model for FuseDisk<D> {
 impl<D: Disk> FuseDisk<D> {
     /// Fails the call with this number.
     pub fn once(disk: D, call: u64) -> Self
-        ensures { result ≡ record { disk = disk; failing = Once call; refused = 0 } }
+        ensures { result ≡ record { disk = disk; failing = Once call; refused = 0; made = 0 } }
     {
         FuseDisk::new(disk, Failing::Once(call))
     }
 
     /// Fails the call with this number, and all after it.
     pub fn from(disk: D, call: u64) -> Self
-        ensures { result ≡ record { disk = disk; failing = From call; refused = 0 } }
+        ensures { result ≡ record { disk = disk; failing = From call; refused = 0; made = 0 } }
     {
         FuseDisk::new(disk, Failing::From(call))
     }
 
     fn new(disk: D, failing: Failing) -> Self
-        ensures { result ≡ record { disk = disk; failing = failing; refused = 0 } }
+        ensures { result ≡ record { disk = disk; failing = failing; refused = 0; made = 0 } }
     {
         let _faults = disk.faults();
         FuseDisk {
             disk,
             failing,
             refused: 0,
+            tally: CallTally::new(),
         }
     }
 
@@ -86,6 +89,8 @@ impl<D: Disk> Disk for FuseDisk<D> {
 
     ghost size = { λ f. D.Disk.size f.disk };
 
+    ghost calls = { λ f. f.made };
+
     ghost fault_count = { λ f. D.Disk.fault_count f.disk + f.refused };
 
     ghost honest = { λ f. D.Disk.honest f.disk };
@@ -112,15 +117,18 @@ impl<D: Disk> Disk for FuseDisk<D> {
         requires countable { D.fault_count self.old.disk + self.old.refused < u64.MAX }
         ensures fuse { Passes result self.old self.new }
         ensures kept { IsTrue (fails_now self.old.failing) → self.new.disk ≡ self.old.disk }
-        ensures bytes { OnOk result (D.honest self.old.disk → buf.new ≡ take (length buf.old) (drop at (D.seen self.old.disk))) }
-        ensures seen { D.honest self.old.disk → D.seen self.new.disk ≡ D.seen self.old.disk }
-        ensures images { D.honest self.old.disk → SameImages (D.images self.old.disk) (D.images self.new.disk) }
-        ensures time { D.honest self.old.disk → Elapses (D.moment self.old.disk) (D.moment self.new.disk)
+        ensures bytes { OnOk result (D.honest self.new.disk → buf.new ≡ take (length buf.old) (drop at (D.seen self.old.disk))) }
+        ensures seen { D.honest self.new.disk → D.seen self.new.disk ≡ D.seen self.old.disk }
+        ensures images { D.honest self.new.disk → SameImages (D.images self.old.disk) (D.images self.new.disk) }
+        ensures time { D.honest self.new.disk → Elapses (D.moment self.old.disk) (D.moment self.new.disk)
             (D.images_since self.old.disk) (D.images_since self.new.disk) (D.images self.new.disk) }
         ensures size { D.size self.new.disk ≡ D.size self.old.disk }
-        ensures faults { CountsFault result (D.fault_count self.old.disk + self.old.refused) (D.fault_count self.new.disk + self.new.refused) }
-        ensures honest { D.honest self.new.disk ↔ D.honest self.old.disk }
+        ensures calls { self.new.made ≡ self.old.made + 1 }
+        ensures faults { CountsFault result (D.fault_count self.old.disk + self.old.refused)
+            (D.fault_count self.new.disk + self.new.refused) }
+        ensures honest { D.honest self.new.disk → D.honest self.old.disk }
     {
+        self.tally.count();
         if self.failing.next_fails() {
             return Err(refuse(&mut self.refused));
         }
@@ -134,16 +142,20 @@ impl<D: Disk> Disk for FuseDisk<D> {
         ensures written { OnOk result (D.honest self.old.disk → IsWritten at bytes.now (D.seen self.old.disk) (D.seen self.new.disk)) }
         ensures failed { OnErr result (D.honest self.old.disk → Torn at (length bytes.now) (D.seen self.old.disk) (D.seen self.new.disk)) }
         ensures images { D.honest self.old.disk → Follows (Torn at (length bytes.now)) (D.images self.old.disk) (D.images self.new.disk) }
-        ensures any { OnOk result (D.honest self.old.disk → LeavesAny (Torn at (length bytes.now)) (D.images self.old.disk) (D.images self.new.disk)) }
+        ensures any { OnOk result (D.honest self.old.disk → LeavesAny (Torn at (length bytes.now))
+            (D.images self.old.disk) (D.images self.new.disk)) }
         ensures refused { self.old.refused < self.new.refused → D.honest self.old.disk
             → LeavesAny (Torn at (length bytes.now)) (D.images self.old.disk) (D.images self.new.disk) }
         ensures time { D.honest self.old.disk → Elapses (D.moment self.old.disk) (D.moment self.new.disk)
             (D.images_since self.old.disk) (D.images_since self.new.disk) (D.images self.new.disk) }
         ensures size { OnOk result (D.size self.new.disk ≡ max (D.size self.old.disk) (at + length bytes.now)) }
         ensures no_shorter { D.size self.old.disk ≤ D.size self.new.disk }
-        ensures faults { CountsFault result (D.fault_count self.old.disk + self.old.refused) (D.fault_count self.new.disk + self.new.refused) }
+        ensures calls { self.new.made ≡ self.old.made + 1 }
+        ensures faults { CountsFault result (D.fault_count self.old.disk + self.old.refused)
+            (D.fault_count self.new.disk + self.new.refused) }
         ensures honest { D.honest self.new.disk ↔ D.honest self.old.disk }
     {
+        self.tally.count();
         let fails = self.failing.next_fails();
         self.disk.write_at(at, bytes)?;
         if fails {
@@ -163,9 +175,12 @@ impl<D: Disk> Disk for FuseDisk<D> {
         ensures time { D.honest self.old.disk → Elapses (D.moment self.old.disk) (D.moment self.new.disk)
             (D.images_since self.old.disk) (D.images_since self.new.disk) (D.images self.new.disk) }
         ensures size { D.size self.new.disk ≡ D.size self.old.disk }
-        ensures faults { CountsFault result (D.fault_count self.old.disk + self.old.refused) (D.fault_count self.new.disk + self.new.refused) }
+        ensures calls { self.new.made ≡ self.old.made + 1 }
+        ensures faults { CountsFault result (D.fault_count self.old.disk + self.old.refused)
+            (D.fault_count self.new.disk + self.new.refused) }
         ensures honest { D.honest self.new.disk ↔ D.honest self.old.disk }
     {
+        self.tally.count();
         if self.failing.next_fails() {
             return Err(refuse(&mut self.refused));
         }

@@ -2,14 +2,24 @@
 #![tactic(auto)]
 
 mod call;
+mod call_log;
 mod disk;
 mod failing;
 mod fault;
 mod file;
+mod file_calls;
 mod fuse;
-mod gate;
+mod host_file;
 mod image;
 mod memory;
+mod open;
+mod scripted_file;
+mod start;
+mod synced;
+mod system_call;
+mod system_file;
+mod tally;
+mod zeros;
 
 pub use call::{Bytes, Call, Fill};
 pub use disk::Disk;
@@ -17,5 +27,10 @@ pub use failing::Failing;
 pub use fault::DiskFault;
 pub use file::FileDisk;
 pub use fuse::FuseDisk;
-pub use gate::write_behind_gate;
+pub use host_file::HostFile;
 pub use memory::MemoryDisk;
+pub use scripted_file::{ScriptedFile, Turn};
+pub use start::{Empty, Start};
+pub use synced::write_synced;
+pub use system_file::{CallError, SystemFile};
+pub use zeros::grow_to;

@@ -1,4 +1,5 @@
-ghost use Rattle.std.specs.Prelude.{◌≡◌, ◌↔◌, ◌+◌, ◌-◌, ◌^◌, ◌<◌, ◌≤◌, [], ◌∷◌, ◌++◌, max, length, take, drop, replicate, Ok, OnOk, OnErr, IsOk};
+ghost use Rattle.std.specs.Prelude.{◌≡◌, ◌↔◌, ◌+◌, ◌-◌, ◌^◌, ◌<◌, ◌≤◌, [], ◌∷◌};
+ghost use Rattle.std.specs.Prelude.{◌++◌, max, length, take, drop, replicate, Ok, OnOk, OnErr, IsOk};
 ghost use Rattle.act_disk.specs.declared.call.Call.TheVariants.{Write, Sync as Synced};
 ghost use Rattle.act_disk.specs.Images.{Torn, IsWritten, Follows, LeavesAny, SameImages, Only, Elapses, CountsFault};
 ghost use Rattle.act_disk.specs.Laid.{laid};
@@ -8,6 +9,7 @@ ghost use Rattle.wf_value.specs.Gives.{Gives};
 use crate::call::{Bytes, Call};
 use crate::disk::Disk;
 use crate::fault::{DiskFault, counted};
+use crate::tally::CallTally;
 use std::alloc::{AllocError, Global};
 use std::marker::Model;
 use wf_value::Refusal;
@@ -22,6 +24,7 @@ pub struct MemoryDisk {
     bytes: Vec<u8>,
     calls: Vec<Call>,
     faults: u64,
+    tally: CallTally,
 }
 
 impl Model for MemoryDisk {
@@ -30,7 +33,7 @@ impl Model for MemoryDisk {
 
     ghost Value = { Record };
 
-    ghost view = { λ m. record { first = m.first.items; calls = m.calls.items; faults = m.faults } };
+    ghost view = { λ m. record { first = m.first.items; calls = m.calls.items; faults = m.faults; made = m.tally.calls } };
 
     ghost invariant = { λ m. m.bytes.items ≡ seen_after m.first.items (reverse m.calls.items) };
 }
@@ -62,6 +65,7 @@ impl MemoryDisk {
             bytes,
             calls: Vec::new(alloc),
             faults: 0,
+            tally: CallTally::new(),
         }
     }
 
@@ -165,6 +169,8 @@ impl Disk for MemoryDisk {
 
     ghost size = { λ m. length (bytes_of m) };
 
+    ghost calls = { λ m. m.made };
+
     ghost fault_count = { λ m. m.faults };
 
     ghost honest = { λ _. Unit {0} };
@@ -190,15 +196,18 @@ impl Disk for MemoryDisk {
         requires within { at + length buf.old ≤ length (bytes_of self.old) }
         requires countable { self.old.faults < u64.MAX }
         ensures ok { IsOk result }
-        ensures same { self.new ≡ self.old }
+        ensures same { self.new ≡ record self.old { made = self.old.made + 1 } }
         ensures bytes { OnOk result (buf.new ≡ take (length buf.old) (drop at (bytes_of self.old))) }
         ensures seen { bytes_of self.new ≡ bytes_of self.old }
         ensures images { SameImages (MayLeave self.old) (MayLeave self.new) }
-        ensures time { Elapses (length self.old.calls) (length self.new.calls) (MayHaveLeft self.old) (MayHaveLeft self.new) (MayLeave self.new) }
+        ensures time { Elapses (length self.old.calls) (length self.new.calls)
+            (MayHaveLeft self.old) (MayHaveLeft self.new) (MayLeave self.new) }
         ensures size { length (bytes_of self.new) ≡ length (bytes_of self.old) }
+        ensures calls { self.new.made ≡ self.old.made + 1 }
         ensures faults { CountsFault result self.old.faults self.new.faults }
-        ensures honest { Unit {0} ↔ Unit {0} }
+        ensures honest { Unit {0} → Unit {0} }
     {
+        self.tally.count();
         let at = at as usize;
         buf.copy_from_slice(&self.bytes[at..at + buf.len()]);
         Ok(())
@@ -212,12 +221,15 @@ impl Disk for MemoryDisk {
         ensures failed { OnErr result (Torn at (length bytes.now) (bytes_of self.old) (bytes_of self.new)) }
         ensures images { Follows (Torn at (length bytes.now)) (MayLeave self.old) (MayLeave self.new) }
         ensures any { OnOk result (LeavesAny (Torn at (length bytes.now)) (MayLeave self.old) (MayLeave self.new)) }
-        ensures time { Elapses (length self.old.calls) (length self.new.calls) (MayHaveLeft self.old) (MayHaveLeft self.new) (MayLeave self.new) }
+        ensures time { Elapses (length self.old.calls) (length self.new.calls)
+            (MayHaveLeft self.old) (MayHaveLeft self.new) (MayLeave self.new) }
         ensures size { OnOk result (length (bytes_of self.new) ≡ max (length (bytes_of self.old)) (at + length bytes.now)) }
         ensures no_shorter { length (bytes_of self.old) ≤ length (bytes_of self.new) }
+        ensures calls { self.new.made ≡ self.old.made + 1 }
         ensures faults { CountsFault result self.old.faults self.new.faults }
         ensures honest { Unit {0} ↔ Unit {0} }
     {
+        self.tally.count();
         let outcome = write_noted(self.alloc, &mut self.bytes, &mut self.calls, at, bytes);
         counted(outcome, &mut self.faults)
     }
@@ -229,11 +241,14 @@ impl Disk for MemoryDisk {
         ensures stable { OnOk result (Only (bytes_of self.old) (MayLeave self.new)) }
         ensures failed { OnErr result (SameImages (MayLeave self.old) (MayLeave self.new)) }
         ensures seen { bytes_of self.new ≡ bytes_of self.old }
-        ensures time { Elapses (length self.old.calls) (length self.new.calls) (MayHaveLeft self.old) (MayHaveLeft self.new) (MayLeave self.new) }
+        ensures time { Elapses (length self.old.calls) (length self.new.calls)
+            (MayHaveLeft self.old) (MayHaveLeft self.new) (MayLeave self.new) }
         ensures size { length (bytes_of self.new) ≡ length (bytes_of self.old) }
+        ensures calls { self.new.made ≡ self.old.made + 1 }
         ensures faults { CountsFault result self.old.faults self.new.faults }
         ensures honest { Unit {0} ↔ Unit {0} }
     {
+        self.tally.count();
         let outcome = note(&mut self.calls, Call::Sync);
         counted(outcome, &mut self.faults)
     }

@@ -1,4 +1,7 @@
-use act_disk::{Call, Disk, DiskFault, FileDisk, Fill, FuseDisk, MemoryDisk, write_behind_gate};
+use act_disk::{
+    Call, Disk, DiskFault, Empty, FileDisk, Fill, FuseDisk, HostFile, MemoryDisk, ScriptedFile, Turn,
+    grow_to, write_synced,
+};
 use std::alloc::Global;
 use std::fs;
 use std::process::Abort;
@@ -175,17 +178,17 @@ fn fuse_fails_from_a_call_on(rt: HostRuntime) -> Result<(), Fail> {
 }
 
 #[test]
-fn body_stands_behind_its_gate(rt: HostRuntime) -> Result<(), Fail> {
+fn write_and_sync_are_two_calls(rt: HostRuntime) -> Result<(), Fail> {
     let alloc = rt.alloc();
     let mut disk = MemoryDisk::from_slice(alloc, &[0; 6])?;
-    assert!(rt; disk.len() == 6 && disk.faults() == 0);
-    write_behind_gate(&mut disk, 1, b"abc", 0, 0xA5)?;
-    assert_eq!(rt; disk.bytes(), [0xA5, 97, 98, 99, 0, 0].as_slice());
-    assert_eq!(rt; disk.calls().len(), 4);
-    let image = disk.image(alloc, 2, Fill::Gates)?;
-    assert_eq!(rt; image.bytes(), [0xA5, 97, 98, 99, 0, 0].as_slice());
-    let image = disk.image(alloc, 1, Fill::Half)?;
+    assert!(rt; disk.faults() == 0);
+    write_synced(&mut disk, 1, b"abc")?;
+    assert_eq!(rt; disk.bytes(), [0, 97, 98, 99, 0, 0].as_slice());
+    assert_eq!(rt; disk.calls().len(), 2);
+    let image = disk.image(alloc, 0, Fill::Half)?;
     assert_eq!(rt; image.bytes(), [0, 97, 0, 0, 0, 0].as_slice());
+    let image = disk.image(alloc, 1, Fill::Gates)?;
+    assert_eq!(rt; image.bytes(), [0, 0xA5, 0xA5, 0xA5, 0, 0].as_slice());
     Ok(())
 }
 
@@ -199,7 +202,7 @@ fn disks_can_be_sent(rt: HostRuntime) -> Result<(), Fail> {
     let disk = sent(FuseDisk::once(MemoryDisk::new(rt.alloc()), 0));
     let inner = sent(disk.into_inner());
     assert_eq!(rt; inner.faults(), 0);
-    let opened = FileDisk::open(&rt, "act_disk_no_such_folder/disk").map(|disk| sent(disk));
+    let opened = RealDisk::open(&rt, "act_disk_no_such_folder/disk").map(|disk| sent(disk));
     assert!(rt; is_61(opened));
     Ok(())
 }
@@ -214,8 +217,11 @@ const FOLDER: &str = "act_disk_test";
 
 const PATH: &str = "act_disk_test/disk";
 
+/// A disk over a file of the system.
+type RealDisk = FileDisk<HostFile<Empty>>;
+
 /// 61, for a disk that can't be opened.
-fn is_61(opened: Result<FileDisk, Refusal>) -> bool {
+fn is_61(opened: Result<RealDisk, Refusal>) -> bool {
     matches!(opened, Err(Refusal::Numbered(Code::StreamFailed)))
 }
 
@@ -223,8 +229,8 @@ fn is_61(opened: Result<FileDisk, Refusal>) -> bool {
 fn file_keeps_what_was_written(rt: HostRuntime) -> Result<(), Fail> {
     let _ = fs::remove_dir_all(&rt, FOLDER);
     fs::create_dir(&rt, FOLDER)?;
-    assert!(rt; is_61(FileDisk::open(&rt, PATH)));
-    let mut disk = FileDisk::create(&rt, PATH)?;
+    assert!(rt; is_61(RealDisk::open(&rt, PATH)));
+    let mut disk = RealDisk::create(&rt, PATH)?;
     assert_eq!(rt; disk.len(), 0);
     assert_eq!(rt; disk.faults(), 0);
     write_and_sync(&rt, &mut disk, 0, b"abcdef")?;
@@ -233,14 +239,14 @@ fn file_keeps_what_was_written(rt: HostRuntime) -> Result<(), Fail> {
     assert_eq!(rt; disk.len(), 9);
     drop(disk);
     assert_eq!(rt; fs::read(&rt, PATH)?.as_slice(), b"abXYef\0\0z".as_slice());
-    let mut disk = FileDisk::create(&rt, PATH)?;
+    let mut disk = RealDisk::create(&rt, PATH)?;
     assert_eq!(rt; disk.len(), 9);
     assert_eq!(rt; four_at(&rt, &mut disk, 1)?, *b"bXYe");
     assert!(rt; disk.faults() < u64::MAX);
     disk.write_at(11, b"")?;
     assert_eq!(rt; disk.len(), 11);
     drop(disk);
-    let mut disk = FileDisk::open(&rt, PATH)?;
+    let mut disk = RealDisk::open(&rt, PATH)?;
     assert_eq!(rt; disk.len(), 11);
     assert_eq!(rt; four_at(&rt, &mut disk, 7)?, *b"\0z\0\0");
     assert_eq!(rt; disk.faults(), 0);
@@ -253,25 +259,171 @@ const FAULT_FOLDER: &str = "act_disk_fault_test";
 const FAULT_PATH: &str = "act_disk_fault_test/disk";
 
 #[test]
-fn file_counts_what_the_system_fails(rt: HostRuntime) -> Result<(), Fail> {
+fn file_fails_from_a_failed_write_on(rt: HostRuntime) -> Result<(), Fail> {
     let _ = fs::remove_dir_all(&rt, FAULT_FOLDER);
     fs::create_dir(&rt, FAULT_FOLDER)?;
-    let mut disk = FileDisk::create(&rt, FAULT_PATH)?;
+    let mut disk = RealDisk::create(&rt, FAULT_PATH)?;
     assert_eq!(rt; disk.faults(), 0);
     disk.write_at(0, b"abcd")?;
     // No file is so long.
-    assert!(rt; disk.write_at(u64::MAX, b"yz").is_err());
+    assert!(rt; put(&rt, &mut disk, (1 << 63) - 1, b"yz").is_err());
     assert_eq!(rt; disk.faults(), 1);
-    assert!(rt; disk.write_at((1 << 63) - 1, b"yz").is_err());
-    assert_eq!(rt; disk.faults(), 2);
     assert_eq!(rt; disk.len(), 4);
-    // Another program cuts the file.
-    fs::write(&rt, FAULT_PATH, b"ab".as_slice())?;
+    assert!(rt; write_and_sync(&rt, &mut disk, 0, b"x").is_err());
     assert!(rt; four_at(&rt, &mut disk, 0).is_err());
     assert_eq!(rt; disk.faults(), 3);
-    disk.sync()?;
-    assert_eq!(rt; disk.faults(), 3);
+    drop(disk);
+    assert_eq!(rt; fs::read(&rt, FAULT_PATH)?.as_slice(), b"abcd".as_slice());
+    // Opened anew it goes on. Another program cuts the file: a read fails, and no more than that.
+    let mut disk = RealDisk::open(&rt, FAULT_PATH)?;
+    assert_eq!(rt; disk.faults(), 0);
+    fs::write(&rt, FAULT_PATH, b"ab".as_slice())?;
+    assert!(rt; four_at(&rt, &mut disk, 0).is_err());
+    assert_eq!(rt; disk.faults(), 1);
+    put(&rt, &mut disk, 0, b"wxyz")?;
+    assert_eq!(rt; four_at(&rt, &mut disk, 0)?, *b"wxyz");
     fs::remove_dir_all(&rt, FAULT_FOLDER)?;
+    Ok(())
+}
+
+/// A disk over a file whose calls go as the script says.
+fn scripted(alloc: Global, script: &[Turn]) -> Result<FileDisk<ScriptedFile>, Fail> {
+    let file = ScriptedFile::new(alloc, script.to_vec(alloc)?);
+    Ok(FileDisk::over(file)?)
+}
+
+/// The length, a write of six bytes by three calls, a sync, and a read of four bytes by two calls.
+const TURNS: [Turn; 7] = [
+    Turn::Whole,
+    Turn::Short(2),
+    Turn::Short(2),
+    Turn::Whole,
+    Turn::Whole,
+    Turn::Short(3),
+    Turn::Whole,
+];
+
+#[test]
+fn short_calls_are_gone_on_from(rt: HostRuntime) -> Result<(), Fail> {
+    let mut disk = scripted(rt.alloc(), &TURNS)?;
+    write_and_sync(&rt, &mut disk, 0, b"abcdef")?;
+    assert_eq!(rt; disk.len(), 6);
+    assert_eq!(rt; four_at(&rt, &mut disk, 1)?, *b"bcde");
+    let file = disk.into_file();
+    assert_eq!(rt; file.bytes(), b"abcdef".as_slice());
+    assert_eq!(rt; file.turns(), 7);
+    Ok(())
+}
+
+#[test]
+fn interrupted_calls_are_made_again(rt: HostRuntime) -> Result<(), Fail> {
+    let alloc = rt.alloc();
+    for place in 0..TURNS.len() {
+        let mut script = TURNS.to_vec(alloc)?;
+        script.insert(place, Turn::Interrupted)?;
+        script.insert(place, Turn::Interrupted)?;
+        let mut disk = scripted(alloc, &script)?;
+        write_and_sync(&rt, &mut disk, 0, b"abcdef")?;
+        assert_eq!(rt; four_at(&rt, &mut disk, 1)?, *b"bcde");
+        let file = disk.into_file();
+        assert_eq!(rt; file.bytes(), b"abcdef".as_slice());
+        assert_eq!(rt; file.turns(), 9);
+    }
+    Ok(())
+}
+
+/// The turns, the one at this place failing.
+fn failing_at(alloc: Global, place: usize) -> Result<FileDisk<ScriptedFile>, Fail> {
+    let mut script = TURNS.to_vec(alloc)?;
+    if let Some(turn) = script.get_mut(place) {
+        *turn = Turn::Failed;
+    }
+    scripted(alloc, &script)
+}
+
+#[test]
+fn length_that_fails_is_61(rt: HostRuntime) -> Result<(), Fail> {
+    let alloc = rt.alloc();
+    let file = ScriptedFile::new(alloc, [Turn::Failed].to_vec(alloc)?);
+    let opened = FileDisk::over(file);
+    assert!(rt; matches!(opened, Err(Refusal::Numbered(Code::StreamFailed))));
+    Ok(())
+}
+
+#[test]
+fn nothing_is_asked_after_a_failed_write(rt: HostRuntime) -> Result<(), Fail> {
+    // Which call fails, and how long the file is known to be then.
+    for (place, len) in [(1, 0), (2, 2), (3, 4)] {
+        let mut disk = failing_at(rt.alloc(), place)?;
+        assert!(rt; put(&rt, &mut disk, 0, b"abcdef").is_err());
+        assert_eq!(rt; disk.faults(), 1);
+        assert_eq!(rt; disk.len(), len);
+        assert!(rt; disk.sync().is_err());
+        assert!(rt; disk.read(0, &mut []).is_err());
+        assert!(rt; disk.write_at(0, b"x").is_err());
+        assert!(rt; disk.sync().is_err());
+        assert_eq!(rt; disk.faults(), 5);
+        assert_eq!(rt; disk.into_file().turns(), place + 1);
+    }
+    Ok(())
+}
+
+#[test]
+fn nothing_is_asked_after_a_failed_sync(rt: HostRuntime) -> Result<(), Fail> {
+    let mut disk = failing_at(rt.alloc(), 4)?;
+    put(&rt, &mut disk, 0, b"abcdef")?;
+    assert!(rt; disk.sync().is_err());
+    assert_eq!(rt; disk.faults(), 1);
+    assert_eq!(rt; disk.len(), 6);
+    assert!(rt; disk.sync().is_err());
+    assert!(rt; four_at(&rt, &mut disk, 0).is_err());
+    assert!(rt; put(&rt, &mut disk, 0, b"x").is_err());
+    assert_eq!(rt; disk.faults(), 4);
+    assert_eq!(rt; disk.into_file().turns(), 5);
+    Ok(())
+}
+
+#[test]
+fn failed_read_is_gone_on_from(rt: HostRuntime) -> Result<(), Fail> {
+    for place in [5, 6] {
+        let mut disk = failing_at(rt.alloc(), place)?;
+        write_and_sync(&rt, &mut disk, 0, b"abcdef")?;
+        assert!(rt; four_at(&rt, &mut disk, 1).is_err());
+        assert_eq!(rt; disk.faults(), 1);
+        assert_eq!(rt; four_at(&rt, &mut disk, 1)?, *b"bcde");
+        write_and_sync(&rt, &mut disk, 6, b"g")?;
+        assert_eq!(rt; disk.len(), 7);
+        assert_eq!(rt; disk.faults(), 1);
+    }
+    Ok(())
+}
+
+#[test]
+fn write_of_no_bytes_past_the_end_grows(rt: HostRuntime) -> Result<(), Fail> {
+    let mut disk = scripted(rt.alloc(), &[Turn::Whole, Turn::Interrupted])?;
+    put(&rt, &mut disk, 3, b"")?;
+    assert_eq!(rt; disk.len(), 3);
+    put(&rt, &mut disk, 1, b"")?;
+    assert_eq!(rt; disk.len(), 3);
+    assert_eq!(rt; disk.into_file().bytes(), [0, 0, 0].as_slice());
+    let mut disk = scripted(rt.alloc(), &[Turn::Whole, Turn::Failed])?;
+    assert!(rt; put(&rt, &mut disk, 3, b"").is_err());
+    assert_eq!(rt; disk.len(), 0);
+    Ok(())
+}
+
+#[test]
+fn disk_grows_by_zeros(rt: HostRuntime) -> Result<(), Fail> {
+    let alloc = rt.alloc();
+    let mut disk = MemoryDisk::from_slice(alloc, b"abc")?;
+    assert!(rt; disk.faults() == 0);
+    grow_to(&mut disk, 5000)?;
+    assert_eq!(rt; disk.len(), 5000);
+    assert_eq!(rt; disk.calls().len(), 2);
+    assert_eq!(rt; disk.bytes().get(4999), Some(&0));
+    assert!(rt; disk.faults() == 0);
+    grow_to(&mut disk, 4)?;
+    assert_eq!(rt; disk.len(), 5000);
     Ok(())
 }
 
@@ -279,8 +431,8 @@ fn file_counts_what_the_system_fails(rt: HostRuntime) -> Result<(), Fail> {
 fn file_that_cannot_be_opened_is_61(rt: HostRuntime) -> Result<(), Fail> {
     // A folder, a path below a file, and a file that nobody may write.
     for path in ["/tmp", "/dev/null/disk", "/proc/sys/kernel/osrelease"] {
-        assert!(rt; is_61(FileDisk::open(&rt, path)), "{path}");
-        assert!(rt; is_61(FileDisk::create(&rt, path)), "{path}");
+        assert!(rt; is_61(RealDisk::open(&rt, path)), "{path}");
+        assert!(rt; is_61(RealDisk::create(&rt, path)), "{path}");
     }
     Ok(())
 }

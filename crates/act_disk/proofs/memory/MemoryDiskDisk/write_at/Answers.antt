@@ -6,10 +6,10 @@ use Rattle.act_disk.proofs.RecordLemmas.{carried, written, any, follows, elapses
 use Rattle.act_disk.proofs.memory.MemoryDiskDisk.write_at.Goals as goal
 
 abbrev old : goal.After-counted → Record
-old c = record { first = c.self.inside.first.items; calls = c.self.inside.calls.items; faults = c.self.inside.faults }
+old c = record { first = c.self.inside.first.items; calls = c.self.inside.calls.items; faults = c.self.inside.faults; made = c.self.inside.tally.calls }
 
 abbrev new : goal.After-counted → Record
-new c = record { first = c.self.inside.first.items; calls = c.write_noted-outcome.new.calls.items; faults = c.counted.new.faults }
+new c = record { first = c.self.inside.first.items; calls = c.write_noted-outcome.new.calls.items; faults = c.counted.new.faults; made = c.count.new.self.calls }
 
 pub returns-clause-written : goal.returns-clause-written
 returns-clause-written c =

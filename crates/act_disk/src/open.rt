@@ -1,0 +1,63 @@
+//! Opening a disk over a file of the system.
+ghost use Rattle.std.specs.Prelude.{◌≡◌, [], ◌∷◌, IfOk, IfErr};
+ghost use Rattle.act_disk.specs.Failed.{cannot_open};
+ghost use Rattle.act_disk.specs.FileDisk.{file_of, len_of, faults_of};
+ghost use Rattle.act_disk.specs.HostFile.{calls_of};
+ghost use Rattle.act_disk.specs.SystemCalls.{Measured};
+
+use crate::file::FileDisk;
+use crate::host_file::HostFile;
+use crate::start::Start;
+use std::fs::{File, Files, OpenOptions};
+use std::io;
+use std::path::Path;
+use wf_value::{Code, Refusal};
+
+impl<S: Start> FileDisk<HostFile<S>> {
+    /// Opens a file that is there, to be read and written. 61 where it can't be opened.
+    pub fn open<R: Files<File = File>>(rt: &R, path: &str) -> Result<Self, Refusal>
+        ensures calls { IfOk result (λ disk. calls_of (file_of disk) ≡ Measured (len_of disk) ∷ []) }
+        ensures faults { IfOk result (λ disk. faults_of disk ≡ 0) }
+        ensures refused { IfErr result (λ refusal. refusal ≡ cannot_open) }
+    {
+        let opened = OpenOptions::new().read(true).write(true).open(rt, path);
+        FileDisk::opened(opened)
+    }
+
+    /// Opens a file, and makes an empty one first where there is none. Its folder is synced, so that
+    /// the file stays under its name. 61 where it can't be opened, or its folder can't be synced.
+    pub fn create<R: Files<File = File>>(rt: &R, path: &str) -> Result<Self, Refusal>
+        ensures calls { IfOk result (λ disk. calls_of (file_of disk) ≡ Measured (len_of disk) ∷ []) }
+        ensures faults { IfOk result (λ disk. faults_of disk ≡ 0) }
+        ensures refused { IfErr result (λ refusal. refusal ≡ cannot_open) }
+    {
+        let opened = OpenOptions::new()
+            .read(true)
+            .write(true)
+            .create(true)
+            .open(rt, path);
+        let disk = FileDisk::opened(opened)?;
+        sync_folder(rt, path).map_err(|_| Refusal::Numbered(Code::StreamFailed))?;
+        Ok(disk)
+    }
+
+    fn opened(opened: io::Result<File>) -> Result<Self, Refusal>
+        ensures calls { IfOk result (λ disk. calls_of (file_of disk) ≡ Measured (len_of disk) ∷ []) }
+        ensures faults { IfOk result (λ disk. faults_of disk ≡ 0) }
+        ensures refused { IfErr result (λ refusal. refusal ≡ cannot_open) }
+    {
+        match opened {
+            Ok(file) => FileDisk::over(HostFile::new(file)),
+            Err(_) => Err(Refusal::Numbered(Code::StreamFailed)),
+        }
+    }
+}
+
+/// Makes the names in a file's folder stable.
+fn sync_folder<R: Files<File = File>>(rt: &R, path: &str) -> io::Result<()> {
+    let folder = match Path::new(path).parent() {
+        Some(folder) if !folder.as_str().is_empty() => folder,
+        _ => Path::new("."),
+    };
+    File::open(rt, folder)?.sync_all()
+}

@@ -1,0 +1,200 @@
+ghost use Rattle.std.specs.Prelude.{◌≡◌, ◌≤◌, ◌<◌, [], IsTrue, length, take, drop, IfOk, IfErr, OnOk};
+ghost use Rattle.act_disk.specs.Laid.{laid};
+ghost use Rattle.act_disk.specs.SystemCalls.{is_sound, contents, IsHonest};
+
+use crate::call_log::CallLog;
+use crate::memory::lay;
+use crate::system_file::{CallError, SystemFile};
+use std::alloc::Global;
+use std::marker::Model;
+
+/// How a call of a scripted file goes.
+#[derive(Clone, Copy)]
+pub enum Turn {
+    Whole,
+    /// So many bytes at most, and one at least. A call that moves none is whole.
+    Short(usize),
+    Interrupted,
+    /// A write that fails has written the first half of its bytes.
+    Failed,
+}
+
+/// A file in memory, empty at first, whose calls go as a script says, and are whole behind its end.
+///
+/// It is honest without a premise. A growth that is refused memory fails.
+#[derive(Drop)]
+pub struct ScriptedFile {
+    bytes: Vec<u8>,
+    script: Vec<Turn>,
+    done: usize,
+    log: CallLog,
+}
+
+impl Model for ScriptedFile {
+    ghost use Rattle.std.specs.Prelude.{◌≡◌, ◌<◌, ◌^◌, [], List, IsTrue};
+    ghost use Rattle.act_disk.specs.SystemCalls.{FileCall, is_sound, contents, IsHonest};
+
+    ghost Value = { List FileCall };
+
+    ghost view = { λ f. f.log.calls };
+
+    ghost invariant = { λ f. IsHonest [] f.log.calls × (IsTrue (is_sound f.log.calls) → f.bytes.items ≡ contents [] f.log.calls) };
+}
+
+impl ScriptedFile {
+    /// An empty file.
+    pub fn new(alloc: Global, script: Vec<Turn>) -> Self
+        ensures { result ≡ [] }
+    {
+        ScriptedFile {
+            bytes: Vec::new(alloc),
+            script,
+            done: 0,
+            log: CallLog::new(),
+        }
+    }
+
+    /// Its bytes; the contents, until a call that writes or syncs has failed. The calls are honest.
+    pub fn bytes(&self) -> &[u8]
+        ensures honest { IsHonest [] self.now }
+        ensures contents { IsTrue (is_sound self.now) → result.now ≡ contents [] self.now }
+    {
+        self.bytes.as_slice()
+    }
+
+    /// How many turns of the script were taken.
+    pub fn turns(&self) -> usize {
+        self.done
+    }
+}
+
+/// Takes the next turn of a script.
+fn next_turn(script: &[Turn], done: &mut usize) -> Turn {
+    match script.get(*done) {
+        Some(turn) => {
+            *done += 1;
+            *turn
+        }
+        None => Turn::Whole,
+    }
+}
+
+/// How many of these bytes a turn moves.
+fn moved(turn: Turn, count: usize) -> Result<usize, CallError>
+    ensures within { IfOk result (λ moved. moved ≤ count) }
+    ensures some { 0 < count → IfOk result (λ moved. 0 < moved) }
+{
+    match turn {
+        Turn::Whole => Ok(count),
+        Turn::Short(most) => Ok(count.min(most.max(1))),
+        Turn::Interrupted => Err(CallError::Interrupted),
+        Turn::Failed => Err(CallError::Failed),
+    }
+}
+
+/// Whether a call that moves no bytes is done.
+fn is_done(turn: Turn) -> Result<(), CallError> {
+    match turn {
+        Turn::Whole | Turn::Short(_) => Ok(()),
+        Turn::Interrupted => Err(CallError::Interrupted),
+        Turn::Failed => Err(CallError::Failed),
+    }
+}
+
+/// Copies bytes of a file from `at` on, as many as a turn moves and are there. It fails at the file's end.
+fn give(file: &[u8], turn: Turn, at: u64, buf: &mut [u8]) -> Result<usize, CallError>
+    requires { 0 < length buf.old }
+    ensures count { IfOk result (λ count. (0 < count) × (count ≤ length buf.old)) }
+    ensures bytes { IfOk result (λ count. take count buf.new ≡ take count (drop at file.now)) }
+{
+    let at = at as usize;
+    let most = moved(turn, buf.len())?;
+    if at >= file.len() {
+        return Err(CallError::Failed);
+    }
+    let count = most.min(file.len() - at);
+    buf[..count].copy_from_slice(&file[at..at + count]);
+    Ok(count)
+}
+
+/// Lays bytes into a file, as many as a turn moves.
+fn take_in(file: &mut Vec<u8>, turn: Turn, at: u64, bytes: &[u8]) -> Result<usize, CallError>
+    ensures count { IfOk result (λ count. count ≤ length bytes.now) }
+    ensures some { 0 < length bytes.now → IfOk result (λ count. 0 < count) }
+    ensures laid { IfOk result (λ count. file.new.items ≡ laid at (take count bytes.now) file.old.items) }
+    ensures same { IfErr result (λ e. e ≡ CallError.Interrupted → file.new.items ≡ file.old.items) }
+{
+    match moved(turn, bytes.len()) {
+        Ok(count) => match lay(file, at, &bytes[..count]) {
+            Ok(()) => Ok(count),
+            Err(_) => Err(CallError::Failed),
+        },
+        Err(CallError::Interrupted) => Err(CallError::Interrupted),
+        Err(CallError::Failed) => {
+            let _ = lay(file, at, &bytes[..bytes.len() / 2]);
+            Err(CallError::Failed)
+        }
+    }
+}
+
+impl SystemFile for ScriptedFile {
+    ghost use Rattle.std.specs.Prelude.{[], refl};
+
+    ghost held = { [] };
+
+    ghost left = { λ c. c ≡ [] };
+
+    ghost calls = { λ f. f };
+
+    ghost held_is_left = { refl };
+
+    fn len(&mut self) -> Result<u64, CallError> {
+        let turn = next_turn(&self.script, &mut self.done);
+        let answer = match is_done(turn) {
+            Ok(()) => Ok(self.bytes.len() as u64),
+            Err(error) => Err(error),
+        };
+        self.log.measured(answer);
+        answer
+    }
+
+    fn read_at(&mut self, at: u64, buf: &mut [u8]) -> Result<usize, CallError> {
+        let turn = next_turn(&self.script, &mut self.done);
+        let answer = give(&self.bytes, turn, at, buf);
+        self.log.gave(at, buf, answer);
+        answer
+    }
+
+    fn write_at(&mut self, at: u64, bytes: &[u8]) -> Result<usize, CallError> {
+        let turn = next_turn(&self.script, &mut self.done);
+        let answer = take_in(&mut self.bytes, turn, at, bytes);
+        self.log.wrote(at, bytes, answer);
+        answer
+    }
+
+    fn set_len(&mut self, len: u64) -> Result<(), CallError> {
+        let turn = next_turn(&self.script, &mut self.done);
+        let answer = extend(&mut self.bytes, turn, len);
+        self.log.grew(len, answer);
+        answer
+    }
+
+    fn sync_data(&mut self) -> Result<(), CallError> {
+        let turn = next_turn(&self.script, &mut self.done);
+        let answer = is_done(turn);
+        self.log.synced(answer);
+        answer
+    }
+}
+
+/// Makes a file longer, with zeros, where a turn is done.
+fn extend(file: &mut Vec<u8>, turn: Turn, len: u64) -> Result<(), CallError>
+    ensures ok { OnOk result (file.new.items ≡ laid len [] file.old.items) }
+    ensures same { IfErr result (λ e. e ≡ CallError.Interrupted → file.new.items ≡ file.old.items) }
+{
+    is_done(turn)?;
+    match lay(file, len, &[]) {
+        Ok(()) => Ok(()),
+        Err(_) => Err(CallError::Failed),
+    }
+}

@@ -1,0 +1,27 @@
+ghost use Rattle.std.specs.Prelude.{◌≡◌, ◌↔◌, ◌+◌, ◌<◌, ◌≤◌, max, length, OnOk};
+ghost use Rattle.act_disk.specs.Images.{Torn, IsWritten, From, Only, EachSince, CountsFault};
+
+use crate::disk::Disk;
+use crate::fault::DiskFault;
+
+/// Writes and syncs.
+///
+/// From whatever images a disk has, a stop at any moment of the call leaves what a write of this range
+/// makes of one of them, and outside of the range what stood there. After `Ok` it leaves what a read
+/// gives, in which the bytes stand.
+pub fn write_synced<D: Disk>(disk: &mut D, at: u64, bytes: &[u8]) -> Result<(), DiskFault>
+    requires { D.fault_count disk.old < u64.MAX }
+    ensures any_moment { D.honest disk.old
+        → EachSince D.moment D.images_since disk.old disk.new (From (Torn at (length bytes.now)) (D.images disk.old)) }
+    ensures stable { OnOk result (D.honest disk.old → Only (D.seen disk.new) (D.images disk.new)) }
+    ensures written { OnOk result (D.honest disk.old → IsWritten at bytes.now (D.seen disk.old) (D.seen disk.new)) }
+    ensures torn { D.honest disk.old → Torn at (length bytes.now) (D.seen disk.old) (D.seen disk.new) }
+    ensures size { OnOk result (D.size disk.new ≡ max (D.size disk.old) (at + length bytes.now)) }
+    ensures no_shorter { D.size disk.old ≤ D.size disk.new }
+    ensures calls { D.calls disk.new ≤ D.calls disk.old + 2 }
+    ensures faults { CountsFault result (D.fault_count disk.old) (D.fault_count disk.new) }
+    ensures honest { D.honest disk.new ↔ D.honest disk.old }
+{
+    disk.write_at(at, bytes)?;
+    disk.sync()
+}

@@ -1,0 +1,27 @@
+ghost use Rattle.std.specs.Prelude.{◌≡◌, ◌↔◌, ◌-◌, ◌<◌, ◌≤◌, ◌++◌, max, replicate, OnOk};
+ghost use Rattle.act_disk.specs.Images.{CountsFault};
+
+use crate::disk::Disk;
+use crate::fault::DiskFault;
+
+/// How many zeros one write has.
+const MOST_ZEROS: usize = 4096;
+
+/// Makes a disk that long with zeros past its old end, where it was shorter. They are written, so that a
+/// file has its blocks from then on; nothing is synced.
+pub fn grow_to<D: Disk>(disk: &mut D, len: u64) -> Result<(), DiskFault>
+    requires { D.fault_count disk.old < u64.MAX }
+    ensures size { OnOk result (D.size disk.new ≡ max (D.size disk.old) len) }
+    ensures no_shorter { D.size disk.old ≤ D.size disk.new }
+    ensures zeros { OnOk result (D.honest disk.old → D.seen disk.new ≡ D.seen disk.old ++ replicate (len - D.size disk.old) 0) }
+    ensures faults { CountsFault result (D.fault_count disk.old) (D.fault_count disk.new) }
+    ensures honest { D.honest disk.new ↔ D.honest disk.old }
+{
+    let zeros = [0; MOST_ZEROS];
+    while disk.len() < len {
+        let at = disk.len();
+        let count = (len - at).min(MOST_ZEROS as u64);
+        disk.write_at(at, &zeros[..count as usize])?;
+    }
+    Ok(())
+}
