@@ -13,6 +13,9 @@ for crate in wf_value wf_expr; do
     done
 done
 cp "$top/bench/templates/main.rt.txt" "$work/crates/templates_bench/src/main.rt"
-printf 'wf_value: thiserror\nwf_expr: wf_value\ntemplates_bench: wf_value wf_expr\n' > "$work/crates.txt"
+{
+    grep -E '^(wf_value|wf_expr)[: ]' "$top/crates.txt"
+    echo 'templates_bench: wf_value wf_expr'
+} > "$work/crates.txt"
 cd "$work/crates/templates_bench"
-rt try
+rt run 2> "$work/log" || { tail -n 40 "$work/log" >&2; exit 1; }
