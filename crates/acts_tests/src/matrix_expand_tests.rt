@@ -82,7 +82,7 @@ fn show(alloc: Global, shown: &mut String, pairs: &[(Chars, Scalar)]) -> Result<
         };
         shown.push_str(quote)?;
         shown.push_str(":")?;
-        shown.push_str(value.text_of(alloc)?.as_str())?;
+        shown.push_str(value.text(alloc)?.as_str())?;
     }
     Ok(())
 }

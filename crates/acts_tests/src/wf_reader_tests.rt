@@ -1,8 +1,8 @@
 use std::alloc::Global;
 use std::process::Abort;
 use std::test::Fail;
-use wf_reader::{Event, Job, Jobs, Texts, Workflow, read_event, read_workflow};
-use wf_value::{Chars, Refusal};
+use wf_reader::{Event, Job, Jobs, Workflow, read_event, read_workflow};
+use wf_value::{Chars, Refusal, Sequence, TryCopy};
 
 const ACCEPTED: u64 = 0;
 
@@ -268,11 +268,11 @@ fn reads_an_event(rt: HostRuntime) -> Result<(), Fail> {
     Ok(())
 }
 
-fn some_texts(alloc: Global) -> Result<Texts, Refusal> {
+fn some_texts(alloc: Global) -> Result<Sequence<Chars>, Refusal> {
     let mut texts = Vec::new(alloc);
     texts.push(Chars::from_str(alloc, "linux")?)?;
     texts.push(Chars::from_str(alloc, "")?)?;
-    Ok(Texts::new(texts))
+    Ok(Sequence::new(texts))
 }
 
 fn one_job(alloc: Global) -> Result<Jobs, Refusal> {

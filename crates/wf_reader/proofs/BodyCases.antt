@@ -1,5 +1,6 @@
 -- What is wrong with the text of a body.
-use Rattle.std.proofs.Common.{◌≡◌, ℕ, ◌≤◌, List, [], length, Bool, true, false, nat_le, Option, Some, None, unwrap_or, if◌then◌else◌, Ok, Err, IsUtf8, refl, ap, arith}
+use Rattle.std.proofs.Common.{◌≡◌, ℕ, ◌≤◌, List, [], length, Bool, true, false, nat_le, Option, Some, None, unwrap_or}
+use Rattle.std.proofs.Common.{if◌then◌else◌, Ok, Err, IsUtf8, refl, ap, arith}
 use Rattle.std.specs.Str.{is_utf8}
 use Rattle.std.proofs.lemmas.Str.{IsUtf8-from_is_utf8, is_utf8-from_IsUtf8}
 use Rattle.std.proofs.lemmas.Bool.Decides.{nat_tests}
@@ -15,13 +16,18 @@ not_utf8 : (bytes : List ℕ) (b : Bool) → is_utf8 bytes ≡ b → ¬ IsUtf8 b
 not_utf8 bytes true is h = absurd (h (IsUtf8-from_is_utf8 bytes is))
 not_utf8 bytes false is h = is
 
+pub never_both : (bytes : List ℕ) → IsUtf8 bytes → is_utf8 bytes ≡ false → ⊥
+never_both bytes is not_so = let so : is_utf8 bytes ≡ true = is_utf8-from_IsUtf8 bytes is in cc
+
 short : (n : ℕ) → n ≤ 65536 → nat_le n 65536 ≡ true
 short n h = grind (arith, nat_tests)
 
-pub no_text : (bytes : List ℕ) → length bytes ≤ 65536 → ¬ IsUtf8 bytes → unless_faulty (body_faults (λ _. []) bytes) (body_value bytes) ≡ Err (Numbered NotJson)
+pub no_text : (bytes : List ℕ) → length bytes ≤ 65536 → ¬ IsUtf8 bytes
+    → unless_faulty (body_faults (λ _. []) bytes) (body_value bytes) ≡ Err (Numbered NotJson)
 no_text bytes size h = rw (short (length bytes) size, not_utf8 bytes _ refl h)
 
-pub text_read : (bytes : List ℕ) (d : Data) → length bytes ≤ 65536 → IsUtf8 bytes → read bytes ≡ Some d → unless_faulty (body_faults (λ _. []) bytes) (body_value bytes) ≡ Ok d
+pub text_read : (bytes : List ℕ) (d : Data) → length bytes ≤ 65536 → IsUtf8 bytes → read bytes ≡ Some d
+    → unless_faulty (body_faults (λ _. []) bytes) (body_value bytes) ≡ Ok d
 text_read bytes d size h is = rw (short (length bytes) size, is_utf8-from_IsUtf8 bytes h, is)
 
 inside : {X : Type 0} (check : Data → List Refusal) (of : Data → X) (b : Bool) (o : Option Data) (v : Data)
@@ -33,5 +39,6 @@ inside check of false o v h = absurd cc
 
 -- where the body has a value, what is wrong with it is what is wrong inside the value
 pub inside_body : {X : Type 0} (check : Data → List Refusal) (of : Data → X) (bytes : List ℕ) (v : Data)
-    → unless_faulty (body_faults (λ _. []) bytes) (body_value bytes) ≡ Ok v → unless_faulty (check v) (of v) ≡ unless_faulty (body_faults check bytes) (of (body_value bytes))
+    → unless_faulty (body_faults (λ _. []) bytes) (body_value bytes) ≡ Ok v → unless_faulty (check v) (of v) ≡ unless_faulty
+    (body_faults check bytes) (of (body_value bytes))
 inside_body check of bytes v h = inside check of (nat_le (length bytes) 65536) (json_of bytes) v h

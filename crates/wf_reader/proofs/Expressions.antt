@@ -20,7 +20,8 @@ found (x ∷ a) b s is = ap has_expression is ∙ or_true _ _ (found a b (a ++ (
 later : (x : ℕ) (s : List ℕ) → HasSubslice s begin → HasSubslice (x ∷ s) begin
 later x s h = (x ∷ h.0, h.1, ap (λ r. x ∷ r) h.2)
 
-here_or_later : (x : ℕ) (s : List ℕ) (b : Bool) → b ≡ starts_with nat_eq (x ∷ s) begin → (has_expression s ≡ true → HasSubslice s begin) → (b || has_expression s) ≡ true → HasSubslice (x ∷ s) begin
+here_or_later : (x : ℕ) (s : List ℕ) (b : Bool) → b ≡ starts_with nat_eq (x ∷ s) begin
+    → (has_expression s ≡ true → HasSubslice s begin) → (b || has_expression s) ≡ true → HasSubslice (x ∷ s) begin
 here_or_later x s true is rest h = ([], drop 3 (x ∷ s), (starts_is (λ p q. (eqb-true p q, eq-eqb p q)) (x ∷ s) begin true is).0 refl)
 here_or_later x s false is rest h = later x s (rest h)
 

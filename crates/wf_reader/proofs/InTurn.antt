@@ -1,18 +1,12 @@
 -- The first fault of lists of faults, part by part.
 use Rattle.std.proofs.Common.{◌≡◌, List, [], ◌∷◌, ◌++◌, map, Result, Ok, Err, refl, sym, ap, ◌∙◌, append_assoc}
-use Rattle.std.specs.Prelude.{◌≢◌, IsErrAnd}
 use Rattle.std.specs.List.{flat_map}
-use Rattle.wf_value.specs.Gives.{Gives, no_memory}
 use Rattle.wf_value.specs.declared.refusal.Refusal.{Refusal}
 use Rattle.wf_reader.specs.Faults.{unless_faulty}
 
--- the exit of a `?`
-pub gives_err : {X Y : Type 0} (view : X → Y) (r : Result X Refusal) (d : Result Y Refusal) (e : Refusal) → IsErrAnd r (λ f. f ≡ e) → (e ≢ no_memory → d ≡ Err e) → Gives view r d
-gives_err view (Ok x) d e is h = absurd is
-gives_err view (Err f) d e is h = λ ne. h (λ m. ne (is ∙ m)) ∙ ap Err (sym is)
-
 -- a part with a fault decides
-pub first_decides : {X Y : Type 0} (fs gs : List Refusal) (x : X) (y : Y) (e : Refusal) → unless_faulty fs x ≡ Err e → unless_faulty (fs ++ gs) y ≡ Err e
+pub first_decides : {X Y : Type 0} (fs gs : List Refusal) (x : X) (y : Y) (e : Refusal) → unless_faulty fs x ≡ Err e
+    → unless_faulty (fs ++ gs) y ≡ Err e
 first_decides [] gs x y e h = absurd cc
 first_decides (f ∷ fs) gs x y e h = cc
 
@@ -26,18 +20,23 @@ same_value [] x v h = cc
 same_value (f ∷ fs) x v h = absurd cc
 
 -- and one without lets the later ones decide
-pub skip : {X Y : Type 0} (fs gs : List Refusal) (x v : X) (y : Y) (r : Result Y Refusal) → unless_faulty fs x ≡ Ok v → unless_faulty gs y ≡ r → unless_faulty (fs ++ gs) y ≡ r
+pub skip : {X Y : Type 0} (fs gs : List Refusal) (x v : X) (y : Y) (r : Result Y Refusal) → unless_faulty fs x ≡ Ok v
+    → unless_faulty gs y ≡ r → unless_faulty (fs ++ gs) y ≡ r
 skip fs gs x v y r h later = ap (λ hs. unless_faulty (hs ++ gs) y) (no_fault fs x v h) ∙ later
 
 -- of the checks of a list, where those of `rest` are left
-pub first_of_rest : {A X Y : Type 0} (f : A → List Refusal) (all rest more : List A) (a : A) (x : X) (y : Y) (e : Refusal) → flat_map f all ≡ flat_map f rest → rest ≡ a ∷ more → unless_faulty (f a) x ≡ Err e → unless_faulty (flat_map f all) y ≡ Err e
+pub first_of_rest : {A X Y : Type 0} (f : A → List Refusal) (all rest more : List A) (a : A) (x : X) (y : Y) (e : Refusal)
+    → flat_map f all ≡ flat_map f rest → rest ≡ a ∷ more → unless_faulty (f a) x ≡ Err e
+    → unless_faulty (flat_map f all) y ≡ Err e
 first_of_rest f all rest more a x y e left is h =
     ap (λ fs. unless_faulty fs y) (left ∙ ap (flat_map f) is) ∙ first_decides (f a) (flat_map f more) x y e h
 
-pub none_of_first : {A X : Type 0} (f : A → List Refusal) (all rest more : List A) (a : A) (x v : X) → flat_map f all ≡ flat_map f rest → rest ≡ a ∷ more → unless_faulty (f a) x ≡ Ok v → flat_map f all ≡ flat_map f more
+pub none_of_first : {A X : Type 0} (f : A → List Refusal) (all rest more : List A) (a : A) (x v : X)
+    → flat_map f all ≡ flat_map f rest → rest ≡ a ∷ more → unless_faulty (f a) x ≡ Ok v → flat_map f all ≡ flat_map f more
 none_of_first f all rest more a x v left is h = left ∙ ap (flat_map f) is ∙ ap (λ fs. fs ++ flat_map f more) (no_fault (f a) x v h)
 
 -- of what a list gives, where that of `rest` is still to come
-pub one_more : {A B : Type 0} (g : A → B) (all rest more : List A) (done : List B) (a : A) (b : B) → done ++ map g rest ≡ map g all → rest ≡ a ∷ more → g a ≡ b → (done ++ b ∷ []) ++ map g more ≡ map g all
+pub one_more : {A B : Type 0} (g : A → B) (all rest more : List A) (done : List B) (a : A) (b : B)
+    → done ++ map g rest ≡ map g all → rest ≡ a ∷ more → g a ≡ b → (done ++ b ∷ []) ++ map g more ≡ map g all
 one_more g all rest more done a b so_far is same =
     append_assoc done (b ∷ []) (map g more) ∙ ap (λ c. done ++ c ∷ map g more) (sym same) ∙ ap (λ r. done ++ map g r) (sym is) ∙ so_far

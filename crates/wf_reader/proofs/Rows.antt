@@ -1,5 +1,5 @@
 -- The definitions, worked through on bodies: each list is all that is wrong, and its first is the refusal.
-use Rattle.std.proofs.Common.{◌≡◌, [], ◌∷◌, codes, refl}
+use Rattle.std.proofs.Common.{◌≡◌, [], ◌∷◌, ◌++◌, codes, refl}
 use Rattle.std.specs.Str.{is_utf8, chars}
 use Rattle.serde_json.proofs.OnLiterals.{serde_json_on_literals}
 use Rattle.wf_value.specs.declared.code.Code.TheVariants.{NotJson, WrongKind, JobId, NoLabels, LeftOut}
@@ -32,7 +32,8 @@ null_name : workflow_faults (codes "{\"name\":null,\"jobs\":{\"a\":{\"runs-on\":
 unfolding serde_json_on_literals is_utf8 chars
 null_name = refl
 
-workflow_concurrency : workflow_faults (codes "{\"concurrency\":null,\"jobs\":{\"a\":{\"runs-on\":\"x\"}}}") ≡ Numbered LeftOut ∷ []
+workflow_concurrency : workflow_faults (codes "{\"concurrency\":null,\"jobs\":{\"a\":{\"runs-on\":\"x\"}}}")
+    ≡ Numbered LeftOut ∷ []
 unfolding serde_json_on_literals is_utf8 chars
 workflow_concurrency = refl
 
@@ -52,7 +53,8 @@ empty_labels : workflow_faults (codes "{\"jobs\":{\"a\":{\"runs-on\":[]}}}") ≡
 unfolding serde_json_on_literals is_utf8 chars
 empty_labels = refl
 
-reusable_workflow : workflow_faults (codes "{\"jobs\":{\"a\":{\"uses\":\"./x.yml\"}}}") ≡ Numbered LeftOut ∷ Numbered NoLabels ∷ []
+reusable_workflow : workflow_faults (codes "{\"jobs\":{\"a\":{\"uses\":\"./x.yml\"}}}")
+    ≡ Numbered LeftOut ∷ Numbered NoLabels ∷ []
 unfolding serde_json_on_literals is_utf8 chars
 reusable_workflow = refl
 
@@ -64,7 +66,8 @@ label_kind : workflow_faults (codes "{\"jobs\":{\"a\":{\"runs-on\":[\"x\",{}]}}}
 unfolding serde_json_on_literals is_utf8 chars
 label_kind = refl
 
-label_by_label : workflow_faults (codes "{\"jobs\":{\"a\":{\"runs-on\":[\"${{ x }}\",5]}}}") ≡ Numbered LeftOut ∷ Numbered WrongKind ∷ []
+label_by_label : workflow_faults (codes "{\"jobs\":{\"a\":{\"runs-on\":[\"${{ x }}\",5]}}}")
+    ≡ Numbered LeftOut ∷ Numbered WrongKind ∷ []
 unfolding serde_json_on_literals is_utf8 chars
 label_by_label = refl
 
@@ -72,15 +75,19 @@ label_expression : workflow_faults (codes "{\"jobs\":{\"a\":{\"runs-on\":\"a${{ 
 unfolding serde_json_on_literals is_utf8 chars
 label_expression = refl
 
-job_by_job : workflow_faults (codes "{\"jobs\":{\"b\":{\"runs-on\":5},\"a\":{\"runs-on\":\"x\",\"needs\":\"b\"}}}") ≡ Numbered LeftOut ∷ Numbered WrongKind ∷ []
+job_by_job : workflow_faults (codes "{\"jobs\":{\"b\":{\"runs-on\":5},\"a\":{\"runs-on\":\"x\",\"needs\":\"b\"}}}")
+    ≡ Numbered LeftOut ∷ Numbered WrongKind ∷ []
 unfolding serde_json_on_literals is_utf8 chars
 job_by_job = refl
 
-all_left_out : workflow_faults (codes "{\"jobs\":{\"a\":{\"runs-on\":\"x\",\"strategy\":{},\"concurrency\":\"g\",\"continue-on-error\":true,\"if\":true,\"needs\":[]}}}") ≡ Numbered LeftOut ∷ Numbered LeftOut ∷ Numbered LeftOut ∷ Numbered LeftOut ∷ Numbered LeftOut ∷ []
+all_left_out : workflow_faults (codes "{\"jobs\":{\"a\":{\"runs-on\":\"x\",\"strategy\":{},\"concurrency\":\"g\"," ++ codes
+    "\"continue-on-error\":true,\"if\":true,\"needs\":[]}}}")
+    ≡ Numbered LeftOut ∷ Numbered LeftOut ∷ Numbered LeftOut ∷ Numbered LeftOut ∷ Numbered LeftOut ∷ []
 unfolding serde_json_on_literals is_utf8 chars
 all_left_out = refl
 
-read_past : workflow_faults (codes "{\"on\":\"push\",\"env\":{},\"jobs\":{\"a\":{\"runs-on\":[\"x\",\"\"],\"steps\":[1],\"name\":5}}}") ≡ []
+read_past : workflow_faults (codes "{\"on\":\"push\",\"env\":{},\"jobs\":{\"a\":{\"runs-on\":[\"x\",\"\"],\"steps\":[1],\"name\":5}}}")
+    ≡ []
 unfolding serde_json_on_literals is_utf8 chars
 read_past = refl
 
@@ -88,27 +95,43 @@ no_envelope : event_faults (codes "{}") ≡ Numbered WrongKind ∷ Numbered Wron
 unfolding serde_json_on_literals is_utf8 chars
 no_envelope = refl
 
-empty_repo : event_faults (codes "{\"repo\":\"\",\"path\":\"p\",\"workflow\":{\"jobs\":{\"a\":{\"runs-on\":\"x\"}}}}") ≡ Numbered WrongKind ∷ []
+empty_repo : event_faults (codes "{\"repo\":\"\",\"path\":\"p\",\"workflow\":{\"jobs\":{\"a\":{\"runs-on\":\"x\"}}}}")
+    ≡ Numbered WrongKind ∷ []
 unfolding serde_json_on_literals is_utf8 chars
 empty_repo = refl
 
-contexts : event_faults (codes "{\"repo\":\"r\",\"path\":\"p\",\"github\":null,\"inputs\":[],\"vars\":{},\"workflow\":{\"jobs\":{\"1a\":{\"runs-on\":\"x\"}}}}") ≡ Numbered WrongKind ∷ Numbered WrongKind ∷ Numbered JobId ∷ []
+contexts : event_faults (codes "{\"repo\":\"r\",\"path\":\"p\",\"github\":null,\"inputs\":[],\"vars\":{}," ++ codes
+    "\"workflow\":{\"jobs\":{\"1a\":{\"runs-on\":\"x\"}}}}")
+    ≡ Numbered WrongKind ∷ Numbered WrongKind ∷ Numbered JobId ∷ []
 unfolding serde_json_on_literals is_utf8 chars
 contexts = refl
 
-envelope_first : event_faults (codes "{\"path\":\"p\",\"repo\":1,\"workflow\":{\"jobs\":{\"a\":{}}}}") ≡ Numbered WrongKind ∷ Numbered NoLabels ∷ []
+envelope_first : event_faults (codes "{\"path\":\"p\",\"repo\":1,\"workflow\":{\"jobs\":{\"a\":{}}}}")
+    ≡ Numbered WrongKind ∷ Numbered NoLabels ∷ []
 unfolding serde_json_on_literals is_utf8 chars
 envelope_first = refl
 
-good : event_faults (codes "{\"repo\":\"o/r\",\"path\":\"ci.json\",\"workflow\":{\"jobs\":{\"build\":{\"runs-on\":\"linux\"}}}}") ≡ []
+good : event_faults (codes "{\"repo\":\"o/r\",\"path\":\"ci.json\",\"workflow\":{\"jobs\":{\"build\":{\"runs-on\":\"linux\"}}}}")
+    ≡ []
 unfolding serde_json_on_literals is_utf8 chars
 good = refl
 
 -- the jobs in the order of their ids
-in_order : workflow_of (codes "{\"name\":\"n\",\"jobs\":{\"b\":{\"runs-on\":[\"linux\",\"x64\"]},\"a\":{\"runs-on\":\"y\"}}}") ≡ record { name = codes "n"; jobs = record { id = codes "a"; labels = codes "y" ∷ [] } ∷ record { id = codes "b"; labels = codes "linux" ∷ codes "x64" ∷ [] } ∷ [] }
+in_order : workflow_of (codes "{\"name\":\"n\",\"jobs\":{\"b\":{\"runs-on\":[\"linux\",\"x64\"]},\"a\":{\"runs-on\":\"y\"}}}")
+    ≡ record {
+      name = codes "n";
+      jobs = record { id = codes "a"; labels = codes "y" ∷ [] } ∷ record
+          { id = codes "b"; labels = codes "linux" ∷ codes "x64" ∷ [] } ∷ [];
+    }
 unfolding serde_json_on_literals is_utf8 chars
 in_order = refl
 
-envelope : event_of (codes "{\"repo\":\"o/r\",\"path\":\"ci.json\",\"workflow\":{\"jobs\":{\"build\":{\"runs-on\":\"linux\"}}}}") ≡ record { repo = codes "o/r"; path = codes "ci.json"; workflow = record { name = []; jobs = record { id = codes "build"; labels = codes "linux" ∷ [] } ∷ [] } }
+envelope : event_of (codes "{\"repo\":\"o/r\",\"path\":\"ci.json\",\"workflow\":{\"jobs\":{\"build\":{\"runs-on\":\"linux\"}}}}")
+    ≡ record {
+      repo = codes "o/r";
+      path = codes "ci.json";
+      workflow = record
+          { name = []; jobs = record { id = codes "build"; labels = codes "linux" ∷ [] } ∷ [] };
+    }
 unfolding serde_json_on_literals is_utf8 chars
 envelope = refl

@@ -6,8 +6,8 @@ use Rattle.serde_json.specs.Find.{as_array}
 use Rattle.serde_json.specs.View.{view, items_view}
 use Rattle.serde_json.specs.declared.value.Value.{Value}
 use Rattle.wf_reader.specs.Faults.{unless_faulty}
-use Rattle.wf_reader.specs.Job.{label_faults, labels_faults, labels_of}
-use Rattle.wf_reader.specs.Json.{item_list, text_of}
+use Rattle.wf_reader.specs.Job.{label_faults, labels_faults, labels_asked}
+use Rattle.wf_reader.specs.Json.{item_list, text_in}
 
 array-of : (d : Data) (ds : Items) → Some ds ≡ as_array d → d ≡ array ds
 array-of null ds h = absurd cc
@@ -22,21 +22,23 @@ flat_map-items : (vs : List Value) → flat_map label_faults (item_list (items_v
 flat_map-items [] = refl
 flat_map-items (v ∷ vs) = rw (flat_map-items vs)
 
-map-items : (vs : List Value) → map text_of (item_list (items_view vs)) ≡ map (λ v. text_of (view v)) vs
+map-items : (vs : List Value) → map text_in (item_list (items_view vs)) ≡ map (λ v. text_in (view v)) vs
 map-items [] = refl
 map-items (v ∷ vs) = rw (map-items vs)
 
-faults-filled : (d : Data) (vs : List Value) → Some (items_view vs) ≡ as_array d → 0 < length vs → labels_faults d ≡ flat_map (λ v. label_faults (view v)) vs
+faults-filled : (d : Data) (vs : List Value) → Some (items_view vs) ≡ as_array d → 0 < length vs
+    → labels_faults d ≡ flat_map (λ v. label_faults (view v)) vs
 faults-filled d [] is h = absurd (omega arith)
 faults-filled d (v ∷ vs) is h = ap labels_faults (array-of d _ is) ∙ flat_map-items (v ∷ vs)
 
-labels-list : (d : Data) (vs : List Value) → Some (items_view vs) ≡ as_array d → labels_of d ≡ map (λ v. text_of (view v)) vs
-labels-list d vs is = ap labels_of (array-of d _ is) ∙ map-items vs
+labels-list : (d : Data) (vs : List Value) → Some (items_view vs) ≡ as_array d → labels_asked d ≡ map (λ v. text_in (view v)) vs
+labels-list d vs is = ap labels_asked (array-of d _ is) ∙ map-items vs
 
 -- what the labels of a list are, read as the value of `runs-on`
 pub list_gives : (d : Data) (vs ws : List Value) → Some (items_view vs) ≡ as_array d → ws ≡ vs → 0 < length ws
-    → unless_faulty (flat_map (λ v. label_faults (view v)) ws) (map (λ v. text_of (view v)) ws) ≡ unless_faulty (labels_faults d) (labels_of d)
+    → unless_faulty (flat_map (λ v. label_faults (view v)) ws) (map (λ v. text_in (view v)) ws) ≡ unless_faulty (labels_faults d)
+    (labels_asked d)
 list_gives d vs ws is same filled =
-    ap (λ us. unless_faulty (flat_map (λ v. label_faults (view v)) us) (map (λ v. text_of (view v)) us)) same
-    ∙ ap (λ fs. unless_faulty fs (map (λ v. text_of (view v)) vs)) (sym (faults-filled d vs is (subst (λ us. 0 < length us) same filled)))
+    ap (λ us. unless_faulty (flat_map (λ v. label_faults (view v)) us) (map (λ v. text_in (view v)) us)) same
+    ∙ ap (λ fs. unless_faulty fs (map (λ v. text_in (view v)) vs)) (sym (faults-filled d vs is (subst (λ us. 0 < length us) same filled)))
     ∙ ap (unless_faulty (labels_faults d)) (sym (labels-list d vs is))

@@ -7,12 +7,12 @@ use Rattle.wf_value.specs.declared.code.Code.TheVariants.{WrongKind}
 use Rattle.wf_value.specs.declared.refusal.Refusal.{Refusal}
 use Rattle.wf_reader.specs.Body.{body_value, body_faults}
 use Rattle.wf_reader.specs.Faults.{fault_unless, in_turn, optional, required, object_faults, faults_within}
-use Rattle.wf_reader.specs.Json.{text_of, value_at}
-use Rattle.wf_reader.specs.Workflow as workflow
+use Rattle.wf_reader.specs.Json.{text_in, member_at}
+use Rattle.wf_reader.specs.Workflow.{workflow_faults_in, workflow_in}
 use Rattle.wf_reader.specs.declared.event.Event.{Event}
 
 abbrev pub filled_text_faults : Data → List Refusal
-filled_text_faults d = fault_unless (nat_lt 0 (length (text_of d))) WrongKind
+filled_text_faults d = fault_unless (nat_lt 0 (length (text_in d))) WrongKind
 
 abbrev pub inside_envelope : Data → List Refusal
 inside_envelope d = in_turn (required WrongKind filled_text_faults (get (codes "repo") d)
@@ -20,17 +20,21 @@ inside_envelope d = in_turn (required WrongKind filled_text_faults (get (codes "
     ∷ optional object_faults (get (codes "github") d)
     ∷ optional object_faults (get (codes "inputs") d)
     ∷ optional object_faults (get (codes "vars") d)
-    ∷ required WrongKind workflow.value_faults (get (codes "workflow") d) ∷ [])
+    ∷ required WrongKind workflow_faults_in (get (codes "workflow") d) ∷ [])
 
-abbrev pub envelope_faults : Data → List Refusal
-envelope_faults = faults_within inside_envelope
+abbrev pub event_faults_in : Data → List Refusal
+event_faults_in = faults_within inside_envelope
 
-abbrev pub envelope_of : Data → Event
-envelope_of d = record { repo = text_of (value_at (codes "repo") d); path = text_of (value_at (codes "path") d); workflow = workflow.value_of (value_at (codes "workflow") d) }
+abbrev pub event_in : Data → Event
+event_in d = record {
+  repo = text_in (member_at (codes "repo") d);
+  path = text_in (member_at (codes "path") d);
+  workflow = workflow_in (member_at (codes "workflow") d);
+}
 
 -- what is wrong with a body that is an event, and the event that it spells where nothing is
 abbrev pub event_faults : List ℕ → List Refusal
-event_faults bytes = body_faults envelope_faults bytes
+event_faults bytes = body_faults event_faults_in bytes
 
 abbrev pub event_of : List ℕ → Event
-event_of bytes = envelope_of (body_value bytes)
+event_of bytes = event_in (body_value bytes)

@@ -8,7 +8,7 @@ use Rattle.serde_json.specs.Find.{get}
 use Rattle.wf_value.specs.declared.code.Code.TheVariants.{WrongKind, JobId, NoLabels, LeftOut}
 use Rattle.wf_value.specs.declared.refusal.Refusal.{Refusal}
 use Rattle.wf_reader.specs.Faults.{fault, fault_unless, in_turn, required, left_out, faults_within}
-use Rattle.wf_reader.specs.Json.{item_list, text_of, value_at}
+use Rattle.wf_reader.specs.Json.{item_list, text_in, member_at}
 use Rattle.wf_reader.specs.declared.job.Job.{Job}
 
 -- ---- jobs.<job_id>: a letter or `_` first, then these, digits and `-`; at most 100 bytes (own)
@@ -72,8 +72,8 @@ inside_job d = in_turn (left_out (get (codes "uses") d)
 abbrev pub job_faults : List ℕ × Data → List Refusal
 job_faults job = fault_unless (is_job_id job.0) JobId ++ faults_within inside_job job.1
 
-abbrev pub labels_of : Data → List (List ℕ)
-labels_of d = map text_of (label_values d)
+abbrev pub labels_asked : Data → List (List ℕ)
+labels_asked d = map text_in (label_values d)
 
 abbrev pub job_of : List ℕ × Data → Job
-job_of job = record { id = job.0; labels = labels_of (value_at (codes "runs-on") job.1) }
+job_of job = record { id = job.0; labels = labels_asked (member_at (codes "runs-on") job.1) }

@@ -13,13 +13,13 @@ member_list no_members = []
 member_list (member k d ms) = (k, d) ∷ member_list ms
 
 -- the text of a value, and the empty one where it is no text
-abbrev pub text_of : Data → List ℕ
-text_of d = unwrap_or (as_str d) []
+abbrev pub text_in : Data → List ℕ
+text_in d = unwrap_or (as_str d) []
 
 -- the members of a value, and none where it is no object
 abbrev pub members_of : Data → List (List ℕ × Data)
 members_of d = member_list (unwrap_or (as_object d) no_members)
 
 -- the value of a member, and null where there is none
-abbrev pub value_at : List ℕ → Data → Data
-value_at name d = unwrap_or (get name d) null
+abbrev pub member_at : List ℕ → Data → Data
+member_at name d = unwrap_or (get name d) null

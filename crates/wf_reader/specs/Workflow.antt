@@ -8,7 +8,7 @@ use Rattle.wf_value.specs.declared.refusal.Refusal.{Refusal}
 use Rattle.wf_reader.specs.Body.{body_value, body_faults}
 use Rattle.wf_reader.specs.Faults.{fault, fault_unless, in_turn, optional, left_out, text_faults, faults_within}
 use Rattle.wf_reader.specs.Job.{job_faults, job_of}
-use Rattle.wf_reader.specs.Json.{text_of, members_of, value_at}
+use Rattle.wf_reader.specs.Json.{text_in, members_of, member_at}
 use Rattle.wf_reader.specs.declared.workflow.Workflow.{Workflow}
 
 -- at least one job and at most 256 (own), each in the order of its id
@@ -19,18 +19,18 @@ jobs_faults (j ∷ js) = fault_unless (nat_le (length (j ∷ js)) 256) TooManyJo
 abbrev pub inside_workflow : Data → List Refusal
 inside_workflow d = in_turn (optional text_faults (get (codes "name") d)
     ∷ left_out (get (codes "concurrency") d)
-    ∷ jobs_faults (members_of (value_at (codes "jobs") d)) ∷ [])
+    ∷ jobs_faults (members_of (member_at (codes "jobs") d)) ∷ [])
 
 -- what is wrong with a value that is to be a workflow
-abbrev pub value_faults : Data → List Refusal
-value_faults = faults_within inside_workflow
+abbrev pub workflow_faults_in : Data → List Refusal
+workflow_faults_in = faults_within inside_workflow
 
-abbrev pub value_of : Data → Workflow
-value_of d = record { name = text_of (value_at (codes "name") d); jobs = map job_of (members_of (value_at (codes "jobs") d)) }
+abbrev pub workflow_in : Data → Workflow
+workflow_in d = record { name = text_in (member_at (codes "name") d); jobs = map job_of (members_of (member_at (codes "jobs") d)) }
 
 -- what is wrong with a body that is a workflow, and the workflow that it spells where nothing is
 abbrev pub workflow_faults : List ℕ → List Refusal
-workflow_faults bytes = body_faults value_faults bytes
+workflow_faults bytes = body_faults workflow_faults_in bytes
 
 abbrev pub workflow_of : List ℕ → Workflow
-workflow_of bytes = value_of (body_value bytes)
+workflow_of bytes = workflow_in (body_value bytes)

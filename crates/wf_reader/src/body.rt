@@ -1,6 +1,9 @@
-ghost use Rattle.std.specs.Prelude.{[]};
+ghost use Rattle.std.specs.Prelude.{◌≡◌, ◌<◌, ◌≤◌, [], length, false, Err};
+ghost use Rattle.std.specs.Str.{is_utf8};
 ghost use Rattle.serde_json.specs.View.{view};
 ghost use Rattle.wf_value.specs.Gives.{Gives};
+ghost use Rattle.wf_value.specs.declared.code.Code.TheVariants.{NotJson, TooLong};
+ghost use Rattle.wf_value.specs.declared.refusal.Refusal.TheVariants.{Numbered};
 ghost use Rattle.wf_reader.specs.Body.{body_faults, body_value};
 ghost use Rattle.wf_reader.specs.Faults.{unless_faulty};
 
@@ -12,10 +15,14 @@ use wf_value::{Code, Refusal};
 /// The longest body, in bytes.
 const MAX_BODY: usize = 65_536;
 
-/// The JSON value of a body: 24 over 65,536 bytes, 10 where it is not UTF-8 or not JSON.
+/// The JSON value of a body: 24 over 65,536 bytes, 10 where it is not UTF-8 or not JSON. The length and
+/// the bytes are judged before memory is taken.
 pub fn read_body(alloc: Global, bytes: &[u8]) -> Result<Value, Refusal>
-    ensures { Gives view result
+    ensures gives { Gives view result
         (unless_faulty (body_faults (λ _. []) bytes.now) (body_value bytes.now)) }
+    ensures too_long { 65536 < length bytes.now → result ≡ Err (Numbered TooLong) }
+    ensures no_text { length bytes.now ≤ 65536 → is_utf8 bytes.now ≡ false
+        → result ≡ Err (Numbered NotJson) }
 {
     if bytes.len() > MAX_BODY {
         return Err(Refusal::Numbered(Code::TooLong));

@@ -1,12 +1,14 @@
-ghost use Rattle.std.specs.Prelude.{◌≡◌, codes};
+ghost use Rattle.std.specs.Prelude.{◌≡◌, ◌<◌, ◌≤◌, codes, length, false, Err};
+ghost use Rattle.std.specs.Str.{is_utf8};
 ghost use Rattle.serde_json.specs.Find.{get};
 ghost use Rattle.serde_json.specs.View.{view};
 ghost use Rattle.wf_value.specs.Gives.{Gives};
-ghost use Rattle.wf_reader.specs.Event.{envelope_faults, envelope_of, event_faults, event_of};
-ghost use Rattle.wf_value.specs.declared.code.Code.TheVariants.{WrongKind};
+ghost use Rattle.wf_reader.specs.Event.{event_faults_in, event_in, event_faults, event_of};
+ghost use Rattle.wf_value.specs.declared.code.Code.TheVariants.{NotJson, TooLong, WrongKind};
+ghost use Rattle.wf_value.specs.declared.refusal.Refusal.TheVariants.{Numbered};
 ghost use Rattle.wf_reader.specs.Faults.{unless_faulty, required};
-ghost use Rattle.wf_reader.specs.Json.{value_at};
-ghost use Rattle.wf_reader.specs.Workflow.{value_faults, value_of};
+ghost use Rattle.wf_reader.specs.Json.{member_at};
+ghost use Rattle.wf_reader.specs.Workflow.{workflow_faults_in, workflow_in};
 
 use crate::body::read_body;
 use crate::fields::{check_context, read_filled_text, wrong_kind};
@@ -16,7 +18,7 @@ use std::alloc::Global;
 use wf_value::{Chars, Refusal};
 
 /// The body of an event: whose repository and which workflow it is for, and the workflow itself.
-#[derive(Debug, Drop)]
+#[derive(Drop)]
 pub struct Event {
     /// Not empty. Repositories compare by bytes.
     pub repo: Chars,
@@ -29,8 +31,8 @@ pub struct Event {
 fn read_inner(alloc: Global, envelope: &Value) -> Result<Workflow, Refusal>
     ensures { Gives (λ w. w) result
         (unless_faulty
-        (required WrongKind value_faults (get (codes "workflow") (view envelope.now)))
-        (value_of (value_at (codes "workflow") (view envelope.now)))) }
+        (required WrongKind workflow_faults_in (get (codes "workflow") (view envelope.now)))
+        (workflow_in (member_at (codes "workflow") (view envelope.now)))) }
 {
     match envelope.get("workflow") {
         Some(value) => workflow_in(alloc, value),
@@ -41,7 +43,7 @@ fn read_inner(alloc: Global, envelope: &Value) -> Result<Workflow, Refusal>
 /// The event of a value, or the first of its faults.
 fn event_in(alloc: Global, value: &Value) -> Result<Event, Refusal>
     ensures { Gives (λ e. e) result
-        (unless_faulty (envelope_faults (view value.now)) (envelope_of (view value.now))) }
+        (unless_faulty (event_faults_in (view value.now)) (event_in (view value.now))) }
 {
     if !value.is_object() {
         return Err(wrong_kind());
@@ -63,8 +65,13 @@ fn event_in(alloc: Global, value: &Value) -> Result<Event, Refusal>
 /// it is not UTF-8 or not JSON, 11 for the envelope, and for the workflow in it 11, 12, 15, 16 and 23.
 /// Want of memory is 50.
 pub fn read_event(alloc: Global, bytes: &[u8]) -> Result<Event, Refusal>
-    ensures { Gives (λ e. e) result
+    ensures gives { Gives (λ e. e) result
         (unless_faulty (event_faults bytes.now) (event_of bytes.now)) }
+
+    // Memory or not:
+    ensures too_long { 65536 < length bytes.now → result ≡ Err (Numbered TooLong) }
+    ensures no_text { length bytes.now ≤ 65536 → is_utf8 bytes.now ≡ false
+        → result ≡ Err (Numbered NotJson) }
 {
     let value = read_body(alloc, bytes)?;
     event_in(alloc, &value)

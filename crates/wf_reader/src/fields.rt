@@ -6,7 +6,7 @@ ghost use Rattle.wf_value.specs.declared.code.Code.TheVariants.{WrongKind};
 ghost use Rattle.wf_value.specs.declared.refusal.Refusal.TheVariants.{Numbered};
 ghost use Rattle.wf_reader.specs.Event.{filled_text_faults};
 ghost use Rattle.wf_reader.specs.Faults.{unless_faulty, optional, required, left_out, text_faults, object_faults};
-ghost use Rattle.wf_reader.specs.Json.{text_of, value_at};
+ghost use Rattle.wf_reader.specs.Json.{text_in, member_at};
 
 use serde_json::{Map, Value};
 use std::alloc::Global;
@@ -29,8 +29,7 @@ pub fn members_at<'v>(object: &'v Value, name: &str) -> Option<&'v Map<String, V
 
 /// Refuses a member that is left out, whatever its value (16).
 pub fn refuse_left_out(object: &Value, name: &str) -> Result<(), Refusal>
-    ensures { Gives (λ u. u) result
-        (unless_faulty (left_out (get name.now (view object.now))) tt) }
+    ensures { result ≡ unless_faulty (left_out (get name.now (view object.now))) tt }
 {
     match object.get(name) {
         Some(_) => Err(Refusal::Numbered(Code::LeftOut)),
@@ -40,8 +39,7 @@ pub fn refuse_left_out(object: &Value, name: &str) -> Result<(), Refusal>
 
 /// Refuses a member that is there and no object (11).
 pub fn check_context(object: &Value, name: &str) -> Result<(), Refusal>
-    ensures { Gives (λ u. u) result
-        (unless_faulty (optional object_faults (get name.now (view object.now))) tt) }
+    ensures { result ≡ unless_faulty (optional object_faults (get name.now (view object.now))) tt }
 {
     match object.get(name) {
         Some(context) if !context.is_object() => Err(wrong_kind()),
@@ -53,7 +51,7 @@ pub fn check_context(object: &Value, name: &str) -> Result<(), Refusal>
 pub fn read_text(alloc: Global, object: &Value, name: &str) -> Result<Chars, Refusal>
     ensures { Gives (λ c. c) result
         (unless_faulty (optional text_faults (get name.now (view object.now)))
-        (text_of (value_at name.now (view object.now)))) }
+        (text_in (member_at name.now (view object.now)))) }
 {
     let Some(member) = object.get(name) else {
         return Chars::from_str(alloc, "");
@@ -68,7 +66,7 @@ pub fn read_text(alloc: Global, object: &Value, name: &str) -> Result<Chars, Ref
 pub fn read_filled_text(alloc: Global, object: &Value, name: &str) -> Result<Chars, Refusal>
     ensures { Gives (λ c. c) result
         (unless_faulty (required WrongKind filled_text_faults (get name.now (view object.now)))
-        (text_of (value_at name.now (view object.now)))) }
+        (text_in (member_at name.now (view object.now)))) }
 {
     match object.get(name).and_then(Value::as_str) {
         Some(text) if !text.is_empty() => Chars::from_str(alloc, text),

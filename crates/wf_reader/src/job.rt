@@ -7,18 +7,17 @@ ghost use Rattle.wf_reader.specs.Job.{is_id_start, is_id_part, is_job_id, job_fa
 
 use crate::fields::{refuse_left_out, wrong_kind};
 use crate::labels::read_runs_on;
-use crate::texts::Texts;
 use serde_json::Value;
 use std::alloc::Global;
-use wf_value::{Chars, Code, Refusal};
+use wf_value::{Chars, Code, Refusal, Sequence};
 
 /// A job of a workflow. GitHub Docs, "Workflow syntax for GitHub Actions", `jobs.<job_id>`.
-#[derive(Debug, Drop)]
+#[derive(Drop)]
 pub struct Job {
     /// A letter or `_`, then letters, digits, `-` and `_`: 1 to 100 bytes.
     pub id: Chars,
     /// What `runs-on` asks of a runner: one text at least.
-    pub labels: Texts,
+    pub labels: Sequence<Chars>,
 }
 
 const MAX_ID: usize = 100;

@@ -6,7 +6,7 @@ use std::marker::Model;
 
 /// The jobs of a workflow, in strictly rising order of the bytes of their ids. A contract sees the
 /// list of them.
-#[derive(Debug, Drop)]
+#[derive(Drop)]
 pub struct Jobs {
     jobs: Vec<Job>,
 }

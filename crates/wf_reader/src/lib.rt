@@ -9,11 +9,9 @@ mod fields;
 mod job;
 mod jobs;
 mod labels;
-mod texts;
 mod workflow;
 
 pub use event::{Event, read_event};
 pub use job::Job;
 pub use jobs::Jobs;
-pub use texts::Texts;
 pub use workflow::{Workflow, read_workflow};

@@ -1,10 +1,13 @@
-ghost use Rattle.std.specs.Prelude.{◌≡◌, map, codes, flat_map, string_bytes};
+ghost use Rattle.std.specs.Prelude.{◌≡◌, ◌<◌, ◌≤◌, map, codes, flat_map, length, string_bytes, false, Err};
+ghost use Rattle.std.specs.Str.{is_utf8};
 ghost use Rattle.serde_json.specs.View.{view};
 ghost use Rattle.wf_value.specs.Gives.{Gives};
+ghost use Rattle.wf_value.specs.declared.code.Code.TheVariants.{NotJson, TooLong};
+ghost use Rattle.wf_value.specs.declared.refusal.Refusal.TheVariants.{Numbered};
 ghost use Rattle.wf_reader.specs.Faults.{unless_faulty};
 ghost use Rattle.wf_reader.specs.Job.{job_faults, job_of};
-ghost use Rattle.wf_reader.specs.Json.{members_of, value_at};
-ghost use Rattle.wf_reader.specs.Workflow.{jobs_faults, value_faults, value_of, workflow_faults, workflow_of};
+ghost use Rattle.wf_reader.specs.Json.{members_of, member_at};
+ghost use Rattle.wf_reader.specs.Workflow.{jobs_faults, workflow_faults_in, workflow_in, workflow_faults, workflow_of};
 
 use crate::body::read_body;
 use crate::fields::{members_at, read_text, refuse_left_out, wrong_kind};
@@ -18,7 +21,7 @@ use wf_value::{Chars, Code, Refusal};
 const MAX_JOBS: usize = 256;
 
 /// A workflow. GitHub Docs, "Workflow syntax for GitHub Actions".
-#[derive(Debug, Drop)]
+#[derive(Drop)]
 pub struct Workflow {
     /// The `name`, and the empty text where it is missing.
     pub name: Chars,
@@ -42,8 +45,8 @@ fn read_each(alloc: Global, members: &Map<String, Value>) -> Result<Jobs, Refusa
 /// The jobs of a workflow: no object, or one without a member, is 11, and over 256 are 23.
 fn read_jobs(alloc: Global, workflow: &Value) -> Result<Jobs, Refusal>
     ensures { Gives (λ j. j) result
-        (unless_faulty (jobs_faults (members_of (value_at (codes "jobs") (view workflow.now))))
-        (map job_of (members_of (value_at (codes "jobs") (view workflow.now))))) }
+        (unless_faulty (jobs_faults (members_of (member_at (codes "jobs") (view workflow.now))))
+        (map job_of (members_of (member_at (codes "jobs") (view workflow.now))))) }
 {
     let Some(members) = members_at(workflow, "jobs") else {
         return Err(wrong_kind());
@@ -60,7 +63,7 @@ fn read_jobs(alloc: Global, workflow: &Value) -> Result<Jobs, Refusal>
 /// The workflow of a value, or the first of its faults.
 pub fn workflow_in(alloc: Global, value: &Value) -> Result<Workflow, Refusal>
     ensures { Gives (λ w. w) result
-        (unless_faulty (value_faults (view value.now)) (value_of (view value.now))) }
+        (unless_faulty (workflow_faults_in (view value.now)) (workflow_in (view value.now))) }
 {
     if !value.is_object() {
         return Err(wrong_kind());
@@ -75,8 +78,13 @@ pub fn workflow_in(alloc: Global, value: &Value) -> Result<Workflow, Refusal>
 /// where it is not UTF-8 or not JSON, and for what is inside it 11, 12, 15, 16 and 23. Want of memory
 /// is 50. GitHub Docs, "Workflow syntax for GitHub Actions"; RFC 8259.
 pub fn read_workflow(alloc: Global, bytes: &[u8]) -> Result<Workflow, Refusal>
-    ensures { Gives (λ w. w) result
+    ensures gives { Gives (λ w. w) result
         (unless_faulty (workflow_faults bytes.now) (workflow_of bytes.now)) }
+
+    // Memory or not:
+    ensures too_long { 65536 < length bytes.now → result ≡ Err (Numbered TooLong) }
+    ensures no_text { length bytes.now ≤ 65536 → is_utf8 bytes.now ≡ false
+        → result ≡ Err (Numbered NotJson) }
 {
     let value = read_body(alloc, bytes)?;
     workflow_in(alloc, &value)

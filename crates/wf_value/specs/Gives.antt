@@ -1,5 +1,5 @@
 -- The one word for a call that may be refused.
-use Rattle.std.specs.Prelude.{◌≡◌, ◌≢◌, Result, Ok, Err}
+use Rattle.std.specs.Prelude.{◌≡◌, ◌⊎◌, Result, Ok, Err}
 use Rattle.wf_value.specs.declared.code.Code.TheVariants.{NoMemory}
 use Rattle.wf_value.specs.declared.refusal.Refusal.{Refusal}
 use Rattle.wf_value.specs.declared.refusal.Refusal.TheVariants.{Numbered}
@@ -11,4 +11,4 @@ no_memory = Numbered NoMemory
 -- The call gave what the definition gives, seen by view, unless memory was refused.
 abbrev pub Gives : {X Y : Type 0} → (X → Y) → Result X Refusal → Result Y Refusal → Type 0
 Gives view (Ok x) defined = defined ≡ Ok (view x)
-Gives view (Err e) defined = e ≢ no_memory → defined ≡ Err e
+Gives view (Err e) defined = (e ≡ no_memory) ⊎ (defined ≡ Err e)

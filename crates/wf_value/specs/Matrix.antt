@@ -19,4 +19,6 @@ coded_variable = coded× (coded_list coded_ℕ) (coded_list coded_scalar)
 
 -- a matrix is stored as its three lists
 abbrev pub coded_matrix : Coded MatrixLists
-coded_matrix = code_by (List NamedValues × (List (List (List ℕ × Scalar)) × List (List (List ℕ × Scalar)))) (coded× (coded_list coded_variable) (coded× (coded_list coded_pairs) (coded_list coded_pairs))) (λ m. (m.variables, (m.include, m.exclude))) (λ t. record { variables = t.0; include = t.1.0; exclude = t.1.1 }) (λ _. refl)
+coded_matrix = code_by (List NamedValues × (List (List (List ℕ × Scalar)) × List (List (List ℕ × Scalar))))
+    (coded× (coded_list coded_variable) (coded× (coded_list coded_pairs) (coded_list coded_pairs)))
+    (λ m. (m.variables, (m.include, m.exclude))) (λ t. record { variables = t.0; include = t.1.0; exclude = t.1.1 }) (λ _. refl)

@@ -1,10 +1,14 @@
--- The order of the names of a combination.
+-- The order of names, by bytes.
 use Rattle.std.specs.Prelude.{ℕ, List, Bool, true, ◌&&◌, [], ◌∷◌}
 use Rattle.std.specs.Ordering.{nat_cmp, is_lt}
 use Rattle.std.specs.Cmp.Lexicographic.{slice_cmp}
 
--- whether each name is below the next, by bytes
+-- whether the name of each is below the next one's
+abbrev pub rises_by : {X : Type 0} → (X → List ℕ) → List X → Bool
+rises_by name [] = true
+rises_by name (x ∷ []) = true
+rises_by name (x ∷ y ∷ ys) = is_lt (slice_cmp nat_cmp (name x) (name y)) && rises_by name (y ∷ ys)
+
+-- of pairs of a name and a value
 abbrev pub names_rise : {X : Type 0} → List (List ℕ × X) → Bool
-names_rise [] = true
-names_rise (p ∷ []) = true
-names_rise (p ∷ q ∷ ps) = is_lt (slice_cmp nat_cmp p.0 q.0) && names_rise (q ∷ ps)
+names_rise ps = rises_by (λ p. p.0) ps

@@ -2,9 +2,15 @@
 use Rattle.std.specs.Prelude.{ℕ, List, [], ◌++◌, codes}
 use Rattle.std.specs.List.{flat_map}
 use Rattle.std.specs.Fmt.{decimal}
-use Rattle.wf_value.specs.IdsText.{spaced}
+use Rattle.wf_value.specs.SpacedText.{spaced}
 use Rattle.wf_value.specs.declared.code.Code.{Code}
-use Rattle.wf_value.specs.declared.code.Code.TheVariants.{NotJson, WrongKind, JobId, UnknownNeed, NoLabels, LeftOut, Expression, PlaceOfContext, MatrixValue, EmptyList, MatrixTooLarge, LegCount, TooManyJobs, TooLong, StrategyMember, Condition, NoRun, RunCompleted, HasLease, LeaseNotHeld, NoRunner, HistoryFull, AreaFull, LastCounter, NoMemory, DeviceFailed, FailedEarlier, NoArea, NoTable, DiskNotEmpty, CheckpointTurn, Unsettled, StreamFailed, Head, ContentLength, Path, Method, EventHeader, Line, InputTooLong}
+use Rattle.wf_value.specs.declared.code.Code.TheVariants.{NotJson, WrongKind, JobId, UnknownNeed, NoLabels, LeftOut, Expression}
+use Rattle.wf_value.specs.declared.code.Code.TheVariants.{PlaceOfContext, MatrixValue, EmptyList, MatrixTooLarge, LegCount}
+use Rattle.wf_value.specs.declared.code.Code.TheVariants.{TooManyJobs, TooLong, StrategyMember, Condition, NoRun, RunCompleted}
+use Rattle.wf_value.specs.declared.code.Code.TheVariants.{HasLease, LeaseNotHeld, NoRunner, HistoryFull, AreaFull, LastCounter}
+use Rattle.wf_value.specs.declared.code.Code.TheVariants.{NoMemory, DeviceFailed, FailedEarlier, NoArea, NoTable, DiskNotEmpty}
+use Rattle.wf_value.specs.declared.code.Code.TheVariants.{CheckpointTurn, Unsettled, StreamFailed, Head, ContentLength, Path}
+use Rattle.wf_value.specs.declared.code.Code.TheVariants.{Method, EventHeader, Line, InputTooLong}
 use Rattle.wf_value.specs.declared.refusal.Refusal.{Refusal}
 use Rattle.wf_value.specs.declared.refusal.Refusal.TheVariants.{Numbered, Cycle, Turn}
 
@@ -54,6 +60,12 @@ abbrev pub refusal_number : Refusal → ℕ
 refusal_number (Numbered c) = code_number c
 refusal_number (Cycle ids) = 14
 refusal_number (Turn last) = 43
+
+-- the ids that a cycle carries
+abbrev pub ids_of_cycle : Refusal → List (List ℕ)
+ids_of_cycle (Numbered c) = []
+ids_of_cycle (Cycle ids) = ids
+ids_of_cycle (Turn last) = []
 
 -- what follows the number: the ids of a cycle, or the runner's last number
 abbrev pub refusal_detail : Refusal → List ℕ

@@ -2,6 +2,7 @@
 -- GitHub Docs, "Evaluate expressions in workflows and actions": Literals, Operators.
 use Rattle.std.specs.Prelude.{ℕ, pos, List, [], ◌∷◌, Bool, true, false, not, codes}
 use Rattle.std.specs.Ordering.{int_eq}
+use Rattle.std.specs.Str.{bytes_eq}
 use Rattle.std.specs.Fmt.{signed_decimal}
 use Rattle.wf_value.specs.declared.scalar.Scalar.{Scalar}
 use Rattle.wf_value.specs.declared.scalar.Scalar.TheVariants.{Null, Truth, Whole, Text}
@@ -21,3 +22,22 @@ scalar_text (Truth true) = codes "true"
 scalar_text (Truth false) = codes "false"
 scalar_text (Whole n) = signed_decimal n
 scalar_text (Text t) = t
+
+-- the text that a scalar holds, and the empty one where it holds none
+abbrev pub text_held : Scalar → List ℕ
+text_held Null = []
+text_held (Truth b) = []
+text_held (Whole n) = []
+text_held (Text t) = t
+
+abbrev pub same_truth : Bool → Bool → Bool
+same_truth true b = b
+same_truth false b = not b
+
+-- whether kind and value are the same
+abbrev pub same_scalar : Scalar → Scalar → Bool
+same_scalar Null Null = true
+same_scalar (Truth a) (Truth b) = same_truth a b
+same_scalar (Whole a) (Whole b) = int_eq a b
+same_scalar (Text a) (Text b) = bytes_eq a b
+same_scalar _ _ = false

@@ -1,17 +1,22 @@
-ghost use Rattle.std.specs.Prelude.{◌≡◌, ◌↔◌, List, ℕ, IsTrue, Ok, string_bytes};
+ghost use Rattle.std.specs.Prelude.{◌≡◌, ◌↔◌, [], IsTrue, Ok, string_bytes};
+ghost use Rattle.std.specs.Str.{bytes_eq};
 ghost use Rattle.wf_value.specs.Gives.{Gives};
 
 use crate::refusal::Refusal;
+use crate::same::Same;
+use crate::try_copy::TryCopy;
 use std::alloc::Global;
 use std::marker::Model;
 
 /// A text. A contract sees the list of its bytes in UTF-8.
-#[derive(Debug, Drop)]
+#[derive(Drop)]
 pub struct Chars {
     text: String,
 }
 
 impl Model for Chars {
+    ghost use Rattle.std.specs.Prelude.{List, ℕ, string_bytes};
+
     ghost Value = { List ℕ };
 
     ghost view = { λ c. string_bytes c.text };
@@ -25,13 +30,14 @@ impl Chars {
         Chars { text }
     }
 
-    /// A copy of a text.
+    /// A copy of a text. The empty one takes no memory.
     pub fn from_str(alloc: Global, text: &str) -> Result<Self, Refusal>
-        ensures { Gives (λ c. c) result (Ok text.now) }
+        ensures gives { Gives (λ c. c) result (Ok text.now) }
+        ensures answers { text.now ≡ [] → result ≡ Ok [] }
     {
-        Ok(Chars {
-            text: String::from_str(alloc, text)?,
-        })
+        let mut copy = String::with_capacity(alloc, text.len())?;
+        copy.push_str(text)?;
+        Ok(Chars { text: copy })
     }
 
     /// The `String` back.
@@ -47,16 +53,23 @@ impl Chars {
     {
         self.text.as_str()
     }
+}
 
-    pub fn copy(&self, alloc: Global) -> Result<Self, Refusal>
-        ensures { Gives (λ c. c) result (Ok self.now) }
+impl TryCopy for Chars {
+    /// The empty text takes no memory.
+    fn copy(&self, alloc: Global) -> Result<Self, Refusal>
+        ensures gives { Gives (λ c. c) result (Ok self.now) }
+        ensures answers { self.now ≡ [] → result ≡ Ok [] }
     {
         Chars::from_str(alloc, self.as_str())
     }
+}
 
+impl Same for Chars {
     /// Whether both are the same bytes.
-    pub fn same(&self, other: &Chars) -> bool
-        ensures { IsTrue result ↔ (self.now ≡ other.now) }
+    fn same(&self, other: &Self) -> bool
+        ensures equal { IsTrue result ↔ (self.now ≡ other.now) }
+        ensures test { result ≡ bytes_eq self.now other.now }
     {
         self.as_str() == other.as_str()
     }

@@ -4,13 +4,15 @@ ghost use Rattle.wf_value.specs.Names.{names_rise};
 
 use crate::chars::Chars;
 use crate::refusal::Refusal;
+use crate::same::{Same, same_items};
 use crate::scalar::Scalar;
+use crate::try_copy::{TryCopy, copy_items};
 use std::alloc::Global;
 use std::marker::Model;
 
 /// A combination of a matrix: a value for each of its names, in the order of the names' bytes.
 /// A contract sees the list of the pairs. GitHub Docs, "Running variations of jobs in a workflow".
-#[derive(Debug, Drop)]
+#[derive(Drop)]
 pub struct Combo {
     pairs: Vec<(Chars, Scalar)>,
 }
@@ -97,14 +99,22 @@ impl Combo {
         self.pairs.push(pair)?;
         Ok(())
     }
+}
 
-    pub fn copy(&self, alloc: Global) -> Result<Self, Refusal>
-        ensures { Gives (λ c. c) result (Ok self.now) }
+impl TryCopy for Combo {
+    /// A combination without names takes no memory.
+    fn copy(&self, alloc: Global) -> Result<Self, Refusal>
+        ensures gives { Gives (λ c. c) result (Ok self.now) }
+        ensures answers { self.now ≡ [] → result ≡ Ok [] }
     {
-        let mut pairs = Vec::with_capacity(alloc, self.pairs.len())?;
-        for (name, value) in self.pairs.as_slice() {
-            pairs.push((name.copy(alloc)?, value.copy(alloc)?))?;
-        }
-        Ok(Combo { pairs })
+        Ok(Combo {
+            pairs: copy_items(alloc, self.as_slice())?,
+        })
+    }
+}
+
+impl Same for Combo {
+    fn same(&self, other: &Self) -> bool {
+        same_items(self.as_slice(), other.as_slice())
     }
 }

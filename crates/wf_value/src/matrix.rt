@@ -8,7 +8,7 @@ use std::marker::Model;
 
 /// A variable of a matrix: a name, and its values in the order of the list.
 /// A contract sees the pair of both.
-#[derive(Debug, Drop)]
+#[derive(Drop)]
 pub struct Variable {
     name: Chars,
     values: Vec<Scalar>,
@@ -48,7 +48,7 @@ impl Variable {
 /// A matrix as it is read: its variables in the order of the bytes of their names, and its `include`
 /// and `exclude` objects as they stand. A contract sees the three lists.
 /// GitHub Docs, "Running variations of jobs in a workflow".
-#[derive(Debug, Drop)]
+#[derive(Drop)]
 pub struct Matrix {
     variables: Vec<Variable>,
     include: Vec<Combo>,

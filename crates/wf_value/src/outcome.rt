@@ -1,9 +1,26 @@
+ghost use Rattle.std.specs.Prelude.{◌≡◌};
+
 /// How a leg ended, as its runner reports it.
 #[derive(Clone, Copy, Debug, PartialEq, Eq)]
 pub enum Outcome {
     Success,
     Failure,
     Cancelled,
+}
+
+impl Outcome {
+    ghost use Rattle.wf_value.specs.Words.{outcome_word};
+
+    /// The word that is printed.
+    pub fn word(self) -> &'static str
+        ensures { result.now ≡ outcome_word self }
+    {
+        match self {
+            Outcome::Success => "success",
+            Outcome::Failure => "failure",
+            Outcome::Cancelled => "cancelled",
+        }
+    }
 }
 
 /// The result of a job. GitHub Docs, "Contexts", `needs.<job_id>.result`.
@@ -13,4 +30,20 @@ pub enum JobResult {
     Failure,
     Cancelled,
     Skipped,
+}
+
+impl JobResult {
+    ghost use Rattle.wf_value.specs.Words.{result_word};
+
+    /// The word that is printed, and the value of `needs.<job_id>.result`.
+    pub fn word(self) -> &'static str
+        ensures { result.now ≡ result_word self }
+    {
+        match self {
+            JobResult::Success => "success",
+            JobResult::Failure => "failure",
+            JobResult::Cancelled => "cancelled",
+            JobResult::Skipped => "skipped",
+        }
+    }
 }

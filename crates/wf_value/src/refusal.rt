@@ -1,20 +1,49 @@
-ghost use Rattle.std.specs.Prelude.{◌≡◌, ◌++◌, Ok, OnOk, OnErr, string_bytes};
+ghost use Rattle.std.specs.Prelude.{◌≡◌, ◌++◌, ◌↔◌, [], IsTrue, Ok, OnOk, string_bytes};
+ghost use Rattle.std.specs.List.{flat_map};
+ghost use Rattle.wf_value.specs.SpacedText.{spaced};
 
 use crate::chars::Chars;
 use crate::code::Code;
-use crate::ids::Ids;
+use crate::same::Same;
+use crate::sequence::Sequence;
+use crate::try_copy::TryCopy;
 use std::alloc::{AllocError, AllocFailed, Global};
-use std::fmt::Write;
+use std::fmt::{self, Write};
 use thiserror::Error;
 
+/// Each text behind a space.
+#[derive(Drop)]
+struct Spaced<'a>(&'a [Chars]);
+
+impl fmt::Display for Spaced<'_> {
+    fn fmt<W: fmt::Write>(&self, f: &mut fmt::Formatter<W>) -> fmt::Result {
+        for text in self.0 {
+            f.write_str(" ")?;
+            f.write_str(text.as_str())?;
+        }
+        Ok(())
+    }
+}
+
+/// Adds each text, behind a space.
+fn push_spaced(target: &mut String, texts: &[Chars]) -> Result<(), AllocError>
+    ensures { OnOk result (string_bytes target.new ≡ string_bytes target.old ++ flat_map spaced texts.now) }
+{
+    for text in texts {
+        target.push_str(" ")?;
+        target.push_str(text.as_str())?;
+    }
+    Ok(())
+}
+
 /// Why a call was refused.
-#[derive(Debug, Drop, Error)]
+#[derive(Drop, Error)]
 pub enum Refusal {
     #[error("refused {}", .0.number())]
     Numbered(Code),
     /// 14: a cycle of needs, with the ids of all jobs that are their own ancestors, in order.
-    #[error("refused 14{0}")]
-    Cycle(Ids),
+    #[error("refused 14{}", Spaced(.0.as_slice()))]
+    Cycle(Sequence<Chars>),
     /// 43: out of turn, with the runner's last number.
     #[error("refused 43 {0}")]
     Turn(u64),
@@ -49,11 +78,47 @@ impl Refusal {
     {
         match self {
             Refusal::Numbered(_) => Ok(()),
-            Refusal::Cycle(ids) => ids.push_to(text),
+            Refusal::Cycle(ids) => push_spaced(text, ids.as_slice()),
             Refusal::Turn(last) => {
                 let last = *last;
                 write!(text, " {last}")
             }
+        }
+    }
+}
+
+/// As `Display` prints it.
+impl fmt::Debug for Refusal {
+    fn fmt<W: fmt::Write>(&self, f: &mut fmt::Formatter<W>) -> fmt::Result {
+        write!(f, "{self}")
+    }
+}
+
+impl TryCopy for Refusal {
+    ghost use Rattle.wf_value.specs.Gives.{Gives};
+    ghost use Rattle.wf_value.specs.RefusalText.{ids_of_cycle};
+
+    /// Only the ids of a cycle take memory.
+    fn copy(&self, alloc: Global) -> Result<Self, Refusal>
+        ensures gives { Gives (λ r. r) result (Ok self.now) }
+        ensures answers { ids_of_cycle self.now ≡ [] → result ≡ Ok self.now }
+    {
+        match self {
+            Refusal::Numbered(code) => Ok(Refusal::Numbered(*code)),
+            Refusal::Cycle(ids) => Ok(Refusal::Cycle(ids.copy(alloc)?)),
+            Refusal::Turn(last) => Ok(Refusal::Turn(*last)),
+        }
+    }
+}
+
+impl Same for Refusal {
+    /// Whether both have the same number and carry the same.
+    fn same(&self, other: &Self) -> bool {
+        match (self, other) {
+            (Refusal::Numbered(one), Refusal::Numbered(other)) => *one == *other,
+            (Refusal::Cycle(one), Refusal::Cycle(other)) => one.same(other),
+            (Refusal::Turn(one), Refusal::Turn(other)) => *one == *other,
+            _ => false,
         }
     }
 }

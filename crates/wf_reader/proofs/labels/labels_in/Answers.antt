@@ -8,4 +8,5 @@ use Rattle.wf_reader.proofs.labels.labels_in.Goals as goal
 pub returns-in-Some : goal.returns-in-Some
 returns-in-Some c =
     let filled : 0 < length c.as_slice.result.now = grind (arith, nat_tests) in
-    subst (Gives (λ v. v.items) c.read_labels.result) (list_gives (view c.args.value.now) _ _ c.in-Some.ensures c.as_slice.ensures.value filled) c.read_labels.ensures
+    subst (Gives (λ v. v.items) c.read_labels.result)
+    (list_gives (view c.args.value.now) _ _ c.in-Some.ensures c.as_slice.ensures.value filled) c.read_labels.ensures

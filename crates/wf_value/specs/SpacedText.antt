@@ -3,4 +3,4 @@ use Rattle.std.specs.Prelude.{ℕ, List, ◌++◌, codes}
 
 -- a text behind a space
 abbrev pub spaced : List ℕ → List ℕ
-spaced id = codes " " ++ id
+spaced text = codes " " ++ text

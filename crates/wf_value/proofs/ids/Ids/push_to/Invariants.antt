@@ -1,9 +1,0 @@
-use Rattle.std.proofs.Common.{◌≡◌, ◌++◌, take}
-use Rattle.std.specs.Prelude.{string_bytes}
-use Rattle.std.specs.List.{flat_map}
-use Rattle.wf_value.specs.IdsText.{spaced}
-use Rattle.wf_value.proofs.ids.Ids.push_to.Given as goal
-
--- the ids so far have been added
-abbrev pub invariant-loop-id : goal.invariant-loop-id
-invariant-loop-id l = string_bytes l.text ≡ string_bytes l.initial.text ++ flat_map spaced (take l.id-index l.id-items)

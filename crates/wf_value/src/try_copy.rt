@@ -1,0 +1,46 @@
+ghost use Rattle.std.specs.Prelude.{◌≡◌, [], IsOk, Ok};
+ghost use Rattle.wf_value.specs.Gives.{Gives};
+
+use crate::refusal::Refusal;
+use std::alloc::Global;
+
+/// What can be copied where memory allows.
+pub trait TryCopy {
+    /// A copy, which a contract cannot tell from the value itself.
+    fn copy(&self, alloc: Global) -> Result<Self, Refusal>
+        ensures { Gives (λ c. c) result (Ok self.now) };
+}
+
+impl TryCopy for u64 {
+    fn copy(&self, _alloc: Global) -> Result<Self, Refusal>
+        ensures { result ≡ Ok self.now }
+    {
+        Ok(*self)
+    }
+}
+
+impl TryCopy for usize {
+    fn copy(&self, _alloc: Global) -> Result<Self, Refusal>
+        ensures { result ≡ Ok self.now }
+    {
+        Ok(*self)
+    }
+}
+
+impl<A: TryCopy + Drop, B: TryCopy + Drop> TryCopy for (A, B) {
+    fn copy(&self, alloc: Global) -> Result<Self, Refusal> {
+        Ok((self.0.copy(alloc)?, self.1.copy(alloc)?))
+    }
+}
+
+/// A copy of each value, in order. Where there is none it takes no memory.
+pub fn copy_items<T: TryCopy + Drop>(alloc: Global, items: &[T]) -> Result<Vec<T>, Refusal>
+    ensures gives { Gives (λ v. v.items) result (Ok items.now) }
+    ensures answers { items.now ≡ [] → IsOk result }
+{
+    let mut copies = Vec::with_capacity(alloc, items.len())?;
+    for item in items {
+        copies.push(item.copy(alloc)?)?;
+    }
+    Ok(copies)
+}
