@@ -1,7 +1,8 @@
 -- What a pattern says of the original of a number is what its object says of the original.
 use Rattle.std.proofs.Common.{◌≡◌, ℕ, zero, suc, Bool, true, false, ◌&&◌, ◌||◌, not, cond, List, [], ◌∷◌, map, Option, Some, None, refl, sym, ap, ◌∙◌, arith}
 use Rattle.std.specs.Prelude.{nat_eq, is_some, is_none}
-use Rattle.std.specs.Cmp.Lexicographic.{pointwise, texts_ties}
+use Rattle.std.specs.Cmp.Lexicographic.{texts_ties}
+use Rattle.std.specs.Str.{bytes_eq}
 use Rattle.std.specs.List.{filter, list_any, list_all, range_with_len, cons_option}
 use Rattle.std.specs.Option.{option_map}
 use Rattle.std.specs.Ordering.{is_eq}
@@ -9,7 +10,7 @@ use Rattle.wf_value.specs.Matrix.{NamedValues, MatrixLists}
 use Rattle.matrix_expand.specs.Combinations.{Combination, value_at, has_pair, is_value, removes, agrees, kept, new_combinations, originals, choice_count}
 use Rattle.matrix_expand.specs.Numbered.{chosen, axes_of, axes_where, numbered_axes, original_at, original_count, choice_of, wanted_of, has_other, pattern_of, wanted_holds, pattern_agrees, pattern_removes, kept_from, kept_numbers, new_objects, kept_of, added_of}
 use Rattle.matrix_expand.specs.Values.{AxisValue, ChoiceValue}
-use Rattle.matrix_expand.proofs.Rising.{name_cmp}
+use Rattle.wf_value.proofs.Rising.{name_cmp}
 use Rattle.matrix_expand.proofs.Originals.{choices_are_numbered, choices_none}
 
 value_at-original : (axes : List AxisValue) (number : ℕ) (name : List ℕ) → value_at (original_at axes number) name ≡ option_map (λ c. chosen c number) (choice_of axes name)
@@ -20,14 +21,14 @@ value_at-original (a ∷ axes) number name =
       | false ↦ value_at-original axes number name
     ]
 
-is_some-choice : (vs : List NamedValues) (name : List ℕ) → is_some (choice_of (axes_of vs) name) ≡ list_any (λ v. pointwise nat_eq name v.0) vs
+is_some-choice : (vs : List NamedValues) (name : List ℕ) → is_some (choice_of (axes_of vs) name) ≡ list_any (λ v. bytes_eq name v.0) vs
 is_some-choice [] name = refl
 is_some-choice (v ∷ vs) name =
-    elim (is_eq (name_cmp name v.0)) as (λ b. is_some (cond b (Some (v.1, choice_count vs)) (choice_of (axes_of vs) name)) ≡ (b || list_any (λ v. pointwise nat_eq name v.0) vs)) [
+    elim (is_eq (name_cmp name v.0)) as (λ b. is_some (cond b (Some (v.1, choice_count vs)) (choice_of (axes_of vs) name)) ≡ (b || list_any (λ v. bytes_eq name v.0) vs)) [
       | true ↦ refl
       | false ↦ is_some-choice vs name
     ]
-    ∙ ap (λ b. b || list_any (λ v. pointwise nat_eq name v.0) vs) (sym (texts_ties name v.0))
+    ∙ ap (λ b. b || list_any (λ v. bytes_eq name v.0) vs) (sym (texts_ties name v.0))
 
 later : (a b c : Bool) → (a && (not b && c)) ≡ (not b && (a && c))
 later true b c = refl

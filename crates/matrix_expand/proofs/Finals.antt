@@ -21,7 +21,8 @@ use Rattle.matrix_expand.specs.Values.{EntryValue}
 use Rattle.matrix_expand.proofs.Agreement.{agrees_numbered}
 use Rattle.matrix_expand.proofs.Firsts.{value_at-firsts, names_rise-firsts, names_ascend-flagged, names_ascend-final, names_rise-map}
 use Rattle.matrix_expand.proofs.Merging.{value_at-merged, value_at-object, names_ascend-rise, pairs_of-object}
-use Rattle.matrix_expand.proofs.Rising.{name_cmp, equal_from, same_from_find, rise_from}
+use Rattle.matrix_expand.proofs.Rising.{equal_from, same_from_find, rise_from}
+use Rattle.wf_value.proofs.Rising.{name_cmp}
 
 -- names with nothing beside them
 abbrev marks : List (List ℕ) → List (List ℕ × Unit {0})

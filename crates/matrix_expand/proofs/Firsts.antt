@@ -1,6 +1,7 @@
 -- The first pair of each name, of pairs whose names ascend: the names rise, and the same is found.
 use Rattle.std.proofs.Common.{◌≡◌, ℕ, ◌+◌, ◌<◌, Bool, true, false, ◌&&◌, not, cond, List, [], ◌∷◌, ◌++◌, map, length, get_or, drop, Option, Some, None, refl, sym, ap, ◌∙◌, subst}
-use Rattle.std.specs.Cmp.Lexicographic.{pointwise, texts_ties}
+use Rattle.std.specs.Cmp.Lexicographic.{texts_ties}
+use Rattle.std.specs.Str.{bytes_eq}
 use Rattle.std.specs.FinMap.Entries.{below_all}
 use Rattle.std.specs.List.{filter}
 use Rattle.std.specs.Ordering.{is_lt, is_eq, is_gt}
@@ -16,7 +17,8 @@ use Rattle.matrix_expand.specs.Entries.{is_least, names_ascend, pairs_of, flagge
 use Rattle.matrix_expand.specs.Numbered.{original_at, chosen}
 use Rattle.matrix_expand.specs.Values.{AxisValue, EntryValue}
 use Rattle.matrix_expand.proofs.Merging.{names_ascend-merged, names_ascend-rise, pairs_of-object}
-use Rattle.matrix_expand.proofs.Rising.{name_cmp, equal_from, same_test, below_all-less, rise_from}
+use Rattle.matrix_expand.proofs.Rising.{equal_from, same_test, below_all-less, rise_from}
+use Rattle.wf_value.proofs.Rising.{name_cmp}
 
 module _ (flags : List Bool) where
   -- an entry on
@@ -54,7 +56,7 @@ module _ (flags : List Bool) where
       ]
 
 -- a name that is at most another and not the same is below it
-below_from : (x y : List ℕ) → not (is_gt (name_cmp x y)) ≡ true → pointwise nat_eq x y ≡ false → name_cmp x y ≡ Less
+below_from : (x y : List ℕ) → not (is_gt (name_cmp x y)) ≡ true → bytes_eq x y ≡ false → name_cmp x y ≡ Less
 below_from x y h n = go (name_cmp x y) refl h
   where
     go : (o : Ordering) → name_cmp x y ≡ o → not (is_gt o) ≡ true → name_cmp x y ≡ Less
@@ -70,7 +72,7 @@ firsts_rise last (p ∷ ps) h k =
     let asc = and_parts (is_least p.0 ps) (names_ascend ps) k in
     let skip = firsts_rise last ps parts.1 asc.1 in
     let take = firsts_rise p.0 ps asc.0 asc.1 in
-    elim (pointwise nat_eq last p.0) as (λ b. pointwise nat_eq last p.0 ≡ b → (below_all name_cmp last (cond b (firsts_after (Some last) ps) (p ∷ firsts_after (Some p.0) ps)) ≡ true) × (names_rise (cond b (firsts_after (Some last) ps) (p ∷ firsts_after (Some p.0) ps)) ≡ true)) [
+    elim (bytes_eq last p.0) as (λ b. bytes_eq last p.0 ≡ b → (below_all name_cmp last (cond b (firsts_after (Some last) ps) (p ∷ firsts_after (Some p.0) ps)) ≡ true) × (names_rise (cond b (firsts_after (Some last) ps) (p ∷ firsts_after (Some p.0) ps)) ≡ true)) [
       | true ↦ λ _. skip
       | false ↦ λ n.
           let below = below_from last p.0 parts.0 n in

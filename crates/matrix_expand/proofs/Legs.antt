@@ -15,7 +15,7 @@ use Rattle.matrix_expand.specs.Values.{AxisValue, PatternValue, EntryValue}
 use Rattle.matrix_expand.proofs.Agreement.{kept_is, new_is}
 use Rattle.matrix_expand.proofs.Finals.{final_is, map-map}
 use Rattle.matrix_expand.proofs.Merging.{same_Ok}
-use Rattle.matrix_expand.proofs.Rising.{name_cmp}
+use Rattle.wf_value.proofs.Rising.{name_cmp}
 
 pub legs_few : (cs : List Combination) → 0 < length cs → length cs ≤ 256 → legs_or_refusal cs ≡ Ok cs
 legs_few [] h l = absurd (omega arith)

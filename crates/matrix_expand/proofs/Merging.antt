@@ -17,7 +17,8 @@ use Rattle.wf_value.specs.Names.{names_rise}
 use Rattle.matrix_expand.specs.Combinations.{Combination, value_at}
 use Rattle.matrix_expand.specs.Entries.{comes_before, placed, merged, is_least, names_ascend, pairs_of, flagged, added_value, object_entries, SortsEntries}
 use Rattle.matrix_expand.specs.Values.{EntryValue}
-use Rattle.matrix_expand.proofs.Rising.{name_cmp, less_from, equal_from, below_all_first, rise_rest}
+use Rattle.matrix_expand.proofs.Rising.{equal_from, below_all_first, rise_rest}
+use Rattle.wf_value.proofs.Rising.{name_cmp, Less-from_is_lt}
 
 pub merged-nil : (es : List EntryValue) → merged es [] ≡ es
 merged-nil [] = refl
@@ -62,7 +63,7 @@ value_at_before flags name [] h = refl
 value_at_before flags name (e ∷ es) h =
     let parts = and_parts (is_lt (name_cmp name e.1.0)) (list_all (λ p. is_lt (name_cmp name p.0)) (pairs_of es)) h in
     value_at-flagged flags name e es
-    ∙ ap (λ o. cond (get_or flags e.0 false && is_eq o) (Some e.1.1) (value_at (flagged flags es) name)) (less_from _ parts.0)
+    ∙ ap (λ o. cond (get_or flags e.0 false && is_eq o) (Some e.1.1) (value_at (flagged flags es) name)) (Less-from_is_lt _ parts.0)
     ∙ ap (λ b. cond b (Some e.1.1) (value_at (flagged flags es) name)) (and-false (get_or flags e.0 false))
     ∙ value_at_before flags name es parts.1
   where
@@ -117,7 +118,7 @@ not_before x y h = ap is_gt (nat_list_cmp_total.antisymm y x) ∙ go (name_cmp x
     go Greater e = refl
 
 not_after : (x y : List ℕ) → is_lt (name_cmp x y) ≡ true → is_gt (name_cmp x y) ≡ false
-not_after x y h = ap is_gt (less_from _ h)
+not_after x y h = ap is_gt (Less-from_is_lt _ h)
 
 -- a name that is least on both sides is least
 least_placed : (name : List ℕ) (e : EntryValue) (rest : List EntryValue → List EntryValue) → not (is_gt (name_cmp name e.1.0)) ≡ true → ((fs : List EntryValue) → is_least name (pairs_of fs) ≡ true → is_least name (pairs_of (rest fs)) ≡ true) → (fs : List EntryValue) → is_least name (pairs_of fs) ≡ true → is_least name (pairs_of (placed e rest fs)) ≡ true
@@ -169,7 +170,7 @@ module _ (flags : List Bool) (name : List ℕ) where
             ∙ elim (counts flags name e) as (λ b. counts flags name e ≡ b → cond b (Some e.1.1) (value_at (flagged flags (merged es (f ∷ fs))) name) ≡ option_or (value_at (flagged flags (f ∷ fs)) name) (cond b (Some e.1.1) (value_at (flagged flags es) name))) [
               | true ↦ λ here.
                   let same : name ≡ e.1.0 = exact_bytes _ _ (equal_from _ (and_parts (get_or flags e.0 false) (is_eq (name_cmp name e.1.0)) here).1) in
-                  let before : name_cmp name f.1.0 ≡ Less = subst (λ n. name_cmp n f.1.0 ≡ Less) (sym same) (less_from _ t) in
+                  let before : name_cmp name f.1.0 ≡ Less = subst (λ n. name_cmp n f.1.0 ≡ Less) (sym same) (Less-from_is_lt _ t) in
                   ap (λ o. option_or o (Some e.1.1)) (sym (value_at_before flags name (f ∷ fs) (and_from _ _ (ap is_lt before) (before_least name f.1.0 (pairs_of fs) before parts.0))))
               | false ↦ λ _. more (f ∷ fs) k
             ] refl

@@ -16,14 +16,7 @@ use Rattle.std.proofs.lemmas.Bool.{and_parts, and_from, true≢false, cases_lt}
 use Rattle.std.proofs.lemmas.Cmp.{tied_back, eq_by_cmp_equiv}
 use Rattle.std.proofs.lemmas.Map.Lookups.{exact_bytes}
 use Rattle.wf_value.specs.Names.{names_rise}
-
-abbrev pub name_cmp : List ℕ → List ℕ → Ordering
-name_cmp = slice_cmp nat_cmp
-
-pub less_from : (o : Ordering) → is_lt o ≡ true → o ≡ Less
-less_from Less h = refl
-less_from Equal h = absurd (true≢false (sym h))
-less_from Greater h = absurd (true≢false (sym h))
+use Rattle.wf_value.proofs.Rising.{name_cmp, Less-from_is_lt}
 
 pub equal_from : (o : Ordering) → is_eq o ≡ true → o ≡ Equal
 equal_from Equal h = refl
@@ -55,14 +48,14 @@ module _ {X : Type 0} where
   below_all-less x y [] p h = refl
   below_all-less x y (e ∷ es) p h =
       let parts = and_parts (is_lt (name_cmp y e.0)) (below_all name_cmp y es) h in
-      and_from _ _ (ap is_lt (nat_list_cmp_total.trans x y e.0 p (less_from _ parts.0))) (below_all-less x y es p parts.1)
+      and_from _ _ (ap is_lt (nat_list_cmp_total.trans x y e.0 p (Less-from_is_lt _ parts.0))) (below_all-less x y es p parts.1)
 
   -- the first name is below all others
   pub below_all_first : (e : List ℕ × X) (es : List (List ℕ × X)) → names_rise (e ∷ es) ≡ true → below_all name_cmp e.0 es ≡ true
   below_all_first e [] h = refl
   below_all_first e (f ∷ es) h =
       let parts = and_parts (is_lt (name_cmp e.0 f.0)) (names_rise (f ∷ es)) h in
-      and_from _ _ parts.0 (below_all-less e.0 f.0 es (less_from _ parts.0) (below_all_first f es parts.1))
+      and_from _ _ parts.0 (below_all-less e.0 f.0 es (Less-from_is_lt _ parts.0) (below_all_first f es parts.1))
 
   pub rise_rest : (e : List ℕ × X) (es : List (List ℕ × X)) → names_rise (e ∷ es) ≡ true → names_rise es ≡ true
   rise_rest e [] h = refl
@@ -87,12 +80,12 @@ module _ {X : Type 0} where
   find_below name [] h = refl
   find_below name (e ∷ es) h =
       let parts = and_parts (is_lt (name_cmp name e.0)) (below_all name_cmp name es) h in
-      ap (λ o. cond (is_eq o) (Some e.1) (find name_cmp name es)) (less_from _ parts.0) ∙ find_below name es parts.1
+      ap (λ o. cond (is_eq o) (Some e.1) (find name_cmp name es)) (Less-from_is_lt _ parts.0) ∙ find_below name es parts.1
 
   -- a name below all others is below each
   pub below_at : (x : List ℕ) (es : List (List ℕ × X)) (i : ℕ) (d : List ℕ × X) → below_all name_cmp x es ≡ true → i < length es → name_cmp x (get_or es i d).0 ≡ Less
   below_at x [] i d h l = absurd (omega arith)
-  below_at x (e ∷ es) zero d h l = less_from _ (and_parts (is_lt (name_cmp x e.0)) (below_all name_cmp x es) h).0
+  below_at x (e ∷ es) zero d h l = Less-from_is_lt _ (and_parts (is_lt (name_cmp x e.0)) (below_all name_cmp x es) h).0
   below_at x (e ∷ es) (suc i) d h l = below_at x es i d (and_parts (is_lt (name_cmp x e.0)) (below_all name_cmp x es) h).1 (omega arith)
 
   -- what is found at the name of a place

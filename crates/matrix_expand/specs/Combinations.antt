@@ -1,9 +1,11 @@
 -- The combinations of a matrix. GitHub Docs, "Running variations of jobs in a workflow".
-use Rattle.std.specs.Prelude.{ℕ, ◌*◌, nat_lt, ◌||◌, not, Bool, true, false, List, [], ◌∷◌, ◌++◌, map, length, Option, Some, None, Result, Ok, Err, nat_eq, cond}
+use Rattle.std.specs.Prelude.{ℕ, ◌*◌, nat_lt, ◌||◌, not, Bool, true, false, List, [], ◌∷◌, ◌++◌, map, length, Option, Some, None}
+use Rattle.std.specs.Prelude.{Result, Ok, Err, cond}
 use Rattle.std.specs.List.{filter, flat_map, filter_map, list_any, list_all}
 use Rattle.std.specs.Option.{option_map, option_or}
-use Rattle.std.specs.Ordering.{nat_cmp, int_eq}
-use Rattle.std.specs.Cmp.Lexicographic.{slice_cmp, pointwise}
+use Rattle.std.specs.Ordering.{nat_cmp}
+use Rattle.std.specs.Cmp.Lexicographic.{slice_cmp}
+use Rattle.std.specs.Str.{bytes_eq}
 use Rattle.std.specs.FinMap.{find}
 use Rattle.std.specs.FinMap.Entries.{by_order}
 use Rattle.wf_value.specs.Matrix.{NamedValues, MatrixLists}
@@ -11,7 +13,7 @@ use Rattle.wf_value.specs.declared.code.Code.TheVariants.{MatrixTooLarge, LegCou
 use Rattle.wf_value.specs.declared.refusal.Refusal.{Refusal}
 use Rattle.wf_value.specs.declared.refusal.Refusal.TheVariants.{Numbered}
 use Rattle.wf_value.specs.declared.scalar.Scalar.{Scalar}
-use Rattle.wf_value.specs.declared.scalar.Scalar.TheVariants.{Null, Truth, Whole, Text}
+use Rattle.wf_value.specs.ScalarValue.{same_scalar}
 
 -- a value for each of some names
 abbrev pub Combination : Type 0
@@ -20,18 +22,6 @@ Combination = List (List ℕ × Scalar)
 -- the value at a name, where there is one
 abbrev pub value_at : Combination → List ℕ → Option Scalar
 value_at c name = find (slice_cmp nat_cmp) name c
-
-abbrev pub same_truth : Bool → Bool → Bool
-same_truth true b = b
-same_truth false b = not b
-
--- whether kind and value are the same
-abbrev pub same_scalar : Scalar → Scalar → Bool
-same_scalar Null Null = true
-same_scalar (Truth a) (Truth b) = same_truth a b
-same_scalar (Whole a) (Whole b) = int_eq a b
-same_scalar (Text a) (Text b) = pointwise nat_eq a b
-same_scalar _ _ = false
 
 abbrev pub is_value : Option Scalar → Scalar → Bool
 is_value None value = false
@@ -64,7 +54,7 @@ abbrev pub kept : MatrixLists → List Combination
 kept m = filter (λ original. not (list_any (λ object. removes object original) m.exclude)) (originals m.variables)
 
 abbrev pub is_variable : MatrixLists → List ℕ → Bool
-is_variable m name = list_any (λ v. pointwise nat_eq name v.0) m.variables
+is_variable m name = list_any (λ v. bytes_eq name v.0) m.variables
 
 -- an include object agrees with an original when each of its members that is a variable has the original's value
 abbrev pub agrees : MatrixLists → Combination → Combination → Bool

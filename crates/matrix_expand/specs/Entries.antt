@@ -1,9 +1,10 @@
 -- The pairs of the include objects in the order of their names, as the code goes over them once for each original.
-use Rattle.std.specs.Prelude.{◌≡◌, ℕ, ◌+◌, ◌&&◌, not, nat_eq, Bool, true, false, List, [], ◌∷◌, ◌++◌, map, length, Option, Some, None, cond, IsTrue}
+use Rattle.std.specs.Prelude.{◌≡◌, ℕ, ◌+◌, ◌&&◌, not, Bool, true, false, List, [], ◌∷◌, ◌++◌, map, length, Option, Some, None, cond, IsTrue}
 use Rattle.std.specs.List.{slice_index_or, filter, list_all}
 use Rattle.std.specs.Option.{option_or}
 use Rattle.std.specs.Ordering.{nat_cmp, is_lt, is_gt}
-use Rattle.std.specs.Cmp.Lexicographic.{slice_cmp, pointwise}
+use Rattle.std.specs.Cmp.Lexicographic.{slice_cmp}
+use Rattle.std.specs.Str.{bytes_eq}
 use Rattle.wf_value.specs.declared.scalar.Scalar.{Scalar}
 use Rattle.matrix_expand.specs.Combinations.{Combination, value_at}
 use Rattle.matrix_expand.specs.Numbered.{original_at, pattern_agrees}
@@ -54,7 +55,7 @@ pub record SortsEntries (first : ℕ) (objects : List Combination) (entries : Li
 
 abbrev pub is_last : Option (List ℕ) → List ℕ → Bool
 is_last None name = false
-is_last (Some last) name = pointwise nat_eq last name
+is_last (Some last) name = bytes_eq last name
 
 -- the first pair of each name, where pairs of one name stand together, and none of the last name
 abbrev pub firsts_after : Option (List ℕ) → Combination → Combination

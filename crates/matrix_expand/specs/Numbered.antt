@@ -9,9 +9,10 @@ use Rattle.wf_value.specs.Matrix.{NamedValues, MatrixLists}
 use Rattle.wf_value.specs.declared.code.Code.TheVariants.{LegCount}
 use Rattle.wf_value.specs.declared.refusal.Refusal.{Refusal}
 use Rattle.wf_value.specs.declared.refusal.Refusal.TheVariants.{Numbered}
+use Rattle.wf_value.specs.ScalarValue.{same_scalar}
 use Rattle.wf_value.specs.declared.scalar.Scalar.{Scalar}
 use Rattle.wf_value.specs.declared.scalar.Scalar.TheVariants.{Null}
-use Rattle.matrix_expand.specs.Combinations.{Combination, choice_count, same_scalar}
+use Rattle.matrix_expand.specs.Combinations.{Combination, choice_count}
 use Rattle.matrix_expand.specs.Values.{ChoiceValue, AxisValue, WantedValue, PatternValue}
 
 -- the value that the original of a number has

@@ -9,7 +9,7 @@ use crate::axis::Axis;
 use crate::entry::{Entry, merge};
 use crate::pattern::Pattern;
 use std::alloc::Global;
-use wf_value::{Chars, Combo, Refusal};
+use wf_value::{Chars, Combo, Refusal, Same};
 
 /// Which objects agree with the original of a number, and a flag for the original.
 fn flags(alloc: Global, patterns: &[Pattern], number: usize) -> Result<Vec<bool>, Refusal>

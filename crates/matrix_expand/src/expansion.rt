@@ -11,7 +11,7 @@ use crate::entry::entries;
 use crate::original::{MOST_CHOICES, MOST_LEGS, capped_choices, kept_originals};
 use crate::pattern::{Pattern, patterns};
 use std::alloc::Global;
-use wf_value::{Code, Combo, Matrix, Refusal, Variable};
+use wf_value::{Code, Combo, Matrix, Refusal, TryCopy, Variable};
 
 /// The combinations of a matrix, in order. Refused 21 where the lengths of its variables' lists
 /// multiply to over 4,096, else 22 where there is no combination or more than 256.

@@ -7,7 +7,7 @@ ghost use Rattle.matrix_expand.specs.Numbered.{wanted_holds, pattern_agrees, pat
 use crate::axis::{Axis, Choice, place_of};
 use std::alloc::Global;
 use std::marker::Model;
-use wf_value::{Combo, Refusal, Scalar};
+use wf_value::{Combo, Refusal, Same, Scalar};
 
 /// A value that is asked of an original.
 #[derive(Drop)]

@@ -1,18 +1,18 @@
 -- From rows of marks to the graph of the jobs, or to the refusal.
-use Rattle.std.proofs.Common.{◌≡◌, ◌↔◌, ℕ, zero, suc, ◌+◌, ◌<◌, List, [], ◌∷◌, Bool, true, false, cond, Result, Ok, Err, IsTrue, length, get_or, map, sym, refl, subst, ap, ◌∙◌, arith, add-zero, zero-add}
+use Rattle.std.proofs.Common.{◌≡◌, ◌↔◌, ℕ, zero, suc, ◌+◌, ◌<◌, List, [], ◌∷◌, Bool, true, false, cond, Result, Ok, Err, IsTrue, length, get_or, map, sym, refl, subst, ap, ◌∙◌, ⊎_elim, arith, add-zero, zero-add}
 use Rattle.std.specs.List.{list_all, filter, enumerate_from}
-use Rattle.std.proofs.lemmas.Bool.{false≢true, true≢false}
+use Rattle.std.proofs.lemmas.Bool.{cases_lt, false≢true, true≢false}
 use Rattle.std.proofs.lemmas.List.{get_or-map, length-map}
-use Rattle.std.proofs.lemmas.List.FromFn.{length-enumerate_from, get_or-enumerate_from}
+use Rattle.std.proofs.lemmas.List.FromFn.{length-enumerate_from, get_or-enumerate_from, length-map-range_with_len, get_or-map-range_with_len}
 use Rattle.wf_value.specs.declared.refusal.Refusal.{Refusal}
 use Rattle.wf_value.specs.declared.refusal.Refusal.TheVariants.{Cycle}
 use Rattle.needs_graph.specs.Ancestors.{HasWalk, is_ancestor, IsClosed, IsGraph}
-use Rattle.needs_graph.specs.Marks.{marked, places, closed}
+use Rattle.needs_graph.specs.Marks.{is_marked, marked, places, closed}
 use Rattle.needs_graph.specs.Needs.{is_listed, is_job, needs_of, own_ancestors, unless_cycle, unknown_need, graph_of}
-use Rattle.needs_graph.specs.Rows.{needs_row, needs_rows, needs_rows_of, own_ids}
-use Rattle.needs_graph.specs.declared.job_needs.JobNeeds.{JobNeeds}
+use Rattle.needs_graph.specs.Rows.{needs_row, needs_rows, needs_rows_of, own_ids, dependents_by, IsSets}
+use Rattle.needs_graph.specs.JobNeeds.{JobNeeds}
 use Rattle.needs_graph.proofs.Closure.{bit, length-closed}
-use Rattle.needs_graph.proofs.Reach.{needs_by, IsSquare, needs_by-IsClosed, is_ancestor-is_closed, all_ancestors-by}
+use Rattle.needs_graph.proofs.Reach.{needs_by, IsSquare, needs_by-IsClosed, is_ancestor-is_closed, past_is_none, sets_reach, dependents-by}
 use Rattle.needs_graph.proofs.Walks.{walk_from_is_ancestor, is_ancestor-from_walk}
 
 -- ---- the rows say the needs
@@ -150,14 +150,24 @@ graph_made jobs rows h none =
     (made jobs rows h).graph
     ∙ (ap (λ l. unless_cycle l (needs_of jobs)) (sym (own_ids-made jobs rows h) ∙ none) ∙ ap Ok (needs_of-by jobs ∙ ap needs_by (made jobs rows h).same))
 
-pub graph_is_graph : (jobs : List JobNeeds) (rows : List (List Bool)) → needs_rows_of jobs ≡ Ok rows → own_ids jobs (closed (length rows) rows) ≡ [] → IsGraph (map marked rows) (map marked (closed (length rows) rows))
-graph_is_graph jobs rows h none =
+pub graph_is_graph : (jobs : List JobNeeds) (rows : List (List Bool)) (sets dependents : List (List ℕ)) → needs_rows_of jobs ≡ Ok rows → own_ids jobs (closed (length rows) rows) ≡ [] → IsSets sets (closed (length rows) rows) → dependents_by rows ≡ dependents → IsGraph (map marked rows) sets dependents
+graph_is_graph jobs rows sets dependents h none are listed =
     let square : IsSquare rows = subst IsSquare (made jobs rows h).same (needs_rows-IsSquare jobs) in
     let needs : needs_of jobs ≡ needs_by rows = needs_of-by jobs ∙ ap needs_by (made jobs rows h).same in
+    let closed_needs = needs_by-IsClosed rows square in
     record {
-      within = needs_by-IsClosed rows square;
-      acyclic = λ job below. ap (λ n. is_ancestor n job job) (sym needs) ∙ none_own jobs (sym (own_ids-made jobs rows h) ∙ none) job (omega (arith, length-map rows marked, length-made jobs rows h));
-      kept = all_ancestors-by rows square;
+      within = closed_needs;
+      acyclic = λ job.
+          ⊎_elim
+          (λ below. ap (λ n. is_ancestor n job job) (sym needs) ∙ none_own jobs (sym (own_ids-made jobs rows h) ∙ none) job (omega (arith, length-made jobs rows h)))
+          (λ past. past_is_none (needs_by rows) closed_needs job job (omega (arith, length-map rows marked)))
+          (cases_lt job (length rows));
+      reached = sets_reach sets rows square are;
+      as_many = ap length (sym listed) ∙ (length-map-range_with_len (λ job. places (λ row. is_marked row job) rows) 0 (length rows) ∙ sym (length-map rows marked));
+      needed = λ job below.
+          ap (λ l. get_or l job []) (sym listed)
+          ∙ (get_or-map-range_with_len (λ job. places (λ row. is_marked row job) rows) 0 (length rows) job job [] (omega (arith, length-map rows marked)) (zero-add job)
+          ∙ dependents-by rows job);
     }
 
 -- ---- the steps of building, as the calls tell them
@@ -168,10 +178,6 @@ gave x = Ok x
 same_from_gave : {X : Type 0} (x y : X) → gave x ≡ gave y → x ≡ y
 same_from_gave x y e = cc
 
-pub reached_is : (lent direct reached : List (List Bool)) → lent ≡ direct → gave (closed (length lent) lent) ≡ gave reached → reached ≡ closed (length direct) direct
-reached_is lent direct reached same told =
-    sym (same_from_gave _ _ told) ∙ ap (λ rows. closed (length rows) rows) same
-
 pub length-reached : (jobs : List JobNeeds) (direct lent reached : List (List Bool)) → needs_rows_of jobs ≡ Ok direct → reached ≡ closed (length direct) direct → lent ≡ reached → length jobs ≡ length lent
 length-reached jobs direct lent reached made_so is same =
     sym (ap length (same ∙ is) ∙ (length-closed (length direct) direct ∙ length-made jobs direct made_so))
@@ -181,3 +187,6 @@ ids_are jobs direct lent reached ids is same told = ap (own_ids jobs) (sym (same
 
 pub places_are : (lent rows : List (List Bool)) (told_places : List (List ℕ)) → lent ≡ rows → gave (map marked lent) ≡ gave told_places → map marked rows ≡ told_places
 places_are lent rows told_places same told = ap (map marked) (sym same) ∙ same_from_gave _ _ told
+
+pub dependents_are : (lent rows : List (List Bool)) (told : List (List ℕ)) → lent ≡ rows → gave (dependents_by lent) ≡ gave told → dependents_by rows ≡ told
+dependents_are lent rows told same told_so = ap dependents_by (sym same) ∙ same_from_gave _ _ told_so

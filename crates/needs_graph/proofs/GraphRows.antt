@@ -1,9 +1,9 @@
 -- The definitions of graphs and ancestors at small workflows.
 use Rattle.std.proofs.Common.{◌≡◌, ℕ, List, [], ◌∷◌, Ok, Err, codes, refl}
 use Rattle.wf_value.specs.declared.refusal.Refusal.TheVariants.{Cycle}
-use Rattle.needs_graph.specs.Ancestors.{all_ancestors}
+use Rattle.needs_graph.specs.Ancestors.{ancestors_of, dependents_of}
 use Rattle.needs_graph.specs.Needs.{graph_of, needs_of, unknown_need}
-use Rattle.needs_graph.specs.declared.job_needs.JobNeeds.{JobNeeds}
+use Rattle.needs_graph.specs.JobNeeds.{JobNeeds}
 
 abbrev a : List ℕ
 a = codes "a"
@@ -52,5 +52,8 @@ diamond = job a [] ∷ job b (a ∷ []) ∷ job c (a ∷ []) ∷ job d (c ∷ b 
 diamond_needs : graph_of diamond ≡ Ok ([] ∷ (0 ∷ []) ∷ (0 ∷ []) ∷ (1 ∷ 2 ∷ []) ∷ [])
 diamond_needs = refl
 
-diamond_ancestors : all_ancestors (needs_of diamond) ≡ [] ∷ (0 ∷ []) ∷ (0 ∷ []) ∷ (0 ∷ 1 ∷ 2 ∷ []) ∷ []
-diamond_ancestors = refl
+last_ancestors : ancestors_of (needs_of diamond) 3 ≡ 0 ∷ 1 ∷ 2 ∷ []
+last_ancestors = refl
+
+first_dependents : dependents_of (needs_of diamond) 0 ≡ 1 ∷ 2 ∷ []
+first_dependents = refl

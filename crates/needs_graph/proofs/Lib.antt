@@ -1,8 +1,9 @@
-pub mod AncestorLists
+pub mod AncestorResults
 pub mod Closure
 pub mod GraphFacts
 pub mod GraphRows
-pub mod IdOrder
+pub mod HasAncestor
+pub mod JobSetSteps
 pub mod LookupSteps
 pub mod MarkSteps
 pub mod Members
@@ -10,6 +11,5 @@ pub mod OwnIds
 pub mod PlaceLists
 pub mod Reach
 pub mod ResultRows
-pub mod RiseSteps
 pub mod RowSteps
 pub mod Walks

@@ -1,15 +1,16 @@
 -- Rows of marks closed over all jobs are the ancestors of each job.
-use Rattle.std.proofs.Common.{◌≡◌, ℕ, ◌<◌, List, [], ◌∷◌, Bool, true, false, length, map, sym, refl, subst, ap, ◌∙◌, ⊎_elim, arith}
-use Rattle.std.specs.List.{Contains, range_with_len, filter}
-use Rattle.std.proofs.lemmas.Bool.{cases_lt, false≢true}
+use Rattle.std.proofs.Common.{◌≡◌, ℕ, ◌<◌, List, [], ◌∷◌, Bool, true, false, eqb, length, get_or, map, ◌≤◌, sym, refl, subst, ap, ◌∙◌, ⊎_elim, arith}
+use Rattle.std.specs.List.{Contains, range_with_len, filter, list_any}
+use Rattle.std.proofs.lemmas.Bool.{cases_lt, false≢true, false_from_ne_true}
 use Rattle.std.proofs.lemmas.Bool.Decides.{same_from_decides}
-use Rattle.std.proofs.lemmas.List.{get_or-map, get_or_past, length-map}
-use Rattle.std.proofs.lemmas.List.FromFn.{fill_by_all}
-use Rattle.needs_graph.specs.Ancestors.{needs_at, IsWalk, HasWalk, is_ancestor, ancestors_of, all_ancestors, IsClosed}
-use Rattle.needs_graph.specs.Marks.{is_marked, marked, closed}
+use Rattle.std.proofs.lemmas.List.{get_or-map, get_or_default, get_or_past, length-map}
+use Rattle.needs_graph.specs.Ancestors.{needs_at, IsWalk, HasWalk, is_ancestor, dependents_of, IsClosed}
+use Rattle.needs_graph.specs.JobSets.{is_in}
+use Rattle.needs_graph.specs.Marks.{is_marked, marked, places, closed}
+use Rattle.needs_graph.specs.Rows.{IsSets}
 use Rattle.needs_graph.proofs.Members.{Has, Contains-from_Has, Has-from_Contains}
-use Rattle.needs_graph.proofs.PlaceLists.{marked_by, Has-filter_range, Has-filter_range_from}
-use Rattle.needs_graph.proofs.Walks.{joined, walk_from_is_ancestor, is_ancestor-from_walk}
+use Rattle.needs_graph.proofs.PlaceLists.{marked_by, places_by, Has-filter_range, Has-filter_range_from}
+use Rattle.needs_graph.proofs.Walks.{joined, no_walk_past, walk_from_is_ancestor, is_ancestor-from_walk}
 use Rattle.needs_graph.proofs.Closure.{row_at, bit, IsWide, length-closed, IsWide-closed, sound, complete_step, complete_start}
 
 -- the needs that rows of marks say
@@ -34,6 +35,9 @@ Has-marked_from marks i below h =
 
 needs_at-by : (rows : List (List Bool)) (j : ℕ) → j < length rows → needs_at (needs_by rows) j ≡ marked (row_at rows j)
 needs_at-by rows j below = get_or-map marked rows j [] [] below
+
+mark_below : (marks : List Bool) (i : ℕ) → is_marked marks i ≡ true → i < length marks
+mark_below marks i h = ⊎_elim (λ less. less) (λ past. absurd (false≢true (sym (get_or_past marks i false past) ∙ h))) (cases_lt i (length marks))
 
 -- a need is a mark within the rows
 need_is_mark : (rows : List (List Bool)) → IsSquare rows → (j i : ℕ) → Contains (needs_at (needs_by rows) j) i → (j < length rows) × (i < length rows) × (bit rows j i ≡ true)
@@ -99,22 +103,33 @@ is_ancestor-is_closed rows square j i below =
     (walk_from_closed rows square j i below, closed_from_walk rows square j i)
     (walk_from_is_ancestor (needs_by rows) j i, is_ancestor-from_walk (needs_by rows) (needs_by-IsClosed rows square) j i)
 
-ancestors_of-by : (rows : List (List Bool)) → IsSquare rows → (j : ℕ) → j < length rows → marked (row_at (closed (length rows) rows) j) ≡ ancestors_of (needs_by rows) j
-ancestors_of-by rows square j below =
-    let row = row_at (closed (length rows) rows) j in
-    let wide : length row ≡ length rows = IsWide-closed (length rows) (length rows) rows square j (omega (arith, length-closed (length rows) rows)) in
-    let count : length row ≡ length (needs_by rows) = wide ∙ sym (length-map rows marked) in
-    marked_by row (is_ancestor (needs_by rows) j) (λ k k_below. is_ancestor-is_closed rows square j k below)
-    ∙ ap (λ n. filter (is_ancestor (needs_by rows) j) (range_with_len 0 n)) count
+-- ---- the sets of the closed rows
 
--- the marked jobs of the closed rows are the ancestors of all jobs
-pub all_ancestors-by : (rows : List (List Bool)) → IsSquare rows → map marked (closed (length rows) rows) ≡ all_ancestors (needs_by rows)
-all_ancestors-by rows square =
-    let n = length rows in
-    let rows_count : length (closed n rows) ≡ n = length-closed n rows in
-    let needs_count : length (needs_by rows) ≡ n = length-map rows marked in
-    fill_by_all (ancestors_of (needs_by rows)) (map marked (closed n rows)) (length (needs_by rows)) []
-    (length-map (closed n rows) marked ∙ (rows_count ∙ sym needs_count))
-    (λ k below.
-    let k_in : k < n = omega arith in
-    get_or-map marked (closed n rows) k [] [] (omega arith) ∙ ancestors_of-by rows square k k_in)
+pub past_is_none : (needs : List (List ℕ)) → IsClosed needs → (job other : ℕ) → length needs ≤ job → is_ancestor needs job other ≡ false
+past_is_none needs closed job other past =
+    false_from_ne_true _ (λ h. no_walk_past needs job other past (walk_from_is_ancestor needs job other h))
+
+-- the set at a job's place has its ancestors and no others
+pub sets_reach : (sets : List (List ℕ)) (marks : List (List Bool)) → IsSquare marks → IsSets sets (closed (length marks) marks) → (job other : ℕ) → is_in (get_or sets job []) other ≡ is_ancestor (needs_by marks) job other
+sets_reach sets marks square are job other =
+    ⊎_elim (λ below. are.same job other ∙ is_ancestor-is_closed marks square job other below)
+    (λ past.
+    let none : row_at (closed (length marks) marks) job ≡ [] = get_or_past (closed (length marks) marks) job [] (omega (arith, length-closed (length marks) marks)) in
+    are.same job other
+    ∙ (ap (λ row. is_marked row other) none ∙ sym (past_is_none (needs_by marks) (needs_by-IsClosed marks square) job other (omega (arith, length-map marks marked)))))
+    (cases_lt job (length marks))
+
+-- ---- the rows that have a job
+
+is_marked-is_in_list : (marks : List Bool) (i : ℕ) → is_marked marks i ≡ list_any (eqb i) (marked marks)
+is_marked-is_in_list marks i =
+    same_from_decides {P = is_marked marks i ≡ true} (is_marked marks i) (list_any (eqb i) (marked marks)) (λ h. h, λ h. h)
+    (λ h. (Has-marked marks i h).1, λ h. Has-marked_from marks i (mark_below marks i h) h)
+
+pub dependents-by : (rows : List (List Bool)) (job : ℕ) → places (λ row. is_marked row job) rows ≡ dependents_of (needs_by rows) job
+dependents-by rows job =
+    places_by (λ row. is_marked row job) rows (λ other. list_any (eqb job) (needs_at (needs_by rows) other))
+    (λ k d below.
+    ap (λ row. is_marked row job) (get_or_default rows k d [] below)
+    ∙ (is_marked-is_in_list (row_at rows k) job ∙ ap (λ l. list_any (eqb job) l) (sym (needs_at-by rows k below))))
+    ∙ ap (λ n. filter (λ other. list_any (eqb job) (needs_at (needs_by rows) other)) (range_with_len 0 n)) (sym (length-map rows marked))

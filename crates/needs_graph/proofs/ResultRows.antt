@@ -1,12 +1,12 @@
 -- The definitions of results, conclusions and conditions at rows of their tables.
-use Rattle.std.proofs.Common.{◌≡◌, [], ◌∷◌, Bool, true, false, refl}
+use Rattle.std.proofs.Common.{Some, ◌≡◌, [], ◌∷◌, Bool, true, false, refl}
 use Rattle.wf_value.specs.declared.condition.Condition.TheVariants as condition
 use Rattle.wf_value.specs.declared.outcome.Outcome.{Outcome}
 use Rattle.wf_value.specs.declared.outcome.Outcome.TheVariants as outcome
 use Rattle.wf_value.specs.declared.outcome.JobResult.TheVariants as job
 use Rattle.needs_graph.specs.Results.{gathered, conclusion_of}
 use Rattle.needs_graph.specs.Conditions.{condition_value}
-use Rattle.needs_graph.specs.declared.results.LegEnd.{LegEnd}
+use Rattle.needs_graph.specs.declared.ended.LegEnd.{LegEnd}
 
 -- a leg, and whether a failure of it is passed over
 abbrev leg : Outcome → Bool → LegEnd
@@ -36,23 +36,23 @@ run_failure_before_cancelled = refl
 run_cancelled : conclusion_of (job.Success ∷ job.Cancelled ∷ []) ≡ outcome.Cancelled
 run_cancelled = refl
 
-success_wants_all : condition_value condition.Success (job.Success ∷ job.Failure ∷ []) false ≡ false
+success_wants_all : condition_value condition.Success (Some job.Success ∷ Some job.Failure ∷ []) false ≡ false
 success_wants_all = refl
 
 success_without_ancestors : condition_value condition.Success [] false ≡ true
 success_without_ancestors = refl
 
-skipped_is_no_success : condition_value condition.Success (job.Skipped ∷ []) false ≡ false
+skipped_is_no_success : condition_value condition.Success (Some job.Skipped ∷ []) false ≡ false
 skipped_is_no_success = refl
 
-failure_wants_one : condition_value condition.Failure (job.Success ∷ job.Failure ∷ []) false ≡ true
+failure_wants_one : condition_value condition.Failure (Some job.Success ∷ Some job.Failure ∷ []) false ≡ true
 failure_wants_one = refl
 
-failure_not_while_stopping : condition_value condition.Failure (job.Failure ∷ []) true ≡ false
+failure_not_while_stopping : condition_value condition.Failure (Some job.Failure ∷ []) true ≡ false
 failure_not_while_stopping = refl
 
-success_not_while_stopping : condition_value condition.Success (job.Success ∷ []) true ≡ false
+success_not_while_stopping : condition_value condition.Success (Some job.Success ∷ []) true ≡ false
 success_not_while_stopping = refl
 
-always_while_stopping : condition_value condition.Always (job.Failure ∷ []) true ≡ true
+always_while_stopping : condition_value condition.Always (Some job.Failure ∷ []) true ≡ true
 always_while_stopping = refl

@@ -9,9 +9,9 @@ use Rattle.std.proofs.lemmas.Slice.Eq.{bytes_eq-Decides}
 use Rattle.needs_graph.specs.Needs.{ids_rise, is_listed, is_job, unknown_need}
 use Rattle.needs_graph.specs.Rows.{needs_row, needs_row_of, needs_rows_of}
 use Rattle.wf_value.specs.declared.refusal.Refusal.{Refusal}
-use Rattle.needs_graph.specs.declared.job_needs.JobNeeds.{JobNeeds}
+use Rattle.needs_graph.specs.JobNeeds.{JobNeeds}
 use Rattle.needs_graph.proofs.Closure.{or_false}
-use Rattle.needs_graph.proofs.IdOrder.{ids_apart}
+use Rattle.wf_value.proofs.Rising.{names_apart}
 
 -- no id is listed so far, and no job is marked
 pub row_none : (jobs : List JobNeeds) → replicate (length jobs) false ≡ needs_row jobs []
@@ -47,7 +47,7 @@ row_more jobs rise ids i place id in_ids is_id in_jobs held =
     marked_here ∙ sym (after ∙ or_right _ _ (bytes_same here (get_or ids i id) (at_k ∙ is_id))))
     (λ other.
     let stays = get_or-set_other before place k true d other ∙ get_or-map (λ job. is_listed (take i ids) job.id) jobs k blank d in_k in
-    let not_here : bytes_eq here (get_or ids i id) ≡ false = bytes_apart _ _ (λ e. other (ids_apart jobs rise k place blank in_k in_jobs (e ∙ (sym is_id ∙ sym (held blank))))) in
+    let not_here : bytes_eq here (get_or ids i id) ≡ false = bytes_apart _ _ (λ e. other (names_apart (λ (job : JobNeeds). job.id) jobs k place blank rise in_k in_jobs (e ∙ (sym is_id ∙ sym (held blank))))) in
     stays ∙ (or_false (is_listed (take i ids) here) ∙ (ap (λ b. is_listed (take i ids) here || b) (sym not_here) ∙ sym after)))
     (cases_eq k place))
 

@@ -1,7 +1,8 @@
 -- Walks along needs.
-use Rattle.std.proofs.Common.{◌≡◌, ℕ, zero, suc, ◌<◌, List, [], ◌∷◌, ◌++◌, Bool, true, false, eqb, length, sym, subst, ap, ◌∙◌, ⊎_elim, arith, length-append, zero-add}
+use Rattle.std.proofs.Common.{◌≡◌, ℕ, zero, suc, ◌<◌, ◌≤◌, List, [], ◌∷◌, ◌++◌, Bool, true, false, eqb, length, sym, subst, ap, ◌∙◌, ⊎_elim, arith, length-append, zero-add}
 use Rattle.std.specs.List.{Contains, list_any, range_with_len, IsDistinct, AllByRecursion}
 use Rattle.std.proofs.lemmas.Bool.{cases_Bool, or_cases, or_parts, eqb-true, false≢true}
+use Rattle.std.proofs.lemmas.List.{get_or_past}
 use Rattle.std.proofs.lemmas.Map.Keys.{IsDistinct-tail, IsDistinct-cons}
 use Rattle.std.proofs.lemmas.List.Folds.{Any-from_list_any, list_any_at}
 use Rattle.std.proofs.lemmas.List.FromFn.{length-range_with_len, get_or-range_with_len}
@@ -74,6 +75,18 @@ walk_stays_within needs closed (b ∷ bs) from to q w h =
 pub walk_end_below : (needs : List (List ℕ)) → IsClosed needs → (between : List ℕ) (from to : ℕ) → IsWalk needs from between to → to < length needs
 walk_end_below needs closed [] from to w = closed from to w
 walk_end_below needs closed (b ∷ bs) from to w = walk_end_below needs closed bs b to w.1
+
+-- no walk leads from a place past the jobs
+pub no_walk_past : (needs : List (List ℕ)) (from to : ℕ) → length needs ≤ from → HasWalk needs from to → ⊥
+no_walk_past needs from to past w =
+    let none : needs_at needs from ≡ [] = get_or_past needs from [] past in
+    let P : List ℕ → ℕ → Type 0 = λ xs x. Has xs x in
+    elim w.0
+    as (λ between. IsWalk needs from between to → ⊥) [
+      | [] ↦ λ step. false≢true (subst (λ (xs : List ℕ). P xs to) none (Has-from_Contains _ to step))
+      | next ∷ between ↦ λ steps. false≢true (subst (λ (xs : List ℕ). P xs next) none (Has-from_Contains _ next steps.0))
+    ]
+    w.1
 
 -- ---- the test of an ancestor, and walks
 

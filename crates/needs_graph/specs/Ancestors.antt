@@ -1,8 +1,9 @@
 -- The ancestors of a job. Jobs are named by their places, from 0, and `needs` has for each job the
 -- places of the jobs that it needs.
 -- GitHub Docs, "Workflow syntax for GitHub Actions": `jobs.<job_id>.needs`.
-use Rattle.std.specs.Prelude.{◌≡◌, ◌<◌, ℕ, zero, suc, List, [], ◌∷◌, Bool, false, length, filter, map, nat_eq}
+use Rattle.std.specs.Prelude.{◌≡◌, ◌<◌, ℕ, zero, suc, List, [], ◌∷◌, Bool, false, length, filter, nat_eq}
 use Rattle.std.specs.List.{Contains, slice_index_or, flat_map, list_any, range_with_len}
+use Rattle.needs_graph.specs.JobSets.{is_in}
 
 abbrev pub needs_at : List (List ℕ) → ℕ → List ℕ
 needs_at needs job = slice_index_or needs job []
@@ -30,15 +31,19 @@ is_ancestor needs job other =
 abbrev pub ancestors_of : List (List ℕ) → ℕ → List ℕ
 ancestors_of needs job = filter (is_ancestor needs job) (range_with_len 0 (length needs))
 
-abbrev pub all_ancestors : List (List ℕ) → List (List ℕ)
-all_ancestors needs = map (ancestors_of needs) (range_with_len 0 (length needs))
+-- the jobs that need a job directly, in order
+abbrev pub dependents_of : List (List ℕ) → ℕ → List ℕ
+dependents_of needs job = filter (λ other. list_any (nat_eq job) (needs_at needs other)) (range_with_len 0 (length needs))
 
 -- each job needs jobs of the list
 abbrev pub IsClosed : List (List ℕ) → Type 0
 IsClosed needs = (job other : ℕ) → Contains (needs_at needs job) other → other < length needs
 
--- the needs of a graph, in which no job is its own ancestor, and all jobs' ancestors beside them
-pub record IsGraph (needs ancestors : List (List ℕ)) : Type 0 where
+-- the needs of a graph, in which no job is its own ancestor, and beside them the set of each job's
+-- ancestors and the list of its dependents
+pub record IsGraph (needs ancestors dependents : List (List ℕ)) : Type 0 where
   pub within : IsClosed needs
-  pub acyclic : (job : ℕ) → job < length needs → is_ancestor needs job job ≡ false
-  pub kept : ancestors ≡ all_ancestors needs
+  pub acyclic : (job : ℕ) → is_ancestor needs job job ≡ false
+  pub reached : (job other : ℕ) → is_in (slice_index_or ancestors job []) other ≡ is_ancestor needs job other
+  pub as_many : length dependents ≡ length needs
+  pub needed : (job : ℕ) → job < length needs → slice_index_or dependents job [] ≡ dependents_of needs job

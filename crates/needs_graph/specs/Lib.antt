@@ -1,5 +1,7 @@
 pub mod Ancestors
 pub mod Conditions
+pub mod JobNeeds
+pub mod JobSets
 pub mod Lookup
 pub mod Marks
 pub mod Needs

@@ -1,7 +1,7 @@
 -- Looking a job up by its id.
 use Rattle.std.specs.Prelude.{◌≡◌, ◌≢◌, ◌<◌, ℕ, List, Option, MatchOption, All, length}
 use Rattle.std.specs.List.{HoldsAt}
-use Rattle.needs_graph.specs.declared.job_needs.JobNeeds.{JobNeeds}
+use Rattle.needs_graph.specs.JobNeeds.{JobNeeds}
 
 -- what is found is the place of a job of that id, and nothing is found where no job has it
 abbrev pub Finds : List JobNeeds → List ℕ → Option ℕ → Type 0

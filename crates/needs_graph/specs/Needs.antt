@@ -3,17 +3,17 @@
 use Rattle.std.specs.Prelude.{ℕ, List, [], ◌∷◌, Bool, Result, Ok, Err, filter, map, if◌then◌else◌}
 use Rattle.std.specs.List.{list_any, list_all, enumerate_from}
 use Rattle.std.specs.Str.{bytes_eq}
-use Rattle.wf_value.specs.Names.{names_rise}
+use Rattle.wf_value.specs.Names.{rises_by}
 use Rattle.wf_value.specs.declared.code.Code.TheVariants.{UnknownNeed}
 use Rattle.wf_value.specs.declared.refusal.Refusal.{Refusal}
 use Rattle.wf_value.specs.declared.refusal.Refusal.TheVariants.{Numbered, Cycle}
-use Rattle.needs_graph.specs.declared.job_needs.JobNeeds.{JobNeeds}
+use Rattle.needs_graph.specs.JobNeeds.{JobNeeds}
 use Rattle.needs_graph.specs.Ancestors.{is_ancestor}
 use Rattle.needs_graph.specs.Marks.{places}
 
 -- whether each id is below the next, by bytes
 abbrev pub ids_rise : List JobNeeds → Bool
-ids_rise jobs = names_rise (map (λ job. (job.id, job.needs)) jobs)
+ids_rise jobs = rises_by (λ job. job.id) jobs
 
 abbrev pub is_listed : List (List ℕ) → List ℕ → Bool
 is_listed ids id = list_any (bytes_eq id) ids

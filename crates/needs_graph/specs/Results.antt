@@ -7,7 +7,7 @@ use Rattle.wf_value.specs.declared.outcome.Outcome.{Outcome}
 use Rattle.wf_value.specs.declared.outcome.Outcome.TheVariants as outcome
 use Rattle.wf_value.specs.declared.outcome.JobResult.{JobResult}
 use Rattle.wf_value.specs.declared.outcome.JobResult.TheVariants as job
-use Rattle.needs_graph.specs.declared.results.LegEnd.{LegEnd}
+use Rattle.needs_graph.specs.declared.ended.LegEnd.{LegEnd}
 
 abbrev pub is_failure : Outcome → Bool
 is_failure outcome.Failure = true

@@ -1,18 +1,50 @@
-ghost use Rattle.std.specs.Prelude.{◌≡◌};
-ghost use Rattle.std.specs.List.{list_all};
-ghost use Rattle.needs_graph.specs.Conditions.{condition_value, job_succeeded};
+ghost use Rattle.std.specs.Prelude.{◌≡◌, List, None, Option, map};
+ghost use Rattle.std.specs.List.{list_all, list_any, slice_index_or};
+ghost use Rattle.wf_value.specs.declared.outcome.JobResult.{JobResult};
+ghost use Rattle.needs_graph.specs.Conditions.{condition_value, has_failed, has_succeeded};
 
+use crate::ended::HasResult;
 use wf_value::{Condition, JobResult};
 
 /// Whether a job's condition holds, from the results of all its ancestors and whether the run is
 /// stopping. `true` as a condition is that of success. GitHub Docs, "Evaluate expressions in
 /// workflows and actions", Status check functions.
-pub fn decide(condition: Condition, results: &[JobResult], stopping: bool) -> bool
+pub fn decide(condition: Condition, results: &[Option<JobResult>], stopping: bool) -> bool
     ensures { result ≡ condition_value condition results.now stopping }
 {
+    holds(
+        condition,
+        all_succeeded(results),
+        any_failed(results),
+        stopping,
+    )
+}
+
+fn all_succeeded(results: &[Option<JobResult>]) -> bool
+    ensures { result ≡ list_all has_succeeded results.now }
+{
+    results.iter().all(|r| has_succeeded(*r))
+}
+
+fn any_failed(results: &[Option<JobResult>]) -> bool
+    ensures { result ≡ list_any has_failed results.now }
+{
+    results.iter().any(|r| has_failed(*r))
+}
+
+/// Whether the condition holds where that is known of the ancestors' results.
+pub(crate) fn holds(
+    condition: Condition,
+    all_succeeded: bool,
+    any_failed: bool,
+    stopping: bool,
+) -> bool
+    ensures { (results : List (Option JobResult)) → all_succeeded ≡ list_all has_succeeded results
+        → any_failed ≡ list_any has_failed results → result ≡ condition_value condition results stopping }
+{
     match condition {
-        Condition::Success => !stopping && all_succeeded(results),
-        Condition::Failure => !stopping && results.contains(&JobResult::Failure),
+        Condition::Success => !stopping && all_succeeded,
+        Condition::Failure => !stopping && any_failed,
         Condition::Always => true,
         Condition::Cancelled => stopping,
         Condition::NotCancelled => !stopping,
@@ -20,8 +52,21 @@ pub fn decide(condition: Condition, results: &[JobResult], stopping: bool) -> bo
     }
 }
 
-fn all_succeeded(results: &[JobResult]) -> bool
-    ensures { result ≡ list_all job_succeeded results.now }
+pub(crate) fn has_succeeded(job: Option<JobResult>) -> bool
+    ensures { result ≡ has_succeeded job }
 {
-    results.iter().all(|r| *r == JobResult::Success)
+    job == Some(JobResult::Success)
+}
+
+pub(crate) fn has_failed(job: Option<JobResult>) -> bool
+    ensures { result ≡ has_failed job }
+{
+    job == Some(JobResult::Failure)
+}
+
+/// The result of the job at a place, if there is such a job and it has one.
+pub(crate) fn result_at<J: HasResult>(jobs: &[J], place: usize) -> Option<JobResult>
+    ensures { result ≡ slice_index_or (map J.job_result jobs.now) place None }
+{
+    jobs.get(place).and_then(|job| job.job_result())
 }

@@ -1,24 +1,29 @@
-ghost use Rattle.std.specs.Prelude.{◌≡◌, ◌↔◌, ◌<◌, IsTrue, Ok, All, Contains, length, ℕ};
+ghost use Rattle.std.specs.Prelude.{◌≡◌, ◌≢◌, ◌↔◌, ◌<◌, IsTrue, Ok, All, Contains, length, map, ℕ};
+ghost use Rattle.std.specs.List.{list_all, list_any};
 ghost use Rattle.wf_value.specs.Gives.{Gives};
-ghost use Rattle.needs_graph.specs.Ancestors.{needs_at, is_ancestor, ancestors_of, HasWalk};
+ghost use Rattle.needs_graph.specs.Ancestors.{needs_at, is_ancestor, dependents_of, HasWalk};
+ghost use Rattle.needs_graph.specs.Conditions.{ancestor_results, condition_value, has_failed, has_succeeded};
 ghost use Rattle.needs_graph.specs.Needs.{ids_rise, needs_of, graph_of};
 ghost use Rattle.needs_graph.specs.Rows.{own_ids};
 
+use crate::conditions::{has_failed, has_succeeded, holds, result_at};
+use crate::ended::HasResult;
 use crate::job_needs::JobNeeds;
+use crate::job_set::{JobSet, set_has};
 use crate::marks::Marks;
-use crate::places::Places;
-use crate::rows::{all_places, closed_rows, needs_rows};
+use crate::rows::{all_dependents, all_places, all_sets, closed_rows, needs_rows};
 use std::alloc::Global;
 use std::marker::Model;
-use wf_value::{Chars, Ids, Refusal};
+use wf_value::{Chars, Condition, Refusal, Sequence, TryCopy};
 
 /// Which jobs each job of a workflow needs, directly and through others. Jobs are named by their
 /// places in the order of their ids, from 0, and no job is its own ancestor. A contract sees for
 /// each job the places of the jobs that it needs directly, in order.
-#[derive(Debug, Drop)]
+#[derive(Drop)]
 pub struct Graph {
-    needs: Vec<Places>,
-    ancestors: Vec<Places>,
+    needs: Sequence<Sequence<usize>>,
+    ancestors: Sequence<JobSet>,
+    dependents: Sequence<Sequence<usize>>,
 }
 
 impl Model for Graph {
@@ -27,16 +32,16 @@ impl Model for Graph {
 
     ghost Value = { List (List ℕ) };
 
-    ghost view = { λ g. g.needs.items };
+    ghost view = { λ g. g.needs };
 
-    ghost invariant = { λ g. IsGraph g.needs.items g.ancestors.items };
+    ghost invariant = { λ g. IsGraph g.needs g.ancestors g.dependents };
 }
 
 impl Graph {
     /// The graph of the jobs' needs, from the jobs in the order of their ids' bytes. Refused 13
     /// where a job lists an id that is no job's, else 14 where a job is its own ancestor, with the
     /// ids of all jobs that are, in order; 50 where memory was refused.
-    pub fn build(alloc: Global, jobs: &[JobNeeds]) -> Result<Graph, Refusal>
+    pub fn build(alloc: Global, jobs: &[JobNeeds<'_>]) -> Result<Graph, Refusal>
         requires { IsTrue (ids_rise jobs.now) }
         ensures graph { Gives (λ g. g) result (graph_of jobs.now) }
 
@@ -45,14 +50,17 @@ impl Graph {
             ↔ HasWalk (needs_of jobs.now) job other }
     {
         let direct = needs_rows(alloc, jobs)?;
-        let reached = closed_rows(alloc, direct.as_slice())?;
+        let needs = all_places(alloc, direct.as_slice())?;
+        let dependents = all_dependents(alloc, direct.as_slice())?;
+        let reached = closed_rows(alloc, direct)?;
         let ids = own_ids(alloc, jobs, reached.as_slice())?;
         if !ids.is_empty() {
-            return Err(Refusal::Cycle(Ids::new(ids)));
+            return Err(Refusal::Cycle(Sequence::new(ids)));
         }
         Ok(Graph {
-            needs: all_places(alloc, direct.as_slice())?,
-            ancestors: all_places(alloc, reached.as_slice())?,
+            needs,
+            ancestors: all_sets(alloc, reached.as_slice())?,
+            dependents,
         })
     }
 
@@ -67,31 +75,87 @@ impl Graph {
         requires { job < length self.now }
         ensures { result.now ≡ needs_at self.now job }
     {
-        self.needs[job].as_slice()
+        self.needs.as_slice()[job].as_slice()
     }
 
-    /// The places of a job's ancestors, in order: of the jobs at the ends of the walks of one or
-    /// more needs from it.
-    pub fn ancestors(&self, job: usize) -> &[usize]
+    /// The places of the jobs that need a job directly, in order.
+    pub fn dependents(&self, job: usize) -> &[usize]
         requires { job < length self.now }
-        ensures value { result.now ≡ ancestors_of self.now job }
-        ensures walks { (other : ℕ) → Contains result.now other ↔ HasWalk self.now job other }
-        ensures within { All (λ other. other < length self.now) result.now }
-        ensures acyclic { ¬ Contains result.now job }
+        ensures { result.now ≡ dependents_of self.now job }
     {
-        self.ancestors[job].as_slice()
+        self.dependents.as_slice()[job].as_slice()
+    }
+
+    /// Whether the other job is an ancestor of the job: at the end of a walk of one or more needs
+    /// from it.
+    pub fn has_ancestor(&self, job: usize, other: usize) -> bool
+        ensures value { result ≡ is_ancestor self.now job other }
+        ensures walks { IsTrue result ↔ HasWalk self.now job other }
+        ensures within { IsTrue result → other < length self.now }
+        ensures acyclic { IsTrue result → other ≢ job }
+    {
+        set_has(self.ancestors.as_slice(), job, other)
+    }
+
+    /// Whether the condition of a job holds, from the results that the jobs of the workflow have so
+    /// far, in order, and whether the run is stopping. It looks at all ancestors of the job: one
+    /// without a result has neither succeeded nor failed.
+    pub fn decide<J: HasResult>(
+        &self,
+        job: usize,
+        condition: Condition,
+        jobs: &[J],
+        stopping: bool,
+    ) -> bool
+        ensures { result ≡ condition_value condition (ancestor_results self.now (map J.job_result jobs.now) job) stopping }
+    {
+        let all_succeeded = self.all_ancestors_succeeded(job, jobs);
+        let any_failed = self.any_ancestor_failed(job, jobs);
+        holds(condition, all_succeeded, any_failed, stopping)
+    }
+
+    fn all_ancestors_succeeded<J: HasResult>(&self, job: usize, jobs: &[J]) -> bool
+        ensures { result ≡ list_all has_succeeded (ancestor_results self.now (map J.job_result jobs.now) job) }
+    {
+        for other in 0..self.job_count() {
+            if self.has_ancestor(job, other) && !has_succeeded(result_at(jobs, other)) {
+                return false;
+            }
+        }
+        true
+    }
+
+    fn any_ancestor_failed<J: HasResult>(&self, job: usize, jobs: &[J]) -> bool
+        ensures { result ≡ list_any has_failed (ancestor_results self.now (map J.job_result jobs.now) job) }
+    {
+        for other in 0..self.job_count() {
+            if self.has_ancestor(job, other) && has_failed(result_at(jobs, other)) {
+                return true;
+            }
+        }
+        false
+    }
+}
+
+impl TryCopy for Graph {
+    fn copy(&self, alloc: Global) -> Result<Self, Refusal> {
+        Ok(Graph {
+            needs: self.needs.copy(alloc)?,
+            ancestors: self.ancestors.copy(alloc)?,
+            dependents: self.dependents.copy(alloc)?,
+        })
     }
 }
 
 /// The ids of the jobs that reach themselves, in order.
-fn own_ids(alloc: Global, jobs: &[JobNeeds], reached: &[Marks]) -> Result<Vec<Chars>, Refusal>
+fn own_ids(alloc: Global, jobs: &[JobNeeds<'_>], reached: &[Marks]) -> Result<Vec<Chars>, Refusal>
     requires { length jobs.now ≡ length reached.now }
     ensures { Gives (λ v. v.items) result (Ok (own_ids jobs.now reached.now)) }
 {
     let mut ids = Vec::new(alloc);
     for (place, job) in jobs.iter().enumerate() {
         if reached[place].contains(place) {
-            ids.push(job.id.copy(alloc)?)?;
+            ids.push(job.id().copy(alloc)?)?;
         }
     }
     Ok(ids)

@@ -1,26 +1,19 @@
 ghost use Rattle.std.specs.Prelude.{◌≡◌};
 ghost use Rattle.std.specs.Cmp.Lexicographic.{slice_cmp};
-ghost use Rattle.std.specs.Ordering.{nat_cmp};
+ghost use Rattle.std.specs.Ordering.{is_lt, nat_cmp};
 ghost use Rattle.needs_graph.specs.Needs.{ids_rise};
 
 use crate::job_needs::JobNeeds;
-use std::cmp::Ordering;
-use wf_value::Chars;
 
-fn compare_ids(job: &JobNeeds, id: &Chars) -> Ordering
-    ensures { result ≡ slice_cmp nat_cmp job.now.id id.now }
+fn is_below(job: &JobNeeds<'_>, next: &JobNeeds<'_>) -> bool
+    ensures { result ≡ is_lt (slice_cmp nat_cmp job.now.id next.now.id) }
 {
-    job.id.as_str().cmp(id.as_str())
+    job.id().as_str() < next.id().as_str()
 }
 
 /// Whether each job's id is below the next one's, by bytes.
-pub fn ids_rise(jobs: &[JobNeeds]) -> bool
+pub fn ids_rise(jobs: &[JobNeeds<'_>]) -> bool
     ensures { result ≡ ids_rise jobs.now }
 {
-    for i in 1..jobs.len() {
-        if !compare_ids(&jobs[i - 1], &jobs[i].id).is_lt() {
-            return false;
-        }
-    }
-    true
+    jobs.is_sorted_by(|job, next| is_below(job, next))
 }

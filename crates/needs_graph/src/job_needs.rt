@@ -1,9 +1,40 @@
-use wf_value::{Chars, Ids};
+ghost use Rattle.std.specs.Prelude.{◌≡◌};
 
-/// A job's id and the ids that it lists in `needs`, in which one may repeat. GitHub Docs, "Workflow
-/// syntax for GitHub Actions", `jobs.<job_id>.needs`.
-#[derive(Debug, Drop)]
-pub struct JobNeeds {
-    pub id: Chars,
-    pub needs: Ids,
+use std::marker::Model;
+use wf_value::Chars;
+
+/// A job's id and the ids that it lists in `needs`, in which one may repeat, borrowed from what
+/// lists them. GitHub Docs, "Workflow syntax for GitHub Actions", `jobs.<job_id>.needs`.
+#[derive(Drop)]
+pub struct JobNeeds<'a> {
+    id: &'a Chars,
+    needs: &'a [Chars],
+}
+
+impl<'a> Model for JobNeeds<'a> {
+    ghost use Rattle.needs_graph.specs.JobNeeds.{JobNeeds};
+
+    ghost Value = { JobNeeds };
+
+    ghost view = { λ j. record { id = j.id.now; needs = j.needs.now } };
+}
+
+impl<'a> JobNeeds<'a> {
+    pub fn new(id: &'a Chars, needs: &'a [Chars]) -> Self
+        ensures { result ≡ record { id = id.now; needs = needs.now } }
+    {
+        JobNeeds { id, needs }
+    }
+
+    pub(crate) fn id(&self) -> &'a Chars
+        ensures { result.now ≡ self.now.id }
+    {
+        self.id
+    }
+
+    pub(crate) fn needs(&self) -> &'a [Chars]
+        ensures { result.now ≡ self.now.needs }
+    {
+        self.needs
+    }
 }

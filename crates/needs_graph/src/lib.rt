@@ -3,17 +3,19 @@
 #![tactic(auto)]
 
 mod conditions;
+mod ended;
 mod graph;
 mod id_order;
 mod job_needs;
+mod job_set;
 mod lookup;
 mod marks;
-mod places;
 mod results;
 mod rows;
 
 pub use conditions::decide;
+pub use ended::{HasEnd, HasResult, LegEnd};
 pub use graph::Graph;
 pub use id_order::ids_rise;
 pub use job_needs::JobNeeds;
-pub use results::{LegEnd, conclude, gather};
+pub use results::{conclude, gather};

@@ -8,12 +8,12 @@ use crate::job_needs::JobNeeds;
 use std::alloc::{AllocError, Global};
 use std::collections::HashMap;
 use std::marker::Model;
-use wf_value::{Chars, Refusal};
+use wf_value::{Chars, Refusal, Same};
 
 /// Jobs that are looked up by their ids, many times over. A contract sees the jobs.
 #[derive(Drop)]
 pub(crate) struct Lookup<'a> {
-    jobs: &'a [JobNeeds],
+    jobs: &'a [JobNeeds<'a>],
     places: HashMap<&'a str, usize>,
 }
 
@@ -22,7 +22,7 @@ impl<'a> Model for Lookup<'a> {
     ghost use Rattle.std.specs.Str.{bytes_eq};
     ghost use Rattle.std.specs.HashMap.{get_by};
     ghost use Rattle.needs_graph.specs.Lookup.{Finds};
-    ghost use Rattle.needs_graph.specs.declared.job_needs.JobNeeds.{JobNeeds};
+    ghost use Rattle.needs_graph.specs.JobNeeds.{JobNeeds};
 
     ghost Value = { List JobNeeds };
 
@@ -32,7 +32,7 @@ impl<'a> Model for Lookup<'a> {
 }
 
 impl<'a> Lookup<'a> {
-    pub(crate) fn new(alloc: Global, jobs: &'a [JobNeeds]) -> Result<Self, Refusal>
+    pub(crate) fn new(alloc: Global, jobs: &'a [JobNeeds<'a>]) -> Result<Self, Refusal>
         ensures { Gives (λ l. l) result (Ok jobs.now) }
     {
         Ok(Lookup {
@@ -52,7 +52,7 @@ impl<'a> Lookup<'a> {
     pub(crate) fn place_from(&self, id: &Chars, likely: usize) -> Option<usize>
         ensures { Finds self.now id.now result }
     {
-        if likely < self.jobs.len() && self.jobs[likely].id.same(id) {
+        if likely < self.jobs.len() && self.jobs[likely].id().same(id) {
             return Some(likely);
         }
         self.places.get(id.as_str()).copied()
@@ -61,13 +61,13 @@ impl<'a> Lookup<'a> {
 
 fn places_by_id<'a>(
     alloc: Global,
-    jobs: &'a [JobNeeds],
+    jobs: &'a [JobNeeds<'a>],
 ) -> Result<HashMap<&'a str, usize>, AllocError>
     ensures { IfOk result (λ places. (id : List ℕ) → Finds jobs.now id (get_by (λ k. bytes_eq id k.now) places)) }
 {
     let mut places = HashMap::new(alloc);
     for (place, job) in jobs.iter().enumerate() {
-        places.insert(job.id.as_str(), place)?;
+        places.insert(job.id().as_str(), place)?;
     }
     Ok(places)
 }

@@ -1,17 +1,18 @@
 ghost use Rattle.std.specs.Prelude.{◌≡◌, ◌<◌, ◌≤◌, ℕ, Ok, IfOk, List, Bool, true, false, length, replicate, slice_set};
 ghost use Rattle.wf_value.specs.Gives.{Gives};
+ghost use Rattle.needs_graph.specs.JobSets.{is_in};
 ghost use Rattle.needs_graph.specs.Marks.{is_marked, marked, either, through};
 
-use crate::places::Places;
+use crate::job_set::JobSet;
 use std::alloc::{AllocError, Global};
 use std::marker::Model;
-use wf_value::Refusal;
+use wf_value::{Refusal, Sequence};
 
 /// How many marks the processor adds at once.
 const STEP: usize = 32;
 
 /// A set of jobs: for each job, in order, whether it is in the set.
-#[derive(Debug, Drop)]
+#[derive(Drop)]
 pub(crate) struct Marks {
     marks: Vec<bool>,
 }
@@ -29,14 +30,6 @@ impl Marks {
     {
         Ok(Marks {
             marks: vec![in alloc; false; jobs]?,
-        })
-    }
-
-    pub(crate) fn copy(&self, alloc: Global) -> Result<Self, Refusal>
-        ensures { Gives (λ m. m) result (Ok self.now) }
-    {
-        Ok(Marks {
-            marks: Vec::from_slice(alloc, self.marks.as_slice())?,
         })
     }
 
@@ -79,11 +72,21 @@ impl Marks {
         }
     }
 
+    /// The set as bits.
+    pub(crate) fn set(&self, alloc: Global) -> Result<JobSet, AllocError>
+        ensures { IfOk result (λ s. (job : ℕ) → is_in s job ≡ is_marked self.now job) }
+    {
+        JobSet::of(alloc, self.marks.as_slice())
+    }
+
     /// The jobs of the set, in order.
-    pub(crate) fn places(&self, alloc: Global) -> Result<Places, Refusal>
+    pub(crate) fn places(&self, alloc: Global) -> Result<Sequence<usize>, Refusal>
         ensures { Gives (λ p. p) result (Ok (marked self.now)) }
     {
-        Ok(Places::new(marked_places(alloc, self.marks.as_slice())?))
+        Ok(Sequence::new(marked_places(
+            alloc,
+            self.marks.as_slice(),
+        )?))
     }
 }
 

@@ -1,69 +1,64 @@
-ghost use Rattle.std.specs.Prelude.{◌≡◌};
+ghost use Rattle.std.specs.Prelude.{◌≡◌, filter_map};
+ghost use Rattle.std.specs.List.{list_any};
+ghost use Rattle.needs_graph.specs.Results.{conclusion_of, fails_job, gathered, job_cancelled, job_failed, was_cancelled};
 
+use crate::ended::{HasEnd, HasResult};
 use wf_value::{JobResult, Outcome};
 
-/// How a leg of a job ended.
-#[derive(Clone, Copy, Debug, PartialEq, Eq)]
-pub struct LegEnd {
-    pub outcome: Outcome,
-    /// Whether a failure of the leg is to be passed over. GitHub Docs, "Workflow syntax for GitHub
-    /// Actions", `jobs.<job_id>.continue-on-error`.
-    pub continue_on_error: bool,
-}
-
-impl LegEnd {
-    ghost use Rattle.needs_graph.specs.Results.{fails_job, was_cancelled};
-
-    fn fails_job(self) -> bool
-        ensures { result ≡ fails_job self }
-    {
-        self.outcome == Outcome::Failure && !self.continue_on_error
-    }
-
-    fn was_cancelled(self) -> bool
-        ensures { result ≡ was_cancelled self }
-    {
-        self.outcome == Outcome::Cancelled
-    }
-}
-
-ghost use Rattle.std.specs.List.{list_any};
-ghost use Rattle.needs_graph.specs.Results.{fails_job, was_cancelled, gathered, conclusion_of};
-
-fn any_fails_job(legs: &[LegEnd]) -> bool
-    ensures { result ≡ list_any fails_job legs.now }
+fn any_leg_fails_job<L: HasEnd>(legs: &[L]) -> bool
+    ensures { result ≡ list_any fails_job (filter_map L.leg_end legs.now) }
 {
-    legs.iter().any(|leg| leg.fails_job())
+    legs.iter()
+        .filter_map(|leg| leg.leg_end())
+        .any(|end| end.fails_job())
 }
 
-fn any_was_cancelled(legs: &[LegEnd]) -> bool
-    ensures { result ≡ list_any was_cancelled legs.now }
+fn any_leg_was_cancelled<L: HasEnd>(legs: &[L]) -> bool
+    ensures { result ≡ list_any was_cancelled (filter_map L.leg_end legs.now) }
 {
-    legs.iter().any(|leg| leg.was_cancelled())
+    legs.iter()
+        .filter_map(|leg| leg.leg_end())
+        .any(|end| end.was_cancelled())
 }
 
-/// The result of a job from the ends of its legs: a failure where a leg failed without
-/// continue-on-error, else cancelled where a leg was, else a success.
-pub fn gather(legs: &[LegEnd]) -> JobResult
-    ensures { result ≡ gathered legs.now }
+/// The result of a job from the ends of its legs, as far as they have ended: a failure where a leg
+/// failed without continue-on-error, else cancelled where a leg was, else a success.
+pub fn gather<L: HasEnd>(legs: &[L]) -> JobResult
+    ensures { result ≡ gathered (filter_map L.leg_end legs.now) }
 {
-    if any_fails_job(legs) {
+    if any_leg_fails_job(legs) {
         JobResult::Failure
-    } else if any_was_cancelled(legs) {
+    } else if any_leg_was_cancelled(legs) {
         JobResult::Cancelled
     } else {
         JobResult::Success
     }
 }
 
-/// The conclusion of a run from the results of its jobs: a failure where a job failed, else
-/// cancelled where one was, else a success. A skipped job counts as a success.
-pub fn conclude(results: &[JobResult]) -> Outcome
-    ensures { result ≡ conclusion_of results.now }
+fn any_job_failed<J: HasResult>(jobs: &[J]) -> bool
+    ensures { result ≡ list_any job_failed (filter_map J.job_result jobs.now) }
 {
-    if results.contains(&JobResult::Failure) {
+    jobs.iter()
+        .filter_map(|job| job.job_result())
+        .any(|r| r == JobResult::Failure)
+}
+
+fn any_job_was_cancelled<J: HasResult>(jobs: &[J]) -> bool
+    ensures { result ≡ list_any job_cancelled (filter_map J.job_result jobs.now) }
+{
+    jobs.iter()
+        .filter_map(|job| job.job_result())
+        .any(|r| r == JobResult::Cancelled)
+}
+
+/// The conclusion of a run from the results of its jobs, as far as they have one: a failure where
+/// a job failed, else cancelled where one was, else a success. A skipped job counts as a success.
+pub fn conclude<J: HasResult>(jobs: &[J]) -> Outcome
+    ensures { result ≡ conclusion_of (filter_map J.job_result jobs.now) }
+{
+    if any_job_failed(jobs) {
         Outcome::Failure
-    } else if results.contains(&JobResult::Cancelled) {
+    } else if any_job_was_cancelled(jobs) {
         Outcome::Cancelled
     } else {
         Outcome::Success

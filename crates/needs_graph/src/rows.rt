@@ -1,15 +1,15 @@
-ghost use Rattle.std.specs.Prelude.{◌≡◌, IsTrue, Ok, map, length};
+ghost use Rattle.std.specs.Prelude.{◌≡◌, IfOk, IsTrue, Ok, map, length};
 ghost use Rattle.wf_value.specs.Gives.{Gives};
-ghost use Rattle.needs_graph.specs.Marks.{marked, through, closed};
+ghost use Rattle.needs_graph.specs.Marks.{is_marked, marked, places, through, closed};
 ghost use Rattle.needs_graph.specs.Needs.{ids_rise};
-ghost use Rattle.needs_graph.specs.Rows.{needs_row_of, needs_rows_of};
+ghost use Rattle.needs_graph.specs.Rows.{needs_row_of, needs_rows_of, dependents_by, IsSets};
 
 use crate::job_needs::JobNeeds;
+use crate::job_set::JobSet;
 use crate::lookup::Lookup;
 use crate::marks::Marks;
-use crate::places::Places;
-use std::alloc::Global;
-use wf_value::{Chars, Code, Refusal};
+use std::alloc::{AllocError, Global};
+use wf_value::{Chars, Code, Refusal, Sequence};
 
 /// The jobs of those ids, or 13 where one is no job's.
 fn needs_row(alloc: Global, jobs: &Lookup<'_>, ids: &[Chars]) -> Result<Marks, Refusal>
@@ -31,26 +31,16 @@ fn needs_row(alloc: Global, jobs: &Lookup<'_>, ids: &[Chars]) -> Result<Marks, R
 }
 
 /// For each job the jobs that it lists.
-pub(crate) fn needs_rows(alloc: Global, jobs: &[JobNeeds]) -> Result<Vec<Marks>, Refusal>
+pub(crate) fn needs_rows(alloc: Global, jobs: &[JobNeeds<'_>]) -> Result<Vec<Marks>, Refusal>
     requires { IsTrue (ids_rise jobs.now) }
     ensures { Gives (λ v. v.items) result (needs_rows_of jobs.now) }
 {
     let lookup = Lookup::new(alloc, jobs)?;
     let mut rows = Vec::new(alloc);
     for job in jobs {
-        rows.push(needs_row(alloc, &lookup, job.needs.as_slice())?)?;
+        rows.push(needs_row(alloc, &lookup, job.needs())?)?;
     }
     Ok(rows)
-}
-
-fn copied(alloc: Global, rows: &[Marks]) -> Result<Vec<Marks>, Refusal>
-    ensures { Gives (λ v. v.items) result (Ok rows.now) }
-{
-    let mut copies = Vec::new(alloc);
-    for row in rows {
-        copies.push(row.copy(alloc)?)?;
-    }
-    Ok(copies)
 }
 
 fn lead_all_through(rows: &mut [Marks], job: usize, others: &Marks)
@@ -61,12 +51,12 @@ fn lead_all_through(rows: &mut [Marks], job: usize, others: &Marks)
     }
 }
 
-/// For each job the jobs that it reaches by any number of needs.
-pub(crate) fn closed_rows(alloc: Global, rows: &[Marks]) -> Result<Vec<Marks>, Refusal>
-    ensures { Gives (λ v. v.items) result (Ok (closed (length rows.now) rows.now)) }
+/// For each job the jobs that it reaches by any number of needs, from the jobs that it lists.
+pub(crate) fn closed_rows(alloc: Global, rows: Vec<Marks>) -> Result<Vec<Marks>, AllocError>
+    ensures { IfOk result (λ v. v.items ≡ closed (length rows.items) rows.items) }
 {
-    let mut reached = copied(alloc, rows)?;
-    for job in 0..rows.len() {
+    let mut reached = rows;
+    for job in 0..reached.len() {
         let others = reached[job].trimmed(alloc)?;
         lead_all_through(reached.as_mut_slice(), job, &others);
     }
@@ -74,12 +64,51 @@ pub(crate) fn closed_rows(alloc: Global, rows: &[Marks]) -> Result<Vec<Marks>, R
 }
 
 /// The jobs of each row, in order.
-pub(crate) fn all_places(alloc: Global, rows: &[Marks]) -> Result<Vec<Places>, Refusal>
-    ensures { Gives (λ v. v.items) result (Ok (map marked rows.now)) }
+pub(crate) fn all_places(
+    alloc: Global,
+    rows: &[Marks],
+) -> Result<Sequence<Sequence<usize>>, Refusal>
+    ensures { Gives (λ p. p) result (Ok (map marked rows.now)) }
 {
     let mut places = Vec::new(alloc);
     for row in rows {
         places.push(row.places(alloc)?)?;
     }
-    Ok(places)
+    Ok(Sequence::new(places))
+}
+
+/// The jobs whose rows have the job, in order.
+fn dependents_on(alloc: Global, rows: &[Marks], job: usize) -> Result<Vec<usize>, AllocError>
+    ensures { IfOk result (λ v. v.items ≡ places (λ row. is_marked row job) rows.now) }
+{
+    rows.iter()
+        .enumerate()
+        .filter(|(_, row)| row.contains(job))
+        .map(|(place, _)| place)
+        .collect(alloc)
+}
+
+/// For each job the jobs whose rows have it, in order.
+pub(crate) fn all_dependents(
+    alloc: Global,
+    rows: &[Marks],
+) -> Result<Sequence<Sequence<usize>>, Refusal>
+    ensures { Gives (λ d. d) result (Ok (dependents_by rows.now)) }
+{
+    let mut dependents = Vec::new(alloc);
+    for job in 0..rows.len() {
+        dependents.push(Sequence::new(dependents_on(alloc, rows, job)?))?;
+    }
+    Ok(Sequence::new(dependents))
+}
+
+/// The jobs of each row, as a set.
+pub(crate) fn all_sets(alloc: Global, rows: &[Marks]) -> Result<Sequence<JobSet>, AllocError>
+    ensures { IfOk result (λ sets. IsSets sets rows.now) }
+{
+    let mut sets = Vec::new(alloc);
+    for row in rows {
+        sets.push(row.set(alloc)?)?;
+    }
+    Ok(Sequence::new(sets))
 }

@@ -13,7 +13,7 @@ loop-place-preserved c =
     elim c.if-contains.branch [
       | then-contains+in_ok-copy+in_ok-push w ↦
           let e = more_own jobs rows place c.index-jobs-place.result c.index-reached-place.result in_jobs in_rows c.index-jobs-place.is c.index-reached-place.is (cc) in
-          cc (w.in_ok-push.ensures.items, w.in_ok-copy.ensures, c.loop-place.invariant)
+          cc (w.in_ok-push.ensures.items, w.in_ok-copy.ensures.gives, c.loop-place.invariant)
       | else-contains w ↦
           let e = more_other jobs rows place c.index-jobs-place.result c.index-reached-place.result in_jobs in_rows c.index-jobs-place.is c.index-reached-place.is (cc) in
           cc (c.loop-place.invariant)

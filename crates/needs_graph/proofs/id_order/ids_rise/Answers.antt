@@ -1,8 +1,10 @@
-use Rattle.std.proofs.Common.{◌∙◌, sym, arith}
-use Rattle.needs_graph.proofs.RiseSteps.{rise_end}
+use Rattle.std.proofs.Common.{rules}
+use Rattle.std.proofs.lemmas.Fn.{always_returns_same}
+use Rattle.wf_value.proofs.Rising.{below, rise_told}
+use Rattle.needs_graph.specs.JobNeeds.{JobNeeds}
 use Rattle.needs_graph.proofs.id_order.ids_rise.Goals as goal
 
 pub returns : goal.returns
 returns c =
-    let inv = c.loop-i.invariant in
-    sym (rise_end c.args.jobs.now c.loop-i.i (omega arith) inv.1) ∙ inv.0
+    let id = λ (job : JobNeeds). job.id in
+    rise_told id c.args.jobs.now c.is_sorted_by.result (c.is_sorted_by.ensures.cases (below id) (always_returns_same _ _ _ (λ a r g called. search rules)))

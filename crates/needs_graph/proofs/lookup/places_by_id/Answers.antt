@@ -1,4 +1,4 @@
-use Rattle.std.proofs.Common.{ℕ, List, Option, Some, cond, take, sym, subst, ◌+◌, arith}
+use Rattle.std.proofs.Common.{ℕ, List, Option, Some, cond, take, sym, subst, ◌+◌, ◌∙◌, arith}
 use Rattle.std.specs.Str.{bytes_eq}
 use Rattle.std.specs.HashMap.{get_by}
 use Rattle.std.proofs.lemmas.Map.Text.{hash_map_updates_str}
@@ -16,4 +16,4 @@ loop-place-preserved c = λ id.
     let more = finds_more jobs place job id before (omega arith) c.index-jobs-place.is (c.loop-place.invariant id) in
     let Q : Option ℕ → Type 0 = λ found. Finds (take (place + 1) jobs) id found in
     let updated = hash_map_updates_str c.as_str.result.now c.loop-place.places c.insert.new.self (Some place) c.in_ok-insert.ensures.updates id in
-    subst Q (sym updated) (subst P (sym c.as_str.ensures) more)
+    subst Q (sym updated) (subst P (sym (c.as_str.ensures ∙ c.id.ensures)) more)

@@ -3,4 +3,4 @@ use Rattle.needs_graph.specs.Marks.{closed}
 use Rattle.needs_graph.proofs.rows.closed_rows.Given as goal
 
 abbrev pub invariant-loop-job : goal.invariant-loop-job
-invariant-loop-job l = l.reached.items ≡ closed l.job l.rows
+invariant-loop-job l = l.reached.items ≡ closed l.job l.initial.reached.items

@@ -1,4 +1,4 @@
-use Rattle.std.proofs.Common.{◌∙◌, ◌<◌, length, ap, refl, set, true, arith}
+use Rattle.std.proofs.Common.{◌∙◌, ◌<◌, length, ap, refl, set, true, inr, arith}
 use Rattle.needs_graph.proofs.RowSteps.{row_none, row_more, known_more, unknown_at}
 use Rattle.needs_graph.proofs.rows.needs_row.Goals as goal
 
@@ -6,7 +6,7 @@ pub loop-id-init : goal.loop-id-init
 loop-id-init c = (let none = row_none c.args.jobs.now in cc (c.in_ok-row.ensures), refl)
 
 pub returns-in-None : goal.returns-in-None
-returns-in-None c = λ some. unknown_at c.args.jobs.now c.args.ids.now c.loop-id.id-index c.id-item.result (omega arith) c.id-item.is c.in-None.ensures
+returns-in-None c = inr (unknown_at c.args.jobs.now c.args.ids.now c.loop-id.id-index c.id-item.result (omega arith) c.id-item.is c.in-None.ensures)
 
 pub loop-id-preserved : goal.loop-id-preserved
 loop-id-preserved c =
