@@ -1,4 +1,7 @@
 //! The rows of the product, read and written through `run_script`.
+
+mod command_line;
+
 use acts_cli::{MOST_BYTES, run_script};
 use std::alloc::Global;
 use std::io;
@@ -6,10 +9,10 @@ use std::io::{ErrorKind, Read, Write};
 use std::test::Fail;
 use wf_value::Refusal;
 
-const FIRST: &str =
+pub const FIRST: &str =
     "admit d1 push {\"repo\":\"o/r\",\"path\":\"ci.json\",\"workflow\":{\"jobs\":{\"build\":{\"runs-on\":\"linux\"}}}}\nclaim r1 1 linux\ndone r1 2 1 success\nlook 1\n";
 
-const FIRST_ANSWERS: &str =
+pub const FIRST_ANSWERS: &str =
     "created 1\nlease 1 1 build 0 {}\nok\nrun 1 1 completed success build:success(success)\n";
 
 const SECOND: &str =
@@ -201,5 +204,33 @@ fn fails_with_its_writer(rt: HostRuntime) -> Result<(), Fail> {
             "at {left}"
         );
     }
+    Ok(())
+}
+
+/// A writer that holds bytes back, as a buffer before a full disk, and fails once it is flushed.
+#[derive(Drop)]
+struct FailingFlush {
+    bytes: Vec<u8>,
+}
+
+impl Write for FailingFlush {
+    fn write(&mut self, bytes: &[u8]) -> io::Result<usize> {
+        self.bytes.write(bytes)
+    }
+
+    fn flush(&mut self) -> io::Result<()> {
+        Err(io::Error::from(ErrorKind::StorageFull))
+    }
+}
+
+#[test]
+fn fails_with_the_flush_of_its_writer(rt: HostRuntime) -> Result<(), Fail> {
+    let mut reader = FIRST.as_bytes();
+    let mut writer = FailingFlush {
+        bytes: Vec::new(rt.alloc()),
+    };
+    let ended = run_script(rt.alloc(), &mut reader, &mut writer);
+    assert_eq!(rt; number_of(&ended), 61);
+    assert!(rt; writer.bytes.as_slice() == FIRST_ANSWERS.as_bytes());
     Ok(())
 }

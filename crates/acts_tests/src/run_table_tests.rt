@@ -9,7 +9,7 @@ use run_table::Table;
 use std::alloc::Global;
 use std::process::Abort;
 use std::test::Fail;
-use wf_value::Outcome;
+use wf_value::{Chars, Outcome};
 
 /// The body of an event of one job, `build`.
 pub const BUILD: &str =
@@ -19,22 +19,31 @@ pub const BUILD: &str =
 pub const BUILD_ELSEWHERE: &str =
     "{\"repo\":\"o/r\",\"path\":\"cd.json\",\"workflow\":{\"jobs\":{\"build\":{\"runs-on\":\"linux\"}}}}";
 
-pub fn admit(alloc: Global, delivery: &str, body: &str) -> Result<Command, Fail> {
+/// A command in words: the delivery and the body of an event, or what a runner sends, or a run.
+#[derive(Clone, Copy, Drop)]
+pub enum Words<'a> {
+    Admit(&'a str, &'a str),
+    Claim(&'a str, &'a str, &'a str),
+    Done(&'a str, &'a str, &'a str, Outcome),
+    Look(&'a str),
+}
+
+fn admit(alloc: Global, delivery: &str, body: &str) -> Result<Command, Fail> {
     let event = EventName::of(alloc, b"push")?.ok_or("an event name")?;
     let delivery = DeliveryId::of(alloc, delivery.as_bytes())?.ok_or("a delivery id")?;
     let body = body.as_bytes().to_vec(alloc)?;
     Ok(Command::Admit(prepare(alloc, event, delivery, body)?))
 }
 
-pub fn claim(alloc: Global, runner: &str, number: &str, labels: &str) -> Result<Command, Fail> {
+fn claim(alloc: Global, runner: &str, number: &str, labels: &str) -> Result<Command, Fail> {
     Ok(Command::Claim(Claim {
         runner: RunnerName::of(alloc, runner.as_bytes())?.ok_or("a runner name")?,
-        number: Number::of(number.as_bytes()).ok_or("a number")?,
+        number: number_of(number)?,
         labels: Labels::of(alloc, labels.as_bytes())?.ok_or("labels")?,
     }))
 }
 
-pub fn done(
+fn done(
     alloc: Global,
     runner: &str,
     number: &str,
@@ -43,22 +52,43 @@ pub fn done(
 ) -> Result<Command, Fail> {
     Ok(Command::Done(Done {
         runner: RunnerName::of(alloc, runner.as_bytes())?.ok_or("a runner name")?,
-        number: Number::of(number.as_bytes()).ok_or("a number")?,
-        lease: Number::of(lease.as_bytes()).ok_or("a lease")?,
+        number: number_of(number)?,
+        lease: number_of(lease)?,
         result: outcome,
     }))
 }
 
-/// Carries out a command, and compares the printed reply.
-pub fn expect(
+fn number_of(text: &str) -> Result<Number, Fail> {
+    Ok(Number::of(text.as_bytes()).ok_or("a number")?)
+}
+
+fn command_of(alloc: Global, words: Words<'_>) -> Result<Command, Fail> {
+    match words {
+        Words::Admit(delivery, body) => admit(alloc, delivery, body),
+        Words::Claim(runner, number, labels) => claim(alloc, runner, number, labels),
+        Words::Done(runner, number, lease, outcome) => done(alloc, runner, number, lease, outcome),
+        Words::Look(run) => Ok(Command::Look(number_of(run)?)),
+    }
+}
+
+/// Carries out a command, and prints the reply.
+fn reply_text(alloc: Global, table: &mut Table, words: Words<'_>) -> Result<Chars, Fail> {
+    let command = command_of(alloc, words)?;
+    let reply = table.step(alloc, &command)?;
+    Ok(reply.text(alloc)?)
+}
+
+/// Carries out commands in turn, and compares each printed reply.
+pub fn play(
     rt: &impl Abort,
     alloc: Global,
     table: &mut Table,
-    command: &Command,
-    want: &str,
+    rows: &[(Words<'_>, &str)],
 ) -> Result<(), Fail> {
-    let reply = table.step(alloc, command)?;
-    assert_eq!(rt; reply.text(alloc)?.as_str(), want);
+    for (words, want) in rows {
+        let text = reply_text(alloc, table, *words)?;
+        assert_eq!(rt; text.as_str(), *want);
+    }
     Ok(())
 }
 
@@ -70,8 +100,7 @@ pub fn expect_view(
     id: &str,
     want: &str,
 ) -> Result<(), Fail> {
-    let id = Number::of(id.as_bytes()).ok_or("a number")?;
-    let view = table.look(id).ok_or("a run")?;
+    let view = table.look(number_of(id)?).ok_or("a run")?;
     assert_eq!(rt; view.text(alloc)?.as_str(), want);
     Ok(())
 }

@@ -59,13 +59,24 @@ pub fn done(
     })
 }
 
+/// That a command is the same as the one at its place, and as no other.
+fn is_the_command_at(
+    rt: &impl Abort,
+    alloc: Global,
+    copy: &Command,
+    place: usize,
+) -> Result<(), Refusal> {
+    for other in 0..COMMANDS {
+        let is_same = copy.same(&command(alloc, other)?);
+        assert_eq!(rt; is_same, other == place, "{place} {other}");
+    }
+    Ok(())
+}
+
 fn tells_commands_apart(rt: &impl Abort, alloc: Global) -> Result<(), Refusal> {
     for i in 0..COMMANDS {
         let copy = command(alloc, i)?.copy(alloc)?;
-        for j in 0..COMMANDS {
-            let other = command(alloc, j)?;
-            assert_eq!(rt; copy.same(&other), i == j, "{i} {j}");
-        }
+        is_the_command_at(rt, alloc, &copy, i)?;
     }
     Ok(())
 }

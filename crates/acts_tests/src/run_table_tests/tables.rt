@@ -1,4 +1,4 @@
-use crate::run_table_tests::{BUILD, BUILD_ELSEWHERE, admit, claim, done, expect, expect_view};
+use crate::run_table_tests::{BUILD, BUILD_ELSEWHERE, Words, expect_view, play};
 use run_plan::Number;
 use run_table::Table;
 use std::alloc::Global;
@@ -8,34 +8,16 @@ use wf_value::Outcome;
 
 /// Runs of two workflows, the third the second of its own, each of whose legs a runner has.
 fn leased_table(rt: &impl Abort, alloc: Global) -> Result<Table, Fail> {
-    let mut table = Table::new(alloc);
     let rows = [
-        ("d1", BUILD, "created 1", "r1", "lease 1 1 build 0 {}"),
-        (
-            "d2",
-            BUILD_ELSEWHERE,
-            "created 2",
-            "r2",
-            "lease 2 2 build 0 {}",
-        ),
-        ("d3", BUILD, "created 3", "r3", "lease 3 3 build 0 {}"),
+        (Words::Admit("d1", BUILD), "created 1"),
+        (Words::Claim("r1", "1", "linux"), "lease 1 1 build 0 {}"),
+        (Words::Admit("d2", BUILD_ELSEWHERE), "created 2"),
+        (Words::Claim("r2", "1", "linux"), "lease 2 2 build 0 {}"),
+        (Words::Admit("d3", BUILD), "created 3"),
+        (Words::Claim("r3", "1", "linux"), "lease 3 3 build 0 {}"),
     ];
-    for (delivery, body, created, runner, leased) in rows {
-        expect(
-            rt,
-            alloc,
-            &mut table,
-            &admit(alloc, delivery, body)?,
-            created,
-        )?;
-        expect(
-            rt,
-            alloc,
-            &mut table,
-            &claim(alloc, runner, "1", "linux")?,
-            leased,
-        )?;
-    }
+    let mut table = Table::new(alloc);
+    play(rt, alloc, &mut table, &rows)?;
     Ok(table)
 }
 
@@ -58,34 +40,26 @@ fn numbers_runs_by_workflow(rt: HostRuntime) -> Result<(), Fail> {
     expect_runs(&rt, rt.alloc(), &leased_table(&rt, rt.alloc())?)
 }
 
-/// Runs, the runner's number, its last command with the reply, the lease that it holds, and the last
+/// Runs, a runner's number, its last command with the reply, the lease that it holds, and the last
 /// lease of all.
 #[test]
 fn copies_a_table(rt: HostRuntime) -> Result<(), Fail> {
-    let alloc = rt.alloc();
-    let table = leased_table(&rt, alloc)?;
-    let mut copy = table.copy(alloc)?;
-    expect_runs(&rt, alloc, &copy)?;
-    let kept = claim(alloc, "r1", "1", "linux")?;
-    expect(&rt, alloc, &mut copy, &kept, "lease 1 1 build 0 {}")?;
-    let other = claim(alloc, "r1", "1", "gpu")?;
-    expect(&rt, alloc, &mut copy, &other, "refused 43 1")?;
-    let next = claim(alloc, "r1", "2", "linux")?;
-    expect(&rt, alloc, &mut copy, &next, "refused 42")?;
-    let not_held = done(alloc, "r1", "2", "2", Outcome::Success)?;
-    expect(&rt, alloc, &mut copy, &not_held, "refused 44")?;
-    expect(
-        &rt,
-        alloc,
-        &mut copy,
-        &admit(alloc, "d4", BUILD)?,
-        "created 4",
-    )?;
-    let last = claim(alloc, "r4", "1", "linux")?;
-    expect(&rt, alloc, &mut copy, &last, "lease 4 4 build 0 {}")?;
-    let held = done(alloc, "r1", "2", "1", Outcome::Failure)?;
-    expect(&rt, alloc, &mut copy, &held, "ok")?;
-    let want = "run 1 1 completed failure build:failure(failure)";
-    expect_view(&rt, alloc, &copy, "1", want)?;
-    expect_runs(&rt, alloc, &table)
+    let rows = [
+        (Words::Claim("r1", "1", "linux"), "lease 1 1 build 0 {}"),
+        (Words::Claim("r1", "1", "gpu"), "refused 43 1"),
+        (Words::Claim("r1", "2", "linux"), "refused 42"),
+        (Words::Done("r1", "2", "2", Outcome::Success), "refused 44"),
+        (Words::Admit("d4", BUILD), "created 4"),
+        (Words::Claim("r4", "1", "linux"), "lease 4 4 build 0 {}"),
+        (Words::Done("r1", "2", "1", Outcome::Failure), "ok"),
+        (
+            Words::Look("1"),
+            "run 1 1 completed failure build:failure(failure)",
+        ),
+    ];
+    let table = leased_table(&rt, rt.alloc())?;
+    let mut copy = table.copy(rt.alloc())?;
+    expect_runs(&rt, rt.alloc(), &copy)?;
+    play(&rt, rt.alloc(), &mut copy, &rows)?;
+    expect_runs(&rt, rt.alloc(), &table)
 }

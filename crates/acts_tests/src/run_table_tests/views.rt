@@ -1,4 +1,4 @@
-use crate::run_table_tests::{BUILD, BUILD_ELSEWHERE, admit, claim, done, expect, expect_view};
+use crate::run_table_tests::{BUILD, BUILD_ELSEWHERE, Words, play};
 use run_table::Table;
 use std::alloc::Global;
 use std::process::Abort;
@@ -13,63 +13,57 @@ const BUILD_ON_GPU: &str =
 const THREE: &str =
     "{\"repo\":\"o/r\",\"path\":\"ci.json\",\"workflow\":{\"jobs\":{\"c\":{\"runs-on\":\"x\"},\"a\":{\"runs-on\":\"x\"},\"b\":{\"runs-on\":\"x\"}}}}";
 
-/// Twelve runs, the last the third of its workflow, and the one whose leg needs `gpu`.
-fn twelve_runs(rt: &impl Abort, alloc: Global) -> Result<Table, Fail> {
-    let mut table = Table::new(alloc);
-    for run in 1..13_u32 {
-        let delivery = format!(in alloc; "d{run}")?;
-        let body = match run {
-            1 | 2 => BUILD,
-            12 => BUILD_ON_GPU,
-            _ => BUILD_ELSEWHERE,
-        };
-        let created = format!(in alloc; "created {run}")?;
-        let command = admit(alloc, delivery.as_str(), body)?;
-        expect(rt, alloc, &mut table, &command, created.as_str())?;
-    }
-    Ok(table)
+/// Admits a run with a delivery of its own.
+fn admit(rt: &impl Abort, alloc: Global, table: &mut Table, run: u32) -> Result<(), Fail> {
+    let delivery = format!(in alloc; "d{run}")?;
+    let created = format!(in alloc; "created {run}")?;
+    let body = match run {
+        1 | 2 => BUILD,
+        12 => BUILD_ON_GPU,
+        _ => BUILD_ELSEWHERE,
+    };
+    let rows = [(Words::Admit(delivery.as_str(), body), created.as_str())];
+    play(rt, alloc, table, &rows)
 }
 
+/// Twelve runs, of which the last is the third of its workflow, and alone needs `gpu`.
 #[test]
 fn prints_a_run_as_it_goes_on(rt: HostRuntime) -> Result<(), Fail> {
-    let alloc = rt.alloc();
-    let mut table = twelve_runs(&rt, alloc)?;
-    let want = "run 12 3 queued - build:open(ready)";
-    expect_view(&rt, alloc, &table, "12", want)?;
-    let claim = claim(alloc, "r1", "1", "gpu")?;
-    expect(&rt, alloc, &mut table, &claim, "lease 1 12 build 0 {}")?;
-    let want = "run 12 3 in_progress - build:open(running)";
-    expect_view(&rt, alloc, &table, "12", want)?;
-    let done = done(alloc, "r1", "2", "1", Outcome::Success)?;
-    expect(&rt, alloc, &mut table, &done, "ok")?;
-    let want = "run 12 3 completed success build:success(success)";
-    expect_view(&rt, alloc, &table, "12", want)?;
-    Ok(())
+    let rows = [
+        (Words::Look("12"), "run 12 3 queued - build:open(ready)"),
+        (Words::Claim("r1", "1", "gpu"), "lease 1 12 build 0 {}"),
+        (
+            Words::Look("12"),
+            "run 12 3 in_progress - build:open(running)",
+        ),
+        (Words::Done("r1", "2", "1", Outcome::Success), "ok"),
+        (
+            Words::Look("12"),
+            "run 12 3 completed success build:success(success)",
+        ),
+    ];
+    let mut table = Table::new(rt.alloc());
+    for run in 1..13 {
+        admit(&rt, rt.alloc(), &mut table, run)?;
+    }
+    play(&rt, rt.alloc(), &mut table, &rows)
 }
 
 #[test]
 fn prints_jobs_in_order_of_their_ids(rt: HostRuntime) -> Result<(), Fail> {
-    let alloc = rt.alloc();
-    let mut table = Table::new(alloc);
-    expect(
-        &rt,
-        alloc,
-        &mut table,
-        &admit(alloc, "d1", THREE)?,
-        "created 1",
-    )?;
     let rows = [
-        ("1", "lease 1 1 a 0 {}", "2", "1", Outcome::Failure),
-        ("3", "lease 2 1 b 0 {}", "4", "2", Outcome::Success),
-        ("5", "lease 3 1 c 0 {}", "6", "3", Outcome::Cancelled),
+        (Words::Admit("d1", THREE), "created 1"),
+        (Words::Claim("r1", "1", "x"), "lease 1 1 a 0 {}"),
+        (Words::Done("r1", "2", "1", Outcome::Failure), "ok"),
+        (Words::Claim("r1", "3", "x"), "lease 2 1 b 0 {}"),
+        (Words::Done("r1", "4", "2", Outcome::Success), "ok"),
+        (Words::Claim("r1", "5", "x"), "lease 3 1 c 0 {}"),
+        (Words::Done("r1", "6", "3", Outcome::Cancelled), "ok"),
+        (
+            Words::Look("1"),
+            "run 1 1 completed failure a:failure(failure) b:success(success) c:cancelled(cancelled)",
+        ),
     ];
-    for (asked, leased, ended, lease, outcome) in rows {
-        let claim = claim(alloc, "r1", asked, "x")?;
-        expect(&rt, alloc, &mut table, &claim, leased)?;
-        let done = done(alloc, "r1", ended, lease, outcome)?;
-        expect(&rt, alloc, &mut table, &done, "ok")?;
-    }
-    let want =
-        "run 1 1 completed failure a:failure(failure) b:success(success) c:cancelled(cancelled)";
-    expect_view(&rt, alloc, &table, "1", want)
+    let mut table = Table::new(rt.alloc());
+    play(&rt, rt.alloc(), &mut table, &rows)
 }
