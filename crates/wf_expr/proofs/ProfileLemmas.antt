@@ -1,12 +1,10 @@
 -- The tests of a profile and what they tell.
-use Rattle.std.proofs.Common.{◌≡◌, ◌⊎◌, ◌≤◌, ℕ, Bool, true, false, List, [], ◌∷◌, refl, ap, sym, ◌∙◌, inl, inr, leb-true, le-leb}
-use Rattle.std.specs.Prelude.{◌&&◌, ◌||◌, codes, All, sum_by}
-use Rattle.std.specs.List.{list_all, AllByRecursion}
-use Rattle.std.specs.Str.{bytes_eq}
+use Rattle.std.proofs.Common.{◌≡◌, ◌≤◌, ℕ, Bool, true, false, List, [], ◌∷◌, refl, ap, leb-true, le-leb}
+use Rattle.std.specs.Prelude.{codes, All, sum_by}
+use Rattle.std.specs.List.{list_all}
 use Rattle.std.specs.Bool.{Decides}
 use Rattle.std.proofs.lemmas.Bool.Decides.{Decides-and, Decides-or, Decides-by_and}
 use Rattle.std.proofs.lemmas.Slice.Eq.{bytes_eq-Decides}
-use Rattle.std.proofs.lemmas.List.Elements.{recursion_from_All, All-from_recursion}
 use Rattle.wf_expr.specs.Profile.{IsShared, IsInContext, InProfile, IsAllowed, OfReference, OfReferences, IsInProfile, AllowedIn, reference_count}
 use Rattle.wf_expr.specs.Parsing.{is_result, is_shared, is_in_context, is_path, is_allowed, of_reference, of_references, is_in_profile, is_allowed_in}
 use Rattle.wf_expr.specs.declared.place.Place.{Place}

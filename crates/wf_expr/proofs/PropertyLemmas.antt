@@ -13,7 +13,7 @@ use Rattle.std.specs.Ordering.{nat_cmp, is_eq}
 use Rattle.std.specs.String.{string_bytes, string_cmp}
 use Rattle.std.proofs.lemmas.Map.Text.{btree_map_updates_text}
 use Rattle.wf_value.specs.declared.scalar.Scalar.{Scalar}
-use Rattle.wf_expr.specs.Properties.{value_at, AreSame, DifferAt, BeginsWith, DifferBehind}
+use Rattle.wf_expr.specs.Properties.{value_at, AreSame, DifferAt, DifferBehind}
 use Rattle.wf_expr.specs.declared.properties.Properties.{Properties}
 use Rattle.wf_expr.specs.declared.properties.Properties.TheOpen.{Properties-F}
 use Rattle.wf_expr.specs.declared.properties.Properties.TheViews.{out-Properties, roll-Properties, out-roll-Properties}
