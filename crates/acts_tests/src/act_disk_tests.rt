@@ -352,8 +352,8 @@ fn length_that_fails_is_61(rt: HostRuntime) -> Result<(), Fail> {
 
 #[test]
 fn nothing_is_asked_after_a_failed_write(rt: HostRuntime) -> Result<(), Fail> {
-    // Which call fails, and how long the file is known to be then.
-    for (place, len) in [(1, 0), (2, 2), (3, 4)] {
+    // Which call fails, how many calls were made then, and how long the file is known to be.
+    for (place, turns, len) in [(1, 2, 0), (2, 3, 2), (3, 4, 4)] {
         let mut disk = failing_at(rt.alloc(), place)?;
         assert!(rt; put(&rt, &mut disk, 0, b"abcdef").is_err());
         assert_eq!(rt; disk.faults(), 1);
@@ -363,7 +363,7 @@ fn nothing_is_asked_after_a_failed_write(rt: HostRuntime) -> Result<(), Fail> {
         assert!(rt; disk.write_at(0, b"x").is_err());
         assert!(rt; disk.sync().is_err());
         assert_eq!(rt; disk.faults(), 5);
-        assert_eq!(rt; disk.into_file().turns(), place + 1);
+        assert_eq!(rt; disk.into_file().turns(), turns);
     }
     Ok(())
 }
