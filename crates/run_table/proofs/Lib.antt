@@ -16,6 +16,7 @@ pub mod LivePlaces
 pub mod Lowered
 pub mod Moved
 pub mod Optional
+pub mod OwnRun
 pub mod ReportKeeps
 pub mod Rests
 pub mod RuleKeeps

@@ -161,3 +161,10 @@ rule_at runs (Opening r j) = option_and_then (opening_rule runs r j) (job_at run
 rule_at runs (AtLeg p) = option_and_then (leg_rule runs p) (leg_at runs p)
 rule_at runs (Closing r j) = option_and_then (closing_rule runs r j) (job_at runs r j)
 rule_at runs (Whole r) = option_and_then (whole_rule runs r) (run_at runs r)
+
+-- the run of a place
+abbrev pub run_of_place : Place → ℕ
+run_of_place (Opening r j) = r
+run_of_place (AtLeg p) = p.run
+run_of_place (Closing r j) = r
+run_of_place (Whole r) = r
