@@ -1,5 +1,6 @@
 -- The first fault of lists of faults, part by part.
 use Rattle.std.proofs.Common.{◌≡◌, List, [], ◌∷◌, ◌++◌, map, Result, Ok, Err, refl, sym, ap, ◌∙◌, append_assoc}
+use Rattle.std.specs.Prelude.{IsErrAnd}
 use Rattle.std.specs.List.{flat_map}
 use Rattle.wf_value.specs.declared.refusal.Refusal.{Refusal}
 use Rattle.wf_reader.specs.Faults.{unless_faulty}
@@ -40,3 +41,9 @@ pub one_more : {A B : Type 0} (g : A → B) (all rest more : List A) (done : Lis
     → done ++ map g rest ≡ map g all → rest ≡ a ∷ more → g a ≡ b → (done ++ b ∷ []) ++ map g more ≡ map g all
 one_more g all rest more done a b so_far is same =
     append_assoc done (b ∷ []) (map g more) ∙ ap (λ c. done ++ c ∷ map g more) (sym same) ∙ ap (λ r. done ++ map g r) (sym is) ∙ so_far
+
+-- a refusal that `?` passes on is the first fault
+pub refused_with : {Y : Type 0} (r : Result Y Refusal) (e : Refusal) (fs : List Refusal) (y : Y) → IsErrAnd r (λ f. f ≡ e)
+    → unless_faulty fs y ≡ Err e → r ≡ unless_faulty fs y
+refused_with (Ok x) e fs y is h = absurd is
+refused_with (Err f) e fs y is h = ap Err is ∙ sym h

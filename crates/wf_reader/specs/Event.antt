@@ -1,6 +1,6 @@
 -- The body of an event: an envelope of the repository, the workflow's path, three contexts and the workflow (own).
 -- GitHub Docs, "Contexts": github, inputs, vars. Other members are read past.
-use Rattle.std.specs.Prelude.{ℕ, List, [], ◌∷◌, length, nat_lt, codes}
+use Rattle.std.specs.Prelude.{ℕ, List, [], ◌∷◌, length, nat_lt, codes, flat_map}
 use Rattle.serde_json.specs.Data.{Data}
 use Rattle.serde_json.specs.Find.{get}
 use Rattle.wf_value.specs.declared.code.Code.TheVariants.{WrongKind}
@@ -14,12 +14,14 @@ use Rattle.wf_reader.specs.declared.event.Event.{Event}
 abbrev pub filled_text_faults : Data → List Refusal
 filled_text_faults d = fault_unless (nat_lt 0 (length (text_in d))) WrongKind
 
+-- each an object where it is there, in this order
+abbrev pub contexts_faults : Data → List Refusal
+contexts_faults d = flat_map (λ name. optional object_faults (get name d)) (codes "github" ∷ codes "inputs" ∷ codes "vars" ∷ [])
+
 abbrev pub inside_envelope : Data → List Refusal
 inside_envelope d = in_turn (required WrongKind filled_text_faults (get (codes "repo") d)
     ∷ required WrongKind filled_text_faults (get (codes "path") d)
-    ∷ optional object_faults (get (codes "github") d)
-    ∷ optional object_faults (get (codes "inputs") d)
-    ∷ optional object_faults (get (codes "vars") d)
+    ∷ contexts_faults d
     ∷ required WrongKind workflow_faults_in (get (codes "workflow") d) ∷ [])
 
 abbrev pub event_faults_in : Data → List Refusal

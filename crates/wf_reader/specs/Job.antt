@@ -59,14 +59,15 @@ labels_faults (object ms) = fault LeftOut
 
 -- ---- the job
 
+-- each of these is left out, in this order
+abbrev pub members_left_out : Data → List Refusal
+members_left_out d = flat_map (λ name. left_out (get name d))
+    (codes "needs" ∷ codes "if" ∷ codes "continue-on-error" ∷ codes "concurrency" ∷ codes "strategy" ∷ [])
+
 abbrev pub inside_job : Data → List Refusal
 inside_job d = in_turn (left_out (get (codes "uses") d)
     ∷ required NoLabels labels_faults (get (codes "runs-on") d)
-    ∷ left_out (get (codes "needs") d)
-    ∷ left_out (get (codes "if") d)
-    ∷ left_out (get (codes "continue-on-error") d)
-    ∷ left_out (get (codes "concurrency") d)
-    ∷ left_out (get (codes "strategy") d) ∷ [])
+    ∷ members_left_out d ∷ [])
 
 -- of an id and its value
 abbrev pub job_faults : List ℕ × Data → List Refusal

@@ -11,7 +11,7 @@ ghost use Rattle.wf_reader.specs.Json.{member_at};
 ghost use Rattle.wf_reader.specs.Workflow.{workflow_faults_in, workflow_in};
 
 use crate::body::read_body;
-use crate::fields::{check_context, read_filled_text, wrong_kind};
+use crate::fields::{check_contexts, read_filled_text, wrong_kind};
 use crate::workflow::{Workflow, workflow_in};
 use serde_json::Value;
 use std::alloc::Global;
@@ -26,6 +26,9 @@ pub struct Event {
     pub path: Chars,
     pub workflow: Workflow,
 }
+
+/// The contexts of an event, in the order of the checks. GitHub Docs, "Contexts".
+const CONTEXTS: [&str; 3] = ["github", "inputs", "vars"];
 
 /// The workflow in an envelope.
 fn read_inner(alloc: Global, envelope: &Value) -> Result<Workflow, Refusal>
@@ -50,9 +53,7 @@ fn event_in(alloc: Global, value: &Value) -> Result<Event, Refusal>
     }
     let repo = read_filled_text(alloc, value, "repo")?;
     let path = read_filled_text(alloc, value, "path")?;
-    check_context(value, "github")?;
-    check_context(value, "inputs")?;
-    check_context(value, "vars")?;
+    check_contexts(value, &CONTEXTS)?;
     let workflow = read_inner(alloc, value)?;
     Ok(Event {
         repo,

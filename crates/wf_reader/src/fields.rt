@@ -1,4 +1,4 @@
-ghost use Rattle.std.specs.Prelude.{◌≡◌, option_map, option_and_then};
+ghost use Rattle.std.specs.Prelude.{◌≡◌, flat_map, option_map, option_and_then};
 ghost use Rattle.serde_json.specs.Find.{get, as_object};
 ghost use Rattle.serde_json.specs.View.{view, members_view};
 ghost use Rattle.wf_value.specs.Gives.{Gives};
@@ -37,14 +37,35 @@ pub fn refuse_left_out(object: &Value, name: &str) -> Result<(), Refusal>
     }
 }
 
+/// Refuses the first of the members that are left out.
+pub fn refuse_each_left_out(object: &Value, names: &[&str]) -> Result<(), Refusal>
+    ensures { result ≡ unless_faulty (flat_map (λ name. left_out (get name.now (view object.now))) names.now) tt }
+{
+    for name in names {
+        refuse_left_out(object, name)?;
+    }
+    Ok(())
+}
+
 /// Refuses a member that is there and no object (11).
-pub fn check_context(object: &Value, name: &str) -> Result<(), Refusal>
+fn check_context(object: &Value, name: &str) -> Result<(), Refusal>
     ensures { result ≡ unless_faulty (optional object_faults (get name.now (view object.now))) tt }
 {
     match object.get(name) {
         Some(context) if !context.is_object() => Err(wrong_kind()),
         _ => Ok(()),
     }
+}
+
+/// Refuses the first of the members that is there and no object.
+pub fn check_contexts(object: &Value, names: &[&str]) -> Result<(), Refusal>
+    ensures { result
+        ≡ unless_faulty (flat_map (λ name. optional object_faults (get name.now (view object.now))) names.now) tt }
+{
+    for name in names {
+        check_context(object, name)?;
+    }
+    Ok(())
 }
 
 /// The text of a member, or the empty text where it is missing. Another kind is 11.

@@ -5,7 +5,7 @@ ghost use Rattle.wf_value.specs.Gives.{Gives};
 ghost use Rattle.wf_reader.specs.Faults.{unless_faulty};
 ghost use Rattle.wf_reader.specs.Job.{is_id_start, is_id_part, is_job_id, job_faults, job_of};
 
-use crate::fields::{refuse_left_out, wrong_kind};
+use crate::fields::{refuse_each_left_out, refuse_left_out, wrong_kind};
 use crate::labels::read_runs_on;
 use serde_json::Value;
 use std::alloc::Global;
@@ -21,6 +21,9 @@ pub struct Job {
 }
 
 const MAX_ID: usize = 100;
+
+/// Left out, in the order of the checks; `uses` is refused before the labels are read.
+const LEFT_OUT: [&str; 5] = ["needs", "if", "continue-on-error", "concurrency", "strategy"];
 
 fn is_start(byte: u8) -> bool
     ensures { result ≡ is_id_start byte }
@@ -51,6 +54,7 @@ fn is_id(text: &str) -> bool
 }
 
 /// One job, or the first of its faults.
+#[tactic(auto, using(crate::proofs::InTurn::no_fault, crate::proofs::InTurn::same_value))]
 pub fn read_job(alloc: Global, id: &str, value: &Value) -> Result<Job, Refusal>
     ensures { Gives (λ j. j) result
         (unless_faulty (job_faults (id.now, view value.now)) (job_of (id.now, view value.now))) }
@@ -63,11 +67,7 @@ pub fn read_job(alloc: Global, id: &str, value: &Value) -> Result<Job, Refusal>
     }
     refuse_left_out(value, "uses")?;
     let labels = read_runs_on(alloc, value)?;
-    refuse_left_out(value, "needs")?;
-    refuse_left_out(value, "if")?;
-    refuse_left_out(value, "continue-on-error")?;
-    refuse_left_out(value, "concurrency")?;
-    refuse_left_out(value, "strategy")?;
+    refuse_each_left_out(value, &LEFT_OUT)?;
     Ok(Job {
         id: Chars::from_str(alloc, id)?,
         labels,

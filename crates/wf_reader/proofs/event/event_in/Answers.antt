@@ -2,13 +2,13 @@ use Rattle.std.proofs.Common.{Ok, ap, codes, inr, sym}
 use Rattle.serde_json.specs.Find.{get}
 use Rattle.serde_json.specs.View.{view}
 use Rattle.wf_value.specs.declared.code.Code.TheVariants.{WrongKind}
-use Rattle.wf_reader.specs.Event.{filled_text_faults, inside_envelope}
-use Rattle.wf_reader.specs.Faults.{optional, required, object_faults}
+use Rattle.wf_reader.specs.Event.{filled_text_faults, contexts_faults, inside_envelope}
+use Rattle.wf_reader.specs.Faults.{required}
 use Rattle.wf_reader.specs.Workflow.{workflow_faults_in}
 use Rattle.wf_value.proofs.PassedOn.{passed_on}
 use Rattle.wf_reader.proofs.InTurn.{first_decides, skip, same_value}
 use Rattle.wf_reader.proofs.JobFaults.{inside_object}
-use Rattle.wf_reader.proofs.EventParts.{event_made}
+use Rattle.wf_reader.proofs.EventParts.{past_texts, event_made}
 use Rattle.wf_reader.proofs.event.event_in.Goals as goal
 
 pub returns-in_err-path : goal.returns-in_err-path
@@ -20,62 +20,29 @@ returns-in_err-path c =
     skip (required WrongKind filled_text_faults (get (codes "repo") d)) _ _ _ _ _ c.in_ok-repo.ensures (
     first_decides (required WrongKind filled_text_faults (get (codes "path") d)) _ _ _ _ refused)))
 
-pub returns-in_err-check_context : goal.returns-in_err-check_context
-returns-in_err-check_context c =
+pub returns-in_err-check_contexts : goal.returns-in_err-check_contexts
+returns-in_err-check_contexts c =
     let d = view c.args.value.now in
-    passed_on _ _ _ _ c.in_err-check_context.field-0.0 c.from_residual-in_err-check_context.ensures.1
-    (inr (sym c.in_err-check_context.ensures)) (λ refused.
-    inside_object inside_envelope d _ _ c.if-not-is_object.ensures (
-    skip (required WrongKind filled_text_faults (get (codes "repo") d)) _ _ _ _ _ c.in_ok-repo.ensures (
-    skip (required WrongKind filled_text_faults (get (codes "path") d)) _ _ _ _ _ c.in_ok-path.ensures (
-    first_decides (optional object_faults (get (codes "github") d)) _ _ _ _ refused))))
-
-pub returns-in_err-check_context-2 : goal.returns-in_err-check_context-2
-returns-in_err-check_context-2 c =
-    let d = view c.args.value.now in
-    passed_on _ _ _ _ c.in_err-check_context-2.field-0.0 c.from_residual-in_err-check_context-2.ensures.1
-    (inr (sym c.in_err-check_context-2.ensures)) (λ refused.
-    inside_object inside_envelope d _ _ c.if-not-is_object.ensures (
-    skip (required WrongKind filled_text_faults (get (codes "repo") d)) _ _ _ _ _ c.in_ok-repo.ensures (
-    skip (required WrongKind filled_text_faults (get (codes "path") d)) _ _ _ _ _ c.in_ok-path.ensures (
-    skip (optional object_faults (get (codes "github") d)) _ _ _ _ _ (sym c.in_ok-check_context.ensures) (
-    first_decides (optional object_faults (get (codes "inputs") d)) _ _ _ _ refused)))))
-
-pub returns-in_err-check_context-3 : goal.returns-in_err-check_context-3
-returns-in_err-check_context-3 c =
-    let d = view c.args.value.now in
-    passed_on _ _ _ _ c.in_err-check_context-3.field-0.0 c.from_residual-in_err-check_context-3.ensures.1
-    (inr (sym c.in_err-check_context-3.ensures)) (λ refused.
-    inside_object inside_envelope d _ _ c.if-not-is_object.ensures (
-    skip (required WrongKind filled_text_faults (get (codes "repo") d)) _ _ _ _ _ c.in_ok-repo.ensures (
-    skip (required WrongKind filled_text_faults (get (codes "path") d)) _ _ _ _ _ c.in_ok-path.ensures (
-    skip (optional object_faults (get (codes "github") d)) _ _ _ _ _ (sym c.in_ok-check_context.ensures) (
-    skip (optional object_faults (get (codes "inputs") d)) _ _ _ _ _ (sym c.in_ok-check_context-2.ensures) (
-    first_decides (optional object_faults (get (codes "vars") d)) _ _ _ _ refused))))))
+    passed_on _ _ _ _ c.in_err-check_contexts.field-0.0 c.from_residual-in_err-check_contexts.ensures.1
+    (inr (sym c.in_err-check_contexts.ensures)) (λ refused.
+    past_texts d _ _ _ _ _ _ c.if-not-is_object.ensures c.in_ok-repo.ensures c.in_ok-path.ensures (
+    first_decides (contexts_faults d) _ _ _ _ refused))
 
 pub returns-in_err-workflow : goal.returns-in_err-workflow
 returns-in_err-workflow c =
     let d = view c.args.value.now in
     passed_on _ _ _ _ c.in_err-workflow.field-0.0 c.from_residual-in_err-workflow.ensures.1
     c.in_err-workflow.ensures (λ refused.
-    inside_object inside_envelope d _ _ c.if-not-is_object.ensures (
-    skip (required WrongKind filled_text_faults (get (codes "repo") d)) _ _ _ _ _ c.in_ok-repo.ensures (
-    skip (required WrongKind filled_text_faults (get (codes "path") d)) _ _ _ _ _ c.in_ok-path.ensures (
-    skip (optional object_faults (get (codes "github") d)) _ _ _ _ _ (sym c.in_ok-check_context.ensures) (
-    skip (optional object_faults (get (codes "inputs") d)) _ _ _ _ _ (sym c.in_ok-check_context-2.ensures) (
-    skip (optional object_faults (get (codes "vars") d)) _ _ _ _ _ (sym c.in_ok-check_context-3.ensures) (
-    first_decides (required WrongKind workflow_faults_in (get (codes "workflow") d)) _ _ _ _ refused)))))))
+    past_texts d _ _ _ _ _ _ c.if-not-is_object.ensures c.in_ok-repo.ensures c.in_ok-path.ensures (
+    skip (contexts_faults d) _ _ _ _ _ (sym c.in_ok-check_contexts.ensures) (
+    first_decides (required WrongKind workflow_faults_in (get (codes "workflow") d)) _ _ _ _ refused)))
 
 pub returns : goal.returns
 returns c =
     let d = view c.args.value.now in
-    inside_object inside_envelope d _ _ c.if-not-is_object.ensures (
-    skip (required WrongKind filled_text_faults (get (codes "repo") d)) _ _ _ _ _ c.in_ok-repo.ensures (
-    skip (required WrongKind filled_text_faults (get (codes "path") d)) _ _ _ _ _ c.in_ok-path.ensures (
-    skip (optional object_faults (get (codes "github") d)) _ _ _ _ _ (sym c.in_ok-check_context.ensures) (
-    skip (optional object_faults (get (codes "inputs") d)) _ _ _ _ _ (sym c.in_ok-check_context-2.ensures) (
-    skip (optional object_faults (get (codes "vars") d)) _ _ _ _ _ (sym c.in_ok-check_context-3.ensures) (
+    past_texts d _ _ _ _ _ _ c.if-not-is_object.ensures c.in_ok-repo.ensures c.in_ok-path.ensures (
+    skip (contexts_faults d) _ _ _ _ _ (sym c.in_ok-check_contexts.ensures) (
     skip (required WrongKind workflow_faults_in (get (codes "workflow") d)) _ _ _ _ _ c.in_ok-workflow.ensures (
     ap Ok (event_made d _ _ _ (same_value (required WrongKind filled_text_faults (get (codes "repo") d)) _ _ c.in_ok-repo.ensures)
     (same_value (required WrongKind filled_text_faults (get (codes "path") d)) _ _ c.in_ok-path.ensures)
-    (same_value (required WrongKind workflow_faults_in (get (codes "workflow") d)) _ _ c.in_ok-workflow.ensures)))))))))
+    (same_value (required WrongKind workflow_faults_in (get (codes "workflow") d)) _ _ c.in_ok-workflow.ensures)))))

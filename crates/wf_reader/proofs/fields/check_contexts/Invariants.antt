@@ -1,0 +1,10 @@
+use Rattle.std.proofs.Common.{◌≡◌, flat_map, drop}
+use Rattle.serde_json.specs.Find.{get}
+use Rattle.serde_json.specs.View.{view}
+use Rattle.wf_reader.specs.Faults.{optional, object_faults}
+use Rattle.wf_reader.proofs.fields.check_contexts.Given as goal
+
+-- the members so far have no fault
+abbrev pub invariant-loop-name : goal.invariant-loop-name
+invariant-loop-name l =
+    flat_map (λ name. optional object_faults (get name.now (view l.object))) l.names ≡ flat_map (λ name. optional object_faults (get name.now (view l.object))) (drop l.name-index l.names)
