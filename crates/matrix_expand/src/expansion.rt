@@ -4,7 +4,8 @@ ghost use Rattle.wf_value.specs.Gives.{Gives};
 ghost use Rattle.wf_value.specs.Names.{names_rise};
 ghost use Rattle.matrix_expand.specs.Combinations.{choice_count, kept, final_combination, combinations};
 ghost use Rattle.matrix_expand.specs.Combinations.{legs_or_refusal, combinations_or_refusal};
-ghost use Rattle.matrix_expand.specs.Numbered.{original_count, numbered_axes, pattern_of, pattern_agrees, kept_of, new_objects};
+ghost use Rattle.matrix_expand.specs.Numbered.{original_count, numbered_axes, pattern_of, pattern_agrees, kept_of, kept_or_refusal};
+ghost use Rattle.matrix_expand.specs.Numbered.{new_objects};
 
 use crate::axis::{Axis, axes};
 use crate::combination::final_combinations;
@@ -35,20 +36,44 @@ fn legs(alloc: Global, matrix: &Matrix, choices: usize) -> Result<Vec<Combo>, Re
     let variables = matrix.variables();
     let originals = count_originals(variables, choices);
     let axes = number_variables(alloc, variables, originals)?;
-    let excludes = patterns(alloc, axes.as_slice(), matrix.exclude())?;
-    let includes = patterns(alloc, axes.as_slice(), matrix.include())?;
-    let kept = kept_originals(alloc, originals, excludes.as_slice())?;
-    let added = new_combinations(alloc, includes.as_slice(), kept.as_slice())?;
+    let kept = kept_numbers(alloc, matrix, axes.as_slice(), originals)?;
+    kept_and_added(alloc, matrix, axes.as_slice(), kept.as_slice())
+}
+
+/// The numbers of the originals that no exclude object removes.
+fn kept_numbers<'a>(
+    alloc: Global,
+    matrix: &'a Matrix,
+    axes: &[Axis<'a>],
+    originals: usize,
+) -> Result<Vec<usize>, Refusal>
+    requires axes { axes.now ≡ numbered_axes matrix.now.variables }
+    requires in_order { IsTrue (names_rise axes.now) }
+    requires originals { originals ≡ original_count matrix.now.variables }
+    ensures { Gives (λ v. v.items) result (kept_or_refusal (kept_of matrix.now)) }
+{
+    let excludes = patterns(alloc, axes, matrix.exclude())?;
+    kept_originals(alloc, originals, excludes.as_slice())
+}
+
+/// The combinations of the kept originals and, after them, the new ones.
+fn kept_and_added<'a>(
+    alloc: Global,
+    matrix: &'a Matrix,
+    axes: &[Axis<'a>],
+    kept: &[usize],
+) -> Result<Vec<Combo>, Refusal>
+    requires axes { axes.now ≡ numbered_axes matrix.now.variables }
+    requires in_order { IsTrue (names_rise axes.now) }
+    requires kept { kept.now ≡ kept_of matrix.now }
+    ensures { Gives (λ v. v.items) result (legs_or_refusal (combinations matrix.now)) }
+{
+    let includes = patterns(alloc, axes, matrix.include())?;
+    let added = new_combinations(alloc, includes.as_slice(), kept)?;
     if !is_leg_count(kept.len(), added.len()) {
         return Err(Refusal::Numbered(Code::LegCount));
     }
-    let mut combos = kept_combinations(
-        alloc,
-        matrix,
-        axes.as_slice(),
-        includes.as_slice(),
-        kept.as_slice(),
-    )?;
+    let mut combos = kept_combinations(alloc, matrix, axes, includes.as_slice(), kept)?;
     push_copies(alloc, &mut combos, added.as_slice())?;
     Ok(combos)
 }
