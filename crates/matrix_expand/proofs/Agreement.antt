@@ -1,7 +1,7 @@
 -- What a pattern says of the original of a number is what its object says of the original.
 use Rattle.std.proofs.Common.{◌≡◌, ℕ, zero, suc, Bool, true, false, ◌&&◌, ◌||◌, not, cond, List, [], ◌∷◌, map, Option, Some, None, refl}
 use Rattle.std.proofs.Common.{sym, ap, ◌∙◌, arith}
-use Rattle.std.specs.Prelude.{nat_eq, is_some, is_none}
+use Rattle.std.specs.Prelude.{is_some, is_none}
 use Rattle.std.specs.Cmp.Lexicographic.{texts_ties}
 use Rattle.std.specs.Str.{bytes_eq}
 use Rattle.std.specs.List.{filter, list_any, list_all, range_with_len, cons_option}

@@ -13,7 +13,7 @@ use Rattle.matrix_expand.specs.Combinations.{Combination, choice_count, kept, fi
 use Rattle.matrix_expand.specs.Combinations.{within_choices, combinations_or_refusal}
 use Rattle.matrix_expand.specs.Entries.{SortsEntries, final_from}
 use Rattle.matrix_expand.specs.Numbered.{axes_of, axes_where, numbered_axes, original_at, original_count, pattern_of, kept_from}
-use Rattle.matrix_expand.specs.Numbered.{kept_numbers, kept_of, added_of, new_objects, kept_or_refusal}
+use Rattle.matrix_expand.specs.Numbered.{kept_of, added_of, new_objects, kept_or_refusal}
 use Rattle.matrix_expand.specs.Values.{AxisValue, PatternValue, EntryValue}
 use Rattle.matrix_expand.proofs.Agreement.{kept_is, new_is}
 use Rattle.matrix_expand.proofs.Finals.{final_is, map-map}
@@ -126,30 +126,13 @@ pub axes_where_some : (n : ℕ) (vs : List NamedValues) → 0 < n → axes_where
 axes_where_some zero vs h = absurd (omega arith)
 axes_where_some (suc n) vs h = refl
 
--- the patterns that the code has made of objects
-pub patterns_are : (m : MatrixLists) (objects : List Combination) (variables : List NamedValues) (axes axes_now : List AxisValue)
-    (objects_now : List Combination) (patterns patterns_now : List PatternValue) → variables ≡ m.variables → ◌≡◌
-    {A = Result (List AxisValue) Refusal} (Ok (numbered_axes variables)) (Ok axes) → axes_now ≡ axes → objects_now ≡ objects → ◌≡◌
-    {A = Result (List PatternValue) Refusal} (Ok (map (pattern_of axes_now) objects_now)) (Ok patterns) → patterns_now ≡ patterns →
-    patterns_now ≡ map (pattern_of (numbered_axes m.variables)) objects
-patterns_are m objects variables axes axes_now objects_now patterns patterns_now a b c d e f =
-    let own : axes_now ≡ numbered_axes m.variables = c ∙ sym (same_Ok _ _ b) ∙ ap numbered_axes a in
-    f ∙ sym (same_Ok _ _ e) ∙ ap (λ os. map (pattern_of axes_now) os) d ∙ ap (λ xs. map (pattern_of xs) objects) own
-
-pub numbers_are : (m : MatrixLists) (variables : List NamedValues) (excludes : List PatternValue) (count : ℕ) → variables ≡ m.variables
-    → excludes ≡ map (pattern_of (numbered_axes m.variables)) m.exclude → count ≡ original_count variables
-    → kept_numbers excludes count ≡ kept_of m
-numbers_are m variables excludes count a b c = ap (λ ps. kept_numbers ps count) b
-    ∙ ap (kept_numbers (map (pattern_of (numbered_axes m.variables)) m.exclude)) (c ∙ ap original_count a)
-
--- the kept numbers that were not refused
-pub kept_numbers_are : (numbers kept : List ℕ) → kept_or_refusal numbers ≡ Ok kept → kept ≡ numbers
-kept_numbers_are numbers kept h = elim (cases_lt 256 (length numbers)) [
-  | inl many ↦ absurd (not_Err _ _ (sym h ∙ ap (λ b. cond b (Err (Numbered LegCount)) (Ok numbers)) (lt-ltb 256 (length numbers) many)))
-  | inr few ↦ same_Ok _ _ (sym h ∙ ap (λ b. cond b (Err (Numbered LegCount)) (Ok numbers)) (le-ltb 256 (length numbers) few))
-]
-
-pub added_are : (m : MatrixLists) (includes : List PatternValue) (kept_now : List ℕ)
-    → includes ≡ map (pattern_of (numbered_axes m.variables)) m.include → kept_now ≡ kept_of m → new_objects includes kept_now ≡ added_of m
-added_are m includes kept_now a b = ap (λ ps. new_objects ps kept_now) a
-    ∙ ap (new_objects (map (pattern_of (numbered_axes m.variables)) m.include)) b
+-- the new combinations, as the code has found them
+pub added_are : (m : MatrixLists) (axes : List AxisValue) (objects : List Combination) (patterns includes : List PatternValue)
+    (kept : List ℕ) (added : List Combination) → axes ≡ numbered_axes m.variables → objects ≡ m.include → ◌≡◌
+    {A = Result (List PatternValue) Refusal} (Ok (map (pattern_of axes) objects)) (Ok patterns) → includes ≡ patterns → kept ≡ kept_of m →
+    ◌≡◌ {A = Result (List Combination) Refusal} (Ok (new_objects includes kept)) (Ok added) → added ≡ added_of m
+added_are m axes objects patterns includes kept added a b c d e f =
+    sym (same_Ok _ _ f)
+    ∙ ap (new_objects includes) e
+    ∙ ap (λ ps. new_objects ps (kept_of m)) (d ∙ sym (same_Ok _ _ c) ∙ ap (map (pattern_of axes)) b
+    ∙ ap (λ xs. map (pattern_of xs) m.include) a)

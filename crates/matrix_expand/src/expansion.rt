@@ -4,8 +4,8 @@ ghost use Rattle.wf_value.specs.Gives.{Gives};
 ghost use Rattle.wf_value.specs.Names.{names_rise};
 ghost use Rattle.matrix_expand.specs.Combinations.{choice_count, kept, final_combination, combinations};
 ghost use Rattle.matrix_expand.specs.Combinations.{legs_or_refusal, combinations_or_refusal};
-ghost use Rattle.matrix_expand.specs.Numbered.{original_count, numbered_axes, pattern_of, pattern_agrees, kept_of};
-ghost use Rattle.matrix_expand.specs.Numbered.{kept_or_refusal, new_objects};
+ghost use Rattle.matrix_expand.specs.Numbered.{original_count, numbered_axes, pattern_of, pattern_agrees, kept_of, kept_or_refusal};
+ghost use Rattle.matrix_expand.specs.Numbered.{new_objects};
 
 use crate::axis::{Axis, axes};
 use crate::combination::final_combinations;
@@ -37,31 +37,30 @@ fn legs(alloc: Global, matrix: &Matrix, choices: usize) -> Result<Vec<Combo>, Re
     let originals = count_originals(variables, choices);
     let axes = number_variables(alloc, variables, originals)?;
     let kept = kept_numbers(alloc, matrix, axes.as_slice(), originals)?;
-    counted_legs(alloc, matrix, axes.as_slice(), kept.as_slice())
+    kept_and_added(alloc, matrix, axes.as_slice(), kept.as_slice())
 }
 
-/// The numbers of the kept originals. Refused 22 where they are more than 256.
-fn kept_numbers(
+/// The numbers of the originals that no exclude object removes.
+fn kept_numbers<'a>(
     alloc: Global,
-    matrix: &Matrix,
-    axes: &[Axis],
+    matrix: &'a Matrix,
+    axes: &[Axis<'a>],
     originals: usize,
 ) -> Result<Vec<usize>, Refusal>
     requires axes { axes.now ≡ numbered_axes matrix.now.variables }
     requires in_order { IsTrue (names_rise axes.now) }
-    requires all { originals ≡ original_count matrix.now.variables }
+    requires originals { originals ≡ original_count matrix.now.variables }
     ensures { Gives (λ v. v.items) result (kept_or_refusal (kept_of matrix.now)) }
 {
     let excludes = patterns(alloc, axes, matrix.exclude())?;
     kept_originals(alloc, originals, excludes.as_slice())
 }
 
-/// The combinations of the kept originals, and the new ones. Refused 22 where there is none or more
-/// than 256.
-fn counted_legs(
+/// The combinations of the kept originals and, after them, the new ones.
+fn kept_and_added<'a>(
     alloc: Global,
-    matrix: &Matrix,
-    axes: &[Axis],
+    matrix: &'a Matrix,
+    axes: &[Axis<'a>],
     kept: &[usize],
 ) -> Result<Vec<Combo>, Refusal>
     requires axes { axes.now ≡ numbered_axes matrix.now.variables }

@@ -12,7 +12,7 @@ use Rattle.needs_graph.specs.Rows.{IsSets}
 use Rattle.needs_graph.proofs.Members.{Has, Contains-from_Has, Has-from_Contains}
 use Rattle.needs_graph.proofs.PlaceLists.{marked_by, places_by, Has-filter_range, Has-filter_range_from}
 use Rattle.needs_graph.proofs.Walks.{joined, no_walk_past, walk_from_is_ancestor, is_ancestor-from_walk}
-use Rattle.needs_graph.proofs.Closure.{row_at, bit, IsWide, length-closed, IsWide-closed, sound, complete_step, complete_start}
+use Rattle.needs_graph.proofs.Closure.{row_at, bit, IsWide, length-closed, sound, complete_step, complete_start}
 
 -- the needs that rows of marks say
 abbrev pub needs_by : List (List Bool) → List (List ℕ)

@@ -1,5 +1,5 @@
 -- The needs of each job as marks.
-use Rattle.std.specs.Prelude.{◌≡◌, ◌<◌, ℕ, List, [], Bool, length, Result, Ok, Err, filter, map, if◌then◌else◌}
+use Rattle.std.specs.Prelude.{◌≡◌, ℕ, List, [], Bool, length, Result, Ok, Err, filter, map, if◌then◌else◌}
 use Rattle.std.specs.List.{list_all, enumerate_from, range_with_len, slice_index_or}
 use Rattle.wf_value.specs.declared.refusal.Refusal.{Refusal}
 use Rattle.needs_graph.specs.JobSets.{is_in}

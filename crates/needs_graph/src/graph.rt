@@ -1,5 +1,5 @@
-ghost use Rattle.std.specs.Prelude.{◌≡◌, ◌≢◌, ◌↔◌, ◌<◌, IsTrue, Ok, All, Contains, length, map, ℕ};
-ghost use Rattle.std.specs.List.{list_all, list_any};
+ghost use Rattle.std.specs.Prelude.{◌≡◌, ◌≢◌, ◌↔◌, ◌<◌, ◌&&◌, not, IsTrue, None, Ok, All, Contains, length, map, ℕ};
+ghost use Rattle.std.specs.List.{list_all, list_any, slice_index_or};
 ghost use Rattle.wf_value.specs.Gives.{Gives};
 ghost use Rattle.needs_graph.specs.Ancestors.{needs_at, is_ancestor, dependents_of, HasWalk};
 ghost use Rattle.needs_graph.specs.Conditions.{ancestor_results, condition_value, has_failed, has_succeeded};
@@ -118,7 +118,7 @@ impl Graph {
         ensures { result ≡ list_all has_succeeded (ancestor_results self.now (map J.job_result jobs.now) job) }
     {
         for other in 0..self.job_count() {
-            if self.has_ancestor(job, other) && !has_succeeded(result_at(jobs, other)) {
+            if self.ancestor_lacks_success(job, other, jobs) {
                 return false;
             }
         }
@@ -129,11 +129,27 @@ impl Graph {
         ensures { result ≡ list_any has_failed (ancestor_results self.now (map J.job_result jobs.now) job) }
     {
         for other in 0..self.job_count() {
-            if self.has_ancestor(job, other) && has_failed(result_at(jobs, other)) {
+            if self.ancestor_failed(job, other, jobs) {
                 return true;
             }
         }
         false
+    }
+
+    /// Whether the other job is an ancestor of the job, and has not succeeded.
+    fn ancestor_lacks_success<J: HasResult>(&self, job: usize, other: usize, jobs: &[J]) -> bool
+        ensures { result ≡ (is_ancestor self.now job other
+            && not (has_succeeded (slice_index_or (map J.job_result jobs.now) other None))) }
+    {
+        self.has_ancestor(job, other) && !has_succeeded(result_at(jobs, other))
+    }
+
+    /// Whether the other job is an ancestor of the job, and has failed.
+    fn ancestor_failed<J: HasResult>(&self, job: usize, other: usize, jobs: &[J]) -> bool
+        ensures { result ≡ (is_ancestor self.now job other
+            && has_failed (slice_index_or (map J.job_result jobs.now) other None)) }
+    {
+        self.has_ancestor(job, other) && has_failed(result_at(jobs, other))
     }
 }
 

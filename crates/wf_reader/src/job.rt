@@ -23,7 +23,13 @@ pub struct Job {
 const MAX_ID: usize = 100;
 
 /// Left out, in the order of the checks; `uses` is refused before the labels are read.
-const LEFT_OUT: [&str; 5] = ["needs", "if", "continue-on-error", "concurrency", "strategy"];
+const LEFT_OUT: [&str; 5] = [
+    "needs",
+    "if",
+    "continue-on-error",
+    "concurrency",
+    "strategy",
+];
 
 fn is_start(byte: u8) -> bool
     ensures { result ≡ is_id_start byte }

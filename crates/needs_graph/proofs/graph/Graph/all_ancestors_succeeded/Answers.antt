@@ -1,16 +1,21 @@
-use Rattle.std.proofs.Common.{◌≡◌, ◌∙◌, ◌<◌, ap, sym, map, length, arith}
-use Rattle.needs_graph.specs.Conditions.{has_succeeded}
-use Rattle.needs_graph.proofs.AncestorResults.{all_succeeded, one_has_not}
+use Rattle.std.proofs.Common.{◌∙◌, ◌<◌, not, ap, sym, map, length, arith}
+use Rattle.needs_graph.specs.Conditions.{has_succeeded, ancestor_results}
+use Rattle.needs_graph.proofs.AncestorResults.{list_all-not, holds_of_none, holds_of_one}
 use Rattle.needs_graph.proofs.graph.Graph.all_ancestors_succeeded.Goals as goal
 
-pub returns-then-not-has_succeeded : goal.returns-then-not-has_succeeded
-returns-then-not-has_succeeded g c =
-    let below : c.loop-other.other < length c.args.self.now = omega arith in
-    let fails = ap has_succeeded (sym c.result_at.ensures) ∙ (sym c.has_succeeded.ensures ∙ c.if-not-has_succeeded.true) in
-    sym (one_has_not c.args.self.now (map g.J.HasResult.job_result c.args.jobs.now) c.args.job c.loop-other.other below
-    (sym c.has_ancestor.ensures.value ∙ c.if-has_ancestor.true) fails)
+pub returns-then-ancestor_lacks_success : goal.returns-then-ancestor_lacks_success
+returns-then-ancestor_lacks_success g c =
+    let needs = c.args.self.now in
+    let results = map g.J.HasResult.job_result c.args.jobs.now in
+    let below : c.loop-other.other < length needs = omega arith in
+    sym (list_all-not has_succeeded (ancestor_results needs results c.args.job)
+    ∙ ap not (holds_of_one needs results c.args.job (λ r. not (has_succeeded r)) c.loop-other.other below
+    (sym c.ancestor_lacks_success.ensures ∙ c.if-ancestor_lacks_success.true)))
 
 pub returns : goal.returns
 returns g c =
-    sym (all_succeeded c.args.self.now (map g.J.HasResult.job_result c.args.jobs.now) c.args.job
-    (λ other below is. c.loop-other.invariant other (omega arith) is))
+    let needs = c.args.self.now in
+    let results = map g.J.HasResult.job_result c.args.jobs.now in
+    sym (list_all-not has_succeeded (ancestor_results needs results c.args.job)
+    ∙ ap not (holds_of_none needs results c.args.job (λ r. not (has_succeeded r))
+    (λ other below. c.loop-other.invariant other (omega arith))))

@@ -1,9 +1,9 @@
-use Rattle.std.proofs.Common.{◌≡◌, ℕ, ◌<◌, true, None, get_or, map}
+use Rattle.std.proofs.Common.{◌≡◌, ℕ, ◌<◌, ◌&&◌, not, false, None, get_or, map}
 use Rattle.needs_graph.specs.Ancestors.{is_ancestor}
 use Rattle.needs_graph.specs.Conditions.{has_succeeded}
 use Rattle.needs_graph.proofs.graph.Graph.all_ancestors_succeeded.Given as goal
 
--- the ancestors so far have succeeded
+-- no ancestor so far lacks success
 abbrev pub invariant-loop-other : goal.invariant-loop-other
 invariant-loop-other g l =
-    (k : ℕ) → k < l.other → is_ancestor l.self l.job k ≡ true → has_succeeded (get_or (map g.J.HasResult.job_result l.jobs) k None) ≡ true
+    (k : ℕ) → k < l.other → (is_ancestor l.self l.job k && not (has_succeeded (get_or (map g.J.HasResult.job_result l.jobs) k None))) ≡ false

@@ -1,16 +1,15 @@
-use Rattle.std.proofs.Common.{◌≡◌, ◌∙◌, ◌<◌, ap, sym, map, length, arith}
+use Rattle.std.proofs.Common.{◌∙◌, ◌<◌, sym, map, length, arith}
 use Rattle.needs_graph.specs.Conditions.{has_failed}
-use Rattle.needs_graph.proofs.AncestorResults.{none_failed, one_failed}
+use Rattle.needs_graph.proofs.AncestorResults.{holds_of_none, holds_of_one}
 use Rattle.needs_graph.proofs.graph.Graph.any_ancestor_failed.Goals as goal
 
-pub returns-then-has_failed : goal.returns-then-has_failed
-returns-then-has_failed g c =
+pub returns-then-ancestor_failed : goal.returns-then-ancestor_failed
+returns-then-ancestor_failed g c =
     let below : c.loop-other.other < length c.args.self.now = omega arith in
-    let failed = ap has_failed (sym c.result_at.ensures) ∙ (sym c.has_failed.ensures ∙ c.if-has_failed.true) in
-    sym (one_failed c.args.self.now (map g.J.HasResult.job_result c.args.jobs.now) c.args.job c.loop-other.other below
-    (sym c.has_ancestor.ensures.value ∙ c.if-has_ancestor.true) failed)
+    sym (holds_of_one c.args.self.now (map g.J.HasResult.job_result c.args.jobs.now) c.args.job has_failed c.loop-other.other below
+    (sym c.ancestor_failed.ensures ∙ c.if-ancestor_failed.true))
 
 pub returns : goal.returns
 returns g c =
-    sym (none_failed c.args.self.now (map g.J.HasResult.job_result c.args.jobs.now) c.args.job
-    (λ other below is. c.loop-other.invariant other (omega arith) is))
+    sym (holds_of_none c.args.self.now (map g.J.HasResult.job_result c.args.jobs.now) c.args.job has_failed
+    (λ other below. c.loop-other.invariant other (omega arith)))
