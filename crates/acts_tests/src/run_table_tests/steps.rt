@@ -2,7 +2,7 @@ use crate::run_table_tests::{BUILD, Words, expect_view, play};
 use run_plan::Number;
 use run_table::Table;
 use std::test::Fail;
-use wf_value::Outcome;
+use wf_value::{Outcome, TryCopy};
 
 #[test]
 fn one_run_to_its_end(rt: HostRuntime) -> Result<(), Fail> {
