@@ -6,30 +6,13 @@ use Rattle.std.proofs.Common.{arith, ap, subst, sym, ◌∙◌, get_or, append_a
 use Rattle.std.proofs.lemmas.Option.{slice_get-get_or}
 use Rattle.std.proofs.lemmas.List.Folds.{find-append}
 use Rattle.run_table.specs.FirstOf.{first_some, placed}
+use Rattle.run_table.proofs.Found.{all_weaken, placed_get}
 
 -- ---- two questions with the same answers
-
-all_weaken : {X : Type 0} (P Q : X → Type 0) → ((x : X) → P x → Q x) → (xs : List X) → AllByRecursion P xs → AllByRecursion Q xs
-all_weaken P Q f [] h = h
-all_weaken P Q f (x ∷ xs) h = (f x h.0, all_weaken P Q f xs h.1)
 
 pub first_some_same : {X Y : Type 0} (f g : X → Option Y) (xs : List X) → AllByRecursion (λ x. f x ≡ g x) xs → first_some f xs ≡ first_some g xs
 first_some_same f g [] h = refl
 first_some_same f g (x ∷ xs) h = ap (λ o. option_or o (first_some f xs)) h.0 ∙ ap (option_or (g x)) (first_some_same f g xs h.1)
-
-get_at_seam : {X : Type 0} (front : List X) (x : X) (xs : List X) → slice_get (front ++ x ∷ xs) (length front) ≡ Some x
-get_at_seam [] x xs = refl
-get_at_seam (y ∷ front) x xs = get_at_seam front x xs
-
-placed_after : {X : Type 0} (front xs : List X) → AllByRecursion (λ e. slice_get (front ++ xs) e.0 ≡ Some e.1) (enumerate_from (length front) xs)
-placed_after front [] = tt
-placed_after front (x ∷ xs) =
-    let tail = placed_after (front ++ x ∷ []) xs in
-    (get_at_seam front x xs, simp (append_assoc, length-append) at tail)
-
--- each element is found at its place
-pub placed_get : {X : Type 0} (xs : List X) → AllByRecursion (λ e. slice_get xs e.0 ≡ Some e.1) (placed xs)
-placed_get xs = placed_after [] xs
 
 -- two questions with the same answers at each element's place
 pub first_same_placed : {X Y : Type 0} (f g : ℕ × X → Option Y) (xs : List X) → ((i : ℕ) (x : X) → slice_get xs i ≡ Some x → f (i, x) ≡ g (i, x)) → first_some f (placed xs) ≡ first_some g (placed xs)
