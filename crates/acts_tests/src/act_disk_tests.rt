@@ -1,6 +1,6 @@
 use act_disk::{
-    Call, Disk, DiskFault, Empty, FileDisk, Fill, FuseDisk, HostFile, MemoryDisk, ScriptedFile, Turn,
-    grow_to, write_synced,
+    Call, Disk, DiskFault, Empty, FileDisk, Fill, FuseDisk, HostFile, MemoryDisk, ScriptedFile,
+    Turn, grow_to, write_synced,
 };
 use std::alloc::Global;
 use std::fs;

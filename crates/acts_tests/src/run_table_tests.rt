@@ -19,6 +19,10 @@ pub const BUILD: &str =
 pub const BUILD_ELSEWHERE: &str =
     "{\"repo\":\"o/r\",\"path\":\"cd.json\",\"workflow\":{\"jobs\":{\"build\":{\"runs-on\":\"linux\"}}}}";
 
+/// Three jobs, which are read in another order than that of their ids.
+pub const THREE: &str =
+    "{\"repo\":\"o/r\",\"path\":\"ci.json\",\"workflow\":{\"jobs\":{\"c\":{\"runs-on\":\"x\"},\"a\":{\"runs-on\":\"x\"},\"b\":{\"runs-on\":\"x\"}}}}";
+
 /// A command in words: the delivery and the body of an event, or what a runner sends, or a run.
 #[derive(Clone, Copy, Drop)]
 pub enum Words<'a> {

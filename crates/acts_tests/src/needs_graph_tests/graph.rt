@@ -1,4 +1,5 @@
-use needs_graph::{Graph, HasResult, JobNeeds, ids_rise};
+use crate::needs_graph_tests::settled::Settled;
+use needs_graph::{Graph, JobNeeds, ids_rise};
 use std::alloc::Global;
 use std::process::Abort;
 use std::test::Fail;
@@ -129,18 +130,6 @@ fn gives_its_answer_or_refuses_memory(rt: HostRuntime) {
     match build(&rt, rt.alloc(), cycle) {
         Ok(_) => panic!(rt; "a graph with a cycle"),
         Err(refusal) => assert!(rt; refusal.number() == 14 || refusal.number() == 50),
-    }
-}
-
-/// A job, of which only its result is known.
-#[derive(Clone, Copy)]
-struct Settled(Option<JobResult>);
-
-impl HasResult for Settled {
-    ghost job_result = { λ job. job.0 };
-
-    fn job_result(&self) -> Option<JobResult> {
-        self.0
     }
 }
 

@@ -1,4 +1,5 @@
-use needs_graph::{HasEnd, HasResult, LegEnd, conclude, decide, gather};
+use crate::needs_graph_tests::settled::Settled;
+use needs_graph::{HasEnd, LegEnd, conclude, decide, gather};
 use wf_value::{Condition, JobResult, Outcome};
 
 /// A leg's end, and how much it weighs in its job's result: 0 for nothing, 1 for cancelled and 2
@@ -20,18 +21,6 @@ impl HasEnd for Leg {
     ghost leg_end = { λ leg. leg.0 };
 
     fn leg_end(&self) -> Option<LegEnd> {
-        self.0
-    }
-}
-
-/// A job, of which only its result is known.
-#[derive(Clone, Copy)]
-struct Settled(Option<JobResult>);
-
-impl HasResult for Settled {
-    ghost job_result = { λ job. job.0 };
-
-    fn job_result(&self) -> Option<JobResult> {
         self.0
     }
 }

@@ -1,8 +1,8 @@
-use crate::run_table_tests::{BUILD, Words, expect_view, play};
+use crate::run_table_tests::{BUILD, BUILD_ELSEWHERE, THREE, Words, expect_view, play};
 use run_plan::Number;
 use run_table::Table;
 use std::test::Fail;
-use wf_value::Outcome;
+use wf_value::{Outcome, TryCopy};
 
 #[test]
 fn one_run_to_its_end(rt: HostRuntime) -> Result<(), Fail> {
@@ -35,4 +35,87 @@ fn refusals_leave_the_table(rt: HostRuntime) -> Result<(), Fail> {
     let mut copy = table.copy(rt.alloc())?;
     let kept = [(Words::Claim("r1", "1", "linux"), "nothing")];
     play(&rt, rt.alloc(), &mut copy, &kept)
+}
+
+/// A claim, a report and a delivery that come again are answered as before, whatever has changed
+/// since, and another command of the same number is not.
+#[test]
+fn repeats_are_answered_again(rt: HostRuntime) -> Result<(), Fail> {
+    let rows = [
+        (Words::Claim("r1", "1", "linux"), "nothing"),
+        (Words::Admit("d1", BUILD), "created 1"),
+        (Words::Claim("r1", "1", "linux"), "nothing"),
+        (Words::Admit("d1", BUILD_ELSEWHERE), "created 1"),
+        (Words::Claim("r1", "2", "linux"), "lease 1 1 build 0 {}"),
+        (Words::Claim("r1", "2", "linux"), "lease 1 1 build 0 {}"),
+        (Words::Claim("r1", "2", "Linux"), "refused 43 2"),
+        (Words::Done("r1", "3", "1", Outcome::Failure), "ok"),
+        (Words::Done("r1", "3", "1", Outcome::Failure), "ok"),
+        (
+            Words::Done("r1", "3", "1", Outcome::Success),
+            "refused 43 3",
+        ),
+        (Words::Claim("r1", "2", "linux"), "refused 43 3"),
+        (Words::Look("2"), "refused 40"),
+    ];
+    let mut table = Table::new(rt.alloc());
+    play(&rt, rt.alloc(), &mut table, &rows)?;
+    let want = "run 1 1 completed failure build:failure(failure)";
+    expect_view(&rt, rt.alloc(), &table, "1", want)
+}
+
+/// Each refusal of the table but 48, which takes a hundred thousand runs, with a lease out: the lease
+/// stays with its runner, and each runner's number where it was.
+#[test]
+fn refusals_leave_a_lease(rt: HostRuntime) -> Result<(), Fail> {
+    let rows = [
+        (Words::Admit("d1", BUILD), "created 1"),
+        (Words::Claim("r1", "1", "linux"), "lease 1 1 build 0 {}"),
+        (Words::Look("2"), "refused 40"),
+        (Words::Claim("r1", "2", "linux"), "refused 42"),
+        (Words::Claim("r1", "3", "linux"), "refused 43 1"),
+        (
+            Words::Done("r1", "1", "1", Outcome::Success),
+            "refused 43 1",
+        ),
+        (Words::Done("r1", "2", "2", Outcome::Success), "refused 44"),
+        (Words::Done("r2", "1", "1", Outcome::Success), "refused 44"),
+        (
+            Words::Done("r2", "2", "1", Outcome::Success),
+            "refused 43 0",
+        ),
+        (Words::Claim("r2", "1", "linux"), "nothing"),
+        (
+            Words::Look("1"),
+            "run 1 1 in_progress - build:open(running)",
+        ),
+        (Words::Done("r1", "2", "1", Outcome::Success), "ok"),
+        (Words::Done("r1", "3", "1", Outcome::Success), "refused 44"),
+    ];
+    let mut table = Table::new(rt.alloc());
+    play(&rt, rt.alloc(), &mut table, &rows)
+}
+
+/// The run goes on when one of its jobs has failed, and ends as a failure.
+#[test]
+fn one_job_of_three_fails(rt: HostRuntime) -> Result<(), Fail> {
+    let rows = [
+        (Words::Admit("d1", THREE), "created 1"),
+        (Words::Claim("r1", "1", "x"), "lease 1 1 a 0 {}"),
+        (Words::Claim("r2", "1", "x"), "lease 2 1 b 0 {}"),
+        (Words::Done("r2", "2", "2", Outcome::Failure), "ok"),
+        (
+            Words::Look("1"),
+            "run 1 1 in_progress - a:open(running) b:failure(failure) c:open(ready)",
+        ),
+        (Words::Claim("r2", "3", "x"), "lease 3 1 c 0 {}"),
+        (Words::Done("r2", "4", "3", Outcome::Success), "ok"),
+        (Words::Done("r1", "2", "1", Outcome::Success), "ok"),
+        (
+            Words::Look("1"),
+            "run 1 1 completed failure a:success(success) b:failure(failure) c:success(success)",
+        ),
+    ];
+    let mut table = Table::new(rt.alloc());
+    play(&rt, rt.alloc(), &mut table, &rows)
 }

@@ -4,7 +4,7 @@ use run_table::Table;
 use std::alloc::Global;
 use std::process::Abort;
 use std::test::Fail;
-use wf_value::Outcome;
+use wf_value::{Outcome, TryCopy};
 
 /// Runs of two workflows, the third the second of its own, each of whose legs a runner has.
 fn leased_table(rt: &impl Abort, alloc: Global) -> Result<Table, Fail> {

@@ -1,4 +1,4 @@
-use crate::run_table_tests::{BUILD, BUILD_ELSEWHERE, Words, play};
+use crate::run_table_tests::{BUILD, BUILD_ELSEWHERE, THREE, Words, play};
 use run_table::Table;
 use std::alloc::Global;
 use std::process::Abort;
@@ -8,10 +8,6 @@ use wf_value::Outcome;
 /// As `BUILD`, with another label.
 const BUILD_ON_GPU: &str =
     "{\"repo\":\"o/r\",\"path\":\"ci.json\",\"workflow\":{\"jobs\":{\"build\":{\"runs-on\":\"gpu\"}}}}";
-
-/// Three jobs, which are read in another order than that of their ids.
-const THREE: &str =
-    "{\"repo\":\"o/r\",\"path\":\"ci.json\",\"workflow\":{\"jobs\":{\"c\":{\"runs-on\":\"x\"},\"a\":{\"runs-on\":\"x\"},\"b\":{\"runs-on\":\"x\"}}}}";
 
 /// Admits a run with a delivery of its own.
 fn admit(rt: &impl Abort, alloc: Global, table: &mut Table, run: u32) -> Result<(), Fail> {
