@@ -17,6 +17,9 @@ impl Model for CallLog {
     ghost also_owns = { λ _. ftrue };
 }
 
+// It owns nothing.
+unsafe impl Send for CallLog {}
+
 impl CallLog {
     /// No call was done yet.
     pub(crate) fn new() -> Self

@@ -13,6 +13,9 @@ impl Model for CallTally {
     ghost also_owns = { λ _. ftrue };
 }
 
+// It owns nothing.
+unsafe impl Send for CallTally {}
+
 impl CallTally {
     /// No call was made yet.
     pub(crate) fn new() -> Self

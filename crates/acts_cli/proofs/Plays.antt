@@ -13,39 +13,18 @@ use Rattle.run_plan.specs.declared.reply.Reply.{Reply}
 use Rattle.run_table.specs.Step.{empty}
 use Rattle.run_table.specs.TableState.{TableState}
 use Rattle.acts_cli.specs.Line.{onward}
-use Rattle.acts_cli.specs.Answers.{has_bytes, script_lines, carried_out, table_after, outcome_text, answer_of, after_line, answers_from, printed, output_of}
+use Rattle.acts_cli.specs.AnyState.{outcome_text}
+use Rattle.acts_cli.specs.Answers.{has_bytes, script_lines, carried_out, table_after, answer_of, after_line, answers_from, printed, output_of}
 use Rattle.acts_cli.specs.Play.{IsAnswer, Answers, Plays, memory_refused, stream_failed, most_bytes, PlaysTo, Ends}
-
--- ---- whether a refusal is that of memory
-
-abbrev is_memory : Code → Bool
-is_memory NoMemory = true
-is_memory _ = false
-
-code_of_memory : (c : Code) → is_memory c ≡ true → c ≡ NoMemory
-code_of_memory NoMemory h = refl
-code_of_memory _ h = cc
-
-other_code : (c : Code) → is_memory c ≡ false → c ≢ NoMemory
-other_code c h e = let bad : true ≡ false = subst (λ x. is_memory x ≡ false) e h in cc
-
-by_test : (c : Code) (b : Bool) → is_memory c ≡ b → (Numbered c ≡ no_memory) ⊎ (Numbered c ≢ no_memory)
-by_test c true h = inl (ap Numbered (code_of_memory c h))
-by_test c false h = inr (λ e. let same : c ≡ NoMemory = cc in other_code c h same)
-
-memory_or_not : (e : Refusal) → (e ≡ no_memory) ⊎ (e ≢ no_memory)
-memory_or_not (Numbered c) = by_test c (is_memory c) refl
-memory_or_not (Cycle ids) = inr (λ e. cc)
-memory_or_not (Turn last) = inr (λ e. cc)
 
 -- ---- one line
 
 pub is_answer : (t after : TableState) (line : List ℕ) (r : Result Reply Refusal) → Gives (λ reply. (after, reply)) r (carried_out t line) → OnErr r (after ≡ t) → IsAnswer t line (outcome_text r) after
 is_answer t after line (Ok reply) given kept = inl (sym (ap (λ r. outcome_text (onward (λ m. m.1) r)) given), sym (ap (table_after t) given))
 is_answer t after line (Err e) given kept =
-    elim (memory_or_not e) [
+    elim given [
       | inl m ↦ inr (ap refusal_text m, kept)
-      | inr m ↦ inl (sym (ap (λ r. outcome_text (onward (λ m. m.1) r)) (given m)), kept ∙ sym (ap (table_after t) (given m)))
+      | inr d ↦ inl (sym (ap (λ r. outcome_text (onward (λ m. m.1) r)) d), kept ∙ sym (ap (table_after t) d))
     ]
 
 -- ---- all lines

@@ -1,13 +1,11 @@
 -- The answers of a script: one for each line that is not empty, each from the table that the lines before it left.
-use Rattle.std.specs.Prelude.{ℕ, List, [], ◌∷◌, ◌++◌, length, Bool, not, nat_eq, filter, flat_map, codes, Result, Ok, Err}
+use Rattle.std.specs.Prelude.{ℕ, List, [], ◌∷◌, ◌++◌, length, Bool, not, nat_eq, filter, flat_map, codes, Result}
 use Rattle.std.specs.Str.Lines.{lines}
-use Rattle.wf_value.specs.RefusalText.{refusal_text}
 use Rattle.wf_value.specs.declared.refusal.Refusal.{Refusal}
-use Rattle.run_plan.specs.ReplyText.{reply_text}
 use Rattle.run_plan.specs.declared.reply.Reply.{Reply}
 use Rattle.run_table.specs.Step.{step, empty}
 use Rattle.run_table.specs.TableState.{TableState}
-use Rattle.acts_cli.specs.Line.{command_of, onward}
+use Rattle.acts_cli.specs.AnyState.{left_by, carried_out_by, after_line_by, answer_by, answers_by}
 
 abbrev pub has_bytes : List ℕ → Bool
 has_bytes line = not (nat_eq (length line) 0)
@@ -19,27 +17,21 @@ script_lines script = filter has_bytes (lines script)
 
 -- the table after a line and the reply to it, or why the line is refused
 abbrev pub carried_out : TableState → List ℕ → Result (TableState × Reply) Refusal
-carried_out t line = onward (step t) (command_of line)
+carried_out t line = carried_out_by step t line
 
 -- a refused line leaves the table
 abbrev pub table_after : TableState → Result (TableState × Reply) Refusal → TableState
-table_after t (Ok moved) = moved.0
-table_after t (Err e) = t
-
-abbrev pub outcome_text : Result Reply Refusal → List ℕ
-outcome_text (Ok reply) = reply_text reply
-outcome_text (Err e) = refusal_text e
+table_after t moved = left_by t moved
 
 abbrev pub after_line : TableState → List ℕ → TableState
-after_line t line = table_after t (carried_out t line)
+after_line t line = after_line_by step t line
 
 abbrev pub answer_of : TableState → List ℕ → List ℕ
-answer_of t line = outcome_text (onward (λ moved. moved.1) (carried_out t line))
+answer_of t line = answer_by step t line
 
 -- the answers of lines, one after the other from a table
 abbrev pub answers_from : TableState → List (List ℕ) → List (List ℕ)
-answers_from t [] = []
-answers_from t (line ∷ lines) = answer_of t line ∷ answers_from (after_line t line) lines
+answers_from t lines = answers_by step t lines
 
 abbrev pub answers_of : List ℕ → List (List ℕ)
 answers_of script = answers_from empty (script_lines script)

@@ -1,3 +1,4 @@
+pub mod AnyState
 pub mod Answers
 pub mod Fields
 pub mod Line

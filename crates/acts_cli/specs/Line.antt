@@ -8,10 +8,10 @@ use Rattle.wf_value.specs.declared.outcome.Outcome.{Outcome}
 use Rattle.wf_value.specs.declared.outcome.Outcome.TheVariants as outcome
 use Rattle.wf_value.specs.declared.refusal.Refusal.{Refusal}
 use Rattle.wf_value.specs.declared.refusal.Refusal.TheVariants.{Numbered}
-use Rattle.wf_reader.specs.Event.{event_faults}
 use Rattle.wf_reader.specs.Faults.{unless_faulty}
 use Rattle.run_plan.specs.Admitted.{Admitted}
-use Rattle.run_plan.specs.SmallText.{delivery_of, event_of, runner_of, labels_of, number_of}
+use Rattle.run_plan.specs.PlanOf.{faults_of}
+use Rattle.run_plan.specs.SmallText.{delivery_id_of, event_name_of, runner_name_of, label_list_of, number_of}
 use Rattle.run_plan.specs.declared.command.Command.{Command}
 use Rattle.run_plan.specs.declared.command.Command.TheVariants as command
 use Rattle.acts_cli.specs.Fields.{at_space, three_fields}
@@ -26,20 +26,20 @@ not_a_line = Numbered code.Line
 
 -- `admit DELIVERY EVENT BODY`: the body is all that follows the third space, and may be empty
 abbrev pub prepared : Admitted → Result Command Refusal
-prepared event = onward (λ p. command.Admit p) (unless_faulty (event_faults event.body) event)
+prepared event = onward (λ p. command.Admit p) (unless_faulty (faults_of event.body) event)
 
 abbrev pub admit_of : List ℕ → Result Command Refusal
 admit_of fields =
     option_map_or prepared (option_and_then (λ f. option_and_then (λ delivery. option_map (λ event.
     record { delivery = delivery; event = event; body = f.2 })
-    (event_of f.1)) (delivery_of f.0)) (three_fields fields)) (Err not_a_line)
+    (event_name_of f.1)) (delivery_id_of f.0)) (three_fields fields)) (Err not_a_line)
 
 -- `claim RUNNER NUMBER LABELS`
 abbrev pub claim_of : List ℕ → Option Command
 claim_of fields =
     option_and_then (λ f. option_and_then (λ runner. option_and_then (λ number. option_map (λ labels.
     command.Claim (record { runner = runner; number = number; labels = labels }))
-    (labels_of f.2)) (number_of f.1)) (runner_of f.0)) (three_fields fields)
+    (label_list_of f.2)) (number_of f.1)) (runner_name_of f.0)) (three_fields fields)
 
 abbrev pub outcome_of : List ℕ → Option Outcome
 outcome_of text =
@@ -53,7 +53,7 @@ done_of fields =
     option_and_then (λ first. option_and_then (λ f.
     option_and_then (λ runner. option_and_then (λ number. option_and_then (λ lease. option_map (λ result.
     command.Done (record { runner = runner; number = number; lease = lease; result = result }))
-    (outcome_of f.2)) (number_of f.1)) (number_of f.0)) (runner_of first.0))
+    (outcome_of f.2)) (number_of f.1)) (number_of f.0)) (runner_name_of first.0))
     (three_fields first.1)) (at_space fields)
 
 -- `look RUN`

@@ -1,7 +1,8 @@
 ghost use Rattle.std.specs.Prelude.{◌≡◌, ◌++◌, ◌∷◌, [], Ok, OnErr, string_bytes};
 ghost use Rattle.wf_value.specs.Gives.{Gives};
 ghost use Rattle.run_plan.specs.ReplyText.{reply_text};
-ghost use Rattle.acts_cli.specs.Answers.{carried_out, outcome_text};
+ghost use Rattle.acts_cli.specs.AnyState.{outcome_text};
+ghost use Rattle.acts_cli.specs.Answers.{carried_out};
 
 use crate::line::command_of;
 use run_plan::Reply;

@@ -372,6 +372,7 @@ fn nothing_is_asked_after_a_failed_write(rt: HostRuntime) -> Result<(), Fail> {
 fn nothing_is_asked_after_a_failed_sync(rt: HostRuntime) -> Result<(), Fail> {
     let mut disk = failing_at(rt.alloc(), 4)?;
     put(&rt, &mut disk, 0, b"abcdef")?;
+    assert_eq!(rt; disk.faults(), 0);
     assert!(rt; disk.sync().is_err());
     assert_eq!(rt; disk.faults(), 1);
     assert_eq!(rt; disk.len(), 6);

@@ -2,14 +2,14 @@
 use Rattle.std.proofs.Common.{◌≡◌, ℕ, List, [], ◌∷◌, ◌++◌, length, refl, arith, sym, ◌∙◌}
 use Rattle.std.proofs.lemmas.List.{append-nil}
 use Rattle.run_plan.specs.declared.planned.PlannedJob.{PlannedJob}
-use Rattle.run_table.specs.declared.job.JobRecord.{JobRecord}
+use Rattle.run_table.specs.Cells.{JobCells, states}
 use Rattle.run_table.specs.ViewText.{jobs_text}
 
-pub no_plan_left : (plan : List PlannedJob) (jobs : List JobRecord) → length plan ≡ 0 → jobs_text plan jobs ≡ []
+pub no_plan_left : (plan : List PlannedJob) (jobs : List JobCells) → length plan ≡ 0 → jobs_text plan (states jobs) ≡ []
 no_plan_left [] jobs e = refl
 no_plan_left (p ∷ plan) jobs e = absurd (omega arith)
 
-pub no_jobs_left : (plan : List PlannedJob) (jobs : List JobRecord) → length jobs ≡ 0 → jobs_text plan jobs ≡ []
+pub no_jobs_left : (plan : List PlannedJob) (jobs : List JobCells) → length jobs ≡ 0 → jobs_text plan (states jobs) ≡ []
 no_jobs_left [] jobs e = refl
 no_jobs_left (p ∷ plan) [] e = refl
 no_jobs_left (p ∷ plan) (j ∷ jobs) e = absurd (omega arith)

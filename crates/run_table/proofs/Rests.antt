@@ -1,25 +1,27 @@
 -- Settling comes to an end, and then no rule applies.
-use Rattle.std.specs.Prelude.{◌≡◌, ℕ, zero, suc, ◌≤◌, List, Some, None, refl}
+use Rattle.std.specs.Prelude.{◌≡◌, ℕ, zero, suc, ◌≤◌, List, Bool, true, is_some, Option, Some, None, option_and_then, refl}
 use Rattle.std.specs.Option.{option_map_or}
 use Rattle.std.proofs.Common.{arith, ap, sym, ◌∙◌}
-use Rattle.run_table.specs.Settling.{first_rule, left, settled_within, settled}
-use Rattle.run_table.specs.declared.run.Run.{Run}
+use Rattle.run_table.specs.Rules.{rule_at}
+use Rattle.run_table.specs.Settling.{applies, first_place, first_rule, left, settled_within, settled}
+use Rattle.run_table.specs.TableState.{RunState}
+use Rattle.run_table.proofs.LivePlaces.{first_place_applies}
 use Rattle.run_table.proofs.Lowered.{first_rule_lowers}
 
 -- with nothing left there is no rule
-nothing_left : (runs : List Run) → left runs ≤ 0 → first_rule runs ≡ None
+nothing_left : (runs : List RunState) → left runs ≤ 0 → first_rule runs ≡ None
 nothing_left runs h =
     elim (first_rule runs) as (λ o. first_rule runs ≡ o → o ≡ None) [
       | None ↦ λ is. refl
       | Some next ↦ λ is. absurd (omega (arith, first_rule_lowers runs next is))
     ] refl
 
-at_rest_already : (n : ℕ) (runs : List Run) → first_rule runs ≡ None → settled_within n runs ≡ runs
+at_rest_already : (n : ℕ) (runs : List RunState) → first_rule runs ≡ None → settled_within n runs ≡ runs
 at_rest_already zero runs h = refl
 at_rest_already (suc n) runs h = ap (λ o. option_map_or (settled_within n) o runs) h
 
 -- two counts that suffice give the same
-pub settled_enough : (n m : ℕ) (runs : List Run) → left runs ≤ n → left runs ≤ m → settled_within n runs ≡ settled_within m runs
+pub settled_enough : (n m : ℕ) (runs : List RunState) → left runs ≤ n → left runs ≤ m → settled_within n runs ≡ settled_within m runs
 settled_enough zero m runs hn hm = sym (at_rest_already m runs (nothing_left runs hn))
 settled_enough (suc n) zero runs hn hm = at_rest_already (suc n) runs (nothing_left runs hm)
 settled_enough (suc n) (suc m) runs hn hm =
@@ -31,7 +33,7 @@ settled_enough (suc n) (suc m) runs hn hm =
     ] refl
 
 -- a rule more or less makes no difference
-pub settled_after_rule : (runs next : List Run) → first_rule runs ≡ Some next → settled runs ≡ settled next
+pub settled_after_rule : (runs next : List RunState) → first_rule runs ≡ Some next → settled runs ≡ settled next
 settled_after_rule runs next is =
     let lower = first_rule_lowers runs next is in
     settled_enough (left runs) (suc (left runs)) runs (omega arith) (omega arith)
@@ -39,10 +41,10 @@ settled_after_rule runs next is =
     ∙ settled_enough (left runs) (left next) next (omega (arith, lower)) (omega arith)
 
 -- where no rule applies, nothing changes
-pub settled_at_rest : (runs : List Run) → first_rule runs ≡ None → settled runs ≡ runs
+pub settled_at_rest : (runs : List RunState) → first_rule runs ≡ None → settled runs ≡ runs
 settled_at_rest runs h = at_rest_already (left runs) runs h
 
-rests_within : (n : ℕ) (runs : List Run) → left runs ≤ n → first_rule (settled_within n runs) ≡ None
+rests_within : (n : ℕ) (runs : List RunState) → left runs ≤ n → first_rule (settled_within n runs) ≡ None
 rests_within zero runs h = nothing_left runs h
 rests_within (suc n) runs h =
     elim (first_rule runs) as (λ o. first_rule runs ≡ o → first_rule (option_map_or (settled_within n) o runs) ≡ None) [
@@ -51,5 +53,26 @@ rests_within (suc n) runs h =
     ] refl
 
 -- after settling no rule applies
-pub settled_rests : (runs : List Run) → first_rule (settled runs) ≡ None
+pub settled_rests : (runs : List RunState) → first_rule (settled runs) ≡ None
 settled_rests runs = rests_within (left runs) runs (omega arith)
+
+-- ---- at no place
+
+some_rule : (b : Bool) → b ≡ true → (X : Type 0) (o : Option X) → is_some o ≡ b → o ≡ None → ⊥
+some_rule b e X None is none = cc
+some_rule b e X (Some x) is none = cc
+
+pub no_place : (runs : List RunState) → first_rule runs ≡ None → first_place runs ≡ None
+no_place runs h =
+    elim (first_place runs) as (λ o. first_place runs ≡ o → o ≡ None) [
+      | None ↦ λ is. refl
+      | Some place ↦ λ is.
+          absurd (some_rule (applies runs place) (first_place_applies runs place is) (List RunState) (rule_at runs place) refl (sym (ap (option_and_then (rule_at runs)) is) ∙ h))
+    ] refl
+
+-- and at a place where no rule applies there is none
+pub no_rule : (runs : List RunState) → first_place runs ≡ None → first_rule runs ≡ None
+no_rule runs h = ap (option_and_then (rule_at runs)) h
+
+pub settled_has_no_place : (runs : List RunState) → first_place (settled runs) ≡ None
+settled_has_no_place runs = no_place (settled runs) (settled_rests runs)

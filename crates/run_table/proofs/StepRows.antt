@@ -1,55 +1,88 @@
 -- The step worked through by computation, on tables written out.
-use Rattle.std.specs.Prelude.{◌≡◌, ℕ, List, [], ◌∷◌, codes, Some, None, false, refl}
+use Rattle.std.specs.Prelude.{◌≡◌, ℕ, List, [], ◌∷◌, codes, Some, None, true, false, refl}
+use Rattle.std.proofs.Common.{ap}
+use Rattle.std.specs.Option.{option_map_or}
 use Rattle.wf_value.specs.declared.code.Code.TheVariants.{HasLease, LeaseNotHeld, NoRun}
 use Rattle.wf_value.specs.declared.outcome.JobResult.TheVariants as result
 use Rattle.wf_value.specs.declared.outcome.Outcome.TheVariants as outcome
 use Rattle.wf_value.specs.declared.refusal.Refusal.TheVariants.{Turn}
+use Rattle.run_plan.specs.PlanOf.{plan_of}
 use Rattle.run_plan.specs.declared.command.Claim.{Claim as Claimed}
 use Rattle.run_plan.specs.declared.command.Command.TheVariants as command
 use Rattle.run_plan.specs.declared.reply.Reply.TheVariants as reply
-use Rattle.run_table.specs.JobRules.{job_rule, opening, new_leg}
-use Rattle.run_table.specs.Legs.{leased_leg}
-use Rattle.run_table.specs.Settling.{settled}
-use Rattle.run_table.specs.Step.{step, empty, claiming, refused}
-use Rattle.run_table.specs.TableState.{TableState}
-use Rattle.run_table.specs.declared.leg.Leg.{Leg}
-use Rattle.run_table.specs.declared.leg.LegPhase.TheVariants as leg
-use Rattle.run_table.specs.declared.job.JobState.TheVariants as state
-use Rattle.run_table.specs.declared.run.Run.{Run}
-use Rattle.run_table.specs.declared.run.RunPhase.TheVariants as phase
-use Rattle.run_table.specs.declared.runner.Runner.{Runner}
+use Rattle.run_table.specs.Fitting.{place_of_lease}
+use Rattle.run_table.specs.Places.{LegPlace, with_leg}
+use Rattle.run_table.specs.Rules.{new_leg, opened, rule_at}
+use Rattle.run_table.specs.Settling.{settled, first_place, first_rule, left}
+use Rattle.run_table.specs.Step.{step, empty, claiming_runner, reporting_runner, refused, leased_leg, new_run, with_ended}
+use Rattle.run_table.specs.TableState.{LegState, JobState, RunState, RunnerState, TableState}
+use Rattle.run_plan.specs.declared.last_command.ClaimReply.TheVariants as given
+use Rattle.run_table.specs.declared.phases.LegPhase.TheVariants as leg
+use Rattle.run_table.specs.declared.phases.JobPhase.TheVariants as job
+use Rattle.run_table.specs.declared.phases.RunPhase.{RunPhase}
+use Rattle.run_table.specs.declared.phases.RunPhase.TheVariants as run
+use Rattle.run_table.specs.declared.place.Place.TheVariants.{Opening, AtLeg, Closing, Whole}
+
+abbrev run_of : RunPhase → List JobState → RunState
+run_of phase jobs = record { admitted = record { delivery = codes "d1"; event = codes "push"; body = [] }; phase = phase; stopping = false; jobs = jobs }
+
+abbrev open_job : List LegState → JobState
+open_job legs = record { phase = job.Open; legs = legs }
 
 -- a live run of one open job with these legs
-abbrev one_job : List Leg → Run
-one_job legs = record { prepared = record { delivery = codes "d1"; event = codes "push"; body = [] }; phase = phase.Live; stopping = false; jobs = record { state = state.Open; legs = legs } ∷ [] }
+abbrev one_job : List LegState → RunState
+one_job legs = run_of run.Live (open_job legs ∷ [])
 
-abbrev ended_job : Run
-ended_job = record { prepared = record { delivery = codes "d1"; event = codes "push"; body = [] }; phase = phase.Ended; stopping = false; jobs = record { state = state.Settled result.Failure; legs = record { phase = leg.Ended outcome.Failure; lease = Some 1 } ∷ [] } ∷ [] }
+abbrev ready_leg : LegState
+ready_leg = record { phase = leg.Ready; lease = None }
+
+abbrev failed_leg : LegState
+failed_leg = record { phase = leg.Ended outcome.Failure; lease = Some 1 }
 
 -- a new leg without a group waits, and then is ready
-new_leg_becomes_ready : settled (one_job (new_leg ∷ []) ∷ []) ≡ one_job (record { phase = leg.Ready; lease = None } ∷ []) ∷ []
+new_leg_becomes_ready : settled (one_job (new_leg ∷ []) ∷ []) ≡ one_job (ready_leg ∷ []) ∷ []
 new_leg_becomes_ready = refl
 
+-- legs go on by number, each as far as it can before the next
+legs_by_number : first_rule (one_job (record { phase = leg.Waiting; lease = None } ∷ new_leg ∷ []) ∷ []) ≡ Some (one_job (ready_leg ∷ new_leg ∷ []) ∷ [])
+legs_by_number = refl
+
 -- a failed leg settles its job, and the job its run
-failed_leg_ends_its_run : settled (one_job (record { phase = leg.Ended outcome.Failure; lease = Some 1 } ∷ []) ∷ []) ≡ ended_job ∷ []
+failed_leg_ends_its_run : settled (one_job (failed_leg ∷ []) ∷ []) ≡ run_of run.Ended (record { phase = job.Settled result.Failure; legs = failed_leg ∷ [] } ∷ []) ∷ []
 failed_leg_ends_its_run = refl
 
 -- a running leg keeps its job open
-running_leg_rests : settled (one_job (leased_leg 1 ∷ []) ∷ []) ≡ one_job (leased_leg 1 ∷ []) ∷ []
+running_leg_rests : first_place (one_job (leased_leg 1 ∷ []) ∷ []) ≡ None
 running_leg_rests = refl
 
--- a blocked job opens with the legs of its plan
-blocked_job_opens : job_rule 2 false (record { state = state.Blocked; legs = [] }) opening ≡ Some (record { state = state.Open; legs = new_leg ∷ new_leg ∷ [] })
+-- a waiting run without a group becomes live, and no job of it opens before that
+waiting_run_becomes_live : first_place (run_of run.Waiting (record { phase = job.Blocked; legs = [] } ∷ []) ∷ []) ≡ Some (Whole 0)
+waiting_run_becomes_live = refl
+
+-- a blocked job of a live run opens
+blocked_job_opens : first_place (run_of run.Live (record { phase = job.Blocked; legs = [] } ∷ []) ∷ []) ≡ Some (Opening 0 0)
 blocked_job_opens = refl
+
+-- with the legs of its plan
+job_opens_with_its_legs : opened 2 (record { phase = job.Blocked; legs = [] }) ≡ open_job (new_leg ∷ new_leg ∷ [])
+job_opens_with_its_legs = refl
+
+-- the blocked job of a run that is told to stop settles as cancelled
+stopping_job_is_cancelled : rule_at (record (run_of run.Live (record { phase = job.Blocked; legs = [] } ∷ [])) { stopping = true } ∷ []) (Opening 0 0) ≡ Some (record (run_of run.Live (record { phase = job.Settled result.Cancelled; legs = [] } ∷ [])) { stopping = true } ∷ [])
+stopping_job_is_cancelled = refl
+
+-- each rule lowers what is left: a job that settles by one, a leg that goes on by one
+left_of_one_job : left (one_job (new_leg ∷ []) ∷ []) ≡ 7
+left_of_one_job = refl
 
 abbrev claim_of : ℕ → Claimed
 claim_of number = record { runner = codes "r1"; number = number; labels = codes "linux" ∷ [] }
 
-abbrev table_with : Runner → TableState
+abbrev table_with : RunnerState → TableState
 table_with runner = record { last_lease = 0; runs = []; runners = runner ∷ [] }
 
-abbrev served_nothing : Runner
-served_nothing = claiming (claim_of 1) None reply.Nothing
+abbrev served_nothing : RunnerState
+served_nothing = claiming_runner (claim_of 1) None given.Nothing
 
 -- an unknown runner's last number is 0
 claim_out_of_turn : step empty (command.Claim (claim_of 2)) ≡ (empty, reply.Refused (Turn 0))
@@ -66,14 +99,32 @@ claim_again = refl
 claim_changed : step (table_with served_nothing) (command.Claim (record { runner = codes "r1"; number = 1; labels = codes "gpu" ∷ [] })) ≡ (table_with served_nothing, reply.Refused (Turn 1))
 claim_changed = refl
 
-abbrev holding : Runner
-holding = claiming (claim_of 2) (Some 1) reply.Nothing
+abbrev holding : RunnerState
+holding = claiming_runner (claim_of 2) (Some 1) given.Nothing
 
 claim_while_holding : step (table_with holding) (command.Claim (claim_of 3)) ≡ (table_with holding, refused HasLease)
 claim_while_holding = refl
 
 report_of_another_lease : step (table_with holding) (command.Done (record { runner = codes "r1"; number = 3; lease = 9; result = outcome.Success })) ≡ (table_with holding, refused LeaseNotHeld)
 report_of_another_lease = refl
+
+abbrev working : TableState
+working = record { last_lease = 1; runs = one_job (leased_leg 1 ∷ []) ∷ []; runners = holding ∷ [] }
+
+abbrev failed : TableState
+failed = record {
+  last_lease = 1;
+  runs = run_of run.Ended (record { phase = job.Settled result.Failure; legs = failed_leg ∷ [] } ∷ []) ∷ [];
+  runners = reporting_runner (record { runner = codes "r1"; number = 3; lease = 1; result = outcome.Failure }) ∷ [];
+}
+
+-- a report ends the leg of its lease, its job and its run
+report_of_a_failure : step working (command.Done (record { runner = codes "r1"; number = 3; lease = 1; result = outcome.Failure })) ≡ (failed, reply.Ok)
+report_of_a_failure = refl
+
+-- the lease of a leg is found whatever job it is of
+lease_is_found : place_of_lease (one_job (leased_leg 1 ∷ []) ∷ run_of run.Live (open_job (leased_leg 2 ∷ []) ∷ open_job (failed_leg ∷ leased_leg 3 ∷ []) ∷ []) ∷ []) 3 ≡ Some (record { run = 1; job = 1; leg = 1 })
+lease_is_found = refl
 
 look_at_no_run : step empty (command.Look 1) ≡ (empty, refused NoRun)
 look_at_no_run = refl

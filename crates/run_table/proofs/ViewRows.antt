@@ -7,28 +7,26 @@ use Rattle.wf_reader.specs.Event.{event_of}
 use Rattle.run_plan.specs.PlanOf.{plan_of}
 use Rattle.run_plan.specs.Admitted.{Admitted}
 use Rattle.run_plan.specs.declared.planned.PlannedJob.{PlannedJob}
-use Rattle.run_table.specs.ViewText.{sight_of, sight_text, run_text}
-use Rattle.run_table.specs.declared.leg.Leg.{Leg}
-use Rattle.run_table.specs.declared.leg.LegPhase.{LegPhase}
-use Rattle.run_table.specs.declared.leg.LegPhase.TheVariants as leg
-use Rattle.run_table.specs.declared.job.JobRecord.{JobRecord}
-use Rattle.run_table.specs.declared.job.JobState.{JobState}
-use Rattle.run_table.specs.declared.job.JobState.TheVariants as state
-use Rattle.run_table.specs.declared.run.Run.{Run}
-use Rattle.run_table.specs.declared.run.RunPhase.TheVariants as phase
+use Rattle.run_table.specs.TableState.{LegState, JobState, RunState}
+use Rattle.run_table.specs.ViewText.{seen_of, seen_text, run_text}
+use Rattle.run_table.specs.declared.phases.LegPhase.{LegPhase}
+use Rattle.run_table.specs.declared.phases.LegPhase.TheVariants as leg
+use Rattle.run_table.specs.declared.phases.JobPhase.{JobPhase}
+use Rattle.run_table.specs.declared.phases.JobPhase.TheVariants as state
+use Rattle.run_table.specs.declared.phases.RunPhase.TheVariants as phase
 
 -- ---- a run's text, for a plan of literal ids
 
 abbrev planned : List ℕ → PlannedJob
-planned id = record { id = id; legs = [] }
+planned id = record { id = id; labels = []; legs = [] }
 
-abbrev job : JobState → List Leg → JobRecord
-job s legs = record { state = s; legs = legs }
+abbrev job : JobPhase → List LegState → JobState
+job s legs = record { phase = s; legs = legs }
 
-abbrev unclaimed : LegPhase → Leg
+abbrev unclaimed : LegPhase → LegState
 unclaimed p = record { phase = p; lease = None }
 
-abbrev claimed : LegPhase → Leg
+abbrev claimed : LegPhase → LegState
 claimed p = record { phase = p; lease = Some 1 }
 
 abbrev build : List PlannedJob
@@ -70,16 +68,16 @@ stopping = refl
 abbrev admitted : List ℕ → Admitted
 admitted body = record { delivery = codes "d1"; event = codes "push"; body = body }
 
-abbrev completed_run : List ℕ → Run
-completed_run body = record { prepared = admitted body; phase = phase.Ended; stopping = false; jobs = job (state.Settled result.Success) (claimed (leg.Ended outcome.Success) ∷ []) ∷ [] }
+abbrev completed_run : List ℕ → RunState
+completed_run body = record { admitted = admitted body; phase = phase.Ended; stopping = false; jobs = job (state.Settled result.Success) (claimed (leg.Ended outcome.Success) ∷ []) ∷ [] }
 
-look_at_a_completed_run : (body : List ℕ) → plan_of body ≡ build → sight_text (record { id = 1; number = 1; run = completed_run body }) ≡ codes "run 1 1 completed success build:success(success)"
+look_at_a_completed_run : (body : List ℕ) → plan_of body ≡ build → seen_text (record { id = 1; number = 1; run = completed_run body }) ≡ codes "run 1 1 completed success build:success(success)"
 unfolding digits
 look_at_a_completed_run body planned_so = ap (λ plan. codes "run 1 1 " ++ run_text plan phase.Ended (completed_run body).jobs) planned_so
 
 -- the number counts the runs of the same repository and path: here the third run is the second of its workflow
-numbered_by_workflow : (ci cd : List ℕ) → (event_of ci).repo ≡ codes "o/r" → (event_of cd).repo ≡ codes "o/r" → (event_of ci).path ≡ codes "ci.json" → (event_of cd).path ≡ codes "cd.json" → sight_of (completed_run ci ∷ completed_run cd ∷ completed_run ci ∷ completed_run ci ∷ []) 3 ≡ Some (record { id = 3; number = 2; run = completed_run ci })
+numbered_by_workflow : (ci cd : List ℕ) → (event_of ci).repo ≡ codes "o/r" → (event_of cd).repo ≡ codes "o/r" → (event_of ci).path ≡ codes "ci.json" → (event_of cd).path ≡ codes "cd.json" → seen_of (completed_run ci ∷ completed_run cd ∷ completed_run ci ∷ completed_run ci ∷ []) 3 ≡ Some (record { id = 3; number = 2; run = completed_run ci })
 numbered_by_workflow ci cd ci_repo cd_repo ci_path cd_path = simp (ci_repo, cd_repo, ci_path, cd_path)
 
-no_such_run : (body : List ℕ) → sight_of (completed_run body ∷ []) 2 ≡ None
+no_such_run : (body : List ℕ) → seen_of (completed_run body ∷ []) 2 ≡ None
 no_such_run body = refl

@@ -1,45 +1,42 @@
--- Which leg a claim gets: the first ready one that the runner's labels serve.
+-- Which leg a claim gets, and which leg has a lease: the first one, in the order of run, job and leg.
 -- GitHub Docs, "Workflow syntax for GitHub Actions": jobs.<job_id>.runs-on. That labels compare without
 -- the case of ASCII letters is own.
-use Rattle.std.specs.Prelude.{ℕ, ◌&&◌, List, Bool, Option, Some, None, option_and_then, slice_get, if◌then◌else◌}
+use Rattle.std.specs.Prelude.{ℕ, ◌&&◌, List, find, Bool, true, false, nat_eq, Option}
 use Rattle.std.specs.List.{list_all, list_any}
+use Rattle.std.specs.Option.{option_map_or}
 use Rattle.std.specs.Str.{str_eq_ignore_ascii_case}
-use Rattle.run_plan.specs.PlanOf.{plan_of}
-use Rattle.run_plan.specs.declared.planned.PlannedJob.{PlannedJob}
-use Rattle.run_plan.specs.declared.planned.PlannedLeg.{PlannedLeg}
-use Rattle.run_table.specs.FirstOf.{first_some, placed}
-use Rattle.run_table.specs.Legs.{is_ready}
-use Rattle.run_table.specs.declared.fit.Fit.{Fit}
-use Rattle.run_table.specs.declared.leg.Leg.{Leg}
-use Rattle.run_table.specs.declared.job.JobRecord.{JobRecord}
-use Rattle.run_table.specs.declared.run.Run.{Run}
+use Rattle.run_table.specs.Places.{LegPlace, leg_at, leg_places}
+use Rattle.run_table.specs.TableState.{LegState, RunState}
+use Rattle.run_table.specs.Words.{labels_at}
+use Rattle.run_table.specs.declared.phases.LegPhase.{LegPhase}
+use Rattle.run_table.specs.declared.phases.LegPhase.TheVariants as leg
 
 -- whether the label is among these, whatever the case of ASCII letters
 abbrev pub has_label : List (List ℕ) → List ℕ → Bool
 has_label labels wanted = list_any (λ label. str_eq_ignore_ascii_case label wanted) labels
 
--- each label that the leg asks for is among the runner's
-abbrev pub serves : List (List ℕ) → PlannedLeg → Bool
-serves labels planned = list_all (has_label labels) planned.labels
+-- each of the wanted labels is among the runner's
+abbrev pub has_labels : List (List ℕ) → List (List ℕ) → Bool
+has_labels labels wanted = list_all (has_label labels) wanted
 
--- the leg at a place, where it is ready and the labels serve it
-abbrev pub fit_at : List (List ℕ) → ℕ → ℕ → PlannedJob → ℕ → Leg → Option Fit
-fit_at labels r j planned l x =
-    option_and_then (λ leg. if is_ready x.phase && serves labels leg then Some (record { run = r; job = j; leg = l; id = planned.id; combo = leg.combo }) else None) (slice_get planned.legs l)
+abbrev pub is_ready : LegPhase → Bool
+is_ready leg.New = false
+is_ready leg.Waiting = false
+is_ready leg.Ready = true
+is_ready leg.Running = false
+is_ready leg.Stopping = false
+is_ready (leg.Ended r) = false
 
-abbrev pub fit_in_job : List (List ℕ) → ℕ → ℕ → PlannedJob → List Leg → Option Fit
-fit_in_job labels r j planned legs = first_some (λ l. fit_at labels r j planned l.0 l.1) (placed legs)
+-- whether the leg at a place is ready and asks for no label that the runner lacks
+abbrev pub fits : List (List ℕ) → List RunState → LegPlace → Bool
+fits labels runs p = option_map_or (λ l. is_ready l.phase) (leg_at runs p) false && option_map_or (has_labels labels) (labels_at runs p) false
 
--- the job at a place, beside what the plan says of it
-abbrev pub fit_in_planned : List (List ℕ) → List PlannedJob → ℕ → ℕ → JobRecord → Option Fit
-fit_in_planned labels plan r j job = option_and_then (λ planned. fit_in_job labels r j planned job.legs) (slice_get plan j)
+abbrev pub first_fit : List (List ℕ) → List RunState → Option LegPlace
+first_fit labels runs = find (fits labels runs) (leg_places runs)
 
-abbrev pub fit_in_jobs : List (List ℕ) → List PlannedJob → ℕ → List JobRecord → Option Fit
-fit_in_jobs labels plan r jobs = first_some (λ j. fit_in_planned labels plan r j.0 j.1) (placed jobs)
+abbrev pub has_lease : ℕ → LegState → Bool
+has_lease lease l = option_map_or (λ held. nat_eq held lease) l.lease false
 
-abbrev pub fit_in_run : List (List ℕ) → ℕ → Run → Option Fit
-fit_in_run labels r run = fit_in_jobs labels (plan_of run.prepared.body) r run.jobs
-
--- the first ready leg in the order of run, job and leg that the labels serve
-abbrev pub first_fit : List (List ℕ) → List Run → Option Fit
-first_fit labels runs = first_some (λ r. fit_in_run labels r.0 r.1) (placed runs)
+-- the leg of a lease
+abbrev pub place_of_lease : List RunState → ℕ → Option LegPlace
+place_of_lease runs lease = find (λ p. option_map_or (has_lease lease) (leg_at runs p) false) (leg_places runs)

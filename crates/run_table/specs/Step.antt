@@ -1,135 +1,182 @@
--- One step of the table: what a command is answered, and the table after it. Checks stand in their order,
--- and a refusal leaves the table. What a step looks at it finds by going over the whole table from the
--- first run.
-use Rattle.std.specs.Prelude.{ℕ, ◌+◌, List, [], ◌∷◌, ◌++◌, map, length, Bool, false, nat_le, Option, Some, None, if◌then◌else◌}
+-- One step of the table: what a command is answered, and the table after it. A command is either answered from
+-- the table as it is, which then stays: the refusals, in the order of their checks, a delivery that is known, a
+-- command that is repeated, and what is looked at. Or it changes the table, which settles then.
+use Rattle.std.specs.Prelude.{ℕ, ◌+◌, ◌&&◌, List, [], ◌∷◌, ◌++◌, map, length, Bool, false, not, is_some, nat_le, Option, Some, None, option_map, if◌then◌else◌}
 use Rattle.std.specs.List.{position}
-use Rattle.std.specs.Option.{option_map_or}
+use Rattle.std.specs.Option.{option_or, option_map_or}
 use Rattle.std.specs.Str.{bytes_eq}
 use Rattle.wf_value.specs.declared.code.Code.{Code}
 use Rattle.wf_value.specs.declared.code.Code.TheVariants.{HasLease, LeaseNotHeld, LastCounter, NoRun}
 use Rattle.wf_value.specs.declared.refusal.Refusal.TheVariants.{Numbered}
 use Rattle.wf_value.specs.declared.outcome.Outcome.{Outcome}
 use Rattle.run_plan.specs.Admitted.{Admitted}
+use Rattle.run_plan.specs.LastCommand.{is_last_claim, is_last_report}
 use Rattle.run_plan.specs.PlanOf.{plan_of}
+use Rattle.run_plan.specs.ReplyText.{carries_text}
 use Rattle.run_plan.specs.declared.command.Claim.{Claim as Claimed}
 use Rattle.run_plan.specs.declared.command.Done.{Done as Reported}
 use Rattle.run_plan.specs.declared.command.Command.{Command}
 use Rattle.run_plan.specs.declared.command.Command.TheVariants as command
+use Rattle.run_plan.specs.declared.reply.Lease.{Lease as Leased}
 use Rattle.run_plan.specs.declared.reply.Reply.{Reply}
 use Rattle.run_plan.specs.declared.reply.Reply.TheVariants as reply
-use Rattle.run_table.specs.FirstOf.{changed_at}
-use Rattle.run_table.specs.Fitting.{first_fit}
-use Rattle.run_table.specs.Legs.{leased_leg, ended_leg}
+use Rattle.run_table.specs.Fitting.{first_fit, place_of_lease}
+use Rattle.run_table.specs.Moves.{Step}
+use Rattle.run_table.specs.Places.{LegPlace, with_leg}
+use Rattle.run_table.specs.Rules.{leg_in_phase}
 use Rattle.run_table.specs.Settling.{settled}
-use Rattle.run_table.specs.Turns.{runner_named, met_first, with_runner, holds_lease, holds_this}
-use Rattle.run_table.specs.ViewText.{Sight, sight_of, sight_text}
-use Rattle.run_table.specs.declared.fit.Fit.{Fit}
-use Rattle.run_table.specs.declared.job.JobRecord.{JobRecord}
-use Rattle.run_table.specs.declared.job.JobState.TheVariants as state
-use Rattle.run_table.specs.declared.run.Run.{Run}
-use Rattle.run_table.specs.declared.run.RunPhase.TheVariants as phase
-use Rattle.run_table.specs.declared.runner.Runner.{Runner}
-use Rattle.run_table.specs.TableState.{TableState}
-
-abbrev pub refused : Code → Reply
-refused code = reply.Refused (Numbered code)
-
-abbrev pub last_number : ℕ
-last_number = 999999999
-
--- the table settled
-abbrev pub at_rest : TableState → TableState
-at_rest t = record t { runs = settled t.runs }
-
--- ---- admit
-
-abbrev pub blocked_job : JobRecord
-blocked_job = record { state = state.Blocked; legs = [] }
-
-abbrev pub new_run : Admitted → Run
-new_run admitted = record { prepared = admitted; phase = phase.Waiting; stopping = false; jobs = map (λ _. blocked_job) (plan_of admitted.body) }
-
-abbrev pub is_delivered_as : List ℕ → Run → Bool
-is_delivered_as delivery run = bytes_eq run.prepared.delivery delivery
-
--- a delivery that is in the table makes no second run
-abbrev pub admitted : TableState → Admitted → TableState × Reply
-admitted t event =
-    option_map_or (λ i. (t, reply.Created (i + 1)))
-    (position (is_delivered_as event.delivery) t.runs)
-    (if nat_le 100000 (length t.runs)
-    then (t, refused LastCounter)
-    else (at_rest (record t { runs = t.runs ++ new_run event ∷ [] }), reply.Created (length t.runs + 1)))
-
--- ---- claim
-
-abbrev pub leased_job : ℕ → ℕ → JobRecord → JobRecord
-leased_job l lease job = record job { legs = changed_at l (λ _. leased_leg lease) job.legs }
-
-abbrev pub leased_run : ℕ → ℕ → ℕ → Run → Run
-leased_run j l lease run = record run { jobs = changed_at j (leased_job l lease) run.jobs }
-
-abbrev pub with_leased : List Run → Fit → ℕ → List Run
-with_leased runs fit lease = changed_at fit.run (leased_run fit.job fit.leg lease) runs
-
-abbrev pub claiming : Claimed → Option ℕ → Reply → Runner
-claiming claim holds reply = record { name = claim.runner; number = claim.number; last = command.Claim claim; reply = reply; holds = holds }
-
-abbrev pub leased : TableState → Claimed → Fit → TableState × Reply
-leased t claim fit =
-    let lease = t.last_lease + 1 in
-    let answer = reply.Lease (record { lease = lease; run = fit.run + 1; job = fit.id; leg = fit.leg; combo = fit.combo }) in
-    (at_rest (record { last_lease = lease; runs = with_leased t.runs fit lease; runners = with_runner t.runners (claiming claim (Some lease) answer) }), answer)
-
-abbrev pub unserved : TableState → Claimed → TableState × Reply
-unserved t claim = (at_rest (record t { runners = with_runner t.runners (claiming claim None reply.Nothing) }), reply.Nothing)
-
-abbrev pub claimed_in_turn : TableState → Claimed → TableState × Reply
-claimed_in_turn t claim =
-    if holds_lease (runner_named t.runners claim.runner)
-    then (t, refused HasLease)
-    else option_map_or (λ fit. if nat_le last_number t.last_lease then (t, refused LastCounter) else leased t claim fit) (first_fit claim.labels t.runs) (unserved t claim)
-
-abbrev pub claimed : TableState → Claimed → TableState × Reply
-claimed t claim = option_map_or (λ answer. (t, answer)) (met_first (runner_named t.runners claim.runner) claim.number (command.Claim claim)) (claimed_in_turn t claim)
-
--- ---- done
-
-abbrev pub ended_job : ℕ → Outcome → JobRecord → JobRecord
-ended_job lease result job = record job { legs = map (ended_leg lease result) job.legs }
-
-abbrev pub ended_run : ℕ → Outcome → Run → Run
-ended_run lease result run = record run { jobs = map (ended_job lease result) run.jobs }
-
-abbrev pub reporting : Reported → Runner
-reporting report = record { name = report.runner; number = report.number; last = command.Done report; reply = reply.Ok; holds = None }
-
-abbrev pub reported_in_turn : TableState → Reported → TableState × Reply
-reported_in_turn t report =
-    if holds_this report.lease (runner_named t.runners report.runner)
-    then (at_rest (record t { runs = map (ended_run report.lease report.result) t.runs; runners = with_runner t.runners (reporting report) }), reply.Ok)
-    else (t, refused LeaseNotHeld)
-
-abbrev pub reported : TableState → Reported → TableState × Reply
-reported t report = option_map_or (λ answer. (t, answer)) (met_first (runner_named t.runners report.runner) report.number (command.Done report)) (reported_in_turn t report)
-
--- ---- look
-
--- what is seen of the run of an id
-abbrev pub seen : TableState → ℕ → Option Sight
-seen t id = sight_of t.runs id
-
-abbrev pub looked_at : TableState → ℕ → TableState × Reply
-looked_at t id = (t, option_map_or (λ sight. reply.Run (sight_text sight)) (seen t id) (refused NoRun))
-
--- ---- all commands
-
-abbrev pub step : TableState → Command → TableState × Reply
-step t (command.Admit event) = admitted t event
-step t (command.Claim claim) = claimed t claim
-step t (command.Done report) = reported t report
-step t (command.Look id) = looked_at t id
+use Rattle.run_table.specs.TableState.{LegState, JobState, RunState, RunnerState, TableState}
+use Rattle.run_table.specs.Turns.{runner_named, answer_of_turn, with_runner, holds_lease, holds_this}
+use Rattle.run_table.specs.ViewText.{Seen, seen_of, seen_text}
+use Rattle.run_table.specs.Words.{job_id, combo_at}
+use Rattle.run_plan.specs.declared.last_command.LastCommand.TheVariants as last
+use Rattle.run_plan.specs.declared.last_command.ClaimReply.{ClaimReply}
+use Rattle.run_plan.specs.declared.last_command.ClaimReply.TheVariants as given
+use Rattle.run_table.specs.declared.phases.LegPhase.TheVariants as leg
+use Rattle.run_table.specs.declared.phases.JobPhase.TheVariants as job
+use Rattle.run_table.specs.declared.phases.RunPhase.TheVariants as run
 
 -- the table without runs and runners
 abbrev pub empty : TableState
 empty = record { last_lease = 0; runs = []; runners = [] }
+
+abbrev pub refused : Code → Reply
+refused code = reply.Refused (Numbered code)
+
+-- the last number of a lease
+abbrev pub last_number : ℕ
+last_number = 999999999
+
+-- the table as it was, with a reply
+abbrev pub unchanged : TableState → Reply → Step
+unchanged t reply = record { table = t; reply = reply; moves = [] }
+
+-- the table settled, with a reply
+abbrev pub at_rest : TableState → Reply → Step
+at_rest t reply = record { table = record t { runs = settled t.runs }; reply = reply; moves = [] }
+
+-- ---- admit
+
+abbrev pub is_delivered_as : List ℕ → RunState → Bool
+is_delivered_as delivery run = bytes_eq run.admitted.delivery delivery
+
+-- a delivery that is in the table makes no second run
+abbrev pub admission_answer : TableState → Admitted → Option Reply
+admission_answer t event =
+    option_or (option_map (λ i. reply.Created (i + 1)) (position (is_delivered_as event.delivery) t.runs))
+    (if nat_le 100000 (length t.runs) then Some (refused LastCounter) else None)
+
+abbrev pub blocked_job : JobState
+blocked_job = record { phase = job.Blocked; legs = [] }
+
+-- a run that is waiting, with all jobs of its plan blocked
+abbrev pub new_run : Admitted → RunState
+new_run event = record { admitted = event; phase = run.Waiting; stopping = false; jobs = map (λ _. blocked_job) (plan_of event.body) }
+
+abbrev pub admitting : TableState → Admitted → Step
+admitting t event = at_rest (record t { runs = t.runs ++ new_run event ∷ [] }) (reply.Created (length t.runs + 1))
+
+abbrev pub admitted : TableState → Admitted → Step
+admitted t event = option_map_or (unchanged t) (admission_answer t event) (admitting t event)
+
+-- ---- claim
+
+-- a leg that fits finds no lease after the last
+abbrev pub has_no_lease_left : TableState → Claimed → Bool
+has_no_lease_left t claim = is_some (first_fit claim.labels t.runs) && nat_le last_number t.last_lease
+
+abbrev pub lease_answer : TableState → Claimed → Option Reply
+lease_answer t claim = if has_no_lease_left t claim then Some (refused LastCounter) else None
+
+abbrev pub claim_answer : TableState → Claimed → Option Reply
+claim_answer t claim =
+    option_or (answer_of_turn (runner_named t.runners claim.runner) claim.number (is_last_claim claim))
+    (if holds_lease (runner_named t.runners claim.runner) then Some (refused HasLease) else lease_answer t claim)
+
+-- what is kept of a runner after its claim
+abbrev pub claiming_runner : Claimed → Option ℕ → ClaimReply → RunnerState
+claiming_runner claim holds given = record { name = claim.runner; number = claim.number; last = last.Claim claim given; holds = holds }
+
+-- a leg that runs under a lease
+abbrev pub leased_leg : ℕ → LegState
+leased_leg lease = record { phase = leg.Running; lease = Some lease }
+
+-- what a runner is told of the leg that it gets
+abbrev pub lease_at : List RunState → LegPlace → ℕ → Leased
+lease_at runs p lease = record { lease = lease; run = p.run + 1; job = job_id runs p.run p.job; leg = p.leg; combo = combo_at runs p }
+
+-- the leg runs under the lease after the last
+abbrev pub leasing : TableState → Claimed → LegPlace → Step
+leasing t claim p =
+    let lease = t.last_lease + 1 in
+    let told = lease_at t.runs p lease in
+    at_rest (record { last_lease = lease; runs = with_leg p (λ _. leased_leg lease) t.runs; runners = with_runner t.runners (claiming_runner claim (Some lease) (given.Lease told)) }) (reply.Lease told)
+
+-- no leg fits
+abbrev pub serving_nothing : TableState → Claimed → Step
+serving_nothing t claim = at_rest (record t { runners = with_runner t.runners (claiming_runner claim None given.Nothing) }) reply.Nothing
+
+abbrev pub claiming : TableState → Claimed → Step
+claiming t claim = option_map_or (leasing t claim) (first_fit claim.labels t.runs) (serving_nothing t claim)
+
+abbrev pub claimed : TableState → Claimed → Step
+claimed t claim = option_map_or (unchanged t) (claim_answer t claim) (claiming t claim)
+
+-- ---- done
+
+abbrev pub report_answer : TableState → Reported → Option Reply
+report_answer t report =
+    option_or (answer_of_turn (runner_named t.runners report.runner) report.number (is_last_report report))
+    (if holds_this report.lease (runner_named t.runners report.runner) then None else Some (refused LeaseNotHeld))
+
+-- what is kept of a runner after its report
+abbrev pub reporting_runner : Reported → RunnerState
+reporting_runner report = record { name = report.runner; number = report.number; last = last.Done report; holds = None }
+
+-- the leg of the lease ends
+abbrev pub with_ended : ℕ → Outcome → List RunState → List RunState
+with_ended lease outcome runs = option_map_or (λ p. with_leg p (leg_in_phase (leg.Ended outcome)) runs) (place_of_lease runs lease) runs
+
+abbrev pub reporting : TableState → Reported → Step
+reporting t report =
+    at_rest (record t { runs = with_ended report.lease report.result t.runs; runners = with_runner t.runners (reporting_runner report) }) reply.Ok
+
+abbrev pub reported : TableState → Reported → Step
+reported t report = option_map_or (unchanged t) (report_answer t report) (reporting t report)
+
+-- ---- look
+
+-- what is seen of the run of an id
+abbrev pub seen : TableState → ℕ → Option Seen
+seen t id = seen_of t.runs id
+
+abbrev pub look_answer : TableState → ℕ → Reply
+look_answer t id = option_map_or (λ seen. reply.Run (seen_text seen)) (seen t id) (refused NoRun)
+
+-- ---- all commands
+
+abbrev pub stepped : TableState → Command → Step
+stepped t (command.Admit event) = admitted t event
+stepped t (command.Claim claim) = claimed t claim
+stepped t (command.Done report) = reported t report
+stepped t (command.Look id) = unchanged t (look_answer t id)
+
+-- the table after the command, and its reply
+abbrev pub outcome : Step → TableState × Reply
+outcome s = (s.table, s.reply)
+
+abbrev pub step : TableState → Command → TableState × Reply
+step t c = outcome (stepped t c)
+
+-- ---- commands that leave the table
+
+-- the reply to a command that leaves the table
+abbrev pub answered : TableState → Command → Option Reply
+answered t (command.Admit event) = admission_answer t event
+answered t (command.Claim claim) = claim_answer t claim
+answered t (command.Done report) = report_answer t report
+answered t (command.Look id) = Some (look_answer t id)
+
+-- whether it holds no text, so that no memory is needed for it
+abbrev pub is_free : Option Reply → Bool
+is_free answer = option_map_or (λ reply. not (carries_text reply)) answer false

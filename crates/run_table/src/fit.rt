@@ -1,141 +1,155 @@
-ghost use Rattle.std.specs.Prelude.{◌≡◌, ◌&&◌, ◌<◌, length, Ok, IfOk, IfSome};
-ghost use Rattle.std.specs.List.{list_all, list_any};
+//! Which leg a claim gets, and which leg has a lease: each the first one in the order of run, job and leg.
+
+ghost use Rattle.std.specs.Prelude.{◌≡◌, ◌<◌, IfSome, length, option_and_then, slice_get};
+ghost use Rattle.std.specs.List.{list_all, list_any, position};
 ghost use Rattle.std.specs.Str.{str_eq_ignore_ascii_case};
-ghost use Rattle.wf_value.specs.Gives.{Gives};
-ghost use Rattle.run_table.specs.Fitting.{has_label, serves, fit_at, fit_in_job, fit_in_planned, fit_in_jobs, fit_in_run, first_fit};
+ghost use Rattle.run_table.specs.Cells.{states};
+ghost use Rattle.run_table.specs.Fitting.{first_fit, has_label, has_labels, has_lease, is_ready, place_of_lease};
+ghost use Rattle.run_table.specs.WithinRun.{fit_in_job, fit_in_jobs, fit_in_run, lease_in_job, lease_in_jobs, lease_in_run};
 
-use crate::job::JobRecord;
+use crate::job::Job;
 use crate::leg::Leg;
+use crate::place::LegPlace;
 use crate::run::Run;
-use run_plan::{PlannedJob, PlannedLeg};
-use std::alloc::Global;
-use wf_value::{Chars, Combo, Refusal};
+use run_plan::{Label, Number, PlannedJob};
+use wf_value::Chars;
 
-/// A leg that fits a claim: where it stands, counting from 0, and what its runner is told of it.
-#[derive(Debug, Drop)]
-pub struct Fit {
-    pub run: usize,
-    pub job: usize,
-    pub leg: usize,
-    pub id: Chars,
-    pub combo: Combo,
-}
-
-fn has_label(labels: &[Chars], wanted: &Chars) -> bool
+fn has_label(labels: &[Label], wanted: &Chars) -> bool
     ensures { result ≡ has_label labels.now wanted.now }
 {
     labels.iter().any(|label| label.as_str().eq_ignore_ascii_case(wanted.as_str()))
 }
 
-/// Whether each label that a leg asks for is among the runner's.
-fn serves(labels: &[Chars], planned: &PlannedLeg) -> bool
-    ensures { result ≡ serves labels.now planned.now }
+/// Whether each of the wanted labels is among the runner's.
+fn has_labels(labels: &[Label], wanted: &[Chars]) -> bool
+    ensures { result ≡ has_labels labels.now wanted.now }
 {
-    planned
-        .labels
-        .as_slice()
-        .iter()
-        .all(|wanted| has_label(labels, wanted))
+    wanted.iter().all(|label| has_label(labels, label))
 }
 
-fn fit_at(
-    alloc: Global,
-    labels: &[Chars],
-    run: usize,
-    job: usize,
-    planned: &PlannedJob,
-    l: usize,
-    leg: &Leg,
-) -> Result<Option<Fit>, Refusal>
-    ensures found { Gives (λ f. f) result (Ok (fit_at labels.now run job planned.now l leg.now)) }
-    ensures run { IfOk result (λ f. IfSome f (λ fit. fit.run ≡ run)) }
+fn ready_leg(legs: &[Leg]) -> Option<usize>
+    ensures { result ≡ position (λ leg. is_ready leg.phase) legs.now }
 {
-    match planned.legs.as_slice().get(l) {
-        Some(asks) if leg.phase.is_ready() && serves(labels, asks) => Ok(Some(Fit {
-            run,
-            job,
-            leg: l,
-            id: planned.id.copy(alloc)?,
-            combo: asks.combo.copy(alloc)?,
-        })),
-        _ => Ok(None),
-    }
+    legs.iter().position(|leg| leg.is_ready())
 }
 
+/// The first ready leg of a job of which the plan says this, if the labels serve it.
 fn fit_in_job(
-    alloc: Global,
-    labels: &[Chars],
-    run: usize,
-    job: usize,
+    labels: &[Label],
     planned: &PlannedJob,
-    legs: &[Leg],
-) -> Result<Option<Fit>, Refusal>
-    ensures found { Gives (λ f. f) result (Ok (fit_in_job labels.now run job planned.now legs.now)) }
-    ensures run { IfOk result (λ f. IfSome f (λ fit. fit.run ≡ run)) }
-{
-    for l in 0..legs.len() {
-        let fit = fit_at(alloc, labels, run, job, planned, l, &legs[l])?;
-        if fit.is_some() {
-            return Ok(fit);
-        }
-    }
-    Ok(None)
-}
-
-fn fit_in_planned(
-    alloc: Global,
-    labels: &[Chars],
-    plan: &[PlannedJob],
-    run: usize,
+    r: usize,
     j: usize,
-    job: &JobRecord,
-) -> Result<Option<Fit>, Refusal>
-    ensures found { Gives (λ f. f) result (Ok (fit_in_planned labels.now plan.now run j job.now)) }
-    ensures run { IfOk result (λ f. IfSome f (λ fit. fit.run ≡ run)) }
+    job: &Job,
+) -> Option<LegPlace>
+    ensures found { result ≡ fit_in_job labels.now planned.now r j job.now.state }
+    ensures run { IfSome result (λ p. p.run ≡ r) }
 {
-    match plan.get(j) {
-        Some(planned) => fit_in_job(alloc, labels, run, j, planned, job.legs.as_slice()),
-        None => Ok(None),
+    if !has_labels(labels, planned.labels.as_slice()) {
+        return None;
     }
+    let leg = ready_leg(job.legs())?;
+    Some(LegPlace {
+        run: r,
+        job: j,
+        leg,
+    })
 }
 
-fn fit_in_jobs(
-    alloc: Global,
-    labels: &[Chars],
+fn fit_as_planned(
+    labels: &[Label],
     plan: &[PlannedJob],
-    run: usize,
-    jobs: &[JobRecord],
-) -> Result<Option<Fit>, Refusal>
-    ensures found { Gives (λ f. f) result (Ok (fit_in_jobs labels.now plan.now run jobs.now)) }
-    ensures run { IfOk result (λ f. IfSome f (λ fit. fit.run ≡ run)) }
+    r: usize,
+    j: usize,
+    job: &Job,
+) -> Option<LegPlace>
+    ensures found { result ≡ option_and_then (λ planned. fit_in_job labels.now planned r j job.now.state) (slice_get plan.now j) }
+    ensures run { IfSome result (λ p. p.run ≡ r) }
+{
+    fit_in_job(labels, plan.get(j)?, r, j, job)
+}
+
+fn fit_in_jobs(labels: &[Label], plan: &[PlannedJob], r: usize, jobs: &[Job]) -> Option<LegPlace>
+    ensures found { result ≡ fit_in_jobs labels.now plan.now r (states jobs.now) }
+    ensures run { IfSome result (λ p. p.run ≡ r) }
 {
     for j in 0..jobs.len() {
-        let fit = fit_in_planned(alloc, labels, plan, run, j, &jobs[j])?;
-        if fit.is_some() {
-            return Ok(fit);
+        let job = &jobs[j];
+        let place = fit_as_planned(labels, plan, r, j, job);
+        if place.is_some() {
+            return place;
         }
     }
-    Ok(None)
+    None
 }
 
-fn fit_in_run(alloc: Global, labels: &[Chars], i: usize, run: &Run) -> Result<Option<Fit>, Refusal>
-    ensures found { Gives (λ f. f) result (Ok (fit_in_run labels.now i run.now)) }
-    ensures run { IfOk result (λ f. IfSome f (λ fit. fit.run ≡ i)) }
+fn fit_in_run(labels: &[Label], r: usize, run: &Run) -> Option<LegPlace>
+    ensures found { result ≡ fit_in_run labels.now r run.now }
+    ensures run { IfSome result (λ p. p.run ≡ r) }
 {
-    let plan = run.prepared.plan();
-    fit_in_jobs(alloc, labels, plan.as_slice(), i, run.jobs.as_slice())
+    fit_in_jobs(labels, run.prepared().plan().as_slice(), r, run.jobs())
 }
 
-/// The first ready leg in the order of run, job and leg that the labels serve.
-pub fn first_fit(alloc: Global, labels: &[Chars], runs: &[Run]) -> Result<Option<Fit>, Refusal>
-    ensures found { Gives (λ f. f) result (Ok (first_fit labels.now runs.now)) }
-    ensures run { IfOk result (λ f. IfSome f (λ fit. fit.run < length runs.now)) }
+/// The first ready leg that asks for no label that these lack.
+pub fn first_fit(labels: &[Label], runs: &[Run]) -> Option<LegPlace>
+    ensures found { result ≡ first_fit labels.now runs.now }
+    ensures run { IfSome result (λ p. p.run < length runs.now) }
 {
-    for i in 0..runs.len() {
-        let fit = fit_in_run(alloc, labels, i, &runs[i])?;
-        if fit.is_some() {
-            return Ok(fit);
+    for r in 0..runs.len() {
+        let run = &runs[r];
+        let place = fit_in_run(labels, r, run);
+        if place.is_some() {
+            return place;
         }
     }
-    Ok(None)
+    None
+}
+
+fn leg_of_lease(lease: Number, legs: &[Leg]) -> Option<usize>
+    ensures { result ≡ position (has_lease lease) legs.now }
+{
+    legs.iter().position(|leg| leg.has_lease(lease))
+}
+
+fn lease_in_job(lease: Number, r: usize, j: usize, job: &Job) -> Option<LegPlace>
+    ensures { result ≡ lease_in_job lease r j job.now.state }
+{
+    let leg = leg_of_lease(lease, job.legs())?;
+    Some(LegPlace {
+        run: r,
+        job: j,
+        leg,
+    })
+}
+
+fn lease_in_jobs(lease: Number, r: usize, jobs: &[Job]) -> Option<LegPlace>
+    ensures { result ≡ lease_in_jobs lease r (states jobs.now) }
+{
+    for j in 0..jobs.len() {
+        let job = &jobs[j];
+        let place = lease_in_job(lease, r, j, job);
+        if place.is_some() {
+            return place;
+        }
+    }
+    None
+}
+
+fn lease_in_run(lease: Number, r: usize, run: &Run) -> Option<LegPlace>
+    ensures { result ≡ lease_in_run lease r run.now }
+{
+    lease_in_jobs(lease, r, run.jobs())
+}
+
+/// The leg that has a lease.
+pub fn place_of_lease(lease: Number, runs: &[Run]) -> Option<LegPlace>
+    ensures { result ≡ place_of_lease runs.now lease }
+{
+    for r in 0..runs.len() {
+        let run = &runs[r];
+        let place = lease_in_run(lease, r, run);
+        if place.is_some() {
+            return place;
+        }
+    }
+    None
 }

@@ -1,21 +1,24 @@
 //! The run table: one step for each command, and the settling that follows it.
 #![tactic(auto)]
 
+mod content;
+mod first_place;
 mod fit;
 mod job;
 pub mod laws;
 mod leg;
+mod phases;
+mod place;
 mod run;
 mod runner;
-mod sameness;
+mod runs;
 mod table;
+mod turns;
 mod view;
 mod view_text;
 
-pub use fit::Fit;
-pub use job::{JobRecord, JobRecords, JobState};
-pub use leg::{Leg, LegPhase, Legs};
-pub use run::{Run, RunPhase, Runs};
-pub use runner::{Runner, Runners};
+pub use phases::{JobPhase, LegPhase, RunPhase};
+pub use run::Run;
+pub use runs::Runs;
 pub use table::Table;
 pub use view::RunView;

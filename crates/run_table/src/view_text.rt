@@ -1,37 +1,18 @@
 //! The printed view of a run, by its parts. Each `push_` function adds a part to a text.
 
-ghost use Rattle.std.specs.Prelude.{◌≡◌, ◌++◌, IfOk, OnOk, map, string_bytes};
-ghost use Rattle.std.specs.List.{join_with_byte};
-ghost use Rattle.run_table.specs.ViewText.{conclusion_text, has_claimed_leg, job_text, jobs_text, leg_text, legs_text, outcome_text, planned_job_text, result_text, results_of, status_text, was_claimed};
+ghost use Rattle.std.specs.Prelude.{◌≡◌, ◌++◌, OnOk, map, string_bytes};
+ghost use Rattle.std.specs.List.{join_with_byte, list_any};
+ghost use Rattle.needs_graph.specs.Results.{conclusion_of};
+ghost use Rattle.run_table.specs.Cells.{states};
+ghost use Rattle.run_table.specs.ViewText.{conclusion_text, has_claimed_leg, job_text, jobs_text, leg_text, legs_text, planned_job_text, results_of, status_text, was_claimed};
 
-use crate::job::{JobRecord, JobState};
-use crate::leg::{Leg, LegPhase};
-use crate::run::RunPhase;
+use crate::job::Job;
+use crate::leg::Leg;
+use crate::phases::{JobPhase, LegPhase, RunPhase};
 use needs_graph::conclude;
 use run_plan::PlannedJob;
-use std::alloc::{AllocError, Global};
-use wf_value::{JobResult, Outcome};
-
-fn outcome_word(outcome: Outcome) -> &'static str
-    ensures { result.now ≡ outcome_text outcome }
-{
-    match outcome {
-        Outcome::Success => "success",
-        Outcome::Failure => "failure",
-        Outcome::Cancelled => "cancelled",
-    }
-}
-
-fn settled_word(settled: JobResult) -> &'static str
-    ensures { result.now ≡ result_text settled }
-{
-    match settled {
-        JobResult::Success => "success",
-        JobResult::Failure => "failure",
-        JobResult::Cancelled => "cancelled",
-        JobResult::Skipped => "skipped",
-    }
-}
+use std::alloc::AllocError;
+use wf_value::Outcome;
 
 fn leg_word(phase: LegPhase) -> &'static str
     ensures { result.now ≡ leg_text phase }
@@ -42,26 +23,32 @@ fn leg_word(phase: LegPhase) -> &'static str
         LegPhase::Ready => "ready",
         LegPhase::Running => "running",
         LegPhase::Stopping => "stopping",
-        LegPhase::Ended(outcome) => outcome_word(outcome),
+        LegPhase::Ended(outcome) => outcome.word(),
     }
 }
 
-fn has_claimed_leg(job: &JobRecord) -> bool
-    ensures { result ≡ has_claimed_leg job.now }
+fn has_claimed_leg(job: &Job) -> bool
+    ensures { result ≡ has_claimed_leg job.now.state }
 {
-    job.legs.as_slice().iter().any(|leg| leg.lease.is_some())
+    job.legs().iter().any(|leg| leg.lease.is_some())
 }
 
-fn was_claimed(jobs: &[JobRecord]) -> bool
-    ensures { result ≡ was_claimed jobs.now }
+fn any_claimed(jobs: &[Job]) -> bool
+    ensures { result ≡ list_any (λ job. has_claimed_leg job.state) jobs.now }
 {
     jobs.iter().any(|job| has_claimed_leg(job))
 }
 
+fn was_claimed(jobs: &[Job]) -> bool
+    ensures { result ≡ was_claimed (states jobs.now) }
+{
+    any_claimed(jobs)
+}
+
 /// `pending` for a waiting run, `queued` for a live one of which no leg was ever claimed, else
 /// `in_progress` or `completed`.
-pub fn status_word(phase: RunPhase, jobs: &[JobRecord]) -> &'static str
-    ensures { result.now ≡ status_text phase jobs.now }
+pub fn status_word(phase: RunPhase, jobs: &[Job]) -> &'static str
+    ensures { result.now ≡ status_text phase (states jobs.now) }
 {
     match phase {
         RunPhase::Waiting => "pending",
@@ -71,28 +58,19 @@ pub fn status_word(phase: RunPhase, jobs: &[JobRecord]) -> &'static str
     }
 }
 
-fn results_of(alloc: Global, jobs: &[JobRecord]) -> Result<Vec<JobResult>, AllocError>
-    ensures { IfOk result (λ v. v.items ≡ results_of jobs.now) }
+fn conclusion(jobs: &[Job]) -> Outcome
+    ensures { result ≡ conclusion_of (results_of (states jobs.now)) }
 {
-    jobs.iter()
-        .filter_map(|job| job.state.result())
-        .collect(alloc)
+    conclude(jobs)
 }
 
 /// The conclusion of a run that has ended, else `-`.
-pub fn conclusion_word(
-    alloc: Global,
-    phase: RunPhase,
-    jobs: &[JobRecord],
-) -> Result<&'static str, AllocError>
-    ensures { IfOk result (λ word. word.now ≡ conclusion_text phase jobs.now) }
+pub fn conclusion_word(phase: RunPhase, jobs: &[Job]) -> &'static str
+    ensures { result.now ≡ conclusion_text phase (states jobs.now) }
 {
     match phase {
-        RunPhase::Waiting | RunPhase::Live => Ok("-"),
-        RunPhase::Ended => {
-            let results = results_of(alloc, jobs)?;
-            Ok(outcome_word(conclude(results.as_slice())))
-        }
+        RunPhase::Waiting | RunPhase::Live => "-",
+        RunPhase::Ended => conclusion(jobs).word(),
     }
 }
 
@@ -118,24 +96,20 @@ fn push_legs(legs: &[Leg], text: &mut String) -> Result<(), AllocError>
     text.push_str(")")
 }
 
-fn push_job(job: &JobRecord, text: &mut String) -> Result<(), AllocError>
-    ensures { OnOk result (string_bytes text.new ≡ string_bytes text.old ++ job_text job.now) }
+fn push_job(job: &Job, text: &mut String) -> Result<(), AllocError>
+    ensures { OnOk result (string_bytes text.new ≡ string_bytes text.old ++ job_text job.now.state) }
 {
-    let word = match job.state {
-        JobState::Blocked => return text.push_str("blocked"),
-        JobState::Open => "open",
-        JobState::Settled(settled) => settled_word(settled),
+    let word = match job.phase() {
+        JobPhase::Blocked => return text.push_str("blocked"),
+        JobPhase::Open => "open",
+        JobPhase::Settled(settled) => settled.word(),
     };
     text.push_str(word)?;
-    push_legs(job.legs.as_slice(), text)
+    push_legs(job.legs(), text)
 }
 
-fn push_planned_job(
-    planned: &PlannedJob,
-    job: &JobRecord,
-    text: &mut String,
-) -> Result<(), AllocError>
-    ensures { OnOk result (string_bytes text.new ≡ string_bytes text.old ++ planned_job_text (planned.now, job.now)) }
+fn push_planned_job(planned: &PlannedJob, job: &Job, text: &mut String) -> Result<(), AllocError>
+    ensures { OnOk result (string_bytes text.new ≡ string_bytes text.old ++ planned_job_text (planned.now, job.now.state)) }
 {
     text.push_str(" ")?;
     text.push_str(planned.id.as_str())?;
@@ -144,12 +118,8 @@ fn push_planned_job(
 }
 
 /// Each job of a plan with its state, behind a space.
-pub fn push_jobs(
-    plan: &[PlannedJob],
-    jobs: &[JobRecord],
-    text: &mut String,
-) -> Result<(), AllocError>
-    ensures { OnOk result (string_bytes text.new ≡ string_bytes text.old ++ jobs_text plan.now jobs.now) }
+pub fn push_jobs(plan: &[PlannedJob], jobs: &[Job], text: &mut String) -> Result<(), AllocError>
+    ensures { OnOk result (string_bytes text.new ≡ string_bytes text.old ++ jobs_text plan.now (states jobs.now)) }
 {
     for (planned, job) in plan.iter().zip(jobs) {
         push_planned_job(planned, job, text)?;

@@ -1,6 +1,6 @@
 use Rattle.std.proofs.Common.{ℕ, List}
 use Rattle.std.proofs.KnownBytes.{Appends-nil}
-use Rattle.acts_cli.specs.Answers.{outcome_text}
+use Rattle.acts_cli.specs.AnyState.{outcome_text}
 use Rattle.acts_cli.proofs.Plays.{is_answer}
 use Rattle.acts_cli.proofs.play.play_line.Goals as goal
 

@@ -1,18 +1,23 @@
-use Rattle.std.proofs.Common.{arith, ap, below_more, ◌≡◌, Ok, true, false, rules}
-use Rattle.std.specs.Prelude.{is_some}
-use Rattle.run_table.specs.Fitting.{fit_in_planned}
-use Rattle.run_table.proofs.Firsts.{answer_found, answer_passed, none_found}
+use Rattle.std.proofs.Common.{arith, ap, sym, ◌∙◌, below_more, ◌≡◌, ℕ, true, false, rules}
+use Rattle.std.specs.Prelude.{is_some, option_and_then, slice_get}
+use Rattle.run_table.specs.Cells.{JobCells}
+use Rattle.run_table.specs.TableState.{JobState}
+use Rattle.run_table.specs.WithinRun.{fit_in_job}
+use Rattle.run_table.proofs.Firsts.{answer_found, answer_passed, none_found, first_placed-map}
 use Rattle.run_table.proofs.fit.fit_in_jobs.Goals as goal
 
 pub returns-then-is_some-clause-found : goal.returns-then-is_some-clause-found
 returns-then-is_some-clause-found c =
-    let some : is_some c.in_ok-fit.fit ≡ true = search rules in
-    ap Ok (answer_found (fit_in_planned c.args.labels.now c.args.plan.now c.args.run) c.args.jobs.now c.loop-j.j c.index-jobs-j.result c.in_ok-fit.fit c.loop-j.invariant (omega arith) c.index-jobs-j.is c.in_ok-fit.ensures.found some)
+    let some : is_some c.fit_as_planned-place.result ≡ true = search rules in
+    sym (first_placed-map (λ (j : ℕ) (job : JobState). option_and_then (λ planned. fit_in_job c.args.labels.now planned c.args.r j job) (slice_get c.args.plan.now j)) (λ (x : JobCells). x.state) c.args.jobs.now
+    ∙ answer_found (λ j job. option_and_then (λ planned. fit_in_job c.args.labels.now planned c.args.r j job.state) (slice_get c.args.plan.now j)) c.args.jobs.now c.loop-j.j c.index-jobs-j.result c.fit_as_planned-place.result c.loop-j.invariant (omega arith) c.index-jobs-j.is c.fit_as_planned-place.ensures.found some)
 
 pub loop-j-preserved : goal.loop-j-preserved
 loop-j-preserved c =
-    let none : is_some c.in_ok-fit.fit ≡ false = search rules in
-    below_more _ _ c.loop-j.invariant (answer_passed (fit_in_planned c.args.labels.now c.args.plan.now c.args.run) c.args.jobs.now c.loop-j.j c.index-jobs-j.result c.in_ok-fit.fit (omega arith) c.index-jobs-j.is c.in_ok-fit.ensures.found none)
+    let none : is_some c.fit_as_planned-place.result ≡ false = search rules in
+    below_more _ _ c.loop-j.invariant (answer_passed (λ j job. option_and_then (λ planned. fit_in_job c.args.labels.now planned c.args.r j job.state) (slice_get c.args.plan.now j)) c.args.jobs.now c.loop-j.j c.index-jobs-j.result c.fit_as_planned-place.result (omega arith) c.index-jobs-j.is c.fit_as_planned-place.ensures.found none)
 
 pub returns-clause-found : goal.returns-clause-found
-returns-clause-found c = ap Ok (none_found (fit_in_planned c.args.labels.now c.args.plan.now c.args.run) c.args.jobs.now (λ k lt. c.loop-j.invariant k (omega arith)))
+returns-clause-found c =
+    sym (first_placed-map (λ (j : ℕ) (job : JobState). option_and_then (λ planned. fit_in_job c.args.labels.now planned c.args.r j job) (slice_get c.args.plan.now j)) (λ (x : JobCells). x.state) c.args.jobs.now
+    ∙ none_found (λ j job. option_and_then (λ planned. fit_in_job c.args.labels.now planned c.args.r j job.state) (slice_get c.args.plan.now j)) c.args.jobs.now c.loop-j.j c.loop-j.invariant (omega arith))

@@ -2,4 +2,4 @@ use Rattle.run_table.proofs.Lowered.{first_rule_lowers}
 use Rattle.run_table.proofs.laws.each_rule_lowers.Goals as goal
 
 pub returns : goal.returns
-returns c = first_rule_lowers
+returns c = λ runs next is. first_rule_lowers runs next is

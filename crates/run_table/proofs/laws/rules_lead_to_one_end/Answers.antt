@@ -2,4 +2,4 @@ use Rattle.run_table.proofs.Rests.{settled_after_rule}
 use Rattle.run_table.proofs.laws.rules_lead_to_one_end.Goals as goal
 
 pub returns : goal.returns
-returns c = settled_after_rule
+returns c = λ runs next is. settled_after_rule runs next is

@@ -1,0 +1,163 @@
+-- A claim keeps what a table keeps: the leg that it gets runs under the lease after the last, or nothing is ready.
+use Rattle.std.specs.Prelude.{◌≡◌, ℕ, ◌+◌, ◌≤◌, ◌&&◌, List, nat_le, Bool, true, false, is_some, Option, Some, None, option_and_then, if◌then◌else◌, refl}
+use Rattle.std.specs.Option.{option_map_or}
+use Rattle.std.proofs.Common.{arith, ap, sym, ◌∙◌, subst, inl, inr}
+use Rattle.std.proofs.lemmas.Bool.{cases_eq, and_parts, leb-false}
+use Rattle.wf_value.specs.declared.code.Code.TheVariants.{HasLease, LastCounter}
+use Rattle.run_plan.specs.declared.command.Claim.{Claim as Claimed}
+use Rattle.run_plan.specs.declared.reply.Reply.{Reply}
+use Rattle.run_table.specs.Fitting.{is_ready, has_labels, fits, first_fit}
+use Rattle.run_table.specs.Places.{LegPlace, leg_at, leg_places, with_leg}
+use Rattle.run_table.specs.Rules.{has_ended}
+use Rattle.run_plan.specs.LastCommand.{is_last_claim}
+use Rattle.run_table.specs.Sound.{LeaseFits, IsLastOf}
+use Rattle.run_table.specs.Step.{last_number, refused, has_no_lease_left, claim_answer, claiming_runner, leased_leg, lease_at}
+use Rattle.run_table.specs.TableState.{LegState, RunState, RunnerState, TableState}
+use Rattle.run_table.specs.Turns.{runner_named, answer_of_turn, with_runner, holds_lease}
+use Rattle.run_table.specs.Words.{labels_at}
+use Rattle.run_plan.specs.declared.last_command.ClaimReply.TheVariants as given
+use Rattle.run_table.specs.declared.phases.LegPhase.{LegPhase}
+use Rattle.run_table.specs.declared.phases.LegPhase.TheVariants as leg
+use Rattle.run_table.proofs.AdmitKeeps.{nothing_in_or}
+use Rattle.run_table.proofs.Found.{find_passes}
+use Rattle.run_table.proofs.JobKeeps.{leg_in, leg_stays, leg_now, leg_elsewhere}
+use Rattle.run_table.proofs.Kept.{IsKept, KeptIsHad, kept_still_had, deliveries_still_differ}
+use Rattle.run_table.proofs.LeaseReads.{ChangesAt, place_or_another, lease_given, leases_same, none_is_not_some}
+use Rattle.run_table.proofs.LegReads.{work_of, had_at, works_at, had_is, works_is, had_from_leg, works_from_leg}
+use Rattle.run_table.proofs.RunFits.{leases_fit}
+use Rattle.run_table.proofs.RunnerPut.{put, each_put, names_still_differ, holds_at, holds_changes}
+
+-- ---- what was looked at first
+
+looked_first : (a b : Bool) (x y : Reply) → (if a then Some x else (if b then Some y else None)) ≡ None → (a ≡ false) × (b ≡ false)
+looked_first true b x y e = cc
+looked_first false true x y e = cc
+looked_first false false x y e = (refl, refl)
+
+-- a runner that holds no lease, or no runner
+holds_none : (o : Option RunnerState) → holds_lease o ≡ false → option_and_then (λ x. x.holds) o ≡ None
+holds_none None e = refl
+holds_none (Some x) e =
+    elim (x.holds) as (λ h. is_some h ≡ false → h ≡ None) [
+      | None ↦ λ f. refl
+      | Some n ↦ λ f. cc
+    ] e
+
+-- ---- the leg that fits
+
+record ReadyLeg (runs : List RunState) (p : LegPlace) : Type 0 where
+  leg_of : LegState
+  is : leg_at runs p ≡ Some leg_of
+  ready : leg_of.phase ≡ leg.Ready
+
+is_ready_ready : (phase : LegPhase) → is_ready phase ≡ true → phase ≡ leg.Ready
+is_ready_ready leg.New e = cc
+is_ready_ready leg.Waiting e = cc
+is_ready_ready leg.Ready e = refl
+is_ready_ready leg.Running e = cc
+is_ready_ready leg.Stopping e = cc
+is_ready_ready (leg.Ended r) e = cc
+
+ready_at : (runs : List RunState) (p : LegPlace) (o : Option LegState) → leg_at runs p ≡ o → option_map_or (λ l. is_ready l.phase) o false ≡ true → ReadyLeg runs p
+ready_at runs p None is e = cc
+ready_at runs p (Some z) is e = record { leg_of = z; is = is; ready = is_ready_ready z.phase e }
+
+fitting_leg : (labels : List (List ℕ)) (runs : List RunState) (p : LegPlace) → first_fit labels runs ≡ Some p → ReadyLeg runs p
+fitting_leg labels runs p e =
+    ready_at runs p (leg_at runs p) refl
+    (and_parts (option_map_or (λ l. is_ready l.phase) (leg_at runs p) false) (option_map_or (has_labels labels) (labels_at runs p) false) (find_passes (fits labels runs) (leg_places runs) p e)).0
+
+ready_has_no_lease : (phase : LegPhase) (lease : Option ℕ) → phase ≡ leg.Ready → LeaseFits phase lease → lease ≡ None
+ready_has_no_lease phase lease e fits = subst (λ (x : LegPhase). LeaseFits x lease) e fits
+
+-- ---- what is read after a leg has changed
+
+pub had_changes : (runs : List RunState) (p : LegPlace) (z : LegState) (f : LegState → LegState) → leg_at runs p ≡ Some z → ChangesAt (had_at runs) (had_at (with_leg p f runs)) p (f z).lease
+had_changes runs p z f is =
+    let at = leg_in runs p z is in
+    record {
+      here = had_from_leg (with_leg p f runs) p (f z) (leg_now runs p z f at);
+      elsewhere = (λ q n. sym (had_is (with_leg p f runs) q) ∙ ap (option_and_then (λ (y : LegState). y.lease)) (leg_elsewhere runs p z f at q n) ∙ had_is runs q);
+    }
+
+pub works_changes : (runs : List RunState) (p : LegPlace) (z : LegState) (f : LegState → LegState) → leg_at runs p ≡ Some z → ChangesAt (works_at runs) (works_at (with_leg p f runs)) p (work_of (f z))
+works_changes runs p z f is =
+    let at = leg_in runs p z is in
+    record {
+      here = works_from_leg (with_leg p f runs) p (f z) (leg_now runs p z f at);
+      elsewhere = (λ q n. sym (works_is (with_leg p f runs) q) ∙ ap (option_and_then work_of) (leg_elsewhere runs p z f at q n) ∙ works_is runs q);
+    }
+
+-- ---- nothing is ready
+
+pub serving_keeps : (t : TableState) (claim : Claimed) → IsKept t → claim_answer t claim ≡ None → IsKept (record t { runners = with_runner t.runners (claiming_runner claim None given.Nothing) })
+serving_keeps t claim s none =
+    let new = claiming_runner claim None given.Nothing in
+    let runner = runner_named t.runners claim.runner in
+    let looked = nothing_in_or (answer_of_turn runner claim.number (is_last_claim claim)) (if holds_lease runner then Some (refused HasLease) else (if has_no_lease_left t claim then Some (refused LastCounter) else None)) none in
+    let free = holds_none runner (looked_first (holds_lease runner) (has_no_lease_left t claim) (refused HasLease) (refused LastCounter) looked.1).0 in
+    let p = put t.runners new in
+    let changes = holds_changes t.runners new in
+    let before : holds_at t.runners p.place ≡ None = ap (option_and_then (λ (x : RunnerState). x.holds)) p.was ∙ free in
+    record {
+      few_runs = s.few_runs;
+      deliveries_differ = s.deliveries_differ;
+      fit = s.fit;
+      agree = leases_same t.last_lease (had_at t.runs) (works_at t.runs) (had_at t.runs) (works_at t.runs) (holds_at t.runners) (holds_at (with_runner t.runners new)) (λ q. refl) (λ q. refl) (same_holds p.place changes before) s.agree;
+      last_lease_in_range = s.last_lease_in_range;
+      names_differ = names_still_differ t.runners new s.names_differ;
+      lasts_are_own = each_put t.runners new (λ x. IsLastOf x.name x.number x.last) (refl, refl) s.lasts_are_own;
+      kept_are_had = each_put t.runners new (λ x. KeptIsHad (had_at t.runs) x.last) tt s.kept_are_had;
+    }
+  where
+    same_holds : (place : ℕ) → ChangesAt (holds_at t.runners) (holds_at (with_runner t.runners (claiming_runner claim None given.Nothing))) place None → holds_at t.runners place ≡ None
+        → (k : ℕ) → holds_at (with_runner t.runners (claiming_runner claim None given.Nothing)) k ≡ holds_at t.runners k
+    same_holds place changes before k =
+        elim (cases_eq k place) [
+          | inl e ↦ ap (holds_at (with_runner t.runners (claiming_runner claim None given.Nothing))) e ∙ changes.here ∙ sym before ∙ ap (holds_at t.runners) (sym e)
+          | inr n ↦ changes.elsewhere k n
+        ]
+
+-- ---- a leg is leased
+
+no_lease_left : (o : Option LegPlace) (p : LegPlace) (b : Bool) → o ≡ Some p → (is_some o && b) ≡ false → b ≡ false
+no_lease_left o p b is e = sym (ap (λ (v : Option LegPlace). is_some v && b) is) ∙ e
+
+-- a leg that had no lease has the new one, and the others have theirs
+still_had : (before after : LegPlace → Option ℕ) (at : LegPlace) (new : Option ℕ) → ChangesAt before after at new → before at ≡ None → (p : LegPlace) (n : ℕ) → before p ≡ Some n → after p ≡ Some n
+still_had before after at new changes free p n e =
+    elim (place_or_another p at) [
+      | inl s ↦ absurd (none_is_not_some n (sym free ∙ ap before (sym s) ∙ e))
+      | inr m ↦ changes.elsewhere p m ∙ e
+    ]
+
+pub leasing_keeps : (t : TableState) (claim : Claimed) (p : LegPlace) → IsKept t → claim_answer t claim ≡ None → first_fit claim.labels t.runs ≡ Some p
+    → IsKept (record { last_lease = t.last_lease + 1; runs = with_leg p (λ _. leased_leg (t.last_lease + 1)) t.runs; runners = with_runner t.runners (claiming_runner claim (Some (t.last_lease + 1)) (given.Lease (lease_at t.runs p (t.last_lease + 1)))) })
+leasing_keeps t claim p s none fit =
+    let lease = t.last_lease + 1 in
+    let new = claiming_runner claim (Some lease) (given.Lease (lease_at t.runs p lease)) in
+    let next = with_leg p (λ _. leased_leg lease) t.runs in
+    let runner = runner_named t.runners claim.runner in
+    let looked = nothing_in_or (answer_of_turn runner claim.number (is_last_claim claim)) (if holds_lease runner then Some (refused HasLease) else (if has_no_lease_left t claim then Some (refused LastCounter) else None)) none in
+    let tests = looked_first (holds_lease runner) (has_no_lease_left t claim) (refused HasLease) (refused LastCounter) looked.1 in
+    let left = leb-false last_number t.last_lease (no_lease_left (first_fit claim.labels t.runs) p (nat_le last_number t.last_lease) fit tests.1) in
+    let ready = fitting_leg claim.labels t.runs p fit in
+    let z = ready.leg_of in
+    let unended : has_ended z ≡ false = ap (λ (phase : LegPhase). has_ended (record z { phase = phase })) ready.ready in
+    let stay = leg_stays t.runs s.fit p z (λ _. leased_leg lease) (leg_in t.runs p z ready.is) unended refl in
+    let free_leg : had_at t.runs p ≡ None = had_from_leg t.runs p z ready.is ∙ ready_has_no_lease z.phase z.lease ready.ready (leases_fit t.runs s.fit p z ready.is) in
+    let place = put t.runners new in
+    let free_runner : holds_at t.runners place.place ≡ None = ap (option_and_then (λ (x : RunnerState). x.holds)) place.was ∙ holds_none runner tests.0 in
+    let had = had_changes t.runs p z (λ _. leased_leg lease) ready.is in
+    let still = still_had (had_at t.runs) (had_at next) p (Some lease) had free_leg in
+    record {
+      few_runs = subst (λ (n : ℕ). n ≤ 100000) (sym stay.same_length) s.few_runs;
+      deliveries_differ = deliveries_still_differ t.runs next stay.same_admitted s.deliveries_differ;
+      fit = stay.fit;
+      agree = lease_given t.last_lease (had_at t.runs) (works_at t.runs) (had_at next) (works_at next) (holds_at t.runners) (holds_at (with_runner t.runners new)) p place.place s.agree free_leg free_runner
+          had (works_changes t.runs p z (λ _. leased_leg lease) ready.is) (holds_changes t.runners new);
+      last_lease_in_range = omega (arith, left);
+      names_differ = names_still_differ t.runners new s.names_differ;
+      lasts_are_own = each_put t.runners new (λ x. IsLastOf x.name x.number x.last) (refl, refl) s.lasts_are_own;
+      kept_are_had = each_put t.runners new (λ x. KeptIsHad (had_at next) x.last) (omega arith, p, had.here) (λ k x e. kept_still_had (had_at t.runs) (had_at next) still x.last (s.kept_are_had k x e));
+    }

@@ -1,0 +1,20 @@
+use Rattle.std.proofs.Common.{arith, ap, sym, ◌∙◌, below_more, ◌≡◌, true, false, rules}
+use Rattle.std.specs.Prelude.{is_some}
+use Rattle.run_table.specs.WithinRun.{lease_in_run}
+use Rattle.run_table.proofs.Firsts.{answer_found, answer_passed, none_found}
+use Rattle.run_table.proofs.Sought.{place_of_lease_by_run}
+use Rattle.run_table.proofs.fit.place_of_lease.Goals as goal
+
+pub returns-then-is_some : goal.returns-then-is_some
+returns-then-is_some c =
+    let some : is_some c.lease_in_run-place.result ≡ true = search rules in
+    sym (place_of_lease_by_run c.args.runs.now c.args.lease
+    ∙ answer_found (lease_in_run c.args.lease) c.args.runs.now c.loop-r.r c.index-runs-r.result c.lease_in_run-place.result c.loop-r.invariant (omega arith) c.index-runs-r.is c.lease_in_run-place.ensures some)
+
+pub loop-r-preserved : goal.loop-r-preserved
+loop-r-preserved c =
+    let none : is_some c.lease_in_run-place.result ≡ false = search rules in
+    below_more _ _ c.loop-r.invariant (answer_passed (lease_in_run c.args.lease) c.args.runs.now c.loop-r.r c.index-runs-r.result c.lease_in_run-place.result (omega arith) c.index-runs-r.is c.lease_in_run-place.ensures none)
+
+pub returns : goal.returns
+returns c = sym (place_of_lease_by_run c.args.runs.now c.args.lease ∙ none_found (lease_in_run c.args.lease) c.args.runs.now c.loop-r.r c.loop-r.invariant (omega arith))

@@ -1,0 +1,8 @@
+use Rattle.std.specs.Prelude.{option_and_then, slice_get}
+use Rattle.run_table.specs.WithinRun.{lease_in_run}
+use Rattle.run_table.proofs.Firsts.{NoneBefore}
+use Rattle.run_table.proofs.fit.place_of_lease.Given as goal
+
+-- none so far is the one
+abbrev pub invariant-loop-r : goal.invariant-loop-r
+invariant-loop-r l = NoneBefore (lease_in_run l.lease) l.runs l.r

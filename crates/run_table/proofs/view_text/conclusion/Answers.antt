@@ -1,0 +1,7 @@
+use Rattle.std.proofs.Common.{ap, sym, ◌∙◌}
+use Rattle.needs_graph.specs.Results.{conclusion_of}
+use Rattle.run_table.proofs.Doors.{results_of_cells}
+use Rattle.run_table.proofs.view_text.conclusion.Goals as goal
+
+pub returns : goal.returns
+returns c = c.conclude.ensures ∙ ap conclusion_of (results_of_cells c.args.jobs.now)

@@ -1,0 +1,24 @@
+-- The moves of concurrency groups: which of their holders arrived, started, was told to stop, and ended.
+-- GitHub Docs, "Control the concurrency of workflows and jobs".
+use Rattle.std.specs.Prelude.{ℕ, List, [], ◌∷◌}
+use Rattle.wf_value.specs.declared.outcome.Outcome.{Outcome}
+use Rattle.run_plan.specs.declared.reply.Reply.{Reply}
+use Rattle.run_table.specs.Places.{LegPlace}
+use Rattle.run_table.specs.TableState.{TableState}
+
+-- what may hold a group
+pub data Holder : Type 0 where
+  a_run : ℕ → Holder
+  a_leg : LegPlace → Holder
+
+pub data Move : Type 0 where
+  arrive : Holder → Move
+  start : Holder → Move
+  stop : Holder → Move
+  end_with : Outcome → Holder → Move
+
+-- what a command makes of a table: the table after it, its reply, and the moves of groups on the way
+pub record Step : Type 0 where
+  pub table : TableState
+  pub reply : Reply
+  pub moves : List Move

@@ -1,0 +1,162 @@
+-- What every table keeps, whatever its commands were: each rule in the words of GitHub Docs, "Workflow syntax for
+-- GitHub Actions" (jobs, jobs.<job_id>.strategy.matrix, jobs.<job_id>.runs-on), where these have them; leases,
+-- numbers of commands and kept replies are own.
+use Rattle.std.specs.Prelude.{◌≡◌, ◌⊎◌, ℕ, ◌≤◌, List, [], length, Bool, true, false, slice_get, Option, Some, None, IsSome}
+use Rattle.std.specs.List.{list_all}
+use Rattle.wf_value.specs.declared.outcome.JobResult.{JobResult}
+use Rattle.wf_value.specs.declared.outcome.JobResult.TheVariants as result
+use Rattle.wf_value.specs.declared.outcome.Outcome.TheVariants as outcome
+use Rattle.run_plan.specs.PlanOf.{plan_of}
+use Rattle.run_table.specs.Places.{LegPlace, run_at, job_at, leg_at}
+use Rattle.run_table.specs.Rules.{has_ended, is_settled, result_at}
+use Rattle.run_table.specs.Settling.{first_place}
+use Rattle.run_table.specs.Step.{last_number}
+use Rattle.run_table.specs.TableState.{LegState, JobState, RunState, RunnerState, TableState}
+use Rattle.run_table.specs.Words.{planned_legs}
+use Rattle.run_plan.specs.declared.last_command.LastCommand.{LastCommand}
+use Rattle.run_plan.specs.declared.last_command.LastCommand.TheVariants as last
+use Rattle.run_plan.specs.declared.last_command.ClaimReply.{ClaimReply}
+use Rattle.run_plan.specs.declared.last_command.ClaimReply.TheVariants as given
+use Rattle.run_table.specs.declared.phases.LegPhase.{LegPhase}
+use Rattle.run_table.specs.declared.phases.LegPhase.TheVariants as leg
+use Rattle.run_table.specs.declared.phases.JobPhase.{JobPhase}
+use Rattle.run_table.specs.declared.phases.JobPhase.TheVariants as job
+use Rattle.run_table.specs.declared.phases.RunPhase.{RunPhase}
+use Rattle.run_table.specs.declared.phases.RunPhase.TheVariants as run
+
+-- ---- runs
+
+-- no delivery made two runs
+abbrev pub DeliveriesDiffer : List RunState → Type 0
+DeliveriesDiffer runs = (a b : ℕ) (x y : RunState) → run_at runs a ≡ Some x → run_at runs b ≡ Some y → x.admitted.delivery ≡ y.admitted.delivery → a ≡ b
+
+-- a run has one job for each job of its plan
+abbrev pub JobsAreThePlans : List RunState → Type 0
+JobsAreThePlans runs = (r : ℕ) (x : RunState) → run_at runs r ≡ Some x → length x.jobs ≡ length (plan_of x.admitted.body)
+
+-- a waiting run has not been told to stop, and all its jobs are blocked; all jobs of an ended run have settled
+abbrev pub PhaseFits : RunPhase → Bool → List JobState → Type 0
+PhaseFits run.Waiting stopping jobs = (stopping ≡ false) × ((j : ℕ) (x : JobState) → slice_get jobs j ≡ Some x → x.phase ≡ job.Blocked)
+PhaseFits run.Live stopping jobs = Unit {0}
+PhaseFits run.Ended stopping jobs = (j : ℕ) (x : JobState) → slice_get jobs j ≡ Some x → is_settled x ≡ true
+
+abbrev pub RunPhasesFit : List RunState → Type 0
+RunPhasesFit runs = (r : ℕ) (x : RunState) → run_at runs r ≡ Some x → PhaseFits x.phase x.stopping x.jobs
+
+-- ---- jobs
+
+-- a job that never opened settles as skipped, or as cancelled
+abbrev pub MayLackLegs : JobResult → Type 0
+MayLackLegs result.Success = ⊥
+MayLackLegs result.Failure = ⊥
+MayLackLegs result.Cancelled = Unit {0}
+MayLackLegs result.Skipped = Unit {0}
+
+-- A blocked job has no legs, and an open one all that its plan has. A settled one has either none or all; all
+-- have ended then, and their result is its own.
+abbrev pub LegsFit : ℕ → JobResult → JobPhase → List LegState → Type 0
+LegsFit planned gathered job.Blocked legs = legs ≡ []
+LegsFit planned gathered job.Open legs = length legs ≡ planned
+LegsFit planned gathered (job.Settled r) legs = ((legs ≡ []) × MayLackLegs r) ⊎ ((length legs ≡ planned) × (list_all has_ended legs ≡ true) × (r ≡ gathered))
+
+abbrev pub JobsFit : List RunState → Type 0
+JobsFit runs = (r j : ℕ) (x : JobState) → job_at runs r j ≡ Some x → LegsFit (planned_legs runs r j) (result_at runs r j x) x.phase x.legs
+
+-- ---- leases of legs
+
+-- a leg that no runner has claimed has no lease, and one that runs, or has ended by itself, has one
+abbrev pub LeaseFits : LegPhase → Option ℕ → Type 0
+LeaseFits leg.New lease = lease ≡ None
+LeaseFits leg.Waiting lease = lease ≡ None
+LeaseFits leg.Ready lease = lease ≡ None
+LeaseFits leg.Running lease = IsSome lease
+LeaseFits leg.Stopping lease = IsSome lease
+LeaseFits (leg.Ended outcome.Success) lease = IsSome lease
+LeaseFits (leg.Ended outcome.Failure) lease = IsSome lease
+LeaseFits (leg.Ended outcome.Cancelled) lease = Unit {0}
+
+abbrev pub LeasesFit : List RunState → Type 0
+LeasesFit runs = (p : LegPlace) (x : LegState) → leg_at runs p ≡ Some x → LeaseFits x.phase x.lease
+
+-- leases are numbers from 1 to the last
+abbrev pub LeasesAreGiven : ℕ → List RunState → Type 0
+LeasesAreGiven last runs = (p : LegPlace) (x : LegState) (n : ℕ) → leg_at runs p ≡ Some x → x.lease ≡ Some n → (1 ≤ n) × (n ≤ last)
+
+-- no two legs have one lease
+abbrev pub LeasesDiffer : List RunState → Type 0
+LeasesDiffer runs = (p q : LegPlace) (x y : LegState) (n : ℕ) → leg_at runs p ≡ Some x → leg_at runs q ≡ Some y → x.lease ≡ Some n → y.lease ≡ Some n → p ≡ q
+
+-- ---- runners
+
+abbrev pub NamesDiffer : List RunnerState → Type 0
+NamesDiffer runners = (a b : ℕ) (x y : RunnerState) → slice_get runners a ≡ Some x → slice_get runners b ≡ Some y → x.name ≡ y.name → a ≡ b
+
+-- whether a runner is at work on the leg
+abbrev pub is_at_work : LegPhase → Bool
+is_at_work leg.New = false
+is_at_work leg.Waiting = false
+is_at_work leg.Ready = false
+is_at_work leg.Running = true
+is_at_work leg.Stopping = true
+is_at_work (leg.Ended r) = false
+
+-- some runner holds the lease
+abbrev pub IsHeld : List RunnerState → ℕ → Type 0
+IsHeld runners n = (k : ℕ) × (x : RunnerState) × (slice_get runners k ≡ Some x) × (x.holds ≡ Some n)
+
+-- a leg on which a runner is at work has the lease
+abbrev pub IsAtWork : List RunState → ℕ → Type 0
+IsAtWork runs n = (p : LegPlace) × (x : LegState) × (leg_at runs p ≡ Some x) × (x.lease ≡ Some n) × (is_at_work x.phase ≡ true)
+
+-- the leases of the legs at work are held
+abbrev pub WorkIsHeld : List RunState → List RunnerState → Type 0
+WorkIsHeld runs runners = (p : LegPlace) (x : LegState) (n : ℕ) → leg_at runs p ≡ Some x → is_at_work x.phase ≡ true → x.lease ≡ Some n → IsHeld runners n
+
+-- and no others are
+abbrev pub HeldIsAtWork : List RunState → List RunnerState → Type 0
+HeldIsAtWork runs runners = (k : ℕ) (x : RunnerState) (n : ℕ) → slice_get runners k ≡ Some x → x.holds ≡ Some n → IsAtWork runs n
+
+-- each by one runner
+abbrev pub HeldOnce : List RunnerState → Type 0
+HeldOnce runners = (a b : ℕ) (x y : RunnerState) (n : ℕ) → slice_get runners a ≡ Some x → slice_get runners b ≡ Some y → x.holds ≡ Some n → y.holds ≡ Some n → a ≡ b
+
+-- a runner's last command is its own, and has its last number
+abbrev pub IsLastOf : List ℕ → ℕ → LastCommand → Type 0
+IsLastOf name number (last.Claim claim given) = (claim.runner ≡ name) × (claim.number ≡ number)
+IsLastOf name number (last.Done report) = (report.runner ≡ name) × (report.number ≡ number)
+
+abbrev pub LastsAreOwn : List RunnerState → Type 0
+LastsAreOwn runners = (k : ℕ) (x : RunnerState) → slice_get runners k ≡ Some x → IsLastOf x.name x.number x.last
+
+-- some leg has the lease
+abbrev pub IsALegs : List RunState → ℕ → Type 0
+IsALegs runs n = (p : LegPlace) × (x : LegState) × (leg_at runs p ≡ Some x) × (x.lease ≡ Some n)
+
+-- a kept lease is some leg's
+abbrev pub KeptIsALegs : List RunState → LastCommand → Type 0
+KeptIsALegs runs (last.Claim claim given.Nothing) = Unit {0}
+KeptIsALegs runs (last.Claim claim (given.Lease lease)) = (1 ≤ lease.lease) × IsALegs runs lease.lease
+KeptIsALegs runs (last.Done report) = Unit {0}
+
+abbrev pub KeptLeasesAreLegs : List RunState → List RunnerState → Type 0
+KeptLeasesAreLegs runs runners = (k : ℕ) (x : RunnerState) → slice_get runners k ≡ Some x → KeptIsALegs runs x.last
+
+-- ---- all of it
+
+pub record IsSound (t : TableState) : Type 0 where
+  pub few_runs : length t.runs ≤ 100000
+  pub deliveries_differ : DeliveriesDiffer t.runs
+  pub jobs_are_the_plans : JobsAreThePlans t.runs
+  pub run_phases_fit : RunPhasesFit t.runs
+  pub jobs_fit : JobsFit t.runs
+  pub leases_fit : LeasesFit t.runs
+  pub leases_are_given : LeasesAreGiven t.last_lease t.runs
+  pub leases_differ : LeasesDiffer t.runs
+  pub last_lease_in_range : t.last_lease ≤ last_number
+  pub names_differ : NamesDiffer t.runners
+  pub work_is_held : WorkIsHeld t.runs t.runners
+  pub held_is_at_work : HeldIsAtWork t.runs t.runners
+  pub held_once : HeldOnce t.runners
+  pub no_rule_applies : first_place t.runs ≡ None
+  pub lasts_are_own : LastsAreOwn t.runners
+  pub kept_leases_are_legs : KeptLeasesAreLegs t.runs t.runners

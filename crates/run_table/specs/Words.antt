@@ -1,0 +1,52 @@
+-- What a table says of a run, of a job or of a leg beyond its state. GitHub Docs, "Workflow syntax for GitHub
+-- Actions": jobs.<job_id>.needs, jobs.<job_id>.if, jobs.<job_id>.runs-on, jobs.<job_id>.continue-on-error.
+use Rattle.std.specs.Prelude.{ℕ, List, [], length, Bool, true, false, Option, option_map, option_and_then, slice_get}
+use Rattle.std.specs.Option.{option_map_or}
+use Rattle.wf_value.specs.declared.condition.Condition.{Condition}
+use Rattle.wf_value.specs.declared.condition.Condition.TheVariants as condition
+use Rattle.wf_value.specs.declared.outcome.JobResult.{JobResult}
+use Rattle.wf_value.specs.declared.scalar.Scalar.{Scalar}
+use Rattle.run_table.specs.Places.{LegPlace, run_at, plan_at}
+use Rattle.run_table.specs.TableState.{RunState}
+
+-- ---- of a run
+
+-- whether the run has been told to stop
+abbrev pub is_stopping : List RunState → ℕ → Bool
+is_stopping runs r = option_map_or (λ run. run.stopping) (run_at runs r) false
+
+-- ---- of a job
+
+-- a job without `if` runs where all went well before it
+abbrev pub condition_of : List RunState → ℕ → ℕ → Condition
+condition_of runs r j = condition.Success
+
+-- the results of the ancestors of a job: a plain job needs no other
+abbrev pub ancestor_results : List RunState → ℕ → ℕ → List (Option JobResult)
+ancestor_results runs r j = []
+
+-- whether all jobs that the job needs have settled: a plain job needs none
+abbrev pub needs_have_settled : List RunState → ℕ → ℕ → Bool
+needs_have_settled runs r j = true
+
+-- the id of the job
+abbrev pub job_id : List RunState → ℕ → ℕ → List ℕ
+job_id runs r j = option_map_or (λ planned. planned.id) (plan_at runs r j) []
+
+-- how many legs the plan has for the job
+abbrev pub planned_legs : List RunState → ℕ → ℕ → ℕ
+planned_legs runs r j = option_map_or (λ planned. length planned.legs) (plan_at runs r j) 0
+
+-- ---- of a leg
+
+-- what the leg asks of a runner, as its job says
+abbrev pub labels_at : List RunState → LegPlace → Option (List (List ℕ))
+labels_at runs p = option_map (λ planned. planned.labels) (plan_at runs p.run p.job)
+
+-- the combination of the leg
+abbrev pub combo_at : List RunState → LegPlace → List (List ℕ × Scalar)
+combo_at runs p = option_map_or (λ leg. leg.combo) (option_and_then (λ planned. slice_get planned.legs p.leg) (plan_at runs p.run p.job)) []
+
+-- whether a failure of the leg is passed over: no plain leg's is
+abbrev pub passes_over : List RunState → LegPlace → Bool
+passes_over runs p = false

@@ -1,0 +1,241 @@
+ghost use Rattle.std.specs.Prelude.{◌≡◌, ◌<◌, ◌+◌, true, length, Ok, OnErr, IsOk, is_some, Some};
+ghost use Rattle.std.specs.Option.{option_map_or};
+ghost use Rattle.wf_value.specs.declared.code.Code.TheVariants.{LastCounter};
+ghost use Rattle.wf_value.specs.Gives.{Gives};
+ghost use Rattle.run_table.specs.Step.{admission_answer, admitted, admitting, answered, claim_answer, claimed, claiming, empty, is_free, last_number, lease_answer, lease_at, leasing, look_answer, outcome, refused, report_answer, reported, reporting, seen, serving_nothing, step, unchanged};
+
+use crate::fit::first_fit;
+use crate::leg::Leg;
+use crate::place::LegPlace;
+use crate::run::Run;
+use crate::runner::{Runner, holds_lease, holds_this, put_runner, runner_named};
+use crate::runs::{MOST_RUNS, Runs};
+use crate::turns::{answer_to_claim, answer_to_report};
+use crate::view::{RunView, look};
+use run_plan::{Claim, ClaimReply, Command, Done, Lease, Number, Prepared, Reply};
+use std::alloc::Global;
+use std::marker::Model;
+use wf_value::{Code, Refusal, TryCopy, copy_items};
+
+/// What a table holds: the last lease that was given, the runs and the runners.
+#[derive(Drop)]
+pub struct Content {
+    last_lease: u32,
+    runs: Runs,
+    runners: Vec<Runner>,
+}
+
+impl Model for Content {
+    ghost use Rattle.run_table.specs.TableState.{TableState};
+
+    ghost Value = { TableState };
+
+    ghost view = { λ t. record { last_lease = t.last_lease; runs = t.runs; runners = t.runners.items } };
+}
+
+impl Content {
+    /// The table without runs and runners.
+    pub(crate) fn new(alloc: Global) -> Self
+        ensures { result ≡ empty }
+    {
+        Content {
+            last_lease: 0,
+            runs: Runs::new(alloc),
+            runners: Vec::new(alloc),
+        }
+    }
+
+    /// Carries out a command, settles, and answers its reply. Refusals of the table, 40, 42, 43, 44 and
+    /// 48, are replies. The error is 50 alone, and the table is then as it was. What is answered from
+    /// the table as it is, without a text, is answered memory or not.
+    pub(crate) fn step(&mut self, alloc: Global, command: &Command) -> Result<Reply, Refusal>
+        ensures step { Gives (λ reply. (self.new, reply)) result (Ok (step self.old command.now)) }
+        ensures err { OnErr result (self.new ≡ self.old) }
+        ensures answers { is_free (answered self.old command.now) ≡ true → IsOk result }
+    {
+        match command {
+            Command::Admit(prepared) => self.admit(alloc, prepared),
+            Command::Claim(claim) => self.claim(alloc, claim),
+            Command::Done(report) => self.report(alloc, report),
+            Command::Look(id) => self.show(alloc, *id),
+        }
+    }
+
+    // ---- admit
+
+    fn admit(&mut self, alloc: Global, prepared: &Prepared) -> Result<Reply, Refusal>
+        ensures step { Gives (λ reply. (self.new, reply)) result (Ok (outcome (admitted self.old prepared.now))) }
+        ensures err { OnErr result (self.new ≡ self.old) }
+        ensures answers { is_free (admission_answer self.old prepared.now) ≡ true → IsOk result }
+    {
+        if let Some(place) = self.runs.position(prepared.delivery()) {
+            return Ok(Reply::Created(id_of(place)));
+        }
+        if self.runs.len() >= MOST_RUNS {
+            return Ok(refused(Code::LastCounter));
+        }
+        self.enter(alloc, prepared)
+    }
+
+    /// Makes a run of the event.
+    fn enter(&mut self, alloc: Global, prepared: &Prepared) -> Result<Reply, Refusal>
+        requires { length self.old.runs < 100000 }
+        ensures step { Gives (λ reply. (self.new, reply)) result (Ok (outcome (admitting self.old prepared.now))) }
+        ensures err { OnErr result (self.new ≡ self.old) }
+    {
+        let place = self.runs.len();
+        let run = Run::of_event(alloc, prepared)?;
+        self.runs.add(run)?;
+        self.runs.settle();
+        Ok(Reply::Created(id_of(place)))
+    }
+
+    // ---- claim
+
+    fn claim(&mut self, alloc: Global, claim: &Claim) -> Result<Reply, Refusal>
+        ensures step { Gives (λ reply. (self.new, reply)) result (Ok (outcome (claimed self.old claim.now))) }
+        ensures err { OnErr result (self.new ≡ self.old) }
+        ensures answers { is_free (claim_answer self.old claim.now) ≡ true → IsOk result }
+    {
+        let runner = runner_named(&self.runners, &claim.runner);
+        if let Some(reply) = answer_to_claim(alloc, runner, claim)? {
+            return Ok(reply);
+        }
+        if holds_lease(runner) {
+            return Ok(refused(Code::HasLease));
+        }
+        self.claim_in_turn(alloc, claim)
+    }
+
+    fn claim_in_turn(&mut self, alloc: Global, claim: &Claim) -> Result<Reply, Refusal>
+        ensures step { Gives (λ reply. (self.new, reply)) result
+            (Ok (outcome (option_map_or (unchanged self.old) (lease_answer self.old claim.now) (claiming self.old claim.now)))) }
+        ensures err { OnErr result (self.new ≡ self.old) }
+        ensures answers { is_some (lease_answer self.old claim.now) ≡ true → IsOk result }
+    {
+        match first_fit(claim.labels.as_slice(), self.runs.as_slice()) {
+            None => self.serve_nothing(alloc, claim),
+            Some(_) if self.last_lease >= LAST_NUMBER => Ok(refused(Code::LastCounter)),
+            Some(place) => self.lease(alloc, claim, place),
+        }
+    }
+
+    /// No leg is ready for the runner.
+    fn serve_nothing(&mut self, alloc: Global, claim: &Claim) -> Result<Reply, Refusal>
+        ensures step { Gives (λ reply. (self.new, reply)) result (Ok (outcome (serving_nothing self.old claim.now))) }
+        ensures err { OnErr result (self.new ≡ self.old) }
+    {
+        let runner = Runner::claiming(alloc, claim, None, ClaimReply::Nothing)?;
+        put_runner(&mut self.runners, runner)?;
+        self.runs.settle();
+        Ok(Reply::Nothing)
+    }
+
+    /// Hands the leg to the runner, under a new lease: all memory is taken before the first change.
+    fn lease(&mut self, alloc: Global, claim: &Claim, place: LegPlace) -> Result<Reply, Refusal>
+        requires run { place.run < 100000 }
+        requires left { self.old.last_lease < 999999999 }
+        ensures step { Gives (λ reply. (self.new, reply)) result (Ok (outcome (leasing self.old claim.now place))) }
+        ensures err { OnErr result (self.new ≡ self.old) }
+    {
+        let lease = Number::new(self.last_lease + 1);
+        let told = lease_at(alloc, &self.runs, place, lease)?;
+        let kept = ClaimReply::Lease(told.copy(alloc)?);
+        let runner = Runner::claiming(alloc, claim, Some(lease), kept)?;
+        put_runner(&mut self.runners, runner)?;
+        self.last_lease = lease.get();
+        self.runs
+            .set_leg(place.run, place.job, place.leg, Leg::leased(lease));
+        self.runs.settle();
+        Ok(Reply::Lease(told))
+    }
+
+    // ---- done
+
+    fn report(&mut self, alloc: Global, report: &Done) -> Result<Reply, Refusal>
+        ensures step { Gives (λ reply. (self.new, reply)) result (Ok (outcome (reported self.old report.now))) }
+        ensures err { OnErr result (self.new ≡ self.old) }
+        ensures answers { is_free (report_answer self.old report.now) ≡ true → IsOk result }
+    {
+        let runner = runner_named(&self.runners, &report.runner);
+        if let Some(reply) = answer_to_report(alloc, runner, report)? {
+            return Ok(reply);
+        }
+        if !holds_this(runner, report.lease) {
+            return Ok(refused(Code::LeaseNotHeld));
+        }
+        self.end(alloc, report)
+    }
+
+    /// The leg of the lease ends.
+    fn end(&mut self, alloc: Global, report: &Done) -> Result<Reply, Refusal>
+        ensures step { Gives (λ reply. (self.new, reply)) result (Ok (outcome (reporting self.old report.now))) }
+        ensures err { OnErr result (self.new ≡ self.old) }
+    {
+        let runner = Runner::reporting(alloc, report)?;
+        put_runner(&mut self.runners, runner)?;
+        self.runs.end(report.lease, report.result);
+        self.runs.settle();
+        Ok(Reply::Ok)
+    }
+
+    // ---- look
+
+    fn show(&self, alloc: Global, id: Number) -> Result<Reply, Refusal>
+        ensures gives { Gives (λ reply. reply) result (Ok (look_answer self.now id)) }
+        ensures answers { is_free (Some (look_answer self.now id)) ≡ true → IsOk result }
+    {
+        match self.look(id) {
+            Some(view) => Ok(Reply::Run(view.text(alloc)?)),
+            None => Ok(refused(Code::NoRun)),
+        }
+    }
+
+    /// What is seen of the run of an id, or `None` where there is no such run. It takes no memory.
+    pub(crate) fn look(&self, run: Number) -> Option<RunView<'_>>
+        ensures { result ≡ seen self.now run }
+    {
+        look(self.runs.as_slice(), run)
+    }
+}
+
+impl TryCopy for Content {
+    fn copy(&self, alloc: Global) -> Result<Self, Refusal> {
+        Ok(Content {
+            last_lease: self.last_lease,
+            runs: self.runs.copy(alloc)?,
+            runners: copy_items(alloc, &self.runners)?,
+        })
+    }
+}
+
+/// The last number of a lease.
+const LAST_NUMBER: u32 = 999_999_999;
+
+fn refused(code: Code) -> Reply
+    ensures { result ≡ refused code }
+{
+    Reply::Refused(Refusal::Numbered(code))
+}
+
+/// The id of the run at a place.
+fn id_of(place: usize) -> Number
+    requires { place < 100000 }
+    ensures { result ≡ place + 1 }
+{
+    Number::new(place as u32 + 1)
+}
+
+/// What a runner is told of the leg that it gets.
+fn lease_at(alloc: Global, runs: &Runs, place: LegPlace, lease: Number) -> Result<Lease, Refusal>
+    requires { place.run < 100000 }
+    ensures { Gives (λ l. l) result (Ok (lease_at runs.now place lease)) }
+{
+    Ok(Lease {
+        lease,
+        run: id_of(place.run),
+        job: runs.job_id(alloc, place.run, place.job)?,
+        leg: place.leg,
+        combo: runs.combo(alloc, place)?,
+    })
+}

@@ -1,0 +1,104 @@
+//! Where settling finds the first rule that applies: the one function that it asks.
+
+ghost use Rattle.std.specs.Prelude.{◌≡◌};
+ghost use Rattle.std.specs.List.{list_all, position};
+ghost use Rattle.run_table.specs.Cells.{states};
+ghost use Rattle.run_table.specs.Rules.{is_settled};
+ghost use Rattle.run_table.specs.Settling.{first_place};
+ghost use Rattle.run_table.specs.WithinRun.{first_in_job, first_in_jobs, first_in_run, first_of_open, first_of_whole, goes_on};
+
+use crate::job::Job;
+use crate::leg::Leg;
+use crate::place::{LegPlace, Place};
+use crate::run::Run;
+
+fn leg_that_goes_on(legs: &[Leg]) -> Option<usize>
+    ensures { result ≡ position goes_on legs.now }
+{
+    legs.iter().position(|leg| leg.goes_on())
+}
+
+/// Of a job that is not blocked: its first leg with a rule, else where it settles.
+fn first_of_open(r: usize, j: usize, job: &Job) -> Option<Place>
+    ensures { result ≡ first_of_open r j job.now.state }
+{
+    match leg_that_goes_on(job.legs()) {
+        Some(l) => Some(Place::AtLeg(LegPlace {
+            run: r,
+            job: j,
+            leg: l,
+        })),
+        None if job.is_done() => Some(Place::Closing(r, j)),
+        None => None,
+    }
+}
+
+/// A job needs no other, so a blocked one may open.
+fn first_in_job(r: usize, j: usize, job: &Job) -> Option<Place>
+    ensures { result ≡ first_in_job r j job.now.state }
+{
+    if job.phase().is_blocked() {
+        return Some(Place::Opening(r, j));
+    }
+    first_of_open(r, j, job)
+}
+
+fn first_in_jobs(r: usize, jobs: &[Job]) -> Option<Place>
+    ensures { result ≡ first_in_jobs r (states jobs.now) }
+{
+    for j in 0..jobs.len() {
+        let job = &jobs[j];
+        let place = first_in_job(r, j, job);
+        if place.is_some() {
+            return place;
+        }
+    }
+    None
+}
+
+fn are_settled(jobs: &[Job]) -> bool
+    ensures { result ≡ list_all (λ job. is_settled job.state) jobs.now }
+{
+    jobs.iter().all(|job| job.is_settled())
+}
+
+pub(crate) fn has_settled_jobs(run: &Run) -> bool
+    ensures { result ≡ list_all is_settled run.now.jobs }
+{
+    are_settled(run.jobs())
+}
+
+fn first_of_whole(r: usize, run: &Run) -> Option<Place>
+    ensures { result ≡ first_of_whole r run.now }
+{
+    match run.phase().next(has_settled_jobs(run)) {
+        Some(_) => Some(Place::Whole(r)),
+        None => None,
+    }
+}
+
+fn first_in_run(r: usize, run: &Run) -> Option<Place>
+    ensures { result ≡ first_in_run r run.now }
+{
+    if run.phase().is_live() {
+        let place = first_in_jobs(r, run.jobs());
+        if place.is_some() {
+            return place;
+        }
+    }
+    first_of_whole(r, run)
+}
+
+/// The first place where a rule applies.
+pub fn first_place(runs: &[Run]) -> Option<Place>
+    ensures { result ≡ first_place runs.now }
+{
+    for r in 0..runs.len() {
+        let run = &runs[r];
+        let place = first_in_run(r, run);
+        if place.is_some() {
+            return place;
+        }
+    }
+    None
+}

@@ -1,0 +1,68 @@
+//! What a numbered command is answered before the table is looked at: the kept reply where it is the
+//! runner's last again, and a refusal where it is out of turn.
+
+ghost use Rattle.std.specs.Prelude.{◌≡◌, false, Ok, option_map, Some, IsOk};
+ghost use Rattle.wf_value.specs.Gives.{Gives};
+ghost use Rattle.run_plan.specs.LastCommand.{is_last_claim, is_last_report, kept_reply};
+ghost use Rattle.run_plan.specs.ReplyText.{carries_text};
+ghost use Rattle.run_table.specs.Turns.{answer_of_turn, needs_text, turn_answer};
+
+use crate::runner::Runner;
+use run_plan::{Claim, Done, LastCommand, Number, Reply};
+use std::alloc::Global;
+use wf_value::Refusal;
+
+/// A refusal, where the number is not the one after the last.
+fn turn_answer(last: u32, number: Number) -> Option<Reply>
+    ensures { result ≡ turn_answer last number }
+{
+    let last = u64::from(last);
+    if u64::from(number.get()) == last + 1 {
+        None
+    } else {
+        Some(Reply::Refused(Refusal::Turn(last)))
+    }
+}
+
+fn kept_reply(alloc: Global, last: &LastCommand) -> Result<Option<Reply>, Refusal>
+    ensures gives { Gives (λ r. r) result (Ok (Some (kept_reply last.now))) }
+    ensures answers { carries_text (kept_reply last.now) ≡ false → IsOk result }
+{
+    Ok(Some(last.reply(alloc)?))
+}
+
+/// What a claim is answered by its number alone.
+pub fn answer_to_claim(
+    alloc: Global,
+    runner: Option<&Runner>,
+    claim: &Claim,
+) -> Result<Option<Reply>, Refusal>
+    ensures gives { Gives (λ r. r) result (Ok (answer_of_turn (option_map (λ r. r.now) runner.entry) claim.now.number (is_last_claim claim.now))) }
+    ensures answers { needs_text (answer_of_turn (option_map (λ r. r.now) runner.entry) claim.now.number (is_last_claim claim.now)) ≡ false → IsOk result }
+{
+    match runner {
+        None => Ok(turn_answer(0, claim.number)),
+        Some(runner) if runner.number.get() == claim.number.get() && runner.last.is_claim(claim) =>
+            { kept_reply(alloc, &runner.last) }
+        Some(runner) => Ok(turn_answer(runner.number.get(), claim.number)),
+    }
+}
+
+/// What a report is answered by its number alone.
+pub fn answer_to_report(
+    alloc: Global,
+    runner: Option<&Runner>,
+    report: &Done,
+) -> Result<Option<Reply>, Refusal>
+    ensures gives { Gives (λ r. r) result (Ok (answer_of_turn (option_map (λ r. r.now) runner.entry) report.now.number (is_last_report report.now))) }
+    ensures answers { needs_text (answer_of_turn (option_map (λ r. r.now) runner.entry) report.now.number (is_last_report report.now)) ≡ false → IsOk result }
+{
+    match runner {
+        None => Ok(turn_answer(0, report.number)),
+        Some(runner)
+            if runner.number.get() == report.number.get() && runner.last.is_report(report) => {
+            kept_reply(alloc, &runner.last)
+        }
+        Some(runner) => Ok(turn_answer(runner.number.get(), report.number)),
+    }
+}
