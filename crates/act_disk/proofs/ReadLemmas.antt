@@ -23,14 +23,16 @@ module _ (left : List ℕ → Type 0) (held : List ℕ) where
         same = so_far.same;
         images = so_far.images;
         passed =
-            elapses_then (length old) (length mid) (length new) (MayHaveLeft left held old) (MayHaveLeft left held mid) (MayHaveLeft left held new) (MayLeave left held mid) (MayLeave left held new)
+            elapses_then (length old) (length mid) (length new) (MayHaveLeft left held old) (MayHaveLeft left held mid)
+            (MayHaveLeft left held new) (MayLeave left held mid) (MayLeave left held new)
             so_far.passed (elapses_push (MayLeave left held) (Gave at bytes) mid (length mid) (length new) (omega arith)) (λ c now. now);
         honest = λ h. so_far.honest h.0;
         sound = so_far.sound;
       }
 
   -- what an honest read says of the bytes that it gave
-  pub gave_bytes : (at : ℕ) (bytes : List ℕ) (old mid : List FileCall) → Reads left held old mid → IsTrue (is_sound old) → IsHonest held (Gave at bytes ∷ mid)
+  pub gave_bytes : (at : ℕ) (bytes : List ℕ) (old mid : List FileCall) → Reads left held old mid → IsTrue (is_sound old)
+      → IsHonest held (Gave at bytes ∷ mid)
       → bytes ≡ take (length bytes) (drop at (contents held old))
   gave_bytes at bytes old mid so_far sound honest =
       honest.1 (so_far.sound ∙ sound) ∙ ap (λ (l : List ℕ). take (length bytes) (drop at l)) so_far.same

@@ -1,5 +1,6 @@
 -- Writes of the system, one after another, as one write.
-use Rattle.std.proofs.Common.{◌≡◌, ◌↔◌, ⊎_elim, ℕ, zero, suc, ◌+◌, ◌-◌, ◌^◌, ◌<◌, ◌≤◌, min, List, [], ◌∷◌, ◌++◌, length, take, drop, replicate, refl, sym, ◌∙◌, ap, subst, arith, append_assoc}
+use Rattle.std.proofs.Common.{◌≡◌, ◌↔◌, ⊎_elim, ℕ, zero, suc, ◌+◌, ◌-◌, ◌^◌, ◌<◌, ◌≤◌, min, List, [], ◌∷◌, ◌++◌, length, take, drop}
+use Rattle.std.proofs.Common.{replicate, refl, sym, ◌∙◌, ap, subst, arith, append_assoc}
 use Rattle.std.proofs.lemmas.List.{length-append, length-take-le, length-drop, length-replicate, take_at, drop_at, drop-drop}
 use Rattle.std.proofs.Math.Seq.{take-add}
 use Rattle.act_disk.specs.Images.{Torn, From, Follows}
@@ -28,11 +29,13 @@ laid_behind at a b file =
     let rest = drop (at + length a) file in
     let was = front ++ a ++ rest in
     let more = replicate (at + length a) 0 in
-    let size-front : length front ≡ at = length-take-le at (file ++ zeros) (omega (arith, length-append file zeros, length-replicate {A = ℕ} at 0)) in
+    let size-front : length front ≡ at =
+    length-take-le at (file ++ zeros) (omega (arith, length-append file zeros, length-replicate {A = ℕ} at 0)) in
     let size : length (front ++ a) ≡ at + length a = omega (arith, length-append front a, size-front) in
     let end : at + length a + length b ≡ at + length (a ++ b) = omega (arith, length-append a b) in
     let first : take (at + length a) (was ++ more) ≡ front ++ a =
-    ap (λ (l : List ℕ). take (at + length a) l) (append_assoc (front ++ a) rest more) ∙ take_at (front ++ a) (rest ++ more) (at + length a) size in
+    ap (λ (l : List ℕ). take (at + length a) l) (append_assoc (front ++ a) rest more)
+    ∙ take_at (front ++ a) (rest ++ more) (at + length a) size in
     let last : drop (at + length a + length b) was ≡ drop (at + length (a ++ b)) file =
     sym (drop-drop (length b) (at + length a) was) ∙ ap (λ (l : List ℕ). drop (length b) l) (drop_at (front ++ a) rest (at + length a) size)
     ∙ drop-drop (length b) (at + length a) file ∙ ap (λ (k : ℕ). drop k file) end in
@@ -54,8 +57,10 @@ module _ (left : List ℕ → Type 0) (held : List ℕ) where
   pub follows_none : (at n : ℕ) (calls : List FileCall) → Follows (Torn at n) (Images calls) (Images calls)
   follows_none at n calls = record { each = λ c now. (c, now, torn_refl at n c); keeps = λ c now. now }
 
-  follows_one : (at n : ℕ) (call : FileCall) (calls : List FileCall) → ((c : List ℕ) → Images (call ∷ calls) c → From (Torn at n) (Images calls) c)
-      → ((c : List ℕ) → From (Torn at n) (Images calls) c → Images (call ∷ calls) c) → Follows (Torn at n) (Images calls) (Images (call ∷ calls))
+  follows_one : (at n : ℕ) (call : FileCall) (calls : List FileCall)
+      → ((c : List ℕ) → Images (call ∷ calls) c → From (Torn at n) (Images calls) c)
+      → ((c : List ℕ) → From (Torn at n) (Images calls) c → Images (call ∷ calls) c)
+      → Follows (Torn at n) (Images calls) (Images (call ∷ calls))
   follows_one at n call calls to from = record { each = to; keeps = λ c now. from c (c, now, torn_refl at n c) }
 
   same_both : {P : Type 0} → P ↔ P
@@ -101,7 +106,8 @@ module _ (left : List ℕ → Type 0) (held : List ℕ) where
     honest = same_both;
   }
 
-  pub broke_first : (at : ℕ) (bytes : List ℕ) (old new : List FileCall) → MayHaveFailed (WriteFailed at bytes) old new → Breaks left held at bytes 0 old new
+  pub broke_first : (at : ℕ) (bytes : List ℕ) (old new : List FileCall) → MayHaveFailed (WriteFailed at bytes) old new
+      → Breaks left held at bytes 0 old new
   broke_first at bytes old new failed =
       ⊎_elim (λ none. subst (λ (l : List FileCall). Breaks left held at bytes 0 old l) (sym none) (broke_none at bytes old))
       (λ one. subst (λ (l : List FileCall). Breaks left held at bytes 0 old l) (sym one) (broke_one at bytes old)) failed
@@ -121,11 +127,14 @@ module _ (left : List ℕ → Type 0) (held : List ℕ) where
       ⊎_elim (λ none. subst (λ (l : List FileCall). Breaks left held len [] 0 old l) (sym none) (broke_none len [] old))
       (λ one. subst (λ (l : List FileCall). Breaks left held len [] 0 old l) (sym one) (growth_broke len old)) failed
 
-  passed_then : (a b c : List FileCall) → Passed left held a b → Passed left held b c → ((x : List ℕ) → Images b x → Images c x) → Passed left held a c
+  passed_then : (a b c : List FileCall) → Passed left held a b → Passed left held b c → ((x : List ℕ) → Images b x → Images c x)
+      → Passed left held a c
   passed_then a b c first second keeps =
-      elapses_then (length a) (length b) (length c) (MayHaveLeft left held a) (MayHaveLeft left held b) (MayHaveLeft left held c) (Images b) (Images c) first second keeps
+      elapses_then (length a) (length b) (length c) (MayHaveLeft left held a) (MayHaveLeft left held b) (MayHaveLeft left held c) (Images b)
+      (Images c) first second keeps
 
-  module _ (at : ℕ) (bytes : List ℕ) (count : ℕ) (within : count ≤ length bytes) (old mid : List FileCall) (so_far : Puts left held at bytes count old mid) where
+  module _ (at : ℕ) (bytes : List ℕ) (count : ℕ) (within : count ≤ length bytes) (old mid : List FileCall)
+      (so_far : Puts left held at bytes count old mid) where
     abbrev rest : List ℕ
     rest = drop count bytes
 
@@ -135,12 +144,17 @@ module _ (left : List ℕ → Type 0) (held : List ℕ) where
     size-front : length (take count bytes) ≡ count
     size-front = length-take-le count bytes within
 
-    follows_more : (new : List FileCall) → Follows (Torn (at + count) (length rest)) (Images mid) (Images new) → Follows (Torn at (length bytes)) (Images old) (Images new)
+    follows_more : (new : List FileCall) → Follows (Torn (at + count) (length rest)) (Images mid) (Images new)
+        → Follows (Torn at (length bytes)) (Images old) (Images new)
     follows_more new more = record {
       each = λ c now.
           let second = more.each c now in
-          let first = so_far.follows.each second.0 second.1 in
-          (first.0, first.1, torn_within at (length bytes) (at + count) (length rest) first.0 second.0 c (omega arith) (omega (arith, size-rest)) first.2 second.2);
+          let first = so_far.follows.each second.0 second.1 in (
+            first.0,
+            first.1,
+            torn_within at (length bytes) (at + count) (length rest) first.0 second.0 c (omega arith)
+                (omega (arith, size-rest)) first.2 second.2,
+          );
       keeps = λ c now. more.keeps c (so_far.follows.keeps c now);
     }
 
@@ -166,7 +180,8 @@ module _ (left : List ℕ → Type 0) (held : List ℕ) where
     partly_is zero file some = absurd (omega (arith, some))
     partly_is (suc k) file some = refl
 
-    pub broke_later : (new : List FileCall) → 0 < count → at + length bytes < 2 ^ 64 → Breaks left held (at + count) rest 0 mid new → Breaks left held at bytes count old new
+    pub broke_later : (new : List FileCall) → 0 < count → at + length bytes < 2 ^ 64 → Breaks left held (at + count) rest 0 mid new
+        → Breaks left held at bytes count old new
     broke_later new some fits broke = record {
       within = within;
       fits = λ _. omega (arith, fits, within);

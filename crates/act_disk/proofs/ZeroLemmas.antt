@@ -5,7 +5,8 @@ use Rattle.act_disk.specs.Images.{IsWritten}
 use Rattle.act_disk.specs.Kept.{written_is}
 
 -- a write of zeros at the end adds them
-pub zeros_more : (old mid new bytes : List ℕ) (at k count : ℕ) → mid ≡ old ++ replicate k 0 → at ≡ length mid → bytes ≡ replicate count 0 → IsWritten at bytes mid new → new ≡ old ++ replicate (k + count) 0
+pub zeros_more : (old mid new bytes : List ℕ) (at k count : ℕ) → mid ≡ old ++ replicate k 0 → at ≡ length mid → bytes ≡ replicate count 0
+    → IsWritten at bytes mid new → new ≡ old ++ replicate (k + count) 0
 zeros_more old mid new bytes at k count so_far end zeros written =
     let tail : drop (at + length bytes) mid ≡ [] = drop_all (at + length bytes) mid (omega (arith, end)) in
     written_is at bytes mid new (omega (arith, end)) written

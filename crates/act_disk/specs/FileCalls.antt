@@ -10,7 +10,8 @@ MayHaveFailed call old new = (new ≡ old) ⊎ (new ≡ call ∷ old)
 
 -- time went on over the images between
 abbrev pub Passed : (List ℕ → Type 0) → List ℕ → List FileCall → List FileCall → Type 0
-Passed left held old new = Elapses (length old) (length new) (MayHaveLeft left held old) (MayHaveLeft left held new) (MayLeave left held new)
+Passed left held old new =
+    Elapses (length old) (length new) (MayHaveLeft left held old) (MayHaveLeft left held new) (MayLeave left held new)
 
 -- a file with the first so many of these bytes at `at`; where there are none, the file as it was
 abbrev pub partly : ℕ → List ℕ → ℕ → List ℕ → List ℕ

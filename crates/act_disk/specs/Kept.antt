@@ -19,7 +19,8 @@ module _ (at n : ℕ) (old new : List ℕ) (torn : Torn at n old new) where
   rest_kept from above =
       let more = from - (at + n) in
       let reach : from ≡ (at + n) + more = omega arith in
-      ap (λ (k : ℕ). drop k new) reach ∙ sym (drop-drop more (at + n) new) ∙ ap (λ (l : List ℕ). drop more l) torn.after ∙ drop-drop more (at + n) old
+      ap (λ (k : ℕ). drop k new) reach ∙ sym (drop-drop more (at + n) new) ∙ ap (λ (l : List ℕ). drop more l) torn.after
+      ∙ drop-drop more (at + n) old
       ∙ ap (λ (k : ℕ). drop k old) (sym reach)
 
   -- a range below the old end that the write doesn't meet
@@ -29,7 +30,8 @@ module _ (at n : ℕ) (old new : List ℕ) (torn : Torn at n old new) where
   range_kept from count within (inr above) = ap (λ (l : List ℕ). take count l) (rest_kept from above)
 
 -- a write that was done and begins within the file, as one equation
-pub written_is : (at : ℕ) (bytes old new : List ℕ) → at ≤ length old → IsWritten at bytes old new → new ≡ take at old ++ (bytes ++ drop (at + length bytes) old)
+pub written_is : (at : ℕ) (bytes old new : List ℕ) → at ≤ length old → IsWritten at bytes old new
+    → new ≡ take at old ++ (bytes ++ drop (at + length bytes) old)
 written_is at bytes old new within written =
     let n = length bytes in
     sym (take-append-drop at new)

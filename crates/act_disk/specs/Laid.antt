@@ -1,7 +1,8 @@
 -- A file with bytes laid into it, and that it is a write of them.
 use Rattle.std.specs.Prelude.{◌≡◌, ℕ, ◌+◌, ◌-◌, ◌≤◌, min, max, List, ◌++◌, length, take, drop, replicate}
 use Rattle.std.proofs.Common.{refl, sym, ◌∙◌, ap, arith, append_assoc}
-use Rattle.std.proofs.lemmas.List.{length-append, length-take-le, length-drop, length-replicate, take-append-le, take-take, take_at, drop_at, drop-drop}
+use Rattle.std.proofs.lemmas.List.{length-append, length-take-le, length-drop, length-replicate, take-append-le, take-take, take_at}
+use Rattle.std.proofs.lemmas.List.{drop_at, drop-drop}
 use Rattle.act_disk.specs.Images.{Torn, Holds, IsWritten}
 
 -- a file with these bytes at `at`; where it was shorter, zeros stand up to there
@@ -20,7 +21,8 @@ module _ (at : ℕ) (bytes file : List ℕ) where
   rest = drop (at + length bytes) file
 
   length-front : length front ≡ at
-  length-front = length-take-le at (file ++ replicate at 0) (omega (arith, length-append file (replicate at 0), length-replicate {A = ℕ} at 0))
+  length-front =
+      length-take-le at (file ++ replicate at 0) (omega (arith, length-append file (replicate at 0), length-replicate {A = ℕ} at 0))
 
   length-written : length (front ++ bytes) ≡ at + length bytes
   length-written = omega (arith, length-append front bytes, length-front)

@@ -3,27 +3,33 @@ use Rattle.std.proofs.Common.{◌≡◌, inl, inr, ⊎_elim, ℕ, List, sym, sub
 use Rattle.act_disk.specs.Images.{Only, SameImages, Elapses, EachSince}
 
 -- A sync makes no new image, whether it succeeds or not.
-pub after_sync : {T E H : Type 0} (r : Result T E) (seen : List ℕ) (before after : List ℕ → Type 0) → OnOk r (H → Only seen after) → OnErr r (H → SameImages before after)
+pub after_sync : {T E H : Type 0} (r : Result T E) (seen : List ℕ) (before after : List ℕ → Type 0) → OnOk r (H → Only seen after)
+    → OnErr r (H → SameImages before after)
     → H → before seen → (c : List ℕ) → after c → before c
-after_sync (Ok x) seen before after stable failed honest here c now = let same : c ≡ seen = (stable honest c).0 now in subst before (sym same) here
+after_sync (Ok x) seen before after stable failed honest here c now =
+    let same : c ≡ seen = (stable honest c).0 now in subst before (sym same) here
 after_sync (Err e) seen before after stable failed honest here c now = (failed honest c).0 now
 
 module _ {D : Type 0} (moment : D → ℕ) (images_since : D → ℕ → List ℕ → Type 0) where
   -- before the first call
-  pub started : (old : D) (P : List ℕ → Type 0) → ((c : List ℕ) → images_since old (moment old) c → P c) → EachSince moment images_since old old P
+  pub started : (old : D) (P : List ℕ → Type 0) → ((c : List ℕ) → images_since old (moment old) c → P c)
+      → EachSince moment images_since old old P
   started old P here = record { later = omega arith; each = here; before = λ t c le left. inl left }
 
   -- one call more, after which a stop leaves what has P
   pub goes_on : (old mid new : D) (P images : List ℕ → Type 0) → EachSince moment images_since old mid P
-      → Elapses (moment mid) (moment new) (images_since mid) (images_since new) images → ((c : List ℕ) → images c → P c) → EachSince moment images_since old new P
+      → Elapses (moment mid) (moment new) (images_since mid) (images_since new) images → ((c : List ℕ) → images c → P c)
+      → EachSince moment images_since old new P
   goes_on old mid new P images so_far time here = record {
     later = omega (arith, so_far.later, time.later);
     each = λ c left. ⊎_elim (so_far.each c) (here c) (time.nothing_else (moment old) c so_far.later left);
-    before = λ t c le left. ⊎_elim (so_far.before t c le) (λ now. inr (here c now)) (time.nothing_else t c (omega (arith, le, so_far.later)) left);
+    before = λ t c le left. ⊎_elim (so_far.before t c le) (λ now. inr (here c now))
+        (time.nothing_else t c (omega (arith, le, so_far.later)) left);
   }
 
   -- a run whose images have more said of them than is asked
-  pub weakened : (old new : D) (P Q : List ℕ → Type 0) → EachSince moment images_since old new P → ((c : List ℕ) → P c → Q c) → EachSince moment images_since old new Q
+  pub weakened : (old new : D) (P Q : List ℕ → Type 0) → EachSince moment images_since old new P → ((c : List ℕ) → P c → Q c)
+      → EachSince moment images_since old new Q
   weakened old new P Q since weaker = record {
     later = since.later;
     each = λ c left. weaker c (since.each c left);
@@ -36,5 +42,6 @@ module _ {D : Type 0} (moment : D → ℕ) (images_since : D → ℕ → List �
   joined old mid new P Q first second weaker = record {
     later = omega (arith, first.later, second.later);
     each = λ c left. ⊎_elim (first.each c) (weaker c) (second.before (moment old) c first.later left);
-    before = λ t c le left. ⊎_elim (first.before t c le) (λ now. inr (weaker c now)) (second.before t c (omega (arith, le, first.later)) left);
+    before = λ t c le left. ⊎_elim (first.before t c le) (λ now. inr (weaker c now))
+        (second.before t c (omega (arith, le, first.later)) left);
   }

@@ -10,7 +10,8 @@ use Rattle.act_disk.specs.declared.call.Call.TheVariants.{Write, Sync}
 
 seen_left : (first : List ℕ) (calls : List Call) → LeftAfter first calls (seen_after first calls)
 seen_left first [] = refl
-seen_left first (Write at bytes ∷ earlier) = (seen_after first earlier, seen_left first earlier, torn_laid at bytes (seen_after first earlier) (length bytes) (omega arith))
+seen_left first (Write at bytes ∷ earlier) =
+    (seen_after first earlier, seen_left first earlier, torn_laid at bytes (seen_after first earlier) (length bytes) (omega arith))
 seen_left first (Sync ∷ earlier) = refl
 
 pub seen_may_stay : (m : Record) → MayLeave m (bytes_of m)
@@ -20,4 +21,5 @@ pub left_now : (m : Record) (t : ℕ) (c : List ℕ) → t ≤ length m.calls �
 left_now m t c le left = past.left_now (LeftAfter m.first) (reverse m.calls) t c (omega (arith, le, length-reverse m.calls)) left
 
 pub left_last : (m : Record) (c : List ℕ) → MayHaveLeft m (length m.calls) c → MayLeave m c
-left_last m c left = past.left_last (LeftAfter m.first) (reverse m.calls) c (left.0, left.1, left.2, omega (arith, length-reverse m.calls, left.3), left.4)
+left_last m c left =
+    past.left_last (LeftAfter m.first) (reverse m.calls) c (left.0, left.1, left.2, omega (arith, length-reverse m.calls, left.3), left.4)

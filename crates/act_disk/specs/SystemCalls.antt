@@ -95,7 +95,8 @@ MayHaveLeft left held calls t c = LeftSince (MayLeave left held) calls t c
 abbrev pub IsHonest : List ℕ → List FileCall → Type 0
 IsHonest held [] = Unit {0}
 IsHonest held (Measured len ∷ earlier) = IsHonest held earlier × (IsTrue (is_sound earlier) → len ≡ length (contents held earlier))
-IsHonest held (Gave at bytes ∷ earlier) = IsHonest held earlier × (IsTrue (is_sound earlier) → bytes ≡ take (length bytes) (drop at (contents held earlier)))
+IsHonest held (Gave at bytes ∷ earlier) =
+    IsHonest held earlier × (IsTrue (is_sound earlier) → bytes ≡ take (length bytes) (drop at (contents held earlier)))
 IsHonest held (Wrote at bytes count ∷ earlier) = IsHonest held earlier
 IsHonest held (WriteFailed at bytes ∷ earlier) = IsHonest held earlier
 IsHonest held (Grew len ∷ earlier) = IsHonest held earlier

@@ -1,5 +1,6 @@
 -- What is spelled as a template is read as that template.
-use Rattle.std.proofs.Common.{◌≡◌, ◌≢◌, ◌⊎◌, ℕ, Bool, true, false, cond, eqb, IsTrue, List, [], ◌∷◌, ◌++◌, refl, ap, sym, ◌∙◌, inl, inr, append_assoc, append-nil, eqb-true, eq-eqb, lit<, length, arith}
+use Rattle.std.proofs.Common.{◌≡◌, ◌≢◌, ◌⊎◌, ℕ, Bool, true, false, cond, eqb, IsTrue, List, [], ◌∷◌, ◌++◌, refl, ap, sym, ◌∙◌, inl, inr}
+use Rattle.std.proofs.Common.{append_assoc, append-nil, eqb-true, eq-eqb, lit<, length, arith}
 use Rattle.std.specs.Prelude.{Some, codes}
 use Rattle.std.specs.Option.{option_and_then}
 use Rattle.std.specs.List.{AllByRecursion}
@@ -7,14 +8,16 @@ use Rattle.std.specs.Str.{encode_utf8_all}
 use Rattle.std.specs.Char.{encode_utf8}
 use Rattle.std.proofs.lemmas.Str.{encode_ascii, length-encode, len_utf8_bounds}
 use Rattle.wf_expr.specs.Letters.{begins_name, continues_name}
-use Rattle.wf_expr.specs.Grammar.{AreSpaces, IsName, SpellsNames, doubled, SpellsOperand, SpellsMore, SpellsBraced, HoldsNoOpening, SpellsPlain, SpellsPieces, BeginsBraced}
+use Rattle.wf_expr.specs.Grammar.{AreSpaces, IsName, SpellsNames, doubled, SpellsOperand, SpellsMore, SpellsBraced, HoldsNoOpening}
+use Rattle.wf_expr.specs.Grammar.{SpellsPlain, SpellsPieces, BeginsBraced}
 use Rattle.wf_expr.specs.Reading.{taken, run, plain_piece}
 use Rattle.wf_expr.specs.declared.piece.Operand.{Operand}
 use Rattle.wf_expr.specs.declared.piece.Operand.TheVariants.{Quoted, Reference}
 use Rattle.wf_expr.specs.declared.piece.Piece.{Piece}
 use Rattle.wf_expr.specs.declared.piece.Piece.TheVariants.{Plain, Braced}
 use Rattle.wf_expr.specs.declared.reader.Reader.{Reader}
-use Rattle.wf_expr.specs.declared.reader.Reader.TheVariants.{InText, AfterDollar, AfterBrace, OperandDue, InName, AfterName, NameDue, InQuoted, AfterQuote, AfterOperand, AfterBar, AfterClose}
+use Rattle.wf_expr.specs.declared.reader.Reader.TheVariants.{InText, AfterDollar, AfterBrace, OperandDue, InName, AfterName, NameDue}
+use Rattle.wf_expr.specs.declared.reader.Reader.TheVariants.{InQuoted, AfterQuote, AfterOperand, AfterBar, AfterClose}
 
 run-some : (r s : Reader) (c : ℕ) (cs : List ℕ) → taken r c ≡ Some s → run r (c ∷ cs) ≡ run s cs
 unfolding run
@@ -49,22 +52,30 @@ begins-not-quote : (c : ℕ) → begins_name c ≡ true → eqb c 39 ≡ false
 unfolding begins_name
 begins-not-quote c h = begins-other c 39 (eqb c 39) refl refl h
 
-letters-read : (ps : List Piece) (os : List Operand) (names : List (List ℕ)) (w cs x : List ℕ) → AllByRecursion (λ d. IsTrue (continues_name d)) cs → run (InName ps os names w) (cs ++ x) ≡ run (InName ps os names (w ++ encode_utf8_all cs)) x
+letters-read : (ps : List Piece) (os : List Operand) (names : List (List ℕ)) (w cs x : List ℕ)
+    → AllByRecursion (λ d. IsTrue (continues_name d)) cs
+    → run (InName ps os names w) (cs ++ x) ≡ run (InName ps os names (w ++ encode_utf8_all cs)) x
 letters-read ps os names w [] x h = ap (λ v. run (InName ps os names v) x) (sym (append-nil w))
 letters-read ps os names w (c ∷ cs) x h =
     run-some (InName ps os names w) (InName ps os names (w ++ encode_utf8 c)) c (cs ++ x) (cond-true (continues_name c) _ _ h.0)
-    ∙ (letters-read ps os names (w ++ encode_utf8 c) cs x h.1 ∙ ap (λ v. run (InName ps os names v) x) (append_assoc w (encode_utf8 c) (encode_utf8_all cs)))
+    ∙ (letters-read ps os names (w ++ encode_utf8 c) cs x h.1
+    ∙ ap (λ v. run (InName ps os names v) x) (append_assoc w (encode_utf8 c) (encode_utf8_all cs)))
 
-name-due-read : (ps : List Piece) (os : List Operand) (names : List (List ℕ)) (n x : List ℕ) → IsName n → run (NameDue ps os names) (n ++ x) ≡ run (InName ps os names (encode_utf8_all n)) x
+name-due-read : (ps : List Piece) (os : List Operand) (names : List (List ℕ)) (n x : List ℕ) → IsName n
+    → run (NameDue ps os names) (n ++ x) ≡ run (InName ps os names (encode_utf8_all n)) x
 name-due-read ps os names [] x h = absurd h
 name-due-read ps os names (c ∷ cs) x h =
-    run-some (NameDue ps os names) (InName ps os names (encode_utf8 c)) c (cs ++ x) (cond-false (eqb c 32) _ _ (begins-not-space c h.0) ∙ cond-true (begins_name c) _ _ h.0)
+    run-some (NameDue ps os names) (InName ps os names (encode_utf8 c)) c (cs ++ x)
+    (cond-false (eqb c 32) _ _ (begins-not-space c h.0) ∙ cond-true (begins_name c) _ _ h.0)
     ∙ letters-read ps os names (encode_utf8 c) cs x h.1
 
-operand-due-name : (ps : List Piece) (os : List Operand) (n x : List ℕ) → IsName n → run (OperandDue ps os) (n ++ x) ≡ run (InName ps os [] (encode_utf8_all n)) x
+operand-due-name : (ps : List Piece) (os : List Operand) (n x : List ℕ) → IsName n
+    → run (OperandDue ps os) (n ++ x) ≡ run (InName ps os [] (encode_utf8_all n)) x
 operand-due-name ps os [] x h = absurd h
 operand-due-name ps os (c ∷ cs) x h =
-    run-some (OperandDue ps os) (InName ps os [] (encode_utf8 c)) c (cs ++ x) (cond-false (eqb c 32) _ _ (begins-not-space c h.0) ∙ (cond-false (eqb c 39) _ _ (begins-not-quote c h.0) ∙ cond-true (begins_name c) _ _ h.0))
+    run-some (OperandDue ps os) (InName ps os [] (encode_utf8 c)) c (cs ++ x)
+    (cond-false (eqb c 32) _ _ (begins-not-space c h.0)
+    ∙ (cond-false (eqb c 39) _ _ (begins-not-quote c h.0) ∙ cond-true (begins_name c) _ _ h.0))
     ∙ letters-read ps os [] (encode_utf8 c) cs x h.1
 
 -- no name goes on with these
@@ -72,10 +83,12 @@ abbrev StopsName : List ℕ → Type 0
 StopsName [] = Unit {0}
 StopsName (c ∷ cs) = continues_name c ≡ false
 
-name-ends : (ps : List Piece) (os : List Operand) (names : List (List ℕ)) (w x : List ℕ) → StopsName x → run (InName ps os names w) x ≡ run (AfterName ps os (names ++ w ∷ [])) x
+name-ends : (ps : List Piece) (os : List Operand) (names : List (List ℕ)) (w x : List ℕ) → StopsName x
+    → run (InName ps os names w) x ≡ run (AfterName ps os (names ++ w ∷ [])) x
 unfolding run
 name-ends ps os names w [] h = refl
-name-ends ps os names w (c ∷ x) h = run-alike (InName ps os names w) (AfterName ps os (names ++ w ∷ [])) c x (cond-false (continues_name c) _ _ h)
+name-ends ps os names w (c ∷ x) h =
+    run-alike (InName ps os names w) (AfterName ps os (names ++ w ∷ [])) c x (cond-false (continues_name c) _ _ h)
 
 spaces-stop : (s : List ℕ) (c : ℕ) (x : List ℕ) → AreSpaces s → continues_name c ≡ false → StopsName (s ++ c ∷ x)
 unfolding continues_name begins_name
@@ -90,15 +103,19 @@ unfolding continues_name begins_name
 names-stop text x [] h stop = rw h stop
 names-stop text x (n ∷ ns) h stop =
     let d = h.3 in
-    let whole : text ++ x ≡ d.before ++ (46 ∷ (d.between ++ (d.letters ++ (h.1 ++ x)))) = ap (λ t. t ++ x) (h.2 ∙ ap (λ f. f ++ h.1) d.whole) ∙ dotted-assoc d.before d.between d.letters h.1 x in
+    let whole : text ++ x ≡ d.before ++ (46 ∷ (d.between ++ (d.letters ++ (h.1 ++ x)))) =
+    ap (λ t. t ++ x) (h.2 ∙ ap (λ f. f ++ h.1) d.whole) ∙ dotted-assoc d.before d.between d.letters h.1 x in
     rw whole (spaces-stop d.before 46 (d.between ++ (d.letters ++ (h.1 ++ x))) d.spaces_before refl)
 
-names-read : (ps : List Piece) (os : List Operand) (names : List (List ℕ)) (text x : List ℕ) (ns : List (List ℕ)) → SpellsNames text ns → StopsName x → run (AfterName ps os names) (text ++ x) ≡ run (AfterName ps os (names ++ ns)) x
-names-read ps os names text x [] h stop = ap (λ t. run (AfterName ps os names) (t ++ x)) h ∙ ap (λ v. run (AfterName ps os v) x) (sym (append-nil names))
+names-read : (ps : List Piece) (os : List Operand) (names : List (List ℕ)) (text x : List ℕ) (ns : List (List ℕ)) → SpellsNames text ns
+    → StopsName x → run (AfterName ps os names) (text ++ x) ≡ run (AfterName ps os (names ++ ns)) x
+names-read ps os names text x [] h stop =
+    ap (λ t. run (AfterName ps os names) (t ++ x)) h ∙ ap (λ v. run (AfterName ps os v) x) (sym (append-nil names))
 names-read ps os names text x (n ∷ ns) h stop =
     let d = h.3 in
     let rest = h.1 in
-    let whole : text ++ x ≡ d.before ++ (46 ∷ (d.between ++ (d.letters ++ (rest ++ x)))) = ap (λ t. t ++ x) (h.2 ∙ ap (λ f. f ++ rest) d.whole) ∙ dotted-assoc d.before d.between d.letters rest x in
+    let whole : text ++ x ≡ d.before ++ (46 ∷ (d.between ++ (d.letters ++ (rest ++ x)))) =
+    ap (λ t. t ++ x) (h.2 ∙ ap (λ f. f ++ rest) d.whole) ∙ dotted-assoc d.before d.between d.letters rest x in
     ap (run (AfterName ps os names)) whole
     ∙ (spaces-read (AfterName ps os names) d.before (46 ∷ (d.between ++ (d.letters ++ (rest ++ x)))) refl d.spaces_before
     ∙ (run-some (AfterName ps os names) (NameDue ps os names) 46 (d.between ++ (d.letters ++ (rest ++ x))) refl
@@ -106,7 +123,8 @@ names-read ps os names text x (n ∷ ns) h stop =
     ∙ (name-due-read ps os names d.letters (rest ++ x) d.is_name
     ∙ (name-ends ps os names (encode_utf8_all d.letters) (rest ++ x) (names-stop rest x ns h.4 stop)
     ∙ (names-read ps os (names ++ encode_utf8_all d.letters ∷ []) rest x ns h.4 stop
-    ∙ ap (λ v. run (AfterName ps os v) x) (append_assoc names (encode_utf8_all d.letters ∷ []) ns ∙ ap (λ v. names ++ v ∷ ns) (sym d.named))))))))
+    ∙ ap (λ v. run (AfterName ps os v) x)
+    (append_assoc names (encode_utf8_all d.letters ∷ []) ns ∙ ap (λ v. names ++ v ∷ ns) (sym d.named))))))))
 
 -- what may follow an operand: spaces, and `|` or `}`
 record Stops (x : List ℕ) : Type 0 where
@@ -124,11 +142,19 @@ Stops-name x h =
     rw h.whole (spaces-stop h.before h.mark h.rest h.spaces stop)
 
 -- behind spaces or none, a mark ends a name and an operand alike
-mark-after_name : (ps : List Piece) (os : List Operand) (names : List (List ℕ)) (c : ℕ) (x : List ℕ) → (c ≡ 124) ⊎ (c ≡ 125) → run (AfterName ps os names) (c ∷ x) ≡ run (AfterOperand ps (os ++ Reference names ∷ [])) (c ∷ x)
-mark-after_name ps os names c x (inl e) = ap (λ d. run (AfterName ps os names) (d ∷ x)) e ∙ (run-alike (AfterName ps os names) (AfterOperand ps (os ++ Reference names ∷ [])) 124 x refl ∙ ap (λ d. run (AfterOperand ps (os ++ Reference names ∷ [])) (d ∷ x)) (sym e))
-mark-after_name ps os names c x (inr e) = ap (λ d. run (AfterName ps os names) (d ∷ x)) e ∙ (run-alike (AfterName ps os names) (AfterOperand ps (os ++ Reference names ∷ [])) 125 x refl ∙ ap (λ d. run (AfterOperand ps (os ++ Reference names ∷ [])) (d ∷ x)) (sym e))
+mark-after_name : (ps : List Piece) (os : List Operand) (names : List (List ℕ)) (c : ℕ) (x : List ℕ) → (c ≡ 124) ⊎ (c ≡ 125)
+    → run (AfterName ps os names) (c ∷ x) ≡ run (AfterOperand ps (os ++ Reference names ∷ [])) (c ∷ x)
+mark-after_name ps os names c x (inl e) =
+    ap (λ d. run (AfterName ps os names) (d ∷ x)) e
+    ∙ (run-alike (AfterName ps os names) (AfterOperand ps (os ++ Reference names ∷ [])) 124 x refl
+    ∙ ap (λ d. run (AfterOperand ps (os ++ Reference names ∷ [])) (d ∷ x)) (sym e))
+mark-after_name ps os names c x (inr e) =
+    ap (λ d. run (AfterName ps os names) (d ∷ x)) e
+    ∙ (run-alike (AfterName ps os names) (AfterOperand ps (os ++ Reference names ∷ [])) 125 x refl
+    ∙ ap (λ d. run (AfterOperand ps (os ++ Reference names ∷ [])) (d ∷ x)) (sym e))
 
-reference-ends : (ps : List Piece) (os : List Operand) (names : List (List ℕ)) (x : List ℕ) → Stops x → run (AfterName ps os names) x ≡ run (AfterOperand ps (os ++ Reference names ∷ [])) x
+reference-ends : (ps : List Piece) (os : List Operand) (names : List (List ℕ)) (x : List ℕ) → Stops x
+    → run (AfterName ps os names) x ≡ run (AfterOperand ps (os ++ Reference names ∷ [])) x
 reference-ends ps os names x h =
     let tail = h.mark ∷ h.rest in
     ap (run (AfterName ps os names)) h.whole
@@ -137,38 +163,50 @@ reference-ends ps os names x h =
     ∙ (sym (spaces-read (AfterOperand ps (os ++ Reference names ∷ [])) h.before tail refl h.spaces)
     ∙ ap (run (AfterOperand ps (os ++ Reference names ∷ []))) (sym h.whole))))
 
-quote-ends-at : (ps : List Piece) (os : List Operand) (w : List ℕ) (c d : ℕ) (x : List ℕ) → c ≡ d → eqb d 39 ≡ false → run (AfterQuote ps os w) (c ∷ x) ≡ run (AfterOperand ps (os ++ Quoted w ∷ [])) (c ∷ x)
-quote-ends-at ps os w c d x e n = run-alike (AfterQuote ps os w) (AfterOperand ps (os ++ Quoted w ∷ [])) c x (cond-false (eqb c 39) _ _ (ap (λ v. eqb v 39) e ∙ n))
+quote-ends-at : (ps : List Piece) (os : List Operand) (w : List ℕ) (c d : ℕ) (x : List ℕ) → c ≡ d → eqb d 39 ≡ false
+    → run (AfterQuote ps os w) (c ∷ x) ≡ run (AfterOperand ps (os ++ Quoted w ∷ [])) (c ∷ x)
+quote-ends-at ps os w c d x e n =
+    run-alike (AfterQuote ps os w) (AfterOperand ps (os ++ Quoted w ∷ [])) c x (cond-false (eqb c 39) _ _ (ap (λ v. eqb v 39) e ∙ n))
 
-quote-ends-behind : (ps : List Piece) (os : List Operand) (w before : List ℕ) (mark : ℕ) (x : List ℕ) → AreSpaces before → (mark ≡ 124) ⊎ (mark ≡ 125) → run (AfterQuote ps os w) (before ++ mark ∷ x) ≡ run (AfterOperand ps (os ++ Quoted w ∷ [])) (before ++ mark ∷ x)
+quote-ends-behind : (ps : List Piece) (os : List Operand) (w before : List ℕ) (mark : ℕ) (x : List ℕ) → AreSpaces before
+    → (mark ≡ 124) ⊎ (mark ≡ 125)
+    → run (AfterQuote ps os w) (before ++ mark ∷ x) ≡ run (AfterOperand ps (os ++ Quoted w ∷ [])) (before ++ mark ∷ x)
 quote-ends-behind ps os w [] mark x s (inl e) = quote-ends-at ps os w mark 124 x e refl
 quote-ends-behind ps os w [] mark x s (inr e) = quote-ends-at ps os w mark 125 x e refl
 quote-ends-behind ps os w (c ∷ before) mark x s m = quote-ends-at ps os w c 32 (before ++ mark ∷ x) s.0 refl
 
-quote-ends : (ps : List Piece) (os : List Operand) (w x : List ℕ) → Stops x → run (AfterQuote ps os w) x ≡ run (AfterOperand ps (os ++ Quoted w ∷ [])) x
+quote-ends : (ps : List Piece) (os : List Operand) (w x : List ℕ) → Stops x
+    → run (AfterQuote ps os w) x ≡ run (AfterOperand ps (os ++ Quoted w ∷ [])) x
 quote-ends ps os w x h =
     ap (run (AfterQuote ps os w)) h.whole
     ∙ (quote-ends-behind ps os w h.before h.mark h.rest h.spaces h.marked
     ∙ ap (run (AfterOperand ps (os ++ Quoted w ∷ []))) (sym h.whole))
 
 -- the characters of a quoted text, and its last quote
-quoted-char : (ps : List Piece) (os : List Operand) (w : List ℕ) (c : ℕ) (cs x : List ℕ) (b : Bool) → eqb c 39 ≡ b → ((v : List ℕ) → run (InQuoted ps os v) (doubled cs ++ 39 ∷ x) ≡ run (AfterQuote ps os (v ++ encode_utf8_all cs)) x) → run (InQuoted ps os w) (cond b (39 ∷ 39 ∷ doubled cs) (c ∷ doubled cs) ++ 39 ∷ x) ≡ run (AfterQuote ps os (w ++ (encode_utf8 c ++ encode_utf8_all cs))) x
+quoted-char : (ps : List Piece) (os : List Operand) (w : List ℕ) (c : ℕ) (cs x : List ℕ) (b : Bool) → eqb c 39 ≡ b
+    → ((v : List ℕ) → run (InQuoted ps os v) (doubled cs ++ 39 ∷ x) ≡ run (AfterQuote ps os (v ++ encode_utf8_all cs)) x)
+    → run (InQuoted ps os w) (cond b (39 ∷ 39 ∷ doubled cs) (c ∷ doubled cs) ++ 39 ∷ x)
+    ≡ run (AfterQuote ps os (w ++ (encode_utf8 c ++ encode_utf8_all cs))) x
 quoted-char ps os w c cs x true e rest =
     run-some (InQuoted ps os w) (AfterQuote ps os w) 39 (39 ∷ (doubled cs ++ 39 ∷ x)) refl
     ∙ (run-some (AfterQuote ps os w) (InQuoted ps os (w ++ encode_utf8 39)) 39 (doubled cs ++ 39 ∷ x) refl
     ∙ (rest (w ++ encode_utf8 39)
-    ∙ ap (λ v. run (AfterQuote ps os v) x) (append_assoc w (encode_utf8 39) (encode_utf8_all cs) ∙ ap (λ d. w ++ (encode_utf8 d ++ encode_utf8_all cs)) (sym (eqb-true c 39 e)))))
+    ∙ ap (λ v. run (AfterQuote ps os v) x)
+    (append_assoc w (encode_utf8 39) (encode_utf8_all cs)
+    ∙ ap (λ d. w ++ (encode_utf8 d ++ encode_utf8_all cs)) (sym (eqb-true c 39 e)))))
 quoted-char ps os w c cs x false e rest =
     run-some (InQuoted ps os w) (InQuoted ps os (w ++ encode_utf8 c)) c (doubled cs ++ 39 ∷ x) (cond-false (eqb c 39) _ _ e)
     ∙ (rest (w ++ encode_utf8 c)
     ∙ ap (λ v. run (AfterQuote ps os v) x) (append_assoc w (encode_utf8 c) (encode_utf8_all cs)))
 
-quoted-read : (ps : List Piece) (os : List Operand) (w cs x : List ℕ) → run (InQuoted ps os w) (doubled cs ++ 39 ∷ x) ≡ run (AfterQuote ps os (w ++ encode_utf8_all cs)) x
+quoted-read : (ps : List Piece) (os : List Operand) (w cs x : List ℕ)
+    → run (InQuoted ps os w) (doubled cs ++ 39 ∷ x) ≡ run (AfterQuote ps os (w ++ encode_utf8_all cs)) x
 quoted-read ps os w [] x =
     run-some (InQuoted ps os w) (AfterQuote ps os w) 39 x refl ∙ ap (λ v. run (AfterQuote ps os v) x) (sym (append-nil w))
 quoted-read ps os w (c ∷ cs) x = quoted-char ps os w c cs x (eqb c 39) refl (λ v. quoted-read ps os v cs x)
 
-operand-read : (ps : List Piece) (os : List Operand) (text x : List ℕ) (o : Operand) → SpellsOperand text o → Stops x → run (OperandDue ps os) (text ++ x) ≡ run (AfterOperand ps (os ++ o ∷ [])) x
+operand-read : (ps : List Piece) (os : List Operand) (text x : List ℕ) (o : Operand) → SpellsOperand text o → Stops x
+    → run (OperandDue ps os) (text ++ x) ≡ run (AfterOperand ps (os ++ o ∷ [])) x
 operand-read ps os text x (Quoted value) h stop =
     ap (λ t. run (OperandDue ps os) (t ++ x)) h.whole
     ∙ (run-some (OperandDue ps os) (InQuoted ps os []) 39 ((doubled h.inner ++ 39 ∷ []) ++ x) refl
@@ -202,12 +240,14 @@ more-stop text x (o ∷ os) h stop =
       whole = ap (λ t. t ++ x) (h.2 ∙ ap (λ f. f ++ h.1) j.whole) ∙ joined-assoc j.before j.between j.inner h.1 x;
     }
 
-more-read : (ps : List Piece) (os : List Operand) (text x : List ℕ) (more : List Operand) → SpellsMore text more → Stops x → run (AfterOperand ps os) (text ++ x) ≡ run (AfterOperand ps (os ++ more)) x
+more-read : (ps : List Piece) (os : List Operand) (text x : List ℕ) (more : List Operand) → SpellsMore text more → Stops x
+    → run (AfterOperand ps os) (text ++ x) ≡ run (AfterOperand ps (os ++ more)) x
 more-read ps os text x [] h stop = ap (λ t. run (AfterOperand ps os) (t ++ x)) h ∙ ap (λ v. run (AfterOperand ps v) x) (sym (append-nil os))
 more-read ps os text x (o ∷ more) h stop =
     let j = h.3 in
     let rest = h.1 in
-    let whole : text ++ x ≡ j.before ++ (124 ∷ (124 ∷ (j.between ++ (j.inner ++ (rest ++ x))))) = ap (λ t. t ++ x) (h.2 ∙ ap (λ f. f ++ rest) j.whole) ∙ joined-assoc j.before j.between j.inner rest x in
+    let whole : text ++ x ≡ j.before ++ (124 ∷ (124 ∷ (j.between ++ (j.inner ++ (rest ++ x))))) =
+    ap (λ t. t ++ x) (h.2 ∙ ap (λ f. f ++ rest) j.whole) ∙ joined-assoc j.before j.between j.inner rest x in
     ap (run (AfterOperand ps os)) whole
     ∙ (spaces-read (AfterOperand ps os) j.before (124 ∷ (124 ∷ (j.between ++ (j.inner ++ (rest ++ x))))) refl j.spaces_before
     ∙ (run-some (AfterOperand ps os) (AfterBar ps os) 124 (124 ∷ (j.between ++ (j.inner ++ (rest ++ x)))) refl
@@ -217,16 +257,20 @@ more-read ps os text x (o ∷ more) h stop =
     ∙ (more-read ps (os ++ o ∷ []) rest x more h.4 stop
     ∙ ap (λ v. run (AfterOperand ps v) x) (append_assoc os (o ∷ []) more)))))))
 
-braced-assoc : (before inner more after x : List ℕ) → (before ++ (inner ++ (more ++ (after ++ 125 ∷ 125 ∷ [])))) ++ x ≡ before ++ (inner ++ (more ++ (after ++ (125 ∷ (125 ∷ x)))))
+braced-assoc : (before inner more after x : List ℕ)
+    → (before ++ (inner ++ (more ++ (after ++ 125 ∷ 125 ∷ [])))) ++ x ≡ before ++ (inner ++ (more ++ (after ++ (125 ∷ (125 ∷ x)))))
 braced-assoc before inner more after x = simp append_assoc
 
-braced-read : (ps : List Piece) (w text x : List ℕ) (o : Operand) (os : List Operand) → SpellsBraced text o os → run (InText ps w) (text ++ x) ≡ run (InText ((ps ++ plain_piece w) ++ Braced (o ∷ os) ∷ []) []) x
+braced-read : (ps : List Piece) (w text x : List ℕ) (o : Operand) (os : List Operand) → SpellsBraced text o os
+    → run (InText ps w) (text ++ x) ≡ run (InText ((ps ++ plain_piece w) ++ Braced (o ∷ os) ∷ []) []) x
 braced-read ps w text x o os h =
     let qs = ps ++ plain_piece w in
     let close = h.after ++ (125 ∷ (125 ∷ x)) in
-    let stop : Stops close = record { before = h.after; mark = 125; rest = 125 ∷ x; spaces = h.spaces_after; marked = inr refl; whole = refl } in
+    let stop : Stops close =
+    record { before = h.after; mark = 125; rest = 125 ∷ x; spaces = h.spaces_after; marked = inr refl; whole = refl } in
     let inside = h.before ++ (h.inner ++ (h.more ++ close)) in
-    let whole : text ++ x ≡ 36 ∷ (123 ∷ (123 ∷ inside)) = ap (λ t. t ++ x) h.whole ∙ ap (λ t. 36 ∷ (123 ∷ (123 ∷ t))) (braced-assoc h.before h.inner h.more h.after x) in
+    let whole : text ++ x ≡ 36 ∷ (123 ∷ (123 ∷ inside)) =
+    ap (λ t. t ++ x) h.whole ∙ ap (λ t. 36 ∷ (123 ∷ (123 ∷ t))) (braced-assoc h.before h.inner h.more h.after x) in
     ap (run (InText ps w)) whole
     ∙ (run-some (InText ps w) (AfterDollar ps w) 36 (123 ∷ (123 ∷ inside)) refl
     ∙ (run-some (AfterDollar ps w) (AfterBrace ps w) 123 (123 ∷ inside) refl
@@ -272,12 +316,15 @@ ReadsPlain cs x = (ps : List Piece) (w : List ℕ) → run (InText ps w) (cs ++ 
 
 dollar-word : (w cs : List ℕ) (c : ℕ) → c ≡ 36 → (w ++ codes "$") ++ encode_utf8_all cs ≡ w ++ encode_utf8_all (c ∷ cs)
 dollar-word w cs c e =
-    append_assoc w (codes "$") (encode_utf8_all cs) ∙ ap (λ v. w ++ (v ++ encode_utf8_all cs)) (sym (ap encode_utf8 e ∙ encode_ascii 36 (lit< tt)))
+    append_assoc w (codes "$") (encode_utf8_all cs)
+    ∙ ap (λ v. w ++ (v ++ encode_utf8_all cs)) (sym (ap encode_utf8 e ∙ encode_ascii 36 (lit< tt)))
 
 brace-word : (w cs : List ℕ) (c d : ℕ) → c ≡ 36 → d ≡ 123 → (w ++ codes "${") ++ encode_utf8_all cs ≡ w ++ encode_utf8_all (c ∷ d ∷ cs)
 brace-word w cs c d e f =
     append_assoc w (codes "${") (encode_utf8_all cs)
-    ∙ ap (λ v. w ++ v) (ap (λ v. 36 ∷ (v ++ encode_utf8_all cs)) (sym (ap encode_utf8 f ∙ encode_ascii 123 (lit< tt))) ∙ ap (λ v. v ++ (encode_utf8 d ++ encode_utf8_all cs)) (sym (ap encode_utf8 e ∙ encode_ascii 36 (lit< tt))))
+    ∙ ap (λ v. w ++ v)
+    (ap (λ v. 36 ∷ (v ++ encode_utf8_all cs)) (sym (ap encode_utf8 f ∙ encode_ascii 123 (lit< tt)))
+    ∙ ap (λ v. v ++ (encode_utf8 d ++ encode_utf8_all cs)) (sym (ap encode_utf8 e ∙ encode_ascii 36 (lit< tt))))
 
 plain-other : (c : ℕ) (cs x : List ℕ) → eqb c 36 ≡ false → ReadsPlain cs x → ReadsPlain (c ∷ cs) x
 plain-other c cs x n rest ps w =
@@ -309,7 +356,8 @@ plain-one : (c : ℕ) (x : List ℕ) (b : Bool) → eqb c 36 ≡ b → MayEndTex
 plain-one c x true e end rest = plain-dollar c [] x (eqb-true c 36 e) tt end rest
 plain-one c x false e end rest = plain-other c [] x e rest
 
-plain-two : (c d : ℕ) (cs x : List ℕ) (b t : Bool) → eqb c 36 ≡ b → eqb d 123 ≡ t → HoldsNoOpening (c ∷ d ∷ cs) → MayEndText x → ReadsPlain (d ∷ cs) x → ReadsPlain cs x → ReadsPlain (c ∷ d ∷ cs) x
+plain-two : (c d : ℕ) (cs x : List ℕ) (b t : Bool) → eqb c 36 ≡ b → eqb d 123 ≡ t → HoldsNoOpening (c ∷ d ∷ cs) → MayEndText x
+    → ReadsPlain (d ∷ cs) x → ReadsPlain cs x → ReadsPlain (c ∷ d ∷ cs) x
 plain-two c d cs x false t e f h end more rest = plain-other c (d ∷ cs) x e more
 plain-two c d cs x true false e f h end more rest = plain-dollar c (d ∷ cs) x (eqb-true c 36 e) f end more
 plain-two c d cs x true true e f h end more rest =
@@ -325,7 +373,8 @@ plain-read [] x h end = plain-none x
 plain-read (c ∷ []) x h end = plain-one c x (eqb c 36) refl end (plain-none x)
 plain-read (c ∷ d ∷ cs) x h end =
     let more = no_opening-tail c (d ∷ cs) h in
-    plain-two c d cs x (eqb c 36) (eqb d 123) refl refl h end (plain-read (d ∷ cs) x more end) (plain-read cs x (no_opening-tail d cs more) end)
+    plain-two c d cs x (eqb c 36) (eqb d 123) refl refl h end (plain-read (d ∷ cs) x more end)
+    (plain-read cs x (no_opening-tail d cs more) end)
 
 encode-some : (c : ℕ) → encode_utf8 c ≢ []
 encode-some c e = absurd (omega (arith, ap length e, length-encode c, (len_utf8_bounds c).0))
@@ -377,4 +426,5 @@ pieces-read ps text (Plain v ∷ Braced (o ∷ os) ∷ T) h =
     ∙ (ap (run (InText ps w)) rest.2
     ∙ (braced-read ps w rest.0 rest.1 o os rest.3
     ∙ (pieces-read ((ps ++ plain_piece w) ++ b ∷ []) rest.1 T rest.5
-    ∙ ap Some (append_assoc (ps ++ plain_piece w) (b ∷ []) T ∙ (append_assoc ps (plain_piece w) (b ∷ T) ∙ ap (λ p. ps ++ (p ++ b ∷ T)) (plain-word h.0 v h.3)))))))
+    ∙ ap Some (append_assoc (ps ++ plain_piece w) (b ∷ []) T
+    ∙ (append_assoc ps (plain_piece w) (b ∷ T) ∙ ap (λ p. ps ++ (p ++ b ∷ T)) (plain-word h.0 v h.3)))))))

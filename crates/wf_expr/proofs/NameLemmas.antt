@@ -4,7 +4,8 @@ use Rattle.std.specs.Str.{bytes_eq}
 use Rattle.std.proofs.lemmas.Slice.Eq.{bytes_eq-Decides}
 
 -- a list of one element is that element
-pub single-iff : (r : Bool) (xs : List (List ℕ)) (x word : List ℕ) → 1 ≤ length xs → length xs < 2 → x ≡ get_or xs 0 x → (IsTrue r ↔ (x ≡ word)) → IsTrue r ↔ (xs ≡ word ∷ [])
+pub single-iff : (r : Bool) (xs : List (List ℕ)) (x word : List ℕ) → 1 ≤ length xs → length xs < 2 → x ≡ get_or xs 0 x
+    → (IsTrue r ↔ (x ≡ word)) → IsTrue r ↔ (xs ≡ word ∷ [])
 single-iff r [] x word low high at h = absurd (omega arith)
 single-iff r (y ∷ []) x word low high at h = (λ t. ap (λ z. z ∷ []) (sym at ∙ h.0 t), λ e. h.1 (cc))
 single-iff r (y ∷ z ∷ zs) x word low high at h = absurd (omega arith)

@@ -21,9 +21,11 @@ off false t n = refl
 
 pub judged-off : (place : Place) (t : List Piece) → ¬ (IsInProfile t) → judged place (Some t) ≡ Err wrong_expression
 judged-off place t n =
-    ap (λ b. cond b (cond (is_allowed_in place t) (Ok t) (Err wrong_place)) (Err wrong_expression)) (off (is_in_profile t) (Decides-profile t) n)
+    ap (λ b. cond b (cond (is_allowed_in place t) (Ok t) (Err wrong_place)) (Err wrong_expression))
+    (off (is_in_profile t) (Decides-profile t) n)
 
-in-profile : (place : Place) (t : List Piece) → IsInProfile t → judged place (Some t) ≡ cond (is_allowed_in place t) (Ok t) (Err wrong_place)
+in-profile : (place : Place) (t : List Piece) → IsInProfile t
+    → judged place (Some t) ≡ cond (is_allowed_in place t) (Ok t) (Err wrong_place)
 in-profile place t p =
     ap (λ b. cond b (cond (is_allowed_in place t) (Ok t) (Err wrong_place)) (Err wrong_expression)) ((Decides-profile t).1 p)
 
@@ -44,10 +46,15 @@ read-none place None e h = cc
 read-none place (Some t) e h = cc
 
 -- each answer of the function is the grammar's
-judged-outcome : (text : List ℕ) (place : Place) (t : List Piece) → needed (pieces_of text) ≡ Ok t → (p a : Bool) → is_in_profile t ≡ p → is_allowed_in place t ≡ a → IsOutcome text place (cond p (cond a (Ok t) (Err wrong_place)) (Err wrong_expression))
+judged-outcome : (text : List ℕ) (place : Place) (t : List Piece) → needed (pieces_of text) ≡ Ok t → (p a : Bool) → is_in_profile t ≡ p
+    → is_allowed_in place t ≡ a → IsOutcome text place (cond p (cond a (Ok t) (Err wrong_place)) (Err wrong_expression))
 judged-outcome text place t read false a e f =
     let P : List Piece → Type 0 = IsInProfile in
-    inl (refl, λ u s. let ok = spelled-read text u s in let same : u ≡ t = cc in let yes = (Decides-profile t).1 (subst P same s.profile) in cc)
+    inl (
+      refl,
+      λ u s. let ok = spelled-read text u s in let same : u ≡ t = cc in let yes =
+          (Decides-profile t).1 (subst P same s.profile) in cc,
+    )
 judged-outcome text place t read true true e f = (read-spelled text t read ((Decides-profile t).0 e), (Decides-allowed_in place t).0 f)
 judged-outcome text place t read true false e f =
     inr (refl, (t, read-spelled text t read ((Decides-profile t).0 e), λ a. let yes = (Decides-allowed_in place t).1 a in cc))
@@ -60,47 +67,59 @@ given text place (Some t) e = judged-outcome text place t (ap needed e) (is_in_p
 read-of : (text : List ℕ) (t : List Piece) → Spells text t → pieces_of text ≡ Some t
 read-of text t s = read-some (pieces_of text) t (spelled-read text t s)
 
-unspelled : (text : List ℕ) (place : Place) (o : Option (List Piece)) → pieces_of text ≡ o → SpellsNone text → judged place o ≡ Err wrong_expression
+unspelled : (text : List ℕ) (place : Place) (o : Option (List Piece)) → pieces_of text ≡ o → SpellsNone text
+    → judged place o ≡ Err wrong_expression
 unspelled text place None e n = refl
 unspelled text place (Some t) e n = judged-off place t (λ p. n t (read-spelled text t (ap needed e) p))
 
-computed : (text : List ℕ) (place : Place) (outcome : Result (List Piece) Refusal) → IsOutcome text place outcome → template_of text place ≡ outcome
+computed : (text : List ℕ) (place : Place) (outcome : Result (List Piece) Refusal) → IsOutcome text place outcome
+    → template_of text place ≡ outcome
 computed text place (Ok t) o = ap (judged place) (read-of text t o.0) ∙ judged-ok place t o.0.profile o.1
 computed text place (Err e) (inl p) = unspelled text place (pieces_of text) refl p.1 ∙ ap Err (sym p.0)
-computed text place (Err e) (inr p) = ap (judged place) (read-of text p.1.0 p.1.1) ∙ (judged-elsewhere place p.1.0 p.1.1.profile p.1.2 ∙ ap Err (sym p.0))
+computed text place (Err e) (inr p) =
+    ap (judged place) (read-of text p.1.0 p.1.1) ∙ (judged-elsewhere place p.1.0 p.1.1.profile p.1.2 ∙ ap Err (sym p.0))
 
-outcome-of : (text : List ℕ) (place : Place) (outcome : Result (List Piece) Refusal) → template_of text place ≡ outcome → IsOutcome text place outcome
+outcome-of : (text : List ℕ) (place : Place) (outcome : Result (List Piece) Refusal) → template_of text place ≡ outcome
+    → IsOutcome text place outcome
 outcome-of text place outcome e =
     let P : Result (List Piece) Refusal → Type 0 = IsOutcome text place in
     subst P e (given text place (pieces_of text) refl)
 
-pub grammars-answer : (text : List ℕ) (place : Place) (outcome : Result (List Piece) Refusal) → IsOutcome text place outcome ↔ (template_of text place ≡ outcome)
+pub grammars-answer : (text : List ℕ) (place : Place) (outcome : Result (List Piece) Refusal) → IsOutcome text place outcome
+    ↔ (template_of text place ≡ outcome)
 grammars-answer text place outcome = (computed text place outcome, outcome-of text place outcome)
 
 -- each clause of `parse`, from what it gives
 abbrev GivesIt : List ℕ → Place → Result (List Piece) Refusal → Type 0
 GivesIt text place r = Gives (λ p. p) r (template_of text place)
 
-pub when-outcome : (text : List ℕ) (place : Place) (r : Result (List Piece) Refusal) → GivesIt text place r → (outcome : Result (List Piece) Refusal) → IsOutcome text place outcome → Gives (λ p. p) r outcome
+pub when-outcome : (text : List ℕ) (place : Place) (r : Result (List Piece) Refusal) → GivesIt text place r
+    → (outcome : Result (List Piece) Refusal) → IsOutcome text place outcome → Gives (λ p. p) r outcome
 when-outcome text place r g outcome o =
     let P : Result (List Piece) Refusal → Type 0 = Gives (λ p. p) r in
     subst P (computed text place outcome o) g
 
-pub when-ok : (text : List ℕ) (place : Place) (r : Result (List Piece) Refusal) → GivesIt text place r → IfOk r (λ t. Spells text t × AllowedIn place t)
+pub when-ok : (text : List ℕ) (place : Place) (r : Result (List Piece) Refusal) → GivesIt text place r
+    → IfOk r (λ t. Spells text t × AllowedIn place t)
 when-ok text place (Ok t) g = outcome-of text place (Ok t) g
 when-ok text place (Err e) g = tt
 
-pub only-expression : (text : List ℕ) (place : Place) (r : Result (List Piece) Refusal) → GivesIt text place r → r ≡ Err wrong_expression → SpellsNone text
+pub only-expression : (text : List ℕ) (place : Place) (r : Result (List Piece) Refusal) → GivesIt text place r → r ≡ Err wrong_expression
+    → SpellsNone text
 only-expression text place (Ok t) g h = cc
 only-expression text place (Err e) (inl m) h = let same : e ≡ wrong_expression = cc in cc
-only-expression text place (Err e) (inr g) h = elim (outcome-of text place (Err e) g) [ inl p ↦ p.1 | inr p ↦ let same : e ≡ wrong_expression = cc in let other = p.0 in cc ]
+only-expression text place (Err e) (inr g) h =
+    elim (outcome-of text place (Err e) g) [ inl p ↦ p.1 | inr p ↦ let same : e ≡ wrong_expression = cc in let other = p.0 in cc ]
 
-pub only-place : (text : List ℕ) (place : Place) (r : Result (List Piece) Refusal) → GivesIt text place r → r ≡ Err wrong_place → SpellsElsewhere text place
+pub only-place : (text : List ℕ) (place : Place) (r : Result (List Piece) Refusal) → GivesIt text place r → r ≡ Err wrong_place
+    → SpellsElsewhere text place
 only-place text place (Ok t) g h = cc
 only-place text place (Err e) (inl m) h = let same : e ≡ wrong_place = cc in cc
-only-place text place (Err e) (inr g) h = elim (outcome-of text place (Err e) g) [ inl p ↦ let same : e ≡ wrong_place = cc in let other = p.0 in cc | inr p ↦ p.1 ]
+only-place text place (Err e) (inr g) h =
+    elim (outcome-of text place (Err e) g) [ inl p ↦ let same : e ≡ wrong_place = cc in let other = p.0 in cc | inr p ↦ p.1 ]
 
-pub which-error : (text : List ℕ) (place : Place) (r : Result (List Piece) Refusal) → GivesIt text place r → IfErr r (λ e. (e ≡ wrong_expression) ⊎ (e ≡ wrong_place) ⊎ (e ≡ no_memory))
+pub which-error : (text : List ℕ) (place : Place) (r : Result (List Piece) Refusal) → GivesIt text place r
+    → IfErr r (λ e. (e ≡ wrong_expression) ⊎ (e ≡ wrong_place) ⊎ (e ≡ no_memory))
 which-error text place (Ok t) g = tt
 which-error text place (Err e) (inl m) = inr (inr m)
 which-error text place (Err e) (inr g) = elim (outcome-of text place (Err e) g) [ inl p ↦ inl p.0 | inr p ↦ inr (inl p.0) ]

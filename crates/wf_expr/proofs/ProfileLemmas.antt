@@ -5,8 +5,10 @@ use Rattle.std.specs.List.{list_all}
 use Rattle.std.specs.Bool.{Decides}
 use Rattle.std.proofs.lemmas.Bool.Decides.{Decides-and, Decides-or, Decides-by_and}
 use Rattle.std.proofs.lemmas.Slice.Eq.{bytes_eq-Decides}
-use Rattle.wf_expr.specs.Profile.{IsShared, IsInContext, InProfile, IsAllowed, OfReference, OfReferences, IsInProfile, AllowedIn, reference_count}
-use Rattle.wf_expr.specs.Parsing.{is_result, is_shared, is_in_context, is_path, is_allowed, of_reference, of_references, is_in_profile, is_allowed_in}
+use Rattle.wf_expr.specs.Profile.{IsShared, IsInContext, InProfile, IsAllowed, OfReference, OfReferences, IsInProfile, AllowedIn}
+use Rattle.wf_expr.specs.Profile.{reference_count}
+use Rattle.wf_expr.specs.Parsing.{is_result, is_shared, is_in_context, is_path, is_allowed, of_reference, of_references, is_in_profile}
+use Rattle.wf_expr.specs.Parsing.{is_allowed_in}
 use Rattle.wf_expr.specs.declared.place.Place.{Place}
 use Rattle.wf_expr.specs.declared.place.Place.TheVariants.{Workflow, Job}
 use Rattle.wf_expr.specs.declared.piece.Operand.{Operand}
@@ -22,11 +24,16 @@ Decides-result (n ∷ []) =
 Decides-result (n ∷ m ∷ ns) = (λ e. cc, λ e. cc)
 
 Decides-shared : (n : List ℕ) → Decides (is_shared n) (IsShared n)
-Decides-shared n = Decides-or _ _ (bytes_eq-Decides n (codes "github")) (Decides-or _ _ (bytes_eq-Decides n (codes "inputs")) (bytes_eq-Decides n (codes "vars")))
+Decides-shared n =
+    Decides-or _ _ (bytes_eq-Decides n (codes "github"))
+    (Decides-or _ _ (bytes_eq-Decides n (codes "inputs")) (bytes_eq-Decides n (codes "vars")))
 
 Decides-in_context : (c : List ℕ) (ns : List (List ℕ)) → Decides (is_in_context c ns) (IsInContext c ns)
 Decides-in_context c ns =
-    Decides-or _ _ (Decides-shared c) (Decides-or _ _ (bytes_eq-Decides c (codes "strategy")) (Decides-or _ _ (bytes_eq-Decides c (codes "matrix")) (Decides-and _ _ (bytes_eq-Decides c (codes "needs")) (Decides-result ns))))
+    Decides-or _ _ (Decides-shared c)
+    (Decides-or _ _ (bytes_eq-Decides c (codes "strategy"))
+    (Decides-or _ _ (bytes_eq-Decides c (codes "matrix"))
+    (Decides-and _ _ (bytes_eq-Decides c (codes "needs")) (Decides-result ns))))
 
 never : Decides false ⊥
 never = (λ e. cc, λ h. absurd h)
@@ -44,14 +51,17 @@ Decides-allowed Job path = always
 Decides-allowed Workflow [] = never
 Decides-allowed Workflow (c ∷ ns) = Decides-shared c
 
-Decides-all : {X : Type 0} (p : X → Bool) (P : X → Type 0) → ((x : X) → Decides (p x) (P x)) → (xs : List X) → Decides (list_all p xs) (All P xs)
+Decides-all : {X : Type 0} (p : X → Bool) (P : X → Type 0) → ((x : X) → Decides (p x) (P x)) → (xs : List X)
+    → Decides (list_all p xs) (All P xs)
 Decides-all p P t xs = Decides-by_and p P (list_all p) t refl (λ _ _. refl) xs
 
-Decides-reference : (p : List (List ℕ) → Bool) (P : List (List ℕ) → Type 0) → ((path : List (List ℕ)) → Decides (p path) (P path)) → (o : Operand) → Decides (of_reference p o) (OfReference P o)
+Decides-reference : (p : List (List ℕ) → Bool) (P : List (List ℕ) → Type 0) → ((path : List (List ℕ)) → Decides (p path) (P path))
+    → (o : Operand) → Decides (of_reference p o) (OfReference P o)
 Decides-reference p P t (Quoted text) = always
 Decides-reference p P t (Reference path) = t path
 
-Decides-references : (p : List (List ℕ) → Bool) (P : List (List ℕ) → Type 0) → ((path : List (List ℕ)) → Decides (p path) (P path)) → (q : Piece) → Decides (of_references p q) (OfReferences P q)
+Decides-references : (p : List (List ℕ) → Bool) (P : List (List ℕ) → Type 0) → ((path : List (List ℕ)) → Decides (p path) (P path))
+    → (q : Piece) → Decides (of_references p q) (OfReferences P q)
 Decides-references p P t (Plain text) = always
 Decides-references p P t (Braced os) = Decides-all (of_reference p) (OfReference P) (Decides-reference p P t) os
 
@@ -63,4 +73,6 @@ Decides-profile ts =
     (λ e. let h = both.0 e in record { each = h.0; few = h.1 }, λ h. both.1 (h.each, h.few))
 
 pub Decides-allowed_in : (place : Place) (ts : List Piece) → Decides (is_allowed_in place ts) (AllowedIn place ts)
-Decides-allowed_in place ts = Decides-all (of_references (is_allowed place)) (OfReferences (IsAllowed place)) (Decides-references (is_allowed place) (IsAllowed place) (Decides-allowed place)) ts
+Decides-allowed_in place ts =
+    Decides-all (of_references (is_allowed place)) (OfReferences (IsAllowed place))
+    (Decides-references (is_allowed place) (IsAllowed place) (Decides-allowed place)) ts

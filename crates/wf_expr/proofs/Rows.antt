@@ -33,14 +33,17 @@ row-read = refl
 abbrev of_list : List (List (List ℕ) × Scalar) → Values
 of_list entries path = option_map (λ e. e.1) (find (λ e. pointwise bytes_eq e.0 path) entries)
 
-row-value : template_value (of_list ((codes "github" ∷ codes "workflow" ∷ [], Text (codes "ci.json")) ∷ (codes "github" ∷ codes "run_id" ∷ [], Text (codes "1")) ∷ [])) run_name ≡ Text (codes "ci.json-1")
+row-value : template_value
+    (of_list ((codes "github" ∷ codes "workflow" ∷ [], Text (codes "ci.json")) ∷ (codes "github" ∷ codes "run_id" ∷ [], Text (codes "1"))
+    ∷ [])) run_name ≡ Text (codes "ci.json-1")
 row-value = refl
 
 row-quote : template_of (codes "${{ 'it''s' }}") Workflow ≡ Ok (Braced (Quoted (codes "it's") ∷ []) ∷ [])
 unfolding run chars encode begins_name continues_name
 row-quote = refl
 
-row-opening_in_quotes : template_of (codes "$${{ '${{ }}' }}") Workflow ≡ Ok (Plain (codes "$") ∷ Braced (Quoted (codes "${{ }}") ∷ []) ∷ [])
+row-opening_in_quotes : template_of (codes "$${{ '${{ }}' }}") Workflow
+    ≡ Ok (Plain (codes "$") ∷ Braced (Quoted (codes "${{ }}") ∷ []) ∷ [])
 unfolding run chars encode begins_name continues_name
 row-opening_in_quotes = refl
 
@@ -76,11 +79,14 @@ abbrev falses : Values
 falses = of_list ((codes "inputs" ∷ codes "none" ∷ [], Null) ∷ (codes "inputs" ∷ codes "no" ∷ [], Truth false) ∷ [])
 
 -- the last where none is true, and the value itself where the piece stands alone
-row-last : template_value falses (Braced (Reference (codes "inputs" ∷ codes "none" ∷ []) ∷ Reference (codes "inputs" ∷ codes "no" ∷ []) ∷ []) ∷ []) ≡ Truth false
+row-last : template_value falses
+    (Braced (Reference (codes "inputs" ∷ codes "none" ∷ []) ∷ Reference (codes "inputs" ∷ codes "no" ∷ []) ∷ []) ∷ []) ≡ Truth false
 row-last = refl
 
 row-missing : template_value falses (Braced (Reference (codes "inputs" ∷ codes "x" ∷ []) ∷ []) ∷ []) ≡ Text []
 row-missing = refl
 
-row-joined : template_value falses (Plain (codes "<") ∷ Braced (Reference (codes "inputs" ∷ codes "none" ∷ []) ∷ []) ∷ Braced (Reference (codes "inputs" ∷ codes "no" ∷ []) ∷ []) ∷ []) ≡ Text (codes "<false")
+row-joined : template_value falses
+    (Plain (codes "<") ∷ Braced (Reference (codes "inputs" ∷ codes "none" ∷ []) ∷ [])
+    ∷ Braced (Reference (codes "inputs" ∷ codes "no" ∷ []) ∷ []) ∷ []) ≡ Text (codes "<false")
 row-joined = refl

@@ -1,5 +1,6 @@
 -- What the text behind each state of a reading is, and text that holds no piece.
-use Rattle.std.proofs.Common.{◌≡◌, ◌≢◌, ℕ, Bool, true, false, cond, eqb, IsTrue, List, [], ◌∷◌, ◌++◌, refl, ap, sym, ◌∙◌, append_assoc, eqb-true, eq-eqb, subst, lit<}
+use Rattle.std.proofs.Common.{◌≡◌, ◌≢◌, ℕ, Bool, true, false, cond, eqb, IsTrue, List, [], ◌∷◌, ◌++◌, refl, ap, sym, ◌∙◌, append_assoc}
+use Rattle.std.proofs.Common.{eqb-true, eq-eqb, subst, lit<}
 use Rattle.std.specs.Prelude.{Option, Some, codes}
 use Rattle.std.specs.Option.{option_and_then}
 use Rattle.std.specs.List.{AllByRecursion}
@@ -7,14 +8,16 @@ use Rattle.std.specs.Str.{encode_utf8_all}
 use Rattle.std.specs.Char.{encode_utf8}
 use Rattle.std.proofs.lemmas.Str.{encode_ascii}
 use Rattle.wf_expr.specs.Letters.{continues_name}
-use Rattle.wf_expr.specs.Grammar.{AreSpaces, IsName, SpellsNames, doubled, SpellsOperand, SpellsMore, HoldsNoOpening, SpellsPieces, BeginsBraced}
+use Rattle.wf_expr.specs.Grammar.{AreSpaces, IsName, SpellsNames, doubled, SpellsOperand, SpellsMore, HoldsNoOpening, SpellsPieces}
+use Rattle.wf_expr.specs.Grammar.{BeginsBraced}
 use Rattle.wf_expr.specs.Reading.{run, plain_piece, in_text}
 use Rattle.wf_expr.specs.declared.piece.Operand.{Operand}
 use Rattle.wf_expr.specs.declared.piece.Operand.TheVariants.{Quoted, Reference}
 use Rattle.wf_expr.specs.declared.piece.Piece.{Piece}
 use Rattle.wf_expr.specs.declared.piece.Piece.TheVariants.{Braced}
 use Rattle.wf_expr.specs.declared.reader.Reader.{Reader}
-use Rattle.wf_expr.specs.declared.reader.Reader.TheVariants.{InText, AfterDollar, AfterBrace, OperandDue, InName, AfterName, NameDue, InQuoted, AfterQuote, AfterOperand, AfterBar, AfterClose}
+use Rattle.wf_expr.specs.declared.reader.Reader.TheVariants.{InText, AfterDollar, AfterBrace, OperandDue, InName, AfterName, NameDue}
+use Rattle.wf_expr.specs.declared.reader.Reader.TheVariants.{InQuoted, AfterQuote, AfterOperand, AfterBar, AfterClose}
 
 pub record FromText (ps : List Piece) (w text : List ℕ) (T : List Piece) : Type 0 where
   pub plain : List ℕ
@@ -100,7 +103,8 @@ abbrev pub next : Option Reader → List ℕ → Option (List Piece)
 next o text = option_and_then (λ r. run r text) o
 
 -- text without an opening, with one character more
-pub no_opening-cons : (c : ℕ) (cs : List ℕ) → ((after : List ℕ) → c ∷ cs ≢ 36 ∷ 123 ∷ 123 ∷ after) → HoldsNoOpening cs → HoldsNoOpening (c ∷ cs)
+pub no_opening-cons : (c : ℕ) (cs : List ℕ) → ((after : List ℕ) → c ∷ cs ≢ 36 ∷ 123 ∷ 123 ∷ after) → HoldsNoOpening cs
+    → HoldsNoOpening (c ∷ cs)
 no_opening-cons c cs here there [] after e = here after e
 no_opening-cons c cs here there (b ∷ before) after e = there before after (cc)
 
@@ -111,8 +115,10 @@ no_opening-nil (b ∷ before) after e = cc
 pub false-not : (c d : ℕ) → eqb c d ≡ false → c ≢ d
 false-not c d e h = let t = eq-eqb c d h in cc
 
-pub step-in_text : (ps : List Piece) (w : List ℕ) (c : ℕ) (text : List ℕ) (T : List Piece) → Rest text T → (b : Bool) → eqb c 36 ≡ b → run (cond b (AfterDollar ps w) (InText ps (w ++ encode_utf8 c))) text ≡ Some T → FromText ps w (c ∷ text) T
-step-in_text ps w c text T ih true e h = let P : ℕ → Type 0 = λ d. FromText ps w (d ∷ text) T in subst P (sym (eqb-true c 36 e)) (ih (AfterDollar ps w) h)
+pub step-in_text : (ps : List Piece) (w : List ℕ) (c : ℕ) (text : List ℕ) (T : List Piece) → Rest text T → (b : Bool) → eqb c 36 ≡ b
+    → run (cond b (AfterDollar ps w) (InText ps (w ++ encode_utf8 c))) text ≡ Some T → FromText ps w (c ∷ text) T
+step-in_text ps w c text T ih true e h =
+    let P : ℕ → Type 0 = λ d. FromText ps w (d ∷ text) T in subst P (sym (eqb-true c 36 e)) (ih (AfterDollar ps w) h)
 step-in_text ps w c text T ih false e h =
     let f = ih (InText ps (w ++ encode_utf8 c)) h in
     record {
@@ -127,30 +133,46 @@ step-in_text ps w c text T ih false e h =
     }
 
 -- a `$` that begins no piece
-pub dollar-back : (ps : List Piece) (w : List ℕ) (c : ℕ) (text : List ℕ) (T : List Piece) → eqb c 123 ≡ false → FromText ps (w ++ codes "$") (c ∷ text) T → FromText ps w (36 ∷ (c ∷ text)) T
+pub dollar-back : (ps : List Piece) (w : List ℕ) (c : ℕ) (text : List ℕ) (T : List Piece) → eqb c 123 ≡ false
+    → FromText ps (w ++ codes "$") (c ∷ text) T → FromText ps w (36 ∷ (c ∷ text)) T
 dollar-back ps w c text T n f = record {
   plain = 36 ∷ f.plain;
   rest = f.rest;
   more = f.more;
-  no_opening = no_opening-cons 36 f.plain (λ after q. let tail : f.plain ≡ 123 ∷ 123 ∷ after = cc in let begin : c ∷ text ≡ 123 ∷ (123 ∷ (after ++ f.rest)) = f.whole ∙ ap (λ p. p ++ f.rest) tail in let same : c ≡ 123 = cc in false-not c 123 n same) f.no_opening;
+  no_opening = no_opening-cons 36 f.plain
+      (λ after q. let tail : f.plain ≡ 123 ∷ 123 ∷ after = cc in let begin : c ∷ text ≡ 123 ∷ (123 ∷ (after ++ f.rest)) =
+      f.whole ∙ ap (λ p. p ++ f.rest) tail in let same : c ≡ 123 = cc in false-not c 123 n same) f.no_opening;
   begins = f.begins;
   spelled = f.spelled;
   whole = ap (λ t. 36 ∷ t) f.whole;
-  made = f.made ∙ ap (λ v. ps ++ (plain_piece v ++ f.more)) (append_assoc w (codes "$") (encode_utf8_all f.plain) ∙ ap (λ v. w ++ (v ++ encode_utf8_all f.plain)) (sym (encode_ascii 36 (lit< tt))));
+  made = f.made
+      ∙ ap (λ v. ps ++ (plain_piece v ++ f.more))
+      (append_assoc w (codes "$") (encode_utf8_all f.plain)
+      ∙ ap (λ v. w ++ (v ++ encode_utf8_all f.plain)) (sym (encode_ascii 36 (lit< tt))));
 }
 
-pub brace-back : (ps : List Piece) (w : List ℕ) (c : ℕ) (text : List ℕ) (T : List Piece) → eqb c 123 ≡ false → FromText ps (w ++ codes "${") (c ∷ text) T → FromText ps w (36 ∷ (123 ∷ (c ∷ text))) T
+pub brace-back : (ps : List Piece) (w : List ℕ) (c : ℕ) (text : List ℕ) (T : List Piece) → eqb c 123 ≡ false
+    → FromText ps (w ++ codes "${") (c ∷ text) T → FromText ps w (36 ∷ (123 ∷ (c ∷ text))) T
 brace-back ps w c text T n f = record {
   plain = 36 ∷ (123 ∷ f.plain);
   rest = f.rest;
   more = f.more;
-  no_opening = no_opening-cons 36 (123 ∷ f.plain) (λ after q. let tail : f.plain ≡ 123 ∷ after = cc in let begin : c ∷ text ≡ 123 ∷ (after ++ f.rest) = f.whole ∙ ap (λ p. p ++ f.rest) tail in let same : c ≡ 123 = cc in false-not c 123 n same) (no_opening-cons 123 f.plain (λ after q. let same : 123 ≡ 36 = cc in let t = eq-eqb 123 36 same in cc) f.no_opening);
+  no_opening = no_opening-cons 36 (123 ∷ f.plain)
+      (λ after q. let tail : f.plain ≡ 123 ∷ after = cc in let begin : c ∷ text ≡ 123 ∷ (after ++ f.rest) =
+      f.whole ∙ ap (λ p. p ++ f.rest) tail in let same : c ≡ 123 = cc in false-not c 123 n same)
+      (no_opening-cons 123 f.plain (λ after q. let same : 123 ≡ 36 = cc in let t = eq-eqb 123 36 same in cc) f.no_opening);
   begins = f.begins;
   spelled = f.spelled;
   whole = ap (λ t. 36 ∷ (123 ∷ t)) f.whole;
-  made = f.made ∙ ap (λ v. ps ++ (plain_piece v ++ f.more)) (append_assoc w (codes "${") (encode_utf8_all f.plain) ∙ (ap (λ v. w ++ (36 ∷ (v ++ encode_utf8_all f.plain))) (sym (encode_ascii 123 (lit< tt))) ∙ ap (λ v. w ++ (v ++ (encode_utf8 123 ++ encode_utf8_all f.plain))) (sym (encode_ascii 36 (lit< tt)))));
+  made = f.made
+      ∙ ap (λ v. ps ++ (plain_piece v ++ f.more))
+      (append_assoc w (codes "${") (encode_utf8_all f.plain)
+      ∙ (ap (λ v. w ++ (36 ∷ (v ++ encode_utf8_all f.plain))) (sym (encode_ascii 123 (lit< tt)))
+      ∙ ap (λ v. w ++ (v ++ (encode_utf8 123 ++ encode_utf8_all f.plain))) (sym (encode_ascii 36 (lit< tt)))));
 }
 
-pub step-after_dollar : (ps : List Piece) (w : List ℕ) (c : ℕ) (text : List ℕ) (T : List Piece) → Rest text T → (b : Bool) → eqb c 123 ≡ b → next (cond b (Some (AfterBrace ps w)) (Some (in_text ps (w ++ codes "$") c))) text ≡ Some T → FromText ps w (36 ∷ (c ∷ text)) T
-step-after_dollar ps w c text T ih true e h = let P : ℕ → Type 0 = λ d. FromText ps w (36 ∷ (d ∷ text)) T in subst P (sym (eqb-true c 123 e)) (ih (AfterBrace ps w) h)
+pub step-after_dollar : (ps : List Piece) (w : List ℕ) (c : ℕ) (text : List ℕ) (T : List Piece) → Rest text T → (b : Bool) → eqb c 123 ≡ b
+    → next (cond b (Some (AfterBrace ps w)) (Some (in_text ps (w ++ codes "$") c))) text ≡ Some T → FromText ps w (36 ∷ (c ∷ text)) T
+step-after_dollar ps w c text T ih true e h =
+    let P : ℕ → Type 0 = λ d. FromText ps w (36 ∷ (d ∷ text)) T in subst P (sym (eqb-true c 123 e)) (ih (AfterBrace ps w) h)
 step-after_dollar ps w c text T ih false e h = dollar-back ps w c text T e (step-in_text ps (w ++ codes "$") c text T ih (eqb c 36) refl h)

@@ -12,7 +12,8 @@ returns-then-at-len-clause-ok g c =
     let file = g.F.SystemFile in
     elim c.match-grow.branch [
       | in-Ok w ↦ rw w.result-is
-          (grown_puts file.left file.held c.args.at c.args.bytes.now (no_bytes c.args.bytes.now c.if-is_empty.ensures) (file.calls c.args.file.now) (file.calls c.grow.new.file) w.in-Ok.ensures)
+          (grown_puts file.left file.held c.args.at c.args.bytes.now (no_bytes c.args.bytes.now c.if-is_empty.ensures)
+          (file.calls c.args.file.now) (file.calls c.grow.new.file) w.in-Ok.ensures)
       | in-Err w ↦ rw w.result-is tt
     ]
 
@@ -22,5 +23,6 @@ returns-then-at-len-clause-err g c =
     elim c.match-grow.branch [
       | in-Ok w ↦ rw w.result-is tt
       | in-Err w ↦ rw w.result-is
-          (growth_breaks file.left file.held c.args.at c.args.bytes.now (no_bytes c.args.bytes.now c.if-is_empty.ensures) (file.calls c.args.file.now) (file.calls c.grow.new.file) w.in-Err.ensures)
+          (growth_breaks file.left file.held c.args.at c.args.bytes.now (no_bytes c.args.bytes.now c.if-is_empty.ensures)
+          (file.calls c.args.file.now) (file.calls c.grow.new.file) w.in-Err.ensures)
     ]

@@ -11,7 +11,8 @@ rest_is count bytes = take_all (length bytes - count) (drop count bytes) (omega 
 pub returns-in-Err-clause-err : goal.returns-in-Err-clause-err
 returns-in-Err-clause-err g c =
     let file = g.F.SystemFile in
-    broke_first file.left file.held c.args.at c.args.bytes.now (file.calls c.args.file.now) (file.calls c.write_some.new.file) c.in-Err.ensures.calls
+    broke_first file.left file.held c.args.at c.args.bytes.now (file.calls c.args.file.now)
+    (file.calls c.write_some.new.file) c.in-Err.ensures.calls
 
 pub loop-count-init : goal.loop-count-init
 loop-count-init g c =
@@ -19,7 +20,8 @@ loop-count-init g c =
     let old = file.calls c.args.file.now in record {
       within = c.in-Ok.ensures.count;
       some = c.in-Ok.ensures.some;
-      puts = subst (λ (l : List FileCall). Puts file.left file.held c.args.at c.args.bytes.now c.in-Ok.count old l) (sym c.in-Ok.ensures.calls)
+      puts = subst (λ (l : List FileCall). Puts file.left file.held c.args.at c.args.bytes.now c.in-Ok.count old l)
+          (sym c.in-Ok.ensures.calls)
           (put_one file.left file.held c.args.at c.args.bytes.now c.in-Ok.count old);
     }
 
@@ -34,7 +36,8 @@ loop-count-preserved g c =
     let new = file.calls c.write_some-in-loop-count.new.file in
     let noted : new ≡ Wrote (c.args.at + count) (drop count bytes) more ∷ mid =
     subst (λ (l : List ℕ). new ≡ Wrote (c.args.at + count) l more ∷ mid) (rest_is count bytes) c.in-Ok-write_some.ensures.calls in
-    let short : more ≤ length (drop count bytes) = subst (λ (l : List ℕ). more ≤ length l) (rest_is count bytes) c.in-Ok-write_some.ensures.count in
+    let short : more ≤ length (drop count bytes) =
+    subst (λ (l : List ℕ). more ≤ length l) (rest_is count bytes) c.in-Ok-write_some.ensures.count in
     let inv = c.loop-count.invariant in record {
       within = omega (arith, short, length-drop count bytes, inv.within);
       some = λ here. omega (arith, inv.some here);
@@ -53,6 +56,8 @@ returns-in-Err-write_some-clause-err g c =
     let new = file.calls c.write_some-in-loop-count.new.file in
     let inv = c.loop-count.invariant in
     let failed : MayHaveFailed (WriteFailed (c.args.at + count) (drop count bytes)) mid new =
-    subst (λ (l : List ℕ). MayHaveFailed (WriteFailed (c.args.at + count) l) mid new) (rest_is count bytes) c.in-Err-write_some.ensures.calls in
-    broke_later file.left file.held c.args.at bytes count inv.within old mid inv.puts new (inv.some (omega (arith, c.loop-count-test.true))) c.requires
+    subst (λ (l : List ℕ). MayHaveFailed (WriteFailed (c.args.at + count) l) mid new)
+    (rest_is count bytes) c.in-Err-write_some.ensures.calls in
+    broke_later file.left file.held c.args.at bytes count inv.within old mid inv.puts new
+    (inv.some (omega (arith, c.loop-count-test.true))) c.requires
     (broke_first file.left file.held (c.args.at + count) (drop count bytes) mid new failed)

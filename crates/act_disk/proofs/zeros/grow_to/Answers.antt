@@ -18,7 +18,8 @@ loop-zeros-preserved g c =
     let few : count ≤ 4096 = omega (arith, c.min-count.ensures) in
     let within : count ≤ c.args.len - at = omega (arith, c.min-count.ensures) in
     let zeros : take count (replicate 4096 0) ≡ replicate count 0 = take-replicate count 4096 0 few in
-    let many : length (take count (replicate {A = ℕ} 4096 0)) ≡ count = ap (λ (l : List ℕ). length l) zeros ∙ length-replicate {A = ℕ} count 0 in
+    let many : length (take count (replicate {A = ℕ} 4096 0)) ≡ count =
+    ap (λ (l : List ℕ). length l) zeros ∙ length-replicate {A = ℕ} count 0 in
     let size : disk.size new ≡ disk.size mid + count = omega (arith, done.size, end, many) in record {
       low = omega (arith, inv.low, size);
       high = omega (arith, inv.high, size, end, begun, within, c.loop-zeros-test.true);
@@ -27,7 +28,8 @@ loop-zeros-preserved g c =
       zeros = λ honest.
           let h = inv.honest.1 honest in
           let more : (disk.size mid - disk.size before) + count ≡ disk.size new - disk.size before = omega (arith, inv.low, size) in
-          zeros_more (disk.seen before) (disk.seen mid) (disk.seen new) (take count (replicate 4096 0)) at (disk.size mid - disk.size before) count
+          zeros_more (disk.seen before) (disk.seen mid) (disk.seen new) (take count (replicate 4096 0)) at
+          (disk.size mid - disk.size before) count
           (inv.zeros honest) (end ∙ sym (g.met.D.Disk.seen_length mid h)) zeros (done.written h)
           ∙ ap (λ (n : ℕ). disk.seen before ++ replicate n 0) more;
     }

@@ -8,4 +8,5 @@ returns-then-are_alike c =
 
 pub returns-else-are_alike : goal.returns-else-are_alike
 returns-else-are_alike c =
-    other-front c.args.case c.args.front.now c.args.text.now _ _ c.split_at.ensures.by_index.0 (search rules) (λ e. let h = c.if-are_alike.ensures.1 e in cc)
+    other-front c.args.case c.args.front.now c.args.text.now _ _ c.split_at.ensures.by_index.0 (search rules)
+    (λ e. let h = c.if-are_alike.ensures.1 e in cc)

@@ -9,15 +9,21 @@ loop-c-init c = rw c.new-reader.ensures
 
 pub loop-c-preserved : goal.loop-c-preserved
 loop-c-preserved c =
-    let t = YieldsList-turn (YieldsList-from_chars c.args.text.now c.utf8.text cc) c.loop-c.yielded _ c.loop-c.yielded_by _ _ c.in-Some.c c.in-Some.is c.next.ensures.steps in
+    let t = YieldsList-turn
+    (YieldsList-from_chars c.args.text.now c.utf8.text cc) c.loop-c.yielded _ c.loop-c.yielded_by _ _ c.in-Some.c c.in-Some.is
+    c.next.ensures.steps in
     run-ok _ _ _ _ _ _ t c.loop-c.invariant c.in_ok-reader.ensures
 
 pub returns : goal.returns
 returns c =
-    let t = YieldsList-end (YieldsList-from_chars c.args.text.now c.utf8.text cc) c.loop-c.yielded _ c.loop-c.yielded_by _ _ c.in-None.is c.next.ensures.steps in
+    let t = YieldsList-end
+    (YieldsList-from_chars c.args.text.now c.utf8.text cc) c.loop-c.yielded _ c.loop-c.yielded_by _ _ c.in-None.is c.next.ensures.steps
+    in
     rw (← run-end _ _ _ _ t.1 c.loop-c.invariant) c.end.ensures
 
 pub returns-in_err-reader : goal.returns-in_err-reader
 returns-in_err-reader c =
-    let t = YieldsList-turn (YieldsList-from_chars c.args.text.now c.utf8.text cc) c.loop-c.yielded _ c.loop-c.yielded_by _ _ c.in-Some.c c.in-Some.is c.next.ensures.steps in
+    let t = YieldsList-turn
+    (YieldsList-from_chars c.args.text.now c.utf8.text cc) c.loop-c.yielded _ c.loop-c.yielded_by _ _ c.in-Some.c c.in-Some.is
+    c.next.ensures.steps in
     passed_on _ _ _ _ c.in_err-reader.field-0.0 c.from_residual.ensures.1 c.in_err-reader.ensures (run-err _ _ _ _ _ _ t c.loop-c.invariant)

@@ -7,4 +7,5 @@ use Rattle.wf_expr.proofs.value.expression_value.Given as goal
 -- the last value so far and the operands that are left have the value of them all
 abbrev pub invariant-loop-operand : goal.invariant-loop-operand
 invariant-loop-operand g l =
-    first_true (shown l.last) (map (operand_value (g.C.Context.values l.context)) (drop l.operand-index l.operands)) ≡ expression_value (g.C.Context.values l.context) l.operands
+    first_true (shown l.last) (map (operand_value (g.C.Context.values l.context)) (drop l.operand-index l.operands))
+    ≡ expression_value (g.C.Context.values l.context) l.operands

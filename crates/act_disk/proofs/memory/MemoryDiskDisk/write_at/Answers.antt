@@ -6,10 +6,22 @@ use Rattle.act_disk.proofs.RecordLemmas.{carried, written, any, follows, elapses
 use Rattle.act_disk.proofs.memory.MemoryDiskDisk.write_at.Goals as goal
 
 abbrev old : goal.After-counted → Record
-old c = record { first = c.self.inside.first.items; calls = c.self.inside.calls.items; faults = c.self.inside.faults; made = c.self.inside.tally.calls }
+old c = record {
+  first = c.self.inside.first.items;
+  calls = c.self.inside.calls.items;
+  faults = c.self.inside.faults;
+  made =
+      c.self.inside.tally.calls;
+}
 
 abbrev new : goal.After-counted → Record
-new c = record { first = c.self.inside.first.items; calls = c.write_noted-outcome.new.calls.items; faults = c.counted.new.faults; made = c.count.new.self.calls }
+new c = record {
+  first = c.self.inside.first.items;
+  calls = c.write_noted-outcome.new.calls.items;
+  faults = c.counted.new.faults;
+  made =
+      c.count.new.self.calls;
+}
 
 pub returns-clause-written : goal.returns-clause-written
 returns-clause-written c =
@@ -20,7 +32,9 @@ returns-clause-written c =
 pub returns-clause-images : goal.returns-clause-images
 returns-clause-images c =
     subst (λ (m : Record). Follows (Torn c.args.at (length c.args.bytes.now)) (MayLeave m) (MayLeave (new c))) c.self.view_is
-    (follows (old c) (new c) refl c.write_noted-outcome.result c.args.at c.args.bytes.now c.write_noted-outcome.ensures.calls c.write_noted-outcome.ensures.same_calls)
+    (follows (old c)
+    (new c) refl c.write_noted-outcome.result c.args.at c.args.bytes.now c.write_noted-outcome.ensures.calls
+    c.write_noted-outcome.ensures.same_calls)
 
 pub returns-clause-any : goal.returns-clause-any
 returns-clause-any c =
@@ -30,5 +44,7 @@ returns-clause-any c =
 
 pub returns-clause-time : goal.returns-clause-time
 returns-clause-time c =
-    subst (λ (m : Record). Elapses (length m.calls) (length (new c).calls) (MayHaveLeft m) (MayHaveLeft (new c)) (MayLeave (new c))) c.self.view_is
-    (elapses (old c) (new c) refl c.write_noted-outcome.result (Write c.args.at c.args.bytes.now) c.write_noted-outcome.ensures.calls c.write_noted-outcome.ensures.same_calls)
+    subst (λ (m : Record). Elapses (length m.calls) (length (new c).calls) (MayHaveLeft m) (MayHaveLeft (new c))
+    (MayLeave (new c))) c.self.view_is
+    (elapses (old c) (new c) refl c.write_noted-outcome.result
+    (Write c.args.at c.args.bytes.now) c.write_noted-outcome.ensures.calls c.write_noted-outcome.ensures.same_calls)

@@ -1,5 +1,8 @@
 -- The body does nothing: the tally that only clauses read is one higher.
-use Rattle.act_disk.proofs.Walks.{◌+◌, [], ◌∷◌, refl, proved, id⊢, ftrue, flft, named, vunit, ‵, ◌⊛◌, ◌$◌, ◌∵◌, !, qed, done, move, keep, use1, split, join, fsplit3, feq_i, suffices, frame, group, enter, of_opd, unit_lit, returns, alloc_all, pass_all, free_all, look_at, sets, MutRef, mut_vals, mut_Tells, plain, nothing, opens, closes, Stays, walk_of, says, stay_ref, Goes-ref, ends_at}
+use Rattle.act_disk.proofs.Walks.{◌+◌, [], ◌∷◌, refl, proved, id⊢, ftrue, flft, named, vunit, ‵, ◌⊛◌, ◌$◌, ◌∵◌, !, qed, done, move, keep}
+use Rattle.act_disk.proofs.Walks.{use1, split, join, fsplit3, feq_i, suffices, frame, group, enter, of_opd, unit_lit, returns, alloc_all}
+use Rattle.act_disk.proofs.Walks.{pass_all, free_all, look_at, sets, MutRef, mut_vals, mut_Tells, plain, nothing, opens, closes, Stays}
+use Rattle.act_disk.proofs.Walks.{walk_of, says, stay_ref, Goes-ref, ends_at}
 use Rattle.act_disk.specs.contracts.tally.CallTally.count as f
 use Rattle.act_disk.specs.contracts.tally.CallTally.{the_row as Tally}
 use Rattle.act_disk.proofs.tally.CallTally.count.Statement.{statement}

@@ -1,5 +1,7 @@
 -- A value of no bytes, at no call.
-use Rattle.act_disk.proofs.Walks.{[], ◌∷◌, refl, proved, ftrue, vstruct, vnil, Val, ‵, raw, ◌$◌, ◌∵◌, !, qed, done, keep, suffices, join, enter, no_more, agg, returns, alloc_all, pass_all, free_all, look_at, sets, pure_i, nothing, on_entry, Stays, walk_of, says, ends_at}
+use Rattle.act_disk.proofs.Walks.{[], ◌∷◌, refl, proved, ftrue, vstruct, vnil, Val, ‵, raw, ◌$◌, ◌∵◌, !, qed, done, keep, suffices, join}
+use Rattle.act_disk.proofs.Walks.{enter, no_more, agg, returns, alloc_all, pass_all, free_all, look_at, sets, pure_i, nothing, on_entry}
+use Rattle.act_disk.proofs.Walks.{Stays, walk_of, says, ends_at}
 use Rattle.act_disk.specs.contracts.tally.CallTally.new as f
 use Rattle.act_disk.specs.contracts.tally.CallTally.{the_row as Tally}
 use Rattle.act_disk.specs.declared.tally.CallTally.{CallTally}

@@ -3,30 +3,41 @@ use Rattle.std.specs.BTreeMap.{get_by_text}
 use Rattle.std.specs.Option.{option_copied_mut}
 use Rattle.wf_expr.specs.Properties.{value_at, DifferAt}
 use Rattle.wf_expr.specs.declared.properties.Properties.TheViews.{out-Properties, roll-Properties}
-use Rattle.wf_expr.proofs.PropertyLemmas.{changed, hit, first-and-rest, rest, alike, kept, changed-others, changed-same, nested-others, set-itself, set-itself-others, on-ok, on-err, on-ok-both}
+use Rattle.wf_expr.proofs.PropertyLemmas.{changed, hit, first-and-rest, rest, alike, kept, changed-others, changed-same, nested-others}
+use Rattle.wf_expr.proofs.PropertyLemmas.{set-itself, set-itself-others, on-ok, on-err, on-ok-both}
 use Rattle.wf_expr.proofs.properties.Properties.+insert.Goals as goal
 
 pub returns-in-Some-clause-value : goal.returns-in-Some-clause-value
 returns-in-Some-clause-value t c =
-    let path : c.args.path.now ≡ c.name-item.result ∷ rest c.args.path.now = first-and-rest c.args.path.now c.name-item.result (omega arith) c.name-item.is in
+    let path : c.args.path.now ≡ c.name-item.result ∷ rest c.args.path.now =
+    first-and-rest c.args.path.now c.name-item.result (omega arith) c.name-item.is in
     let parts = record (out-Properties c.args.self.now) { inner = c.get_mut.follows.lender c.insert.new.self } in
-    let changes = changed parts c.args.self.now c.insert.new.self c.as_str.result.now c.name-item.result refl ((c.get_mut.follows.holds c.insert.new.self).3 (search rules)) c.as_str.ensures in
+    let changes =
+    changed parts c.args.self.now c.insert.new.self c.as_str.result.now c.name-item.result refl
+    ((c.get_mut.follows.holds c.insert.new.self).3 (search rules)) c.as_str.ensures in
     on-ok c.insert.result c.insert.ensures.value (λ h. ap (value_at (roll-Properties parts)) path ∙ (hit _ _ _ _ changes _ ∙ h))
 
 pub returns-in-Some-clause-others : goal.returns-in-Some-clause-others
 returns-in-Some-clause-others t c =
-    let path : c.args.path.now ≡ c.name-item.result ∷ rest c.args.path.now = first-and-rest c.args.path.now c.name-item.result (omega arith) c.name-item.is in
+    let path : c.args.path.now ≡ c.name-item.result ∷ rest c.args.path.now =
+    first-and-rest c.args.path.now c.name-item.result (omega arith) c.name-item.is in
     let parts = record (out-Properties c.args.self.now) { inner = c.get_mut.follows.lender c.insert.new.self } in
-    let changes = changed parts c.args.self.now c.insert.new.self c.as_str.result.now c.name-item.result refl ((c.get_mut.follows.holds c.insert.new.self).3 (search rules)) c.as_str.ensures in
-    let was = ap (get_by_text (out-Properties c.args.self.now).inner) (sym c.as_str.ensures) ∙ (sym c.get_mut.ensures.value ∙ ap option_copied_mut c.in-Some.is) in
+    let changes =
+    changed parts c.args.self.now c.insert.new.self c.as_str.result.now c.name-item.result refl
+    ((c.get_mut.follows.holds c.insert.new.self).3 (search rules)) c.as_str.ensures in
+    let was = ap (get_by_text (out-Properties c.args.self.now).inner) (sym c.as_str.ensures)
+    ∙ (sym c.get_mut.ensures.value ∙ ap option_copied_mut c.in-Some.is) in
     let P : List (List ℕ) → Type 0 = λ p. DifferAt p (roll-Properties parts) c.args.self.now in
     on-ok c.insert.result c.insert.ensures.others (λ h. subst P (sym path) (changed-others _ _ _ _ _ _ changes was h))
 
 pub returns-in-Some-clause-err : goal.returns-in-Some-clause-err
 returns-in-Some-clause-err t c =
     let parts = record (out-Properties c.args.self.now) { inner = c.get_mut.follows.lender c.insert.new.self } in
-    let changes = changed parts c.args.self.now c.insert.new.self c.as_str.result.now c.name-item.result refl ((c.get_mut.follows.holds c.insert.new.self).3 (search rules)) c.as_str.ensures in
-    let was = ap (get_by_text (out-Properties c.args.self.now).inner) (sym c.as_str.ensures) ∙ (sym c.get_mut.ensures.value ∙ ap option_copied_mut c.in-Some.is) in
+    let changes =
+    changed parts c.args.self.now c.insert.new.self c.as_str.result.now c.name-item.result refl
+    ((c.get_mut.follows.holds c.insert.new.self).3 (search rules)) c.as_str.ensures in
+    let was = ap (get_by_text (out-Properties c.args.self.now).inner) (sym c.as_str.ensures)
+    ∙ (sym c.get_mut.ensures.value ∙ ap option_copied_mut c.in-Some.is) in
     on-err c.insert.result c.insert.ensures.err (λ h. changed-same _ _ _ _ _ changes was h)
 
 pub returns-in-empty-clause-value : goal.returns-in-empty-clause-value
@@ -37,9 +48,16 @@ returns-in-empty-clause-others t c = set-itself-others _ c.args.self.now c.args.
 
 pub returns-in_ok-inner-in-len1-up-clause-others : goal.returns-in_ok-inner-in-len1-up-clause-others
 returns-in_ok-inner-in-len1-up-clause-others t c =
-    let path : c.args.path.now ≡ c.name-item.result ∷ rest c.args.path.now = first-and-rest c.args.path.now c.name-item.result (omega arith) c.name-item.is in
+    let path : c.args.path.now ≡ c.name-item.result ∷ rest c.args.path.now =
+    first-and-rest c.args.path.now c.name-item.result (omega arith) c.name-item.is in
     let parts = record (out-Properties c.args.self.now) { inner = c.get_mut.follows.lender-at-none } in
     let same = ap (λ m. m.entries) c.get_mut.follows.holds-at-none in
-    let none = alike parts c.args.self.now same c.name-item.result ∙ (ap (get_by_text (out-Properties c.args.self.now).inner) (sym c.as_str.ensures) ∙ (sym c.get_mut.ensures.value ∙ ap option_copied_mut c.in_default.is)) in
+    let none = alike parts c.args.self.now same c.name-item.result
+    ∙ (ap (get_by_text (out-Properties c.args.self.now).inner) (sym c.as_str.ensures)
+    ∙ (sym c.get_mut.ensures.value ∙ ap option_copied_mut c.in_default.is)) in
     let P : List (List ℕ) → Type 0 = λ p. DifferAt p c.nest.new.self c.args.self.now in
-    on-ok-both _ _ _ c.nest.result c.nest.ensures.others c.nest.ensures.within (λ o w. subst P (sym path) (λ p n. nested-others _ (roll-Properties parts) c.in_ok-inner-in-len1-up.inner _ _ o w c.in_ok-inner-in-len1-up.ensures.others none p n ∙ kept parts c.args.self.now refl same p))
+    on-ok-both _ _ _ c.nest.result c.nest.ensures.others c.nest.ensures.within
+    (λ o w. subst P (sym path)
+    (λ p n. nested-others _
+    (roll-Properties parts) c.in_ok-inner-in-len1-up.inner _ _ o w c.in_ok-inner-in-len1-up.ensures.others none p n
+    ∙ kept parts c.args.self.now refl same p))
