@@ -22,7 +22,8 @@ last = refl
 look : command_of (codes "look 1") ≡ Ok (command.Look 1)
 look = refl
 
-claim : command_of (codes "claim r1 2 X64,linux") ≡ Ok (command.Claim (record { runner = codes "r1"; number = 2; labels = codes "X64" ∷ codes "linux" ∷ [] }))
+claim : command_of (codes "claim r1 2 X64,linux")
+    ≡ Ok (command.Claim (record { runner = codes "r1"; number = 2; labels = codes "X64" ∷ codes "linux" ∷ [] }))
 claim = refl
 
 delivery : command_of (codes "admit d_1 push {}") ≡ Err not_a_line

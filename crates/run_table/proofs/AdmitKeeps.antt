@@ -1,5 +1,6 @@
 -- A new run keeps what a table keeps.
-use Rattle.std.specs.Prelude.{◌≡◌, ℕ, ◌+◌, List, [], ◌∷◌, ◌++◌, map, length, find, nat_le, Bool, true, false, Option, Some, None, option_map, option_and_then, slice_get, if◌then◌else◌, refl}
+use Rattle.std.specs.Prelude.{◌≡◌, ℕ, ◌+◌, List, [], ◌∷◌, ◌++◌, map, length, find, nat_le, Bool, true, false, Option, Some, None}
+use Rattle.std.specs.Prelude.{option_map, option_and_then, slice_get, if◌then◌else◌, refl}
 use Rattle.std.specs.List.{position}
 use Rattle.std.specs.Option.{option_or}
 use Rattle.std.proofs.Common.{arith, ap, sym, ◌∙◌, subst, inl, inr, length-append}
@@ -39,15 +40,19 @@ new_run_fits : (runs : List RunState) (r : ℕ) (event : Admitted) → RunFits r
 new_run_fits runs r event = record {
   has_its_jobs = length-map (plan_of event.body) (λ _. blocked_job);
   phase_fits = (refl, (λ j y e. sym (ap (λ (v : JobState). v.phase) (job_is_blocked (plan_of event.body) j y e))));
-  jobs_fit = (λ j y e. subst (λ (v : JobState). JobFits (planned_legs runs r j) (result_at runs r j v) v) (job_is_blocked (plan_of event.body) j y e) (blocked_fits (planned_legs runs r j) runs r j));
+  jobs_fit = (λ j y e. subst (λ (v : JobState). JobFits (planned_legs runs r j) (result_at runs r j v) v)
+      (job_is_blocked (plan_of event.body) j y e) (blocked_fits (planned_legs runs r j) runs r j));
 }
 
 -- no leg of it is there
-no_lease : (f : LegState → Option ℕ) (event : Admitted) (j l : ℕ) → option_and_then (λ (y : JobState). option_and_then f (slice_get y.legs l)) (slice_get (new_run event).jobs j) ≡ None
+no_lease : (f : LegState → Option ℕ) (event : Admitted) (j l : ℕ)
+    → option_and_then (λ (y : JobState). option_and_then f (slice_get y.legs l)) (slice_get (new_run event).jobs j) ≡ None
 no_lease f event j l =
-    ap (option_and_then (λ (y : JobState). option_and_then f (slice_get y.legs l))) (slice_get-map (λ _. blocked_job) (plan_of event.body) j) ∙ of_blocked (slice_get (plan_of event.body) j)
+    ap (option_and_then (λ (y : JobState). option_and_then f (slice_get y.legs l)))
+    (slice_get-map (λ _. blocked_job) (plan_of event.body) j) ∙ of_blocked (slice_get (plan_of event.body) j)
   where
-    of_blocked : (o : Option PlannedJob) → option_and_then (λ (y : JobState). option_and_then f (slice_get y.legs l)) (option_map (λ _. blocked_job) o) ≡ None
+    of_blocked : (o : Option PlannedJob)
+        → option_and_then (λ (y : JobState). option_and_then f (slice_get y.legs l)) (option_map (λ _. blocked_job) o) ≡ None
     of_blocked None = refl
     of_blocked (Some planned) = refl
 
@@ -69,10 +74,16 @@ module _ (runs : List RunState) (event : Admitted) where
       some_same : (x : RunState) → Some (new_run event) ≡ Some x → new_run event ≡ x
       some_same x e = cc
 
-  same_reads : (f : LegState → Option ℕ) (p : LegPlace) → option_and_then (λ (x : RunState). option_and_then (λ (y : JobState). option_and_then f (slice_get y.legs p.leg)) (slice_get x.jobs p.job)) (run_at (runs ++ new_run event ∷ []) p.run)
-      ≡ option_and_then (λ (x : RunState). option_and_then (λ (y : JobState). option_and_then f (slice_get y.legs p.leg)) (slice_get x.jobs p.job)) (run_at runs p.run)
+  same_reads : (f : LegState → Option ℕ) (p : LegPlace)
+      → option_and_then
+      (λ (x : RunState). option_and_then (λ (y : JobState). option_and_then f (slice_get y.legs p.leg)) (slice_get x.jobs p.job))
+      (run_at (runs ++ new_run event ∷ []) p.run)
+      ≡ option_and_then
+      (λ (x : RunState). option_and_then (λ (y : JobState). option_and_then f (slice_get y.legs p.leg)) (slice_get x.jobs p.job))
+      (run_at runs p.run)
   same_reads f p =
-      let read = λ (o : Option RunState). option_and_then (λ (x : RunState). option_and_then (λ (y : JobState). option_and_then f (slice_get y.legs p.leg)) (slice_get x.jobs p.job)) o in
+      let read = λ (o : Option RunState). option_and_then
+      (λ (x : RunState). option_and_then (λ (y : JobState). option_and_then f (slice_get y.legs p.leg)) (slice_get x.jobs p.job)) o in
       elim (cases_eq p.run (length runs)) [
         | inl s ↦
             ap read (ap (slice_get (runs ++ new_run event ∷ [])) s ∙ at_the_end runs (new_run event)) ∙ no_lease f event p.job p.leg
@@ -80,7 +91,8 @@ module _ (runs : List RunState) (event : Admitted) where
         | inr n ↦ ap read (before_the_end runs (new_run event) p.run n)
       ]
 
-  deliveries : ((r : ℕ) (x : RunState) → run_at runs r ≡ Some x → x.admitted.delivery ≡ event.delivery → ⊥) → DeliveriesDiffer runs → DeliveriesDiffer (runs ++ new_run event ∷ [])
+  deliveries : ((r : ℕ) (x : RunState) → run_at runs r ≡ Some x → x.admitted.delivery ≡ event.delivery → ⊥) → DeliveriesDiffer runs
+      → DeliveriesDiffer (runs ++ new_run event ∷ [])
   deliveries fresh differ a b x y at bt same =
       let next = runs ++ new_run event ∷ [] in
       elim (cases_eq a (length runs)) [
@@ -90,15 +102,19 @@ module _ (runs : List RunState) (event : Admitted) where
         ]
         | inr n ↦ elim (cases_eq b (length runs)) [
           | inl t ↦ absurd (fresh a x (sym (before_the_end runs (new_run event) a n) ∙ at) (same ∙ new_delivery b y t bt))
-          | inr m ↦ differ a b x y (sym (before_the_end runs (new_run event) a n) ∙ at) (sym (before_the_end runs (new_run event) b m) ∙ bt) same
+          | inr m ↦ differ a b x y (sym (before_the_end runs (new_run event) a n) ∙ at)
+              (sym (before_the_end runs (new_run event) b m) ∙ bt) same
         ]
       ]
     where
       some_same : (x : RunState) → Some (new_run event) ≡ Some x → new_run event ≡ x
       some_same x e = cc
 
-      new_delivery : (r : ℕ) (x : RunState) → r ≡ length runs → run_at (runs ++ new_run event ∷ []) r ≡ Some x → x.admitted.delivery ≡ event.delivery
-      new_delivery r x s e = sym (ap (λ (v : RunState). v.admitted.delivery) (some_same x (sym (at_the_end runs (new_run event)) ∙ ap (slice_get (runs ++ new_run event ∷ [])) (sym s) ∙ e)))
+      new_delivery : (r : ℕ) (x : RunState) → r ≡ length runs → run_at (runs ++ new_run event ∷ []) r ≡ Some x
+          → x.admitted.delivery ≡ event.delivery
+      new_delivery r x s e =
+          sym (ap (λ (v : RunState). v.admitted.delivery)
+          (some_same x (sym (at_the_end runs (new_run event)) ∙ ap (slice_get (runs ++ new_run event ∷ [])) (sym s) ∙ e)))
 
 -- ---- what was looked at first
 
@@ -116,26 +132,35 @@ test_failed false x e = refl
 
 -- ---- the table with it
 
-pub admit_keeps : (t : TableState) (event : Admitted) → IsKept t → admission_answer t event ≡ None → IsKept (record t { runs = t.runs ++ new_run event ∷ [] })
+pub admit_keeps : (t : TableState) (event : Admitted) → IsKept t → admission_answer t event ≡ None
+    → IsKept (record t { runs = t.runs ++ new_run event ∷ [] })
 admit_keeps t event s none =
     let next = t.runs ++ new_run event ∷ [] in
-    let looked = nothing_in_or (option_map (λ i. reply.Created (i + 1)) (position (is_delivered_as event.delivery) t.runs)) (if nat_le 100000 (length t.runs) then Some (refused LastCounter) else None) none in
-    let nowhere = found_nowhere (is_delivered_as event.delivery) t.runs (nothing_mapped (λ i. reply.Created (i + 1)) (position (is_delivered_as event.delivery) t.runs) looked.0) in
+    let looked = nothing_in_or (option_map (λ i. reply.Created (i + 1)) (position (is_delivered_as event.delivery) t.runs))
+    (if nat_le 100000 (length t.runs) then Some (refused LastCounter) else None) none in
+    let nowhere =
+    found_nowhere (is_delivered_as event.delivery) t.runs
+    (nothing_mapped (λ i. reply.Created (i + 1)) (position (is_delivered_as event.delivery) t.runs) looked.0) in
     let room = leb-false 100000 (length t.runs) (test_failed (nat_le 100000 (length t.runs)) (refused LastCounter) looked.1) in
     let more = length-append t.runs (new_run event ∷ []) in
     record {
       few_runs = omega (arith, more, room);
       deliveries_differ = deliveries t.runs event (fresh nowhere) s.deliveries_differ;
       fit = all_fit t.runs event s.fit;
-      agree = leases_same t.last_lease (had_at t.runs) (works_at t.runs) (had_at next) (works_at next) (holds_at t.runners) (holds_at t.runners) (same_reads t.runs event (λ z. z.lease)) (same_reads t.runs event work_of) (λ k. refl) s.agree;
+      agree = leases_same t.last_lease (had_at t.runs) (works_at t.runs) (had_at next) (works_at next) (holds_at t.runners)
+          (holds_at t.runners) (same_reads t.runs event (λ z. z.lease)) (same_reads t.runs event work_of) (λ k. refl) s.agree;
       last_lease_in_range = s.last_lease_in_range;
       names_differ = s.names_differ;
       lasts_are_own = s.lasts_are_own;
-      kept_are_had = (λ k x e. kept_still_had (had_at t.runs) (had_at next) (λ p n h. same_reads t.runs event (λ z. z.lease) p ∙ h) x.last (s.kept_are_had k x e));
+      kept_are_had =
+          (λ k x e. kept_still_had (had_at t.runs) (had_at next) (λ p n h. same_reads t.runs event (λ z. z.lease) p ∙ h) x.last
+          (s.kept_are_had k x e));
     }
   where
-    fresh : find (is_delivered_as event.delivery) t.runs ≡ None → (r : ℕ) (x : RunState) → run_at t.runs r ≡ Some x → x.admitted.delivery ≡ event.delivery → ⊥
+    fresh : find (is_delivered_as event.delivery) t.runs ≡ None → (r : ℕ) (x : RunState) → run_at t.runs r ≡ Some x
+        → x.admitted.delivery ≡ event.delivery → ⊥
     fresh nowhere r x at same =
         let passes : is_delivered_as event.delivery x ≡ true = (bytes_eq-Decides x.admitted.delivery event.delivery).1 same in
-        let fails = each_at (λ y. is_delivered_as event.delivery y ≡ false) t.runs r x (none_found (is_delivered_as event.delivery) t.runs nowhere) at in
+        let fails = each_at (λ y. is_delivered_as event.delivery y ≡ false) t.runs r x
+        (none_found (is_delivered_as event.delivery) t.runs nowhere) at in
         true≢false (sym passes ∙ fails)

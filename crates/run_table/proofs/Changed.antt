@@ -44,17 +44,20 @@ length-changed_at zero f (x ∷ xs) = refl
 length-changed_at (suc i) f (x ∷ xs) = ap suc (length-changed_at i f xs)
 
 -- what is read of each element is the same, if it is of the one that changed
-pub reads_same : {X Y : Type 0} (i : ℕ) (f : X → X) (xs : List X) (x : X) (g : X → Option Y) → slice_get xs i ≡ Some x → g (f x) ≡ g x → (k : ℕ) → option_and_then g (slice_get (changed_at i f xs) k) ≡ option_and_then g (slice_get xs k)
+pub reads_same : {X Y : Type 0} (i : ℕ) (f : X → X) (xs : List X) (x : X) (g : X → Option Y) → slice_get xs i ≡ Some x → g (f x) ≡ g x
+    → (k : ℕ) → option_and_then g (slice_get (changed_at i f xs) k) ≡ option_and_then g (slice_get xs k)
 reads_same i f xs x g was same k =
     elim (cases_eq k i) [
       | inl e ↦
-          ap (λ n. option_and_then g (slice_get (changed_at i f xs) n)) e ∙ ap (option_and_then g) (at_changed i f xs ∙ ap (option_map f) was) ∙ same
+          ap (λ n. option_and_then g (slice_get (changed_at i f xs) n)) e
+          ∙ ap (option_and_then g) (at_changed i f xs ∙ ap (option_map f) was) ∙ same
           ∙ sym (ap (option_and_then g) was) ∙ ap (λ n. option_and_then g (slice_get xs n)) (sym e)
       | inr n ↦ ap (option_and_then g) (at_another i f xs k n)
     ]
 
 -- what holds of each element, if it does of the one that changed
-pub holds_of_each : {X : Type 0} (i : ℕ) (f : X → X) (xs : List X) (x : X) (P : ℕ → X → Type 0) → slice_get xs i ≡ Some x → P i (f x) → ((k : ℕ) (y : X) → slice_get xs k ≡ Some y → P k y) → (k : ℕ) (y : X) → slice_get (changed_at i f xs) k ≡ Some y → P k y
+pub holds_of_each : {X : Type 0} (i : ℕ) (f : X → X) (xs : List X) (x : X) (P : ℕ → X → Type 0) → slice_get xs i ≡ Some x → P i (f x)
+    → ((k : ℕ) (y : X) → slice_get xs k ≡ Some y → P k y) → (k : ℕ) (y : X) → slice_get (changed_at i f xs) k ≡ Some y → P k y
 holds_of_each {X} i f xs x P was now each k y e =
     let c = came i f xs k y e in
     elim (c.how) [

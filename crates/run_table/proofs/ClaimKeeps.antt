@@ -1,5 +1,6 @@
 -- A claim keeps what a table keeps: the leg that it gets runs under the lease after the last, or nothing is ready.
-use Rattle.std.specs.Prelude.{◌≡◌, ℕ, ◌+◌, ◌≤◌, ◌&&◌, List, nat_le, Bool, true, false, is_some, Option, Some, None, option_and_then, if◌then◌else◌, refl}
+use Rattle.std.specs.Prelude.{◌≡◌, ℕ, ◌+◌, ◌≤◌, ◌&&◌, List, nat_le, Bool, true, false, is_some, Option, Some, None, option_and_then}
+use Rattle.std.specs.Prelude.{if◌then◌else◌, refl}
 use Rattle.std.specs.Option.{option_map_or}
 use Rattle.std.proofs.Common.{arith, ap, sym, ◌∙◌, subst, inl, inr}
 use Rattle.std.proofs.lemmas.Bool.{cases_eq, and_parts, leb-false}
@@ -58,44 +59,54 @@ is_ready_ready leg.Running e = cc
 is_ready_ready leg.Stopping e = cc
 is_ready_ready (leg.Ended r) e = cc
 
-ready_at : (runs : List RunState) (p : LegPlace) (o : Option LegState) → leg_at runs p ≡ o → option_map_or (λ l. is_ready l.phase) o false ≡ true → ReadyLeg runs p
+ready_at : (runs : List RunState) (p : LegPlace) (o : Option LegState) → leg_at runs p ≡ o
+    → option_map_or (λ l. is_ready l.phase) o false ≡ true → ReadyLeg runs p
 ready_at runs p None is e = cc
 ready_at runs p (Some z) is e = record { leg_of = z; is = is; ready = is_ready_ready z.phase e }
 
 fitting_leg : (labels : List (List ℕ)) (runs : List RunState) (p : LegPlace) → first_fit labels runs ≡ Some p → ReadyLeg runs p
 fitting_leg labels runs p e =
     ready_at runs p (leg_at runs p) refl
-    (and_parts (option_map_or (λ l. is_ready l.phase) (leg_at runs p) false) (option_map_or (has_labels labels) (labels_at runs p) false) (find_passes (fits labels runs) (leg_places runs) p e)).0
+    (and_parts (option_map_or (λ l. is_ready l.phase) (leg_at runs p) false) (option_map_or (has_labels labels) (labels_at runs p) false)
+    (find_passes (fits labels runs) (leg_places runs) p e)).0
 
 ready_has_no_lease : (phase : LegPhase) (lease : Option ℕ) → phase ≡ leg.Ready → LeaseFits phase lease → lease ≡ None
 ready_has_no_lease phase lease e fits = subst (λ (x : LegPhase). LeaseFits x lease) e fits
 
 -- ---- what is read after a leg has changed
 
-pub had_changes : (runs : List RunState) (p : LegPlace) (z : LegState) (f : LegState → LegState) → leg_at runs p ≡ Some z → ChangesAt (had_at runs) (had_at (with_leg p f runs)) p (f z).lease
+pub had_changes : (runs : List RunState) (p : LegPlace) (z : LegState) (f : LegState → LegState) → leg_at runs p ≡ Some z
+    → ChangesAt (had_at runs) (had_at (with_leg p f runs)) p (f z).lease
 had_changes runs p z f is =
     let at = leg_in runs p z is in
     record {
       here = had_from_leg (with_leg p f runs) p (f z) (leg_now runs p z f at);
-      elsewhere = (λ q n. sym (had_is (with_leg p f runs) q) ∙ ap (option_and_then (λ (y : LegState). y.lease)) (leg_elsewhere runs p z f at q n) ∙ had_is runs q);
+      elsewhere = (λ q n. sym (had_is (with_leg p f runs) q)
+          ∙ ap (option_and_then (λ (y : LegState). y.lease)) (leg_elsewhere runs p z f at q n) ∙ had_is runs q);
     }
 
-pub works_changes : (runs : List RunState) (p : LegPlace) (z : LegState) (f : LegState → LegState) → leg_at runs p ≡ Some z → ChangesAt (works_at runs) (works_at (with_leg p f runs)) p (work_of (f z))
+pub works_changes : (runs : List RunState) (p : LegPlace) (z : LegState) (f : LegState → LegState) → leg_at runs p ≡ Some z
+    → ChangesAt (works_at runs) (works_at (with_leg p f runs)) p (work_of (f z))
 works_changes runs p z f is =
     let at = leg_in runs p z is in
     record {
       here = works_from_leg (with_leg p f runs) p (f z) (leg_now runs p z f at);
-      elsewhere = (λ q n. sym (works_is (with_leg p f runs) q) ∙ ap (option_and_then work_of) (leg_elsewhere runs p z f at q n) ∙ works_is runs q);
+      elsewhere = (λ q n. sym (works_is (with_leg p f runs) q) ∙ ap (option_and_then work_of) (leg_elsewhere runs p z f at q n)
+          ∙ works_is runs q);
     }
 
 -- ---- nothing is ready
 
-pub serving_keeps : (t : TableState) (claim : Claimed) → IsKept t → claim_answer t claim ≡ None → IsKept (record t { runners = with_runner t.runners (claiming_runner claim None given.Nothing) })
+pub serving_keeps : (t : TableState) (claim : Claimed) → IsKept t → claim_answer t claim ≡ None
+    → IsKept (record t { runners = with_runner t.runners (claiming_runner claim None given.Nothing) })
 serving_keeps t claim s none =
     let new = claiming_runner claim None given.Nothing in
     let runner = runner_named t.runners claim.runner in
-    let looked = nothing_in_or (answer_of_turn runner claim.number (is_last_claim claim)) (if holds_lease runner then Some (refused HasLease) else (if has_no_lease_left t claim then Some (refused LastCounter) else None)) none in
-    let free = holds_none runner (looked_first (holds_lease runner) (has_no_lease_left t claim) (refused HasLease) (refused LastCounter) looked.1).0 in
+    let looked = nothing_in_or (answer_of_turn runner claim.number (is_last_claim claim))
+    (if holds_lease runner then Some (refused HasLease) else
+    (if has_no_lease_left t claim then Some (refused LastCounter) else None)) none in
+    let free = holds_none runner
+    (looked_first (holds_lease runner) (has_no_lease_left t claim) (refused HasLease) (refused LastCounter) looked.1).0 in
     let p = put t.runners new in
     let changes = holds_changes t.runners new in
     let before : holds_at t.runners p.place ≡ None = ap (option_and_then (λ (x : RunnerState). x.holds)) p.was ∙ free in
@@ -103,18 +114,22 @@ serving_keeps t claim s none =
       few_runs = s.few_runs;
       deliveries_differ = s.deliveries_differ;
       fit = s.fit;
-      agree = leases_same t.last_lease (had_at t.runs) (works_at t.runs) (had_at t.runs) (works_at t.runs) (holds_at t.runners) (holds_at (with_runner t.runners new)) (λ q. refl) (λ q. refl) (same_holds p.place changes before) s.agree;
+      agree = leases_same t.last_lease (had_at t.runs) (works_at t.runs) (had_at t.runs) (works_at t.runs) (holds_at t.runners)
+          (holds_at (with_runner t.runners new)) (λ q. refl) (λ q. refl) (same_holds p.place changes before) s.agree;
       last_lease_in_range = s.last_lease_in_range;
       names_differ = names_still_differ t.runners new s.names_differ;
       lasts_are_own = each_put t.runners new (λ x. IsLastOf x.name x.number x.last) (refl, refl) s.lasts_are_own;
       kept_are_had = each_put t.runners new (λ x. KeptIsHad (had_at t.runs) x.last) tt s.kept_are_had;
     }
   where
-    same_holds : (place : ℕ) → ChangesAt (holds_at t.runners) (holds_at (with_runner t.runners (claiming_runner claim None given.Nothing))) place None → holds_at t.runners place ≡ None
+    same_holds : (place : ℕ)
+        → ChangesAt (holds_at t.runners) (holds_at (with_runner t.runners (claiming_runner claim None given.Nothing))) place None
+        → holds_at t.runners place ≡ None
         → (k : ℕ) → holds_at (with_runner t.runners (claiming_runner claim None given.Nothing)) k ≡ holds_at t.runners k
     same_holds place changes before k =
         elim (cases_eq k place) [
-          | inl e ↦ ap (holds_at (with_runner t.runners (claiming_runner claim None given.Nothing))) e ∙ changes.here ∙ sym before ∙ ap (holds_at t.runners) (sym e)
+          | inl e ↦ ap (holds_at (with_runner t.runners (claiming_runner claim None given.Nothing))) e ∙ changes.here ∙ sym before
+              ∙ ap (holds_at t.runners) (sym e)
           | inr n ↦ changes.elsewhere k n
         ]
 
@@ -124,40 +139,55 @@ no_lease_left : (o : Option LegPlace) (p : LegPlace) (b : Bool) → o ≡ Some p
 no_lease_left o p b is e = sym (ap (λ (v : Option LegPlace). is_some v && b) is) ∙ e
 
 -- a leg that had no lease has the new one, and the others have theirs
-still_had : (before after : LegPlace → Option ℕ) (at : LegPlace) (new : Option ℕ) → ChangesAt before after at new → before at ≡ None → (p : LegPlace) (n : ℕ) → before p ≡ Some n → after p ≡ Some n
+still_had : (before after : LegPlace → Option ℕ) (at : LegPlace) (new : Option ℕ) → ChangesAt before after at new → before at ≡ None
+    → (p : LegPlace) (n : ℕ) → before p ≡ Some n → after p ≡ Some n
 still_had before after at new changes free p n e =
     elim (place_or_another p at) [
       | inl s ↦ absurd (none_is_not_some n (sym free ∙ ap before (sym s) ∙ e))
       | inr m ↦ changes.elsewhere p m ∙ e
     ]
 
-pub leasing_keeps : (t : TableState) (claim : Claimed) (p : LegPlace) → IsKept t → claim_answer t claim ≡ None → first_fit claim.labels t.runs ≡ Some p
-    → IsKept (record { last_lease = t.last_lease + 1; runs = with_leg p (λ _. leased_leg (t.last_lease + 1)) t.runs; runners = with_runner t.runners (claiming_runner claim (Some (t.last_lease + 1)) (given.Lease (lease_at t.runs p (t.last_lease + 1)))) })
+pub leasing_keeps : (t : TableState) (claim : Claimed) (p : LegPlace) → IsKept t → claim_answer t claim ≡ None
+    → first_fit claim.labels t.runs ≡ Some p
+    → IsKept (record {
+      last_lease = t.last_lease + 1;
+      runs = with_leg p (λ _. leased_leg (t.last_lease + 1)) t.runs;
+      runners =
+          with_runner t.runners (claiming_runner claim (Some (t.last_lease + 1)) (given.Lease (lease_at t.runs p (t.last_lease + 1))));
+    })
 leasing_keeps t claim p s none fit =
     let lease = t.last_lease + 1 in
     let new = claiming_runner claim (Some lease) (given.Lease (lease_at t.runs p lease)) in
     let next = with_leg p (λ _. leased_leg lease) t.runs in
     let runner = runner_named t.runners claim.runner in
-    let looked = nothing_in_or (answer_of_turn runner claim.number (is_last_claim claim)) (if holds_lease runner then Some (refused HasLease) else (if has_no_lease_left t claim then Some (refused LastCounter) else None)) none in
+    let looked = nothing_in_or (answer_of_turn runner claim.number (is_last_claim claim))
+    (if holds_lease runner then Some (refused HasLease) else
+    (if has_no_lease_left t claim then Some (refused LastCounter) else None)) none in
     let tests = looked_first (holds_lease runner) (has_no_lease_left t claim) (refused HasLease) (refused LastCounter) looked.1 in
-    let left = leb-false last_number t.last_lease (no_lease_left (first_fit claim.labels t.runs) p (nat_le last_number t.last_lease) fit tests.1) in
+    let left = leb-false last_number t.last_lease
+    (no_lease_left (first_fit claim.labels t.runs) p (nat_le last_number t.last_lease) fit tests.1) in
     let ready = fitting_leg claim.labels t.runs p fit in
     let z = ready.leg_of in
     let unended : has_ended z ≡ false = ap (λ (phase : LegPhase). has_ended (record z { phase = phase })) ready.ready in
     let stay = leg_stays t.runs s.fit p z (λ _. leased_leg lease) (leg_in t.runs p z ready.is) unended refl in
-    let free_leg : had_at t.runs p ≡ None = had_from_leg t.runs p z ready.is ∙ ready_has_no_lease z.phase z.lease ready.ready (leases_fit t.runs s.fit p z ready.is) in
+    let free_leg : had_at t.runs p ≡ None =
+    had_from_leg t.runs p z ready.is ∙ ready_has_no_lease z.phase z.lease ready.ready (leases_fit t.runs s.fit p z ready.is) in
     let place = put t.runners new in
-    let free_runner : holds_at t.runners place.place ≡ None = ap (option_and_then (λ (x : RunnerState). x.holds)) place.was ∙ holds_none runner tests.0 in
+    let free_runner : holds_at t.runners place.place ≡ None =
+    ap (option_and_then (λ (x : RunnerState). x.holds)) place.was ∙ holds_none runner tests.0 in
     let had = had_changes t.runs p z (λ _. leased_leg lease) ready.is in
     let still = still_had (had_at t.runs) (had_at next) p (Some lease) had free_leg in
     record {
       few_runs = subst (λ (n : ℕ). n ≤ 100000) (sym stay.same_length) s.few_runs;
       deliveries_differ = deliveries_still_differ t.runs next stay.same_admitted s.deliveries_differ;
       fit = stay.fit;
-      agree = lease_given t.last_lease (had_at t.runs) (works_at t.runs) (had_at next) (works_at next) (holds_at t.runners) (holds_at (with_runner t.runners new)) p place.place s.agree free_leg free_runner
+      agree = lease_given t.last_lease (had_at t.runs) (works_at t.runs) (had_at next) (works_at next) (holds_at t.runners)
+          (holds_at (with_runner t.runners new)) p place.place s.agree free_leg free_runner
           had (works_changes t.runs p z (λ _. leased_leg lease) ready.is) (holds_changes t.runners new);
       last_lease_in_range = omega (arith, left);
       names_differ = names_still_differ t.runners new s.names_differ;
       lasts_are_own = each_put t.runners new (λ x. IsLastOf x.name x.number x.last) (refl, refl) s.lasts_are_own;
-      kept_are_had = each_put t.runners new (λ x. KeptIsHad (had_at next) x.last) (omega arith, p, had.here) (λ k x e. kept_still_had (had_at t.runs) (had_at next) still x.last (s.kept_are_had k x e));
+      kept_are_had =
+          each_put t.runners new (λ x. KeptIsHad (had_at next) x.last) (omega arith, p, had.here)
+          (λ k x e. kept_still_had (had_at t.runs) (had_at next) still x.last (s.kept_are_had k x e));
     }

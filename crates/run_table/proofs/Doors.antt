@@ -1,5 +1,6 @@
 -- The changes of a run's cells, as contracts see them.
-use Rattle.std.specs.Prelude.{◌≡◌, ℕ, zero, suc, ◌+◌, ◌<◌, ◌≤◌, ◌||◌, List, [], ◌∷◌, length, map, filter_map, Bool, true, false, slice_get, slice_set, Option, Some, None, option_and_then, Result, Ok, refl}
+use Rattle.std.specs.Prelude.{◌≡◌, ℕ, zero, suc, ◌+◌, ◌<◌, ◌≤◌, ◌||◌, List, [], ◌∷◌, length, map, filter_map, Bool, true, false, slice_get}
+use Rattle.std.specs.Prelude.{slice_set, Option, Some, None, option_and_then, Result, Ok, refl}
 use Rattle.std.specs.List.{cons_option, enumerate_from, list_any}
 use Rattle.std.specs.Option.{option_map_or}
 use Rattle.std.proofs.Common.{arith, ap, subst, sym, ◌∙◌, get_or}
@@ -32,7 +33,8 @@ changed_past f (x ∷ xs) zero le = absurd (omega arith)
 changed_past f (x ∷ xs) (suc i) le = ap (λ ys. x ∷ ys) (changed_past f xs i (omega arith))
 
 -- an element that is read, changed and written
-pub changed_within : {X : Type 0} (f : X → X) (xs : List X) (i : ℕ) (x y : X) → i < length xs → x ≡ get_or xs i x → y ≡ f x → slice_set xs i y ≡ changed_at i f xs
+pub changed_within : {X : Type 0} (f : X → X) (xs : List X) (i : ℕ) (x y : X) → i < length xs → x ≡ get_or xs i x → y ≡ f x
+    → slice_set xs i y ≡ changed_at i f xs
 changed_within f [] i x y lt is so = absurd (omega arith)
 changed_within f (z ∷ xs) zero x y lt is so = ap (λ w. w ∷ xs) (so ∙ ap f is)
 changed_within f (z ∷ xs) (suc i) x y lt is so = ap (λ ys. z ∷ ys) (changed_within f xs i x y (omega arith) is so)
@@ -45,19 +47,26 @@ read_again (x ∷ xs) (suc i) d = read_again xs i d
 
 -- ---- the legs of a job
 
-pub leg_written : (phase : JobPhase) (has_legs : Bool) (xs : List LegState) (l : ℕ) (leg : LegState) (s : JobCells) → has_legs ≡ true → l < length xs → cells_of phase has_legs xs ≡ s → cells_of phase has_legs (slice_set xs l leg) ≡ in_state (record s.state { legs = changed_at l (λ _. leg) s.state.legs }) s
+pub leg_written : (phase : JobPhase) (has_legs : Bool) (xs : List LegState) (l : ℕ) (leg : LegState) (s : JobCells) → has_legs ≡ true
+    → l < length xs → cells_of phase has_legs xs ≡ s
+    → cells_of phase has_legs (slice_set xs l leg) ≡ in_state (record s.state { legs = changed_at l (λ _. leg) s.state.legs }) s
 leg_written phase true xs l leg s has lt is =
-    let P : JobCells → Type 0 = λ t. cells_of phase true (slice_set xs l leg) ≡ in_state (record t.state { legs = changed_at l (λ _. leg) t.state.legs }) t in
+    let P : JobCells → Type 0 =
+    λ t. cells_of phase true (slice_set xs l leg) ≡ in_state (record t.state { legs = changed_at l (λ _. leg) t.state.legs }) t in
     subst P is
     (ap (λ n. record { state = record { phase = phase; legs = slice_set xs l leg }; room = n }) (length-set xs l leg)
-    ∙ ap (λ legs. record { state = record { phase = phase; legs = legs }; room = length xs }) (changed_within (λ _. leg) xs l (get_or xs l leg) leg lt (read_again xs l leg) refl))
+    ∙ ap (λ legs. record { state = record { phase = phase; legs = legs }; room = length xs })
+    (changed_within (λ _. leg) xs l (get_or xs l leg) leg lt (read_again xs l leg) refl))
 leg_written phase false xs l leg s has lt is = cc
 
 -- without legs, or past them, nothing is written
-pub no_leg_written : (phase : JobPhase) (has_legs : Bool) (xs : List LegState) (l : ℕ) (leg : LegState) (s : JobCells) → (has_legs ≡ true → length xs ≤ l) → cells_of phase has_legs xs ≡ s → s ≡ in_state (record s.state { legs = changed_at l (λ _. leg) s.state.legs }) s
+pub no_leg_written : (phase : JobPhase) (has_legs : Bool) (xs : List LegState) (l : ℕ) (leg : LegState) (s : JobCells)
+    → (has_legs ≡ true → length xs ≤ l) → cells_of phase has_legs xs ≡ s
+    → s ≡ in_state (record s.state { legs = changed_at l (λ _. leg) s.state.legs }) s
 no_leg_written phase true xs l leg s past is =
     let P : JobCells → Type 0 = λ t. t ≡ in_state (record t.state { legs = changed_at l (λ _. leg) t.state.legs }) t in
-    subst P is (ap (λ legs. record { state = record { phase = phase; legs = legs }; room = length xs }) (changed_past (λ _. leg) xs l (past refl)))
+    subst P is (ap (λ legs. record { state = record { phase = phase; legs = legs }; room = length xs })
+    (changed_past (λ _. leg) xs l (past refl)))
 no_leg_written phase false xs l leg s past is =
     let P : JobCells → Type 0 = λ t. t ≡ in_state (record t.state { legs = changed_at l (λ _. leg) t.state.legs }) t in
     subst P is refl
@@ -65,12 +74,14 @@ no_leg_written phase false xs l leg s past is =
 -- ---- the jobs of a run
 
 -- a job that is written keeps its room
-pub rooms_kept : (xs : List JobCells) (j : ℕ) (x y : JobCells) → j < length xs → x ≡ get_or xs j x → y.room ≡ x.room → rooms (slice_set xs j y) ≡ rooms xs
+pub rooms_kept : (xs : List JobCells) (j : ℕ) (x y : JobCells) → j < length xs → x ≡ get_or xs j x → y.room ≡ x.room
+    → rooms (slice_set xs j y) ≡ rooms xs
 rooms_kept [] j x y lt is same = absurd (omega arith)
 rooms_kept (z ∷ xs) zero x y lt is same = ap (λ n. n ∷ rooms xs) (same ∙ ap (λ w. w.room) is)
 rooms_kept (z ∷ xs) (suc j) x y lt is same = ap (λ ns. z.room ∷ ns) (rooms_kept xs j x y (omega arith) is same)
 
-pub states_written : (f : JobState → JobState) (xs : List JobCells) (j : ℕ) (x y : JobCells) → j < length xs → x ≡ get_or xs j x → y.state ≡ f x.state → states (slice_set xs j y) ≡ changed_at j f (states xs)
+pub states_written : (f : JobState → JobState) (xs : List JobCells) (j : ℕ) (x y : JobCells) → j < length xs → x ≡ get_or xs j x
+    → y.state ≡ f x.state → states (slice_set xs j y) ≡ changed_at j f (states xs)
 states_written f [] j x y lt is so = absurd (omega arith)
 states_written f (z ∷ xs) zero x y lt is so = ap (λ s. s ∷ states xs) (so ∙ ap (λ w. f w.state) is)
 states_written f (z ∷ xs) (suc j) x y lt is so = ap (λ ss. z.state ∷ ss) (states_written f xs j x y (omega arith) is so)
@@ -91,13 +102,20 @@ planned_at (p ∷ plan) zero = refl
 planned_at (p ∷ plan) (suc j) = planned_at plan j
 
 -- a job has room for the legs of its plan
-pub room_is_planned : (xs : List JobCells) (plan : List PlannedJob) (j : ℕ) (x : JobCells) → j < length xs → x ≡ get_or xs j x → rooms xs ≡ legs_planned plan → x.room ≡ legs_in_plan plan j
+pub room_is_planned : (xs : List JobCells) (plan : List PlannedJob) (j : ℕ) (x : JobCells) → j < length xs → x ≡ get_or xs j x
+    → rooms xs ≡ legs_planned plan → x.room ≡ legs_in_plan plan j
 room_is_planned xs plan j x lt is same = room_at xs j x lt is ∙ ap (λ ns. get_or ns j 0) same ∙ sym (planned_at plan j)
 
 -- a run with other jobs
-pub run_with_jobs : (a : Admitted) (p : RunPhase) (t : Bool) (xs new : List JobCells) (s : RunState) (change : Admitted → List JobState → List JobState) → record { admitted = a; phase = p; stopping = t; jobs = states xs } ≡ s → states new ≡ change a (states xs) → ◌≡◌ {A = RunState} (record { admitted = a; phase = p; stopping = t; jobs = states new }) (record s { jobs = change s.admitted s.jobs })
+pub run_with_jobs : (a : Admitted) (p : RunPhase) (t : Bool) (xs new : List JobCells) (s : RunState)
+    (change : Admitted → List JobState → List JobState) → record { admitted = a; phase = p; stopping = t; jobs = states xs } ≡ s
+    → states new ≡ change a (states xs)
+    → ◌≡◌ {A = RunState} (record { admitted = a; phase = p; stopping = t; jobs = states new })
+    (record s { jobs = change s.admitted s.jobs })
 run_with_jobs a p t xs new s change is so =
-    let P : RunState → Type 0 = λ r. ◌≡◌ {A = RunState} (record { admitted = a; phase = p; stopping = t; jobs = states new }) (record r { jobs = change r.admitted r.jobs }) in
+    let P : RunState → Type 0 =
+    λ r. ◌≡◌ {A = RunState} (record { admitted = a; phase = p; stopping = t; jobs = states new })
+    (record r { jobs = change r.admitted r.jobs }) in
     subst P is (ap (λ jobs. record { admitted = a; phase = p; stopping = t; jobs = jobs }) so)
 
 -- the jobs of a plan, all blocked
@@ -110,7 +128,9 @@ blocked_states [] = refl
 blocked_states (p ∷ plan) = ap (λ js. blocked_job ∷ js) (blocked_states plan)
 
 -- a run with no job at the place
-pub run_without_job : (a : Admitted) (p : RunPhase) (t : Bool) (xs : List JobCells) (s : RunState) (j : ℕ) (f : Admitted → JobState → JobState) → record { admitted = a; phase = p; stopping = t; jobs = states xs } ≡ s → length xs ≤ j → s ≡ record s { jobs = changed_at j (f s.admitted) s.jobs }
+pub run_without_job : (a : Admitted) (p : RunPhase) (t : Bool) (xs : List JobCells) (s : RunState) (j : ℕ)
+    (f : Admitted → JobState → JobState) → record { admitted = a; phase = p; stopping = t; jobs = states xs } ≡ s → length xs ≤ j
+    → s ≡ record s { jobs = changed_at j (f s.admitted) s.jobs }
 run_without_job a p t xs s j f is past =
     let P : RunState → Type 0 = λ r. r ≡ record r { jobs = changed_at j (f r.admitted) r.jobs } in
     subst P is (ap (λ jobs. record { admitted = a; phase = p; stopping = t; jobs = jobs }) (states_past (f a) xs j past))
@@ -118,10 +138,13 @@ run_without_job a p t xs s j f is past =
 -- ---- the runs of a table
 
 -- the run opens its job with the legs that the table has planned for it
-pub opened_in_run : (items now : List RunState) (r j : ℕ) (x y : RunState) → items ≡ now → r < length items → x ≡ get_or items r x → y ≡ record x { jobs = changed_at j (opened (legs_in_plan (plan_of x.admitted.body) j)) x.jobs } → y ≡ record x { jobs = changed_at j (opened (planned_legs now r j)) x.jobs }
+pub opened_in_run : (items now : List RunState) (r j : ℕ) (x y : RunState) → items ≡ now → r < length items → x ≡ get_or items r x
+    → y ≡ record x { jobs = changed_at j (opened (legs_in_plan (plan_of x.admitted.body) j)) x.jobs }
+    → y ≡ record x { jobs = changed_at j (opened (planned_legs now r j)) x.jobs }
 opened_in_run items now r j x y same lt is so =
     let found : slice_get now r ≡ Some x = ap (λ xs. slice_get xs r) (sym same) ∙ slice_get-get_or items r x lt ∙ ap Some (sym is) in
-    let planned : planned_legs now r j ≡ legs_in_plan (plan_of x.admitted.body) j = ap (λ o. option_map_or (λ p. length p.legs) (option_and_then (λ run. slice_get (plan_of run.admitted.body) j) o) 0) found in
+    let planned : planned_legs now r j ≡ legs_in_plan (plan_of x.admitted.body) j =
+    ap (λ o. option_map_or (λ p. length p.legs) (option_and_then (λ run. slice_get (plan_of run.admitted.body) j) o) 0) found in
     so ∙ ap (λ n. record x { jobs = changed_at j (opened n) x.jobs }) (sym planned)
 
 -- ---- results
@@ -130,7 +153,8 @@ pub results_of_cells : (xs : List JobCells) → filter_map result_of xs ≡ resu
 results_of_cells [] = refl
 results_of_cells (x ∷ xs) = ap (cons_option (settled_result x.state.phase)) (results_of_cells xs)
 
-ends_from : (runs : List RunState) (r j : ℕ) (xs : List LegState) (n : ℕ) → filter_map (leg_end runs r j) (enumerate_from n xs) ≡ filter_map end_of xs
+ends_from : (runs : List RunState) (r j : ℕ) (xs : List LegState) (n : ℕ)
+    → filter_map (leg_end runs r j) (enumerate_from n xs) ≡ filter_map end_of xs
 ends_from runs r j [] n = refl
 ends_from runs r j (x ∷ xs) n = ap (cons_option (end_of x)) (ends_from runs r j xs (n + 1))
 

@@ -1,5 +1,6 @@
 -- What is found in a list: it is an element of it, and passes the test.
-use Rattle.std.specs.Prelude.{◌≡◌, ℕ, zero, suc, ◌+◌, ◌<◌, List, [], ◌∷◌, ◌++◌, map, flat_map, length, find, Bool, true, false, if◌then◌else◌, Some, None, slice_get, refl}
+use Rattle.std.specs.Prelude.{◌≡◌, ℕ, zero, suc, ◌+◌, ◌<◌, List, [], ◌∷◌, ◌++◌, map, flat_map, length, find, Bool, true, false}
+use Rattle.std.specs.Prelude.{if◌then◌else◌, Some, None, slice_get, refl}
 use Rattle.std.specs.List.{enumerate_from, position, position_or_len, AllByRecursion}
 use Rattle.std.proofs.Common.{arith, ap, subst, ◌∙◌, ltb, append_assoc, length-append}
 use Rattle.std.proofs.lemmas.Bool.{ltb-true, ltb-false}
@@ -12,7 +13,8 @@ pub record Found {X : Type 0} (P : X → Type 0) (test : X → Bool) (y : X) : T
   pub is_element : P y
   pub passes : test y ≡ true
 
-pub found : {X : Type 0} (P : X → Type 0) (test : X → Bool) (xs : List X) (y : X) → AllByRecursion P xs → find test xs ≡ Some y → Found P test y
+pub found : {X : Type 0} (P : X → Type 0) (test : X → Bool) (xs : List X) (y : X) → AllByRecursion P xs → find test xs ≡ Some y
+    → Found P test y
 found P test [] y all e = cc
 found P test (x ∷ xs) y all e =
     elim (test x) as (λ b. test x ≡ b → (if b then Some x else find test xs) ≡ Some y → Found P test y) [
@@ -38,7 +40,8 @@ pub all_map : {X Y : Type 0} (P : Y → Type 0) (f : X → Y) → ((x : X) → P
 all_map P f h [] = tt
 all_map P f h (x ∷ xs) = (h x, all_map P f h xs)
 
-pub all_flat_map : {X Y : Type 0} (P : Y → Type 0) (f : X → List Y) (xs : List X) → AllByRecursion (λ x. AllByRecursion P (f x)) xs → AllByRecursion P (flat_map f xs)
+pub all_flat_map : {X Y : Type 0} (P : Y → Type 0) (f : X → List Y) (xs : List X) → AllByRecursion (λ x. AllByRecursion P (f x)) xs
+    → AllByRecursion P (flat_map f xs)
 all_flat_map P f [] h = tt
 all_flat_map P f (x ∷ xs) h = all_append P (f x) (flat_map f xs) h.0 (all_flat_map P f xs h.1)
 
@@ -48,7 +51,8 @@ get_at_seam : {X : Type 0} (xs : List X) (y : X) (ys : List X) → slice_get (xs
 get_at_seam [] y ys = refl
 get_at_seam (x ∷ xs) y ys = get_at_seam xs y ys
 
-placed_after : {X : Type 0} (front xs : List X) → AllByRecursion (λ e. slice_get (front ++ xs) e.0 ≡ Some e.1) (enumerate_from (length front) xs)
+placed_after : {X : Type 0} (front xs : List X)
+    → AllByRecursion (λ e. slice_get (front ++ xs) e.0 ≡ Some e.1) (enumerate_from (length front) xs)
 placed_after front [] = tt
 placed_after front (x ∷ xs) =
     let tail = placed_after (front ++ x ∷ []) xs in
@@ -60,11 +64,13 @@ placed_get xs = placed_after [] xs
 
 -- ---- what holds of all elements holds of each
 
-pub each_of_append : {X : Type 0} (P : X → Type 0) (xs ys : List X) → AllByRecursion P (xs ++ ys) → AllByRecursion P xs × AllByRecursion P ys
+pub each_of_append : {X : Type 0} (P : X → Type 0) (xs ys : List X) → AllByRecursion P (xs ++ ys)
+    → AllByRecursion P xs × AllByRecursion P ys
 each_of_append P [] ys h = (tt, h)
 each_of_append P (x ∷ xs) ys h = let rest = each_of_append P xs ys h.1 in ((h.0, rest.0), rest.1)
 
-pub each_of_flat_map : {X Y : Type 0} (P : Y → Type 0) (f : X → List Y) (xs : List X) → AllByRecursion P (flat_map f xs) → AllByRecursion (λ x. AllByRecursion P (f x)) xs
+pub each_of_flat_map : {X Y : Type 0} (P : Y → Type 0) (f : X → List Y) (xs : List X) → AllByRecursion P (flat_map f xs)
+    → AllByRecursion (λ x. AllByRecursion P (f x)) xs
 each_of_flat_map P f [] h = tt
 each_of_flat_map P f (x ∷ xs) h = let both = each_of_append P (f x) (flat_map f xs) h in (both.0, each_of_flat_map P f xs both.1)
 
@@ -72,7 +78,8 @@ pub each_of_map : {X Y : Type 0} (P : Y → Type 0) (f : X → Y) (xs : List X) 
 each_of_map P f [] h = tt
 each_of_map P f (x ∷ xs) h = (h.0, each_of_map P f xs h.1)
 
-each_from : {X : Type 0} (P : ℕ × X → Type 0) (n : ℕ) (xs : List X) (k : ℕ) (x : X) → AllByRecursion P (enumerate_from n xs) → slice_get xs k ≡ Some x → P (n + k, x)
+each_from : {X : Type 0} (P : ℕ × X → Type 0) (n : ℕ) (xs : List X) (k : ℕ) (x : X) → AllByRecursion P (enumerate_from n xs)
+    → slice_get xs k ≡ Some x → P (n + k, x)
 each_from P n [] k x h e = cc
 each_from {X} P n (y ∷ ys) zero x h e =
     let same : y ≡ x = cc in
@@ -83,7 +90,8 @@ each_from P n (y ∷ ys) (suc k) x h e =
     subst (λ (m : ℕ). P (m, x)) at (each_from P (n + 1) ys k x h.1 e)
 
 -- an element with its place
-pub each_of_placed : {X : Type 0} (P : ℕ × X → Type 0) (xs : List X) (k : ℕ) (x : X) → AllByRecursion P (placed xs) → slice_get xs k ≡ Some x → P (k, x)
+pub each_of_placed : {X : Type 0} (P : ℕ × X → Type 0) (xs : List X) (k : ℕ) (x : X) → AllByRecursion P (placed xs)
+    → slice_get xs k ≡ Some x → P (k, x)
 each_of_placed P xs k x h e =
     let at : 0 + k ≡ k = omega arith in
     subst (λ (m : ℕ). P (m, x)) at (each_from P 0 xs k x h e)
@@ -93,7 +101,8 @@ each_of_placed P xs k x h e =
 pub none_found : {X : Type 0} (test : X → Bool) (xs : List X) → find test xs ≡ None → AllByRecursion (λ x. test x ≡ false) xs
 none_found test [] e = tt
 none_found test (x ∷ xs) e =
-    elim (test x) as (λ b. test x ≡ b → (if b then Some x else find test xs) ≡ None → (test x ≡ false) × AllByRecursion (λ y. test y ≡ false) xs) [
+    elim (test x) as
+    (λ b. test x ≡ b → (if b then Some x else find test xs) ≡ None → (test x ≡ false) × AllByRecursion (λ y. test y ≡ false) xs) [
       | true ↦ λ is e. cc
       | false ↦ λ is e. (is, none_found test xs e)
     ] refl e

@@ -50,12 +50,14 @@ live_fits run.Live stopping jobs e = tt
 live_fits run.Ended stopping jobs e = cc
 
 -- a run with an open job is live
-pub open_is_live : (phase : RunPhase) (stopping : Bool) (jobs : List JobState) (j : ℕ) (y : JobState) → PhaseFits phase stopping jobs → slice_get jobs j ≡ Some y → y.phase ≡ job.Open → phase ≡ run.Live
+pub open_is_live : (phase : RunPhase) (stopping : Bool) (jobs : List JobState) (j : ℕ) (y : JobState) → PhaseFits phase stopping jobs
+    → slice_get jobs j ≡ Some y → y.phase ≡ job.Open → phase ≡ run.Live
 open_is_live run.Waiting stopping jobs j y fits e is_open = let blocked : y.phase ≡ job.Blocked = fits.1 j y e in cc
 open_is_live run.Live stopping jobs j y fits e is_open = refl
 open_is_live run.Ended stopping jobs j y fits e is_open =
     let settled : is_settled y ≡ true = fits j y e in
-    let absurdly : is_settled (record y { phase = job.Open }) ≡ true = subst (λ (ph : JobPhase). is_settled (record y { phase = ph }) ≡ true) is_open settled in
+    let absurdly : is_settled (record y { phase = job.Open }) ≡ true =
+    subst (λ (ph : JobPhase). is_settled (record y { phase = ph }) ≡ true) is_open settled in
     cc
 
 pub record OpenWith (planned : ℕ) (phase : JobPhase) (legs : List LegState) : Type 0 where
@@ -66,7 +68,8 @@ no_leg : (legs : List LegState) (l : ℕ) (z : LegState) → legs ≡ [] → sli
 no_leg legs l z none e = let past : slice_get [] l ≡ Some z = subst (λ (xs : List LegState). slice_get xs l ≡ Some z) none e in cc
 
 -- a job with a leg that has not ended is open
-pub unended_is_open : (planned : ℕ) (result : JobResult) (phase : JobPhase) (legs : List LegState) (l : ℕ) (z : LegState) → LegsFit planned result phase legs → slice_get legs l ≡ Some z → has_ended z ≡ false → OpenWith planned phase legs
+pub unended_is_open : (planned : ℕ) (result : JobResult) (phase : JobPhase) (legs : List LegState) (l : ℕ) (z : LegState)
+    → LegsFit planned result phase legs → slice_get legs l ≡ Some z → has_ended z ≡ false → OpenWith planned phase legs
 unended_is_open planned result job.Blocked legs l z fits e un = absurd (no_leg legs l z fits e)
 unended_is_open planned result job.Open legs l z fits e un = record { open_is = refl; as_planned = fits }
 unended_is_open planned result (job.Settled r) legs l z fits e un =
@@ -77,8 +80,10 @@ unended_is_open planned result (job.Settled r) legs l z fits e un =
 
 -- ---- one job of a run
 
-module _ (runs : List RunState) (r : ℕ) (x : RunState) (fit : RunFits runs r x) (j : ℕ) (y : JobState) (f : JobState → JobState) (was : slice_get x.jobs j ≡ Some y) where
-  pub job_stays : PhaseFits x.phase x.stopping (changed_at j f x.jobs) → JobFits (planned_legs runs r j) (result_at runs r j (f y)) (f y) → StaysFit runs r x (record x { jobs = changed_at j f x.jobs })
+module _ (runs : List RunState) (r : ℕ) (x : RunState) (fit : RunFits runs r x) (j : ℕ) (y : JobState) (f : JobState → JobState)
+    (was : slice_get x.jobs j ≡ Some y) where
+  pub job_stays : PhaseFits x.phase x.stopping (changed_at j f x.jobs) → JobFits (planned_legs runs r j) (result_at runs r j (f y)) (f y)
+      → StaysFit runs r x (record x { jobs = changed_at j f x.jobs })
   job_stays phase fits = record {
     same_admitted = refl;
     fits = record {
@@ -89,7 +94,8 @@ module _ (runs : List RunState) (r : ℕ) (x : RunState) (fit : RunFits runs r x
   }
 
   pub job_keeps : PhaseFits x.phase x.stopping (changed_at j f x.jobs) → JobFits (planned_legs runs r j) (result_at runs r j (f y)) (f y)
-      → ((l : ℕ) → had_in_job (f y) l ≡ had_in_job y l) → ((l : ℕ) → works_in_job (f y) l ≡ works_in_job y l) → Keeps runs r x (record x { jobs = changed_at j f x.jobs })
+      → ((l : ℕ) → had_in_job (f y) l ≡ had_in_job y l) → ((l : ℕ) → works_in_job (f y) l ≡ works_in_job y l)
+      → Keeps runs r x (record x { jobs = changed_at j f x.jobs })
   job_keeps phase fits had works = record {
     stays = job_stays phase fits;
     same_had = (λ k l. reads_same j f x.jobs y (λ z. had_in_job z l) was (had l) k);
@@ -104,15 +110,19 @@ with_job_of j f x = record x { jobs = changed_at j f x.jobs }
 abbrev pub with_leg_of : ℕ → (LegState → LegState) → JobState → JobState
 with_leg_of l f y = record y { legs = changed_at l f y.legs }
 
-pub leg_fits : (planned : ℕ) (before result : JobResult) (y : JobState) (l : ℕ) (z : LegState) (f : LegState → LegState) → JobFits planned before y → slice_get y.legs l ≡ Some z → has_ended z ≡ false → LeaseFits (f z).phase (f z).lease → JobFits planned result (with_leg_of l f y)
+pub leg_fits : (planned : ℕ) (before result : JobResult) (y : JobState) (l : ℕ) (z : LegState) (f : LegState → LegState)
+    → JobFits planned before y → slice_get y.legs l ≡ Some z → has_ended z ≡ false → LeaseFits (f z).phase (f z).lease
+    → JobFits planned result (with_leg_of l f y)
 leg_fits planned before result y l z f fits was un lease =
     let open_with = unended_is_open planned before y.phase y.legs l z fits.legs_fit was un in
     record {
-      legs_fit = subst (λ (phase : JobPhase). LegsFit planned result phase (changed_at l f y.legs)) (sym open_with.open_is) (length-changed_at l f y.legs ∙ open_with.as_planned);
+      legs_fit = subst (λ (phase : JobPhase). LegsFit planned result phase (changed_at l f y.legs)) (sym open_with.open_is)
+          (length-changed_at l f y.legs ∙ open_with.as_planned);
       leases_fit = holds_of_each l f y.legs z (λ _ v. LeaseFits v.phase v.lease) was lease fits.leases_fit;
     }
 
-module _ (runs : List RunState) (fit : RunsFit runs) (p : LegPlace) (z : LegState) (f : LegState → LegState) (is_in : LegIn runs p z) (un : has_ended z ≡ false) (lease : LeaseFits (f z).phase (f z).lease) where
+module _ (runs : List RunState) (fit : RunsFit runs) (p : LegPlace) (z : LegState) (f : LegState → LegState) (is_in : LegIn runs p z)
+    (un : has_ended z ≡ false) (lease : LeaseFits (f z).phase (f z).lease) where
   run_fits : RunFits runs p.run is_in.place.run
   run_fits = fit p.run is_in.place.run is_in.place.run_is
 
@@ -124,39 +134,55 @@ module _ (runs : List RunState) (fit : RunsFit runs) (p : LegPlace) (z : LegStat
       let x = is_in.place.run in
       let y = is_in.job in
       open_is_live x.phase x.stopping x.jobs p.job y run_fits.phase_fits is_in.place.job_is
-      (unended_is_open (planned_legs runs p.run p.job) (result_at runs p.run p.job y) y.phase y.legs p.leg z this_job_fits.legs_fit is_in.leg_is un).open_is
+      (unended_is_open (planned_legs runs p.run p.job)
+      (result_at runs p.run p.job y) y.phase y.legs p.leg z this_job_fits.legs_fit is_in.leg_is un).open_is
 
   phase_still_fits : PhaseFits is_in.place.run.phase is_in.place.run.stopping (changed_at p.job (with_leg_of p.leg f) is_in.place.run.jobs)
-  phase_still_fits = live_fits is_in.place.run.phase is_in.place.run.stopping (changed_at p.job (with_leg_of p.leg f) is_in.place.run.jobs) run_is_live
+  phase_still_fits =
+      live_fits is_in.place.run.phase is_in.place.run.stopping (changed_at p.job (with_leg_of p.leg f) is_in.place.run.jobs) run_is_live
 
-  job_still_fits : JobFits (planned_legs runs p.run p.job) (result_at runs p.run p.job (with_leg_of p.leg f is_in.job)) (with_leg_of p.leg f is_in.job)
-  job_still_fits = leg_fits (planned_legs runs p.run p.job) (result_at runs p.run p.job is_in.job) (result_at runs p.run p.job (with_leg_of p.leg f is_in.job)) is_in.job p.leg z f this_job_fits is_in.leg_is un lease
+  job_still_fits : JobFits (planned_legs runs p.run p.job) (result_at runs p.run p.job (with_leg_of p.leg f is_in.job))
+      (with_leg_of p.leg f is_in.job)
+  job_still_fits =
+      leg_fits (planned_legs runs p.run p.job) (result_at runs p.run p.job is_in.job)
+      (result_at runs p.run p.job (with_leg_of p.leg f is_in.job)) is_in.job p.leg z f this_job_fits is_in.leg_is un lease
 
   -- a leg that has not ended changes
   pub leg_stays : StayFit runs (with_leg p f runs)
   leg_stays =
       one_stays runs fit p.run is_in.place.run (with_job_of p.job (with_leg_of p.leg f)) is_in.place.run_is
-      (job_stays runs p.run is_in.place.run run_fits p.job is_in.job (with_leg_of p.leg f) is_in.place.job_is phase_still_fits job_still_fits)
+      (job_stays runs p.run is_in.place.run run_fits p.job is_in.job
+      (with_leg_of p.leg f) is_in.place.job_is phase_still_fits job_still_fits)
 
   -- and keeps its lease
   pub leg_settles : (f z).lease ≡ z.lease → work_of (f z) ≡ work_of z → Settles runs (with_leg p f runs)
   leg_settles had works =
       one_settles runs fit p.run is_in.place.run (with_job_of p.job (with_leg_of p.leg f)) is_in.place.run_is
-      (job_keeps runs p.run is_in.place.run run_fits p.job is_in.job (with_leg_of p.leg f) is_in.place.job_is phase_still_fits job_still_fits
-      (reads_same p.leg f is_in.job.legs z (λ v. v.lease) is_in.leg_is had) (reads_same p.leg f is_in.job.legs z work_of is_in.leg_is works))
+      (job_keeps runs p.run is_in.place.run run_fits p.job is_in.job
+      (with_leg_of p.leg f) is_in.place.job_is phase_still_fits job_still_fits
+      (reads_same p.leg f is_in.job.legs z (λ v. v.lease) is_in.leg_is had)
+      (reads_same p.leg f is_in.job.legs z work_of is_in.leg_is works))
 
 -- ---- the legs after a change of one
 
 module _ (runs : List RunState) (p : LegPlace) (z : LegState) (f : LegState → LegState) (is_in : LegIn runs p z) where
   run_now : run_at (with_leg p f runs) p.run ≡ Some (with_job_of p.job (with_leg_of p.leg f) is_in.place.run)
-  run_now = at_changed p.run (with_job_of p.job (with_leg_of p.leg f)) runs ∙ ap (option_map (with_job_of p.job (with_leg_of p.leg f))) is_in.place.run_is
+  run_now = at_changed p.run (with_job_of p.job (with_leg_of p.leg f)) runs
+      ∙ ap (option_map (with_job_of p.job (with_leg_of p.leg f))) is_in.place.run_is
 
   -- the legs of the run are the legs of its jobs
-  legs_now : (j l : ℕ) → leg_at (with_leg p f runs) (record { run = p.run; job = j; leg = l }) ≡ option_and_then (λ (y : JobState). slice_get y.legs l) (slice_get (changed_at p.job (with_leg_of p.leg f) is_in.place.run.jobs) j)
-  legs_now j l = ap (option_and_then (λ (y : JobState). slice_get y.legs l)) (ap (option_and_then (λ (x : RunState). slice_get x.jobs j)) run_now)
+  legs_now : (j l : ℕ)
+      → leg_at (with_leg p f runs) (record { run = p.run; job = j; leg = l })
+      ≡ option_and_then (λ (y : JobState). slice_get y.legs l) (slice_get (changed_at p.job (with_leg_of p.leg f) is_in.place.run.jobs) j)
+  legs_now j l =
+      ap (option_and_then (λ (y : JobState). slice_get y.legs l)) (ap (option_and_then (λ (x : RunState). slice_get x.jobs j)) run_now)
 
-  legs_before : (j l : ℕ) → leg_at runs (record { run = p.run; job = j; leg = l }) ≡ option_and_then (λ (y : JobState). slice_get y.legs l) (slice_get is_in.place.run.jobs j)
-  legs_before j l = ap (option_and_then (λ (y : JobState). slice_get y.legs l)) (ap (option_and_then (λ (x : RunState). slice_get x.jobs j)) is_in.place.run_is)
+  legs_before : (j l : ℕ)
+      → leg_at runs (record { run = p.run; job = j; leg = l })
+      ≡ option_and_then (λ (y : JobState). slice_get y.legs l) (slice_get is_in.place.run.jobs j)
+  legs_before j l =
+      ap (option_and_then (λ (y : JobState). slice_get y.legs l))
+      (ap (option_and_then (λ (x : RunState). slice_get x.jobs j)) is_in.place.run_is)
 
   job_now : slice_get (changed_at p.job (with_leg_of p.leg f) is_in.place.run.jobs) p.job ≡ Some (with_leg_of p.leg f is_in.job)
   job_now = at_changed p.job (with_leg_of p.leg f) is_in.place.run.jobs ∙ ap (option_map (with_leg_of p.leg f)) is_in.place.job_is
@@ -171,24 +197,33 @@ module _ (runs : List RunState) (p : LegPlace) (z : LegState) (f : LegState → 
       ap (λ o. option_and_then (λ (y : JobState). slice_get y.legs q.leg) (option_and_then (λ (x : RunState). slice_get x.jobs q.job) o))
       (at_another p.run (with_job_of p.job (with_leg_of p.leg f)) runs q.run n)
 
-  in_another_job : (j l : ℕ) → (j ≡ p.job → ⊥) → leg_at (with_leg p f runs) (record { run = p.run; job = j; leg = l }) ≡ leg_at runs (record { run = p.run; job = j; leg = l })
+  in_another_job : (j l : ℕ) → (j ≡ p.job → ⊥)
+      → leg_at (with_leg p f runs) (record { run = p.run; job = j; leg = l }) ≡ leg_at runs (record { run = p.run; job = j; leg = l })
   in_another_job j l n =
-      legs_now j l ∙ ap (option_and_then (λ (y : JobState). slice_get y.legs l)) (at_another p.job (with_leg_of p.leg f) is_in.place.run.jobs j n) ∙ sym (legs_before j l)
+      legs_now j l ∙ ap (option_and_then (λ (y : JobState). slice_get y.legs l))
+      (at_another p.job (with_leg_of p.leg f) is_in.place.run.jobs j n) ∙ sym (legs_before j l)
 
-  another_leg : (l : ℕ) → (l ≡ p.leg → ⊥) → leg_at (with_leg p f runs) (record { run = p.run; job = p.job; leg = l }) ≡ leg_at runs (record { run = p.run; job = p.job; leg = l })
+  another_leg : (l : ℕ) → (l ≡ p.leg → ⊥)
+      → leg_at (with_leg p f runs) (record { run = p.run; job = p.job; leg = l })
+      ≡ leg_at runs (record { run = p.run; job = p.job; leg = l })
   another_leg l n =
       let legs = λ (o : Option JobState). option_and_then (λ (y : JobState). slice_get y.legs l) o in
-      legs_now p.job l ∙ ap legs job_now ∙ at_another p.leg f is_in.job.legs l n ∙ sym (ap legs is_in.place.job_is) ∙ sym (legs_before p.job l)
+      legs_now p.job l ∙ ap legs job_now ∙ at_another p.leg f is_in.job.legs l n ∙ sym (ap legs is_in.place.job_is)
+      ∙ sym (legs_before p.job l)
 
   pub leg_elsewhere : (q : LegPlace) → (q ≡ p → ⊥) → leg_at (with_leg p f runs) q ≡ leg_at runs q
   leg_elsewhere q n =
       elim (cases_eq q.run p.run) [
         | inr r ↦ in_another_run q r
         | inl r ↦ elim (cases_eq q.job p.job) [
-          | inr j ↦ subst (λ (k : ℕ). leg_at (with_leg p f runs) (record { run = k; job = q.job; leg = q.leg }) ≡ leg_at runs (record { run = k; job = q.job; leg = q.leg })) (sym r) (in_another_job q.job q.leg j)
+          | inr j ↦ subst
+              (λ (k : ℕ). leg_at (with_leg p f runs) (record { run = k; job = q.job; leg = q.leg })
+              ≡ leg_at runs (record { run = k; job = q.job; leg = q.leg })) (sym r) (in_another_job q.job q.leg j)
           | inl j ↦
               let l : q.leg ≡ p.leg → ⊥ = λ e. n (same_place q p r j e) in
-              subst (λ (k : ℕ). leg_at (with_leg p f runs) (record { run = k; job = q.job; leg = q.leg }) ≡ leg_at runs (record { run = k; job = q.job; leg = q.leg })) (sym r)
-              (subst (λ (k : ℕ). leg_at (with_leg p f runs) (record { run = p.run; job = k; leg = q.leg }) ≡ leg_at runs (record { run = p.run; job = k; leg = q.leg })) (sym j) (another_leg q.leg l))
+              subst (λ (k : ℕ). leg_at (with_leg p f runs) (record { run = k; job = q.job; leg = q.leg })
+              ≡ leg_at runs (record { run = k; job = q.job; leg = q.leg })) (sym r)
+              (subst (λ (k : ℕ). leg_at (with_leg p f runs) (record { run = p.run; job = k; leg = q.leg })
+              ≡ leg_at runs (record { run = p.run; job = k; leg = q.leg })) (sym j) (another_leg q.leg l))
         ]
       ]

@@ -11,7 +11,8 @@ use Rattle.run_table.specs.TableState.{TableState}
 use Rattle.run_table.proofs.Doors.{given}
 use Rattle.run_table.proofs.StepKeeps.{step_keeps}
 
-pub stays_sound : (old new : TableState) (c : Command) (r : Result Reply Refusal) → Gives (λ (reply : Reply). (new, reply)) r (Ok (step old c)) → OnErr r (new ≡ old) → IsSound old → IsSound new
+pub stays_sound : (old new : TableState) (c : Command) (r : Result Reply Refusal)
+    → Gives (λ (reply : Reply). (new, reply)) r (Ok (step old c)) → OnErr r (new ≡ old) → IsSound old → IsSound new
 stays_sound old new c (Ok reply) gave kept sound =
     let is = given (step old c) (new, reply) gave in
     subst (λ t. IsSound t) (ap (λ (p : TableState × Reply). p.0) is) (step_keeps old c sound)

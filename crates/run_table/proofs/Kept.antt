@@ -1,9 +1,11 @@
 -- What every table keeps within a step too: all that it keeps at rest, but that no rule applies.
-use Rattle.std.specs.Prelude.{◌≡◌, ℕ, ◌≤◌, List, length, Bool, true, Option, Some, None, option_map, option_and_then, slice_get, if◌then◌else◌, refl}
+use Rattle.std.specs.Prelude.{◌≡◌, ℕ, ◌≤◌, List, length, Bool, true, Option, Some, None, option_map, option_and_then, slice_get}
+use Rattle.std.specs.Prelude.{if◌then◌else◌, refl}
 use Rattle.std.proofs.Common.{ap, sym, ◌∙◌, subst}
 use Rattle.run_table.specs.Places.{LegPlace, run_at, leg_at}
 use Rattle.run_table.specs.Settling.{first_place, settled}
-use Rattle.run_table.specs.Sound.{DeliveriesDiffer, LeasesAreGiven, LeasesDiffer, NamesDiffer, is_at_work, IsHeld, IsAtWork, WorkIsHeld, HeldIsAtWork, HeldOnce, LastsAreOwn, KeptIsALegs, IsSound}
+use Rattle.run_table.specs.Sound.{DeliveriesDiffer, LeasesAreGiven, LeasesDiffer, NamesDiffer, is_at_work, IsHeld, IsAtWork, WorkIsHeld}
+use Rattle.run_table.specs.Sound.{HeldIsAtWork, HeldOnce, LastsAreOwn, KeptIsALegs, IsSound}
 use Rattle.run_table.specs.Step.{last_number}
 use Rattle.run_table.specs.TableState.{LegState, RunState, RunnerState, TableState}
 use Rattle.run_plan.specs.declared.last_command.LastCommand.{LastCommand}
@@ -38,10 +40,12 @@ pub record IsKept (t : TableState) : Type 0 where
 
 -- ---- the leases, by legs and by places
 
-some_lease : (runs : List RunState) (p : LegPlace) (x : LegState) (n : ℕ) → leg_at runs p ≡ Some x → x.lease ≡ Some n → had_at runs p ≡ Some n
+some_lease : (runs : List RunState) (p : LegPlace) (x : LegState) (n : ℕ) → leg_at runs p ≡ Some x → x.lease ≡ Some n
+    → had_at runs p ≡ Some n
 some_lease runs p x n at e = had_from_leg runs p x at ∙ e
 
-some_work : (runs : List RunState) (p : LegPlace) (x : LegState) (n : ℕ) → leg_at runs p ≡ Some x → is_at_work x.phase ≡ true → x.lease ≡ Some n → works_at runs p ≡ Some n
+some_work : (runs : List RunState) (p : LegPlace) (x : LegState) (n : ℕ) → leg_at runs p ≡ Some x → is_at_work x.phase ≡ true
+    → x.lease ≡ Some n → works_at runs p ≡ Some n
 some_work runs p x n at working e = works_from_leg runs p x at ∙ ap (λ (b : Bool). if b then x.lease else None) working ∙ e
 
 held_somewhere : (runners : List RunnerState) (n : ℕ) (k : ℕ) → holds_at runners k ≡ Some n → IsHeld runners n
@@ -55,7 +59,8 @@ work_somewhere runs n p e =
     let both = work_parts (is_at_work f.value.phase) f.value.lease n f.gives in
     (p, f.value, f.is, both.1, both.0)
 
-leases_agree : (last : ℕ) (runs : List RunState) (runners : List RunnerState) → LeasesAreGiven last runs → LeasesDiffer runs → WorkIsHeld runs runners → HeldIsAtWork runs runners → HeldOnce runners
+leases_agree : (last : ℕ) (runs : List RunState) (runners : List RunnerState) → LeasesAreGiven last runs → LeasesDiffer runs
+    → WorkIsHeld runs runners → HeldIsAtWork runs runners → HeldOnce runners
     → LeasesAgree last (had_at runs) (works_at runs) (holds_at runners)
 leases_agree last runs runners given differ work held once = record {
   given = (λ p n e. let f = leg_from_had runs p n e in given p f.value n f.is f.gives);
@@ -98,7 +103,8 @@ kept_is_a_legs runs (last.Claim claim (given.Lease lease)) h =
 kept_is_a_legs runs (last.Done report) h = tt
 
 -- what was had is had
-pub kept_still_had : (had had' : LegPlace → Option ℕ) → ((p : LegPlace) (n : ℕ) → had p ≡ Some n → had' p ≡ Some n) → (last : LastCommand) → KeptIsHad had last → KeptIsHad had' last
+pub kept_still_had : (had had' : LegPlace → Option ℕ) → ((p : LegPlace) (n : ℕ) → had p ≡ Some n → had' p ≡ Some n) → (last : LastCommand)
+    → KeptIsHad had last → KeptIsHad had' last
 kept_still_had had had' still (last.Claim claim given.Nothing) h = tt
 kept_still_had had had' still (last.Claim claim (given.Lease lease)) h = (h.0, h.1, still h.1 lease.lease h.2)
 kept_still_had had had' still (last.Done report) h = tt
@@ -129,9 +135,13 @@ sound_from_kept t s rests = record {
   leases_differ = (λ p q x y n at bt e f. s.agree.differ p q n (some_lease t.runs p x n at e) (some_lease t.runs q y n bt f));
   last_lease_in_range = s.last_lease_in_range;
   names_differ = s.names_differ;
-  work_is_held = (λ p x n at working e. let (k, h) = s.agree.work_is_held p n (some_work t.runs p x n at working e) in held_somewhere t.runners n k h);
-  held_is_at_work = (λ k x n at e. let (p, w) = s.agree.held_is_work k n (ap (option_and_then (λ (v : RunnerState). v.holds)) at ∙ e) in work_somewhere t.runs n p w);
-  held_once = (λ a b x y n at bt e f. s.agree.held_once a b n (ap (option_and_then (λ (v : RunnerState). v.holds)) at ∙ e) (ap (option_and_then (λ (v : RunnerState). v.holds)) bt ∙ f));
+  work_is_held =
+      (λ p x n at working e. let (k, h) = s.agree.work_is_held p n (some_work t.runs p x n at working e) in held_somewhere t.runners n k h);
+  held_is_at_work =
+      (λ k x n at e. let (p, w) =
+      s.agree.held_is_work k n (ap (option_and_then (λ (v : RunnerState). v.holds)) at ∙ e) in work_somewhere t.runs n p w);
+  held_once = (λ a b x y n at bt e f. s.agree.held_once a b n (ap (option_and_then (λ (v : RunnerState). v.holds)) at ∙ e)
+      (ap (option_and_then (λ (v : RunnerState). v.holds)) bt ∙ f));
   no_rule_applies = rests;
   lasts_are_own = s.lasts_are_own;
   kept_leases_are_legs = (λ k x e. kept_is_a_legs t.runs x.last (s.kept_are_had k x e));
@@ -139,7 +149,8 @@ sound_from_kept t s rests = record {
 
 -- ---- runs of the same events
 
-pub deliveries_still_differ : (runs next : List RunState) → ((r : ℕ) → admitted_at next r ≡ admitted_at runs r) → DeliveriesDiffer runs → DeliveriesDiffer next
+pub deliveries_still_differ : (runs next : List RunState) → ((r : ℕ) → admitted_at next r ≡ admitted_at runs r) → DeliveriesDiffer runs
+    → DeliveriesDiffer next
 deliveries_still_differ runs next same differ a b x y at bt e =
     let adm = λ (v : RunState). v.admitted in
     let f = from_map adm (run_at runs a) x.admitted (sym (same a) ∙ ap (option_map adm) at) in
@@ -157,10 +168,12 @@ rest_is_sound t s =
       few_runs = subst (λ (n : ℕ). n ≤ 100000) (sym settling.stay.same_length) s.few_runs;
       deliveries_differ = deliveries_still_differ t.runs next settling.stay.same_admitted s.deliveries_differ;
       fit = settling.stay.fit;
-      agree = leases_same t.last_lease (had_at t.runs) (works_at t.runs) (had_at next) (works_at next) (holds_at t.runners) (holds_at t.runners) settling.same_had settling.same_works (λ k. refl) s.agree;
+      agree = leases_same t.last_lease (had_at t.runs) (works_at t.runs) (had_at next) (works_at next) (holds_at t.runners)
+          (holds_at t.runners) settling.same_had settling.same_works (λ k. refl) s.agree;
       last_lease_in_range = s.last_lease_in_range;
       names_differ = s.names_differ;
       lasts_are_own = s.lasts_are_own;
-      kept_are_had = (λ k x e. kept_still_had (had_at t.runs) (had_at next) (λ p n h. settling.same_had p ∙ h) x.last (s.kept_are_had k x e));
+      kept_are_had =
+          (λ k x e. kept_still_had (had_at t.runs) (had_at next) (λ p n h. settling.same_had p ∙ h) x.last (s.kept_are_had k x e));
     })
     (settled_has_no_place t.runs)

@@ -39,9 +39,11 @@ pub record ChangesAt {P : Type 0} (before after : P → Option ℕ) (at : P) (ne
 
 -- ---- a lease is given
 
-module _ (last : ℕ) (had works had' works' : LegPlace → Option ℕ) (holds holds' : ℕ → Option ℕ) (at : LegPlace) (runner : ℕ) (agree : LeasesAgree last had works holds)
+module _ (last : ℕ) (had works had' works' : LegPlace → Option ℕ) (holds holds' : ℕ → Option ℕ) (at : LegPlace) (runner : ℕ)
+    (agree : LeasesAgree last had works holds)
     (free_leg : had at ≡ None) (free_runner : holds runner ≡ None)
-    (h : ChangesAt had had' at (Some (last + 1))) (w : ChangesAt works works' at (Some (last + 1))) (r : ChangesAt holds holds' runner (Some (last + 1))) where
+    (h : ChangesAt had had' at (Some (last + 1))) (w : ChangesAt works works' at (Some (last + 1)))
+    (r : ChangesAt holds holds' runner (Some (last + 1))) where
   new_not_had : (p : LegPlace) → had p ≡ Some (last + 1) → ⊥
   new_not_had p e = let g = (agree.given p (last + 1) e).1 in omega (arith, g)
 
@@ -110,12 +112,23 @@ module _ (last : ℕ) (had works had' works' : LegPlace → Option ℕ) (holds h
       ]
 
   pub lease_given : LeasesAgree (last + 1) had' works' holds'
-  lease_given = record { given = given'; differ = differ'; work_is_had = work_is_had'; work_is_held = work_is_held'; held_is_work = held_is_work'; held_once = held_once' }
+  lease_given =
+      record {
+        given = given';
+        differ = differ';
+        work_is_had = work_is_had';
+        work_is_held = work_is_held';
+        held_is_work =
+            held_is_work';
+        held_once = held_once';
+      }
 
 -- ---- the leg of a lease ends
 
-module _ (last : ℕ) (had works works' : LegPlace → Option ℕ) (holds holds' : ℕ → Option ℕ) (at : LegPlace) (runner lease : ℕ) (agree : LeasesAgree last had works holds)
-    (work_here : works at ≡ Some lease) (held_here : holds runner ≡ Some lease) (w : ChangesAt works works' at None) (r : ChangesAt holds holds' runner None) where
+module _ (last : ℕ) (had works works' : LegPlace → Option ℕ) (holds holds' : ℕ → Option ℕ) (at : LegPlace) (runner lease : ℕ)
+    (agree : LeasesAgree last had works holds)
+    (work_here : works at ≡ Some lease) (held_here : holds runner ≡ Some lease) (w : ChangesAt works works' at None)
+    (r : ChangesAt holds holds' runner None) where
   works_elsewhere : (p : LegPlace) (n : ℕ) → works' p ≡ Some n → (p ≡ at → ⊥) × (works p ≡ Some n)
   works_elsewhere p n e =
       elim (place_or_another p at) [
@@ -133,8 +146,13 @@ module _ (last : ℕ) (had works works' : LegPlace → Option ℕ) (holds holds'
   still_held : (p : LegPlace) (n : ℕ) → works' p ≡ Some n → (k : ℕ) × (holds' k ≡ Some n)
   still_held p n e =
       let before = works_elsewhere p n e in
-      let (k, f) = agree.work_is_held p n before.1 in
-      (k, r.elsewhere k (λ t. before.0 (agree.differ p at n (agree.work_is_had p n before.1) (agree.work_is_had at n (work_here ∙ sym held_here ∙ ap holds (sym t) ∙ f)))) ∙ f)
+      let (k, f) = agree.work_is_held p n before.1 in (
+        k,
+        r.elsewhere k
+            (λ t. before.0
+            (agree.differ p at n (agree.work_is_had p n before.1)
+            (agree.work_is_had at n (work_here ∙ sym held_here ∙ ap holds (sym t) ∙ f)))) ∙ f,
+      )
 
   still_at_work : (k : ℕ) (n : ℕ) → holds' k ≡ Some n → (p : LegPlace) × (works' p ≡ Some n)
   still_at_work k n e =

@@ -30,7 +30,8 @@ works_at runs p = option_and_then (λ run. works_in run p.job p.leg) (run_at run
 
 -- ---- from and to the leg at a place
 
-and_then_twice : {X Y Z : Type 0} (f : Y → Option Z) (g : X → Option Y) (o : Option X) → option_and_then f (option_and_then g o) ≡ option_and_then (λ x. option_and_then f (g x)) o
+and_then_twice : {X Y Z : Type 0} (f : Y → Option Z) (g : X → Option Y) (o : Option X)
+    → option_and_then f (option_and_then g o) ≡ option_and_then (λ x. option_and_then f (g x)) o
 and_then_twice f g None = refl
 and_then_twice f g (Some x) = refl
 
@@ -50,7 +51,8 @@ had_from_leg runs p x e = sym (had_is runs p) ∙ ap (option_and_then (λ (y : L
 pub works_from_leg : (runs : List RunState) (p : LegPlace) (x : LegState) → leg_at runs p ≡ Some x → works_at runs p ≡ work_of x
 works_from_leg runs p x e = sym (works_is runs p) ∙ ap (option_and_then work_of) e
 
-pub leg_from_had : (runs : List RunState) (p : LegPlace) (n : ℕ) → had_at runs p ≡ Some n → From (λ (y : LegState). y.lease) (leg_at runs p) n
+pub leg_from_had : (runs : List RunState) (p : LegPlace) (n : ℕ) → had_at runs p ≡ Some n
+    → From (λ (y : LegState). y.lease) (leg_at runs p) n
 leg_from_had runs p n e = from_and_then (λ (y : LegState). y.lease) (leg_at runs p) n (had_is runs p ∙ e)
 
 pub leg_from_works : (runs : List RunState) (p : LegPlace) (n : ℕ) → works_at runs p ≡ Some n → From work_of (leg_at runs p) n

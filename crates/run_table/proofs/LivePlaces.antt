@@ -23,14 +23,17 @@ is_live_live run.Waiting e = cc
 is_live_live run.Live e = refl
 is_live_live run.Ended e = cc
 
-of_a_job : (runs : List RunState) (r : ℕ) (x : RunState) → run_at runs r ≡ Some x → x.phase ≡ run.Live → (e : ℕ × JobState) → AllByRecursion (LivePlace runs) (job_places r e)
+of_a_job : (runs : List RunState) (r : ℕ) (x : RunState) → run_at runs r ≡ Some x → x.phase ≡ run.Live → (e : ℕ × JobState)
+    → AllByRecursion (LivePlace runs) (job_places r e)
 of_a_job runs r x was live e = (
   (x, was, live),
   all_append (LivePlace runs) (map (λ l. AtLeg (record { run = r; job = e.0; leg = l.0 })) (placed e.1.legs)) (Closing r e.0 ∷ [])
-      (all_map (LivePlace runs) (λ (l : ℕ × LegState). AtLeg (record { run = r; job = e.0; leg = l.0 })) (λ l. tt) (placed e.1.legs)) (tt, tt),
+      (all_map (LivePlace runs) (λ (l : ℕ × LegState). AtLeg (record { run = r; job = e.0; leg = l.0 })) (λ l. tt) (placed e.1.legs))
+      (tt, tt),
 )
 
-of_the_jobs : (runs : List RunState) (r : ℕ) (x : RunState) → run_at runs r ≡ Some x → (b : Bool) → is_live x.phase ≡ b → AllByRecursion (LivePlace runs) (if b then flat_map (job_places r) (placed x.jobs) else [])
+of_the_jobs : (runs : List RunState) (r : ℕ) (x : RunState) → run_at runs r ≡ Some x → (b : Bool) → is_live x.phase ≡ b
+    → AllByRecursion (LivePlace runs) (if b then flat_map (job_places r) (placed x.jobs) else [])
 of_the_jobs runs r x was true e =
     all_flat_map (LivePlace runs) (job_places r) (placed x.jobs)
     (all_of (λ j. AllByRecursion (LivePlace runs) (job_places r j)) (of_a_job runs r x was (is_live_live x.phase e)) (placed x.jobs))
@@ -44,7 +47,8 @@ of_a_run runs e was =
 all_live : (runs : List RunState) → AllByRecursion (LivePlace runs) (places runs)
 all_live runs =
     all_flat_map (LivePlace runs) run_places (placed runs)
-    (all_weaken (λ (e : ℕ × RunState). slice_get runs e.0 ≡ Some e.1) (λ e. AllByRecursion (LivePlace runs) (run_places e)) (of_a_run runs) (placed runs) (placed_get runs))
+    (all_weaken (λ (e : ℕ × RunState). slice_get runs e.0 ≡ Some e.1) (λ e. AllByRecursion (LivePlace runs) (run_places e)) (of_a_run runs)
+    (placed runs) (placed_get runs))
 
 pub first_place_is_live : (runs : List RunState) (place : Place) → first_place runs ≡ Some place → LivePlace runs place
 first_place_is_live runs place e = (found (LivePlace runs) (applies runs) (places runs) place (all_live runs) e).is_element

@@ -1,5 +1,6 @@
 -- A change of a leg that was read, and what the rules of a leg and of a job make of the runs.
-use Rattle.std.specs.Prelude.{◌≡◌, ℕ, zero, suc, List, [], ◌∷◌, filter_map, Bool, true, false, Option, Some, None, IfSome, find, is_some, option_map, option_and_then, slice_get, if◌then◌else◌, refl}
+use Rattle.std.specs.Prelude.{◌≡◌, ℕ, zero, suc, List, [], ◌∷◌, filter_map, Bool, true, false, Option, Some, None, IfSome, find, is_some}
+use Rattle.std.specs.Prelude.{option_map, option_and_then, slice_get, if◌then◌else◌, refl}
 use Rattle.std.proofs.Common.{ap, subst, sym, ◌∙◌}
 use Rattle.wf_value.specs.declared.outcome.JobResult.{JobResult}
 use Rattle.needs_graph.specs.Results.{gathered}
@@ -18,16 +19,20 @@ some_same : {X : Type 0} (x y : X) → Some x ≡ Some y → x ≡ y
 some_same x y h = cc
 
 -- two changes that do the same where they are made
-changed_same : {X : Type 0} (xs : List X) (i : ℕ) (f g : X → X) → ((x : X) → slice_get xs i ≡ Some x → f x ≡ g x) → changed_at i f xs ≡ changed_at i g xs
+changed_same : {X : Type 0} (xs : List X) (i : ℕ) (f g : X → X) → ((x : X) → slice_get xs i ≡ Some x → f x ≡ g x)
+    → changed_at i f xs ≡ changed_at i g xs
 changed_same [] i f g same = refl
 changed_same (x ∷ xs) zero f g same = ap (λ w. w ∷ xs) (same x refl)
 changed_same (x ∷ xs) (suc i) f g same = ap (λ ws. x ∷ ws) (changed_same xs i f g same)
 
-leg_there : (runs : List RunState) (p : LegPlace) (run : RunState) (job : JobState) (leg : LegState) → slice_get runs p.run ≡ Some run → slice_get run.jobs p.job ≡ Some job → slice_get job.legs p.leg ≡ Some leg → leg_at runs p ≡ Some leg
+leg_there : (runs : List RunState) (p : LegPlace) (run : RunState) (job : JobState) (leg : LegState) → slice_get runs p.run ≡ Some run
+    → slice_get run.jobs p.job ≡ Some job → slice_get job.legs p.leg ≡ Some leg → leg_at runs p ≡ Some leg
 leg_there runs p run job leg at_run at_job at_leg =
-    ap (λ o. option_and_then (λ x. slice_get x.legs p.leg) (option_and_then (λ x. slice_get x.jobs p.job) o)) at_run ∙ ap (option_and_then (λ x. slice_get x.legs p.leg)) at_job ∙ at_leg
+    ap (λ o. option_and_then (λ x. slice_get x.legs p.leg) (option_and_then (λ x. slice_get x.jobs p.job) o)) at_run
+    ∙ ap (option_and_then (λ x. slice_get x.legs p.leg)) at_job ∙ at_leg
 
-with_leg_same : (runs : List RunState) (p : LegPlace) (f g : LegState → LegState) → ((leg : LegState) → leg_at runs p ≡ Some leg → f leg ≡ g leg) → with_leg p f runs ≡ with_leg p g runs
+with_leg_same : (runs : List RunState) (p : LegPlace) (f g : LegState → LegState)
+    → ((leg : LegState) → leg_at runs p ≡ Some leg → f leg ≡ g leg) → with_leg p f runs ≡ with_leg p g runs
 with_leg_same runs p f g same =
     let in_job : (LegState → LegState) → JobState → JobState = λ h job. record job { legs = changed_at p.leg h job.legs } in
     let in_run : (LegState → LegState) → RunState → RunState = λ h run. record run { jobs = changed_at p.job (in_job h) run.jobs } in
@@ -38,7 +43,8 @@ with_leg_same runs p f g same =
     (changed_same job.legs p.leg f g (λ leg at_leg. same leg (leg_there runs p run job leg at_run at_job at_leg))))))
 
 -- the leg that was read, changed and put back
-pub with_leg_read : (runs : List RunState) (p : LegPlace) (x : LegState) (f : LegState → LegState) → leg_at runs p ≡ Some x → with_leg p (λ _. f x) runs ≡ with_leg p f runs
+pub with_leg_read : (runs : List RunState) (p : LegPlace) (x : LegState) (f : LegState → LegState) → leg_at runs p ≡ Some x
+    → with_leg p (λ _. f x) runs ≡ with_leg p f runs
 with_leg_read runs p x f at = with_leg_same runs p (λ _. f x) f (λ leg is. ap f (some_same x leg (sym at ∙ is)))
 
 nothing_there : (x y : LegState) → None ≡ Some x → y ≡ x
@@ -58,29 +64,38 @@ with_leg_none runs p f at =
     (λ run at_run. ap (λ js. record run { jobs = js })
     (sym (changed_none run.jobs p.job in_job
     (λ job at_job. ap (λ ls. record job { legs = ls })
-    (sym (changed_none job.legs p.leg f (λ leg at_leg. nothing_there leg (f leg) (sym at ∙ leg_there runs p run job leg at_run at_job at_leg))))))))
+    (sym (changed_none job.legs p.leg f
+    (λ leg at_leg. nothing_there leg (f leg) (sym at ∙ leg_there runs p run job leg at_run at_job at_leg))))))))
 
 -- ---- the rule of a leg
 
-moved_to : (runs new : List RunState) (p : LegPlace) (x y : LegState) (phase : Option LegPhase) → leg_at runs p ≡ Some x → option_map (λ next. leg_in_phase next x) phase ≡ Some y → new ≡ with_leg p (λ _. y) runs → IfSome (option_map (λ next. with_leg p (leg_in_phase next) runs) phase) (λ next. new ≡ next)
+moved_to : (runs new : List RunState) (p : LegPlace) (x y : LegState) (phase : Option LegPhase) → leg_at runs p ≡ Some x
+    → option_map (λ next. leg_in_phase next x) phase ≡ Some y → new ≡ with_leg p (λ _. y) runs
+    → IfSome (option_map (λ next. with_leg p (leg_in_phase next) runs) phase) (λ next. new ≡ next)
 moved_to runs new p x y None at is so = tt
 moved_to runs new p x y (Some next) at is so =
     so ∙ ap (λ z. with_leg p (λ _. z) runs) (sym (some_same (leg_in_phase next x) y is)) ∙ with_leg_read runs p x (leg_in_phase next) at
 
-moved : (runs new : List RunState) (p : LegPlace) (y : LegState) (o : Option LegState) → leg_at runs p ≡ o → option_and_then next_leg o ≡ Some y → new ≡ with_leg p (λ _. y) runs → IfSome (option_and_then (leg_rule runs p) o) (λ next. new ≡ next)
+moved : (runs new : List RunState) (p : LegPlace) (y : LegState) (o : Option LegState) → leg_at runs p ≡ o
+    → option_and_then next_leg o ≡ Some y → new ≡ with_leg p (λ _. y) runs
+    → IfSome (option_and_then (leg_rule runs p) o) (λ next. new ≡ next)
 moved runs new p y None at is so = tt
 moved runs new p y (Some x) at is so = moved_to runs new p x y (next_leg_phase x.phase) at is so
 
-pub leg_moved : (runs new : List RunState) (p : LegPlace) (y : LegState) → option_and_then next_leg (leg_at runs p) ≡ Some y → new ≡ with_leg p (λ _. y) runs → IfSome (option_and_then (leg_rule runs p) (leg_at runs p)) (λ next. new ≡ next)
+pub leg_moved : (runs new : List RunState) (p : LegPlace) (y : LegState) → option_and_then next_leg (leg_at runs p) ≡ Some y
+    → new ≡ with_leg p (λ _. y) runs → IfSome (option_and_then (leg_rule runs p) (leg_at runs p)) (λ next. new ≡ next)
 leg_moved runs new p y is so = moved runs new p y (leg_at runs p) refl is so
 
 -- ---- the rule where a job settles
 
-closes : (runs new : List RunState) (r j : ℕ) (x : JobState) (done : Bool) → new ≡ with_job r j (settled_as (result_at runs r j x)) runs → IfSome (if done then Some (with_job r j (settled_as (result_at runs r j x)) runs) else None) (λ next. new ≡ next)
+closes : (runs new : List RunState) (r j : ℕ) (x : JobState) (done : Bool) → new ≡ with_job r j (settled_as (result_at runs r j x)) runs
+    → IfSome (if done then Some (with_job r j (settled_as (result_at runs r j x)) runs) else None) (λ next. new ≡ next)
 closes runs new r j x true so = so
 closes runs new r j x false so = tt
 
-pub job_closed : (runs new : List RunState) (r j : ℕ) (x : JobState) → job_at runs r j ≡ Some x → new ≡ with_job r j (settled_as (gathered (filter_map end_of x.legs))) runs → IfSome (option_and_then (closing_rule runs r j) (job_at runs r j)) (λ next. new ≡ next)
+pub job_closed : (runs new : List RunState) (r j : ℕ) (x : JobState) → job_at runs r j ≡ Some x
+    → new ≡ with_job r j (settled_as (gathered (filter_map end_of x.legs))) runs
+    → IfSome (option_and_then (closing_rule runs r j) (job_at runs r j)) (λ next. new ≡ next)
 job_closed runs new r j x at so =
     subst (λ o. IfSome (option_and_then (closing_rule runs r j) o) (λ next. new ≡ next)) (sym at)
     (closes runs new r j x (is_done x) (so ∙ ap (λ ends. with_job r j (settled_as (gathered ends)) runs) (sym (ends_anywhere runs r j x))))
@@ -102,6 +117,7 @@ rule_taken : (new : List RunState) (o : Option (List RunState)) → is_some o �
 rule_taken new None some so = cc
 rule_taken new (Some next) some so = ap Some (sym so)
 
-pub first_rule_taken : (runs new : List RunState) (place : Place) → first_place runs ≡ Some place → IfSome (rule_at runs place) (λ next. new ≡ next) → first_rule runs ≡ Some new
+pub first_rule_taken : (runs new : List RunState) (place : Place) → first_place runs ≡ Some place
+    → IfSome (rule_at runs place) (λ next. new ≡ next) → first_rule runs ≡ Some new
 first_rule_taken runs new place is so =
     ap (option_and_then (rule_at runs)) is ∙ rule_taken new (rule_at runs place) (found_passes (applies runs) (places runs) place is) so

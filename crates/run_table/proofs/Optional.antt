@@ -1,5 +1,6 @@
 -- What an `Option` came from.
-use Rattle.std.specs.Prelude.{◌≡◌, ℕ, List, [], ◌∷◌, suc, zero, Bool, true, false, Option, Some, None, option_map, option_and_then, slice_get, if◌then◌else◌, refl}
+use Rattle.std.specs.Prelude.{◌≡◌, ℕ, List, [], ◌∷◌, suc, zero, Bool, true, false, Option, Some, None, option_map, option_and_then}
+use Rattle.std.specs.Prelude.{slice_get, if◌then◌else◌, refl}
 use Rattle.std.specs.List.{list_all}
 use Rattle.std.proofs.Common.{ap, sym, ◌∙◌}
 use Rattle.std.proofs.lemmas.Bool.{and_parts}
@@ -23,7 +24,8 @@ pub from_map : {X Y : Type 0} (f : X → Y) (o : Option X) (y : Y) → option_ma
 from_map f None y h = cc
 from_map f (Some x) y h = record { value = x; is = refl; gives = cc }
 
-pub and_then-option_map : {X Y Z : Type 0} (f : Y → Option Z) (g : X → Y) (o : Option X) → option_and_then f (option_map g o) ≡ option_and_then (λ x. f (g x)) o
+pub and_then-option_map : {X Y Z : Type 0} (f : Y → Option Z) (g : X → Y) (o : Option X)
+    → option_and_then f (option_map g o) ≡ option_and_then (λ x. f (g x)) o
 and_then-option_map f g None = refl
 and_then-option_map f g (Some x) = refl
 

@@ -1,5 +1,6 @@
 -- A report keeps what a table keeps: the leg of the lease ends, and its runner holds it no more.
-use Rattle.std.specs.Prelude.{◌≡◌, ℕ, ◌≤◌, List, nat_eq, Bool, true, false, is_some, Option, Some, None, option_and_then, if◌then◌else◌, refl}
+use Rattle.std.specs.Prelude.{◌≡◌, ℕ, ◌≤◌, List, nat_eq, Bool, true, false, is_some, Option, Some, None, option_and_then, if◌then◌else◌}
+use Rattle.std.specs.Prelude.{refl}
 use Rattle.std.specs.List.{AllByRecursion}
 use Rattle.std.specs.Option.{option_map_or}
 use Rattle.std.proofs.Common.{ap, sym, ◌∙◌, subst, inl, inr}
@@ -31,13 +32,16 @@ use Rattle.run_table.proofs.RunnerPut.{put, each_put, names_still_differ, holds_
 
 -- ---- the places of all legs
 
-each_leg_place : (P : LegPlace → Type 0) (runs : List RunState) (p : LegPlace) (z : LegState) → AllByRecursion P (leg_places runs) → leg_at runs p ≡ Some z → P p
+each_leg_place : (P : LegPlace → Type 0) (runs : List RunState) (p : LegPlace) (z : LegState) → AllByRecursion P (leg_places runs)
+    → leg_at runs p ≡ Some z → P p
 each_leg_place P runs p z all e =
     let at = leg_in runs p z e in
     let of_runs = each_of_flat_map P leg_places_of_run (placed runs) all in
-    let of_run = each_of_placed (λ (x : ℕ × RunState). AllByRecursion P (leg_places_of_run x)) runs p.run at.place.run of_runs at.place.run_is in
+    let of_run = each_of_placed
+    (λ (x : ℕ × RunState). AllByRecursion P (leg_places_of_run x)) runs p.run at.place.run of_runs at.place.run_is in
     let of_jobs = each_of_flat_map P (leg_places_of_job p.run) (placed at.place.run.jobs) of_run in
-    let of_job = each_of_placed (λ (y : ℕ × JobState). AllByRecursion P (leg_places_of_job p.run y)) at.place.run.jobs p.job at.job of_jobs at.place.job_is in
+    let of_job = each_of_placed
+    (λ (y : ℕ × JobState). AllByRecursion P (leg_places_of_job p.run y)) at.place.run.jobs p.job at.job of_jobs at.place.job_is in
     let of_legs = each_of_map P (λ (l : ℕ × LegState). record { run = p.run; job = p.job; leg = l.0 }) (placed at.job.legs) of_job in
     each_of_placed (λ (l : ℕ × LegState). P (record { run = p.run; job = p.job; leg = l.0 })) at.job.legs p.leg z of_legs at.leg_is
 
@@ -81,12 +85,14 @@ ended_fits outcome.Cancelled lease n e = tt
 
 -- ---- the leg at its place ends
 
-module _ (t : TableState) (report : Reported) (s : IsKept t) (held : holds_this report.lease (runner_named t.runners report.runner) ≡ true) where
+module _ (t : TableState) (report : Reported) (s : IsKept t)
+    (held : holds_this report.lease (runner_named t.runners report.runner) ≡ true) where
   runner_place : ℕ
   runner_place = (put t.runners (reporting_runner report)).place
 
   held_here : holds_at t.runners (put t.runners (reporting_runner report)).place ≡ Some report.lease
-  held_here = ap (option_and_then (λ (x : RunnerState). x.holds)) (put t.runners (reporting_runner report)).was ∙ holds_it report.lease (runner_named t.runners report.runner) held
+  held_here = ap (option_and_then (λ (x : RunnerState). x.holds)) (put t.runners (reporting_runner report)).was
+      ∙ holds_it report.lease (runner_named t.runners report.runner) held
 
   -- a leg with the lease is the one at work
   work_at : (p : LegPlace) → had_at t.runs p ≡ Some report.lease → works_at t.runs p ≡ Some report.lease
@@ -94,7 +100,12 @@ module _ (t : TableState) (report : Reported) (s : IsKept t) (held : holds_this 
       let (q, works) = s.agree.held_is_work (put t.runners (reporting_runner report)).place report.lease held_here in
       ap (works_at t.runs) (s.agree.differ p q report.lease had (s.agree.work_is_had q report.lease works)) ∙ works
 
-  ended_keeps : (p : LegPlace) → had_at t.runs p ≡ Some report.lease → IsKept (record t { runs = with_leg p (leg_in_phase (leg.Ended report.result)) t.runs; runners = with_runner t.runners (reporting_runner report) })
+  ended_keeps : (p : LegPlace) → had_at t.runs p ≡ Some report.lease
+      → IsKept (record t {
+        runs = with_leg p (leg_in_phase (leg.Ended report.result)) t.runs;
+        runners =
+            with_runner t.runners (reporting_runner report);
+      })
   ended_keeps p had =
       let f = leg_in_phase (leg.Ended report.result) in
       let new = reporting_runner report in
@@ -103,27 +114,34 @@ module _ (t : TableState) (report : Reported) (s : IsKept t) (held : holds_this 
       let z = from.value in
       let work_here = work_at p had in
       let working = (work_parts (is_at_work z.phase) z.lease report.lease (sym (works_from_leg t.runs p z from.is) ∙ work_here)).0 in
-      let stay = leg_stays t.runs s.fit p z f (leg_in t.runs p z from.is) (at_work_is_unended z.phase working) (ended_fits report.result z.lease report.lease from.gives) in
+      let stay = leg_stays t.runs s.fit p z f (leg_in t.runs p z from.is) (at_work_is_unended z.phase working)
+      (ended_fits report.result z.lease report.lease from.gives) in
       let changes = had_changes t.runs p z f from.is in
       let same = same_had p z from.is changes in
       record {
         few_runs = subst (λ (n : ℕ). n ≤ 100000) (sym stay.same_length) s.few_runs;
         deliveries_differ = deliveries_still_differ t.runs next stay.same_admitted s.deliveries_differ;
         fit = stay.fit;
-        agree = leases_same t.last_lease (had_at t.runs) (works_at next) (had_at next) (works_at next) (holds_at (with_runner t.runners new)) (holds_at (with_runner t.runners new)) same (λ q. refl) (λ k. refl)
-            (lease_ended t.last_lease (had_at t.runs) (works_at t.runs) (works_at next) (holds_at t.runners) (holds_at (with_runner t.runners new)) p (put t.runners new).place report.lease s.agree work_here held_here
+        agree = leases_same t.last_lease (had_at t.runs) (works_at next) (had_at next) (works_at next)
+            (holds_at (with_runner t.runners new)) (holds_at (with_runner t.runners new)) same (λ q. refl) (λ k. refl)
+            (lease_ended t.last_lease (had_at t.runs) (works_at t.runs) (works_at next) (holds_at t.runners)
+            (holds_at (with_runner t.runners new)) p (put t.runners new).place report.lease s.agree work_here held_here
             (works_changes t.runs p z f from.is) (holds_changes t.runners new));
         last_lease_in_range = s.last_lease_in_range;
         names_differ = names_still_differ t.runners new s.names_differ;
         lasts_are_own = each_put t.runners new (λ x. IsLastOf x.name x.number x.last) (refl, refl) s.lasts_are_own;
-        kept_are_had = each_put t.runners new (λ x. KeptIsHad (had_at next) x.last) tt (λ k x e. kept_still_had (had_at t.runs) (had_at next) (λ q n h. same q ∙ h) x.last (s.kept_are_had k x e));
+        kept_are_had =
+            each_put t.runners new (λ x. KeptIsHad (had_at next) x.last) tt
+            (λ k x e. kept_still_had (had_at t.runs) (had_at next) (λ q n h. same q ∙ h) x.last (s.kept_are_had k x e));
       }
     where
-      same_had : (p : LegPlace) (z : LegState) → leg_at t.runs p ≡ Some z → ChangesAt (had_at t.runs) (had_at (with_leg p (leg_in_phase (leg.Ended report.result)) t.runs)) p z.lease
+      same_had : (p : LegPlace) (z : LegState) → leg_at t.runs p ≡ Some z
+          → ChangesAt (had_at t.runs) (had_at (with_leg p (leg_in_phase (leg.Ended report.result)) t.runs)) p z.lease
           → (q : LegPlace) → had_at (with_leg p (leg_in_phase (leg.Ended report.result)) t.runs) q ≡ had_at t.runs q
       same_had p z is changes q =
           elim (place_or_another q p) [
-            | inl e ↦ ap (had_at (with_leg p (leg_in_phase (leg.Ended report.result)) t.runs)) e ∙ changes.here ∙ sym (had_from_leg t.runs p z is) ∙ ap (had_at t.runs) (sym e)
+            | inl e ↦ ap (had_at (with_leg p (leg_in_phase (leg.Ended report.result)) t.runs)) e ∙ changes.here
+                ∙ sym (had_from_leg t.runs p z is) ∙ ap (had_at t.runs) (sym e)
             | inr n ↦ changes.elsewhere q n
           ]
 
@@ -134,13 +152,19 @@ module _ (t : TableState) (report : Reported) (s : IsKept t) (held : holds_this 
       let from = leg_from_had t.runs p report.lease (s.agree.work_is_had p report.lease works) in
       let test = λ (q : LegPlace). option_map_or (has_lease report.lease) (leg_at t.runs q) false in
       let fails = each_leg_place (λ q. test q ≡ false) t.runs p from.value (none_found test (leg_places t.runs) none) from.is in
-      let passes : test p ≡ true = ap (λ o. option_map_or (has_lease report.lease) o false) from.is ∙ is_it report.lease from.value from.gives in
+      let passes : test p ≡ true =
+      ap (λ o. option_map_or (has_lease report.lease) o false) from.is ∙ is_it report.lease from.value from.gives in
       true≢false (sym passes ∙ fails)
 
-  in_turn : IsKept (record t { runs = with_ended report.lease report.result t.runs; runners = with_runner t.runners (reporting_runner report) })
+  in_turn : IsKept
+      (record t { runs = with_ended report.lease report.result t.runs; runners = with_runner t.runners (reporting_runner report) })
   in_turn =
       elim (place_of_lease t.runs report.lease) as (λ o. place_of_lease t.runs report.lease ≡ o
-      → IsKept (record t { runs = option_map_or (λ p. with_leg p (leg_in_phase (leg.Ended report.result)) t.runs) o t.runs; runners = with_runner t.runners (reporting_runner report) })) [
+      → IsKept (record t {
+        runs = option_map_or (λ p. with_leg p (leg_in_phase (leg.Ended report.result)) t.runs) o t.runs;
+        runners =
+            with_runner t.runners (reporting_runner report);
+      })) [
         | None ↦ λ is. absurd (lost_lease is)
         | Some p ↦ λ is.
             let test = λ (q : LegPlace). option_map_or (has_lease report.lease) (leg_at t.runs q) false in
@@ -148,8 +172,10 @@ module _ (t : TableState) (report : Reported) (s : IsKept t) (held : holds_this 
             ended_keeps p (sym (had_is t.runs p) ∙ has)
       ] refl
 
-pub report_keeps : (t : TableState) (report : Reported) → IsKept t → report_answer t report ≡ None → IsKept (record t { runs = with_ended report.lease report.result t.runs; runners = with_runner t.runners (reporting_runner report) })
+pub report_keeps : (t : TableState) (report : Reported) → IsKept t → report_answer t report ≡ None
+    → IsKept (record t { runs = with_ended report.lease report.result t.runs; runners = with_runner t.runners (reporting_runner report) })
 report_keeps t report s none =
     let runner = runner_named t.runners report.runner in
-    let looked = nothing_in_or (answer_of_turn runner report.number (is_last_report report)) (if holds_this report.lease runner then None else Some (refused LeaseNotHeld)) none in
+    let looked = nothing_in_or (answer_of_turn runner report.number (is_last_report report))
+    (if holds_this report.lease runner then None else Some (refused LeaseNotHeld)) none in
     in_turn t report s (not_held (holds_this report.lease runner) (refused LeaseNotHeld) looked.1)

@@ -25,7 +25,8 @@ pub settled_enough : (n m : ℕ) (runs : List RunState) → left runs ≤ n → 
 settled_enough zero m runs hn hm = sym (at_rest_already m runs (nothing_left runs hn))
 settled_enough (suc n) zero runs hn hm = at_rest_already (suc n) runs (nothing_left runs hm)
 settled_enough (suc n) (suc m) runs hn hm =
-    elim (first_rule runs) as (λ o. first_rule runs ≡ o → option_map_or (settled_within n) o runs ≡ option_map_or (settled_within m) o runs) [
+    elim (first_rule runs) as
+    (λ o. first_rule runs ≡ o → option_map_or (settled_within n) o runs ≡ option_map_or (settled_within m) o runs) [
       | None ↦ λ is. refl
       | Some next ↦ λ is.
           let lower = first_rule_lowers runs next is in
@@ -67,7 +68,8 @@ no_place runs h =
     elim (first_place runs) as (λ o. first_place runs ≡ o → o ≡ None) [
       | None ↦ λ is. refl
       | Some place ↦ λ is.
-          absurd (some_rule (applies runs place) (first_place_applies runs place is) (List RunState) (rule_at runs place) refl (sym (ap (option_and_then (rule_at runs)) is) ∙ h))
+          absurd (some_rule (applies runs place) (first_place_applies runs place is) (List RunState) (rule_at runs place) refl
+          (sym (ap (option_and_then (rule_at runs)) is) ∙ h))
     ] refl
 
 -- and at a place where no rule applies there is none

@@ -1,5 +1,6 @@
 -- The rule at each place keeps what the runs keep by themselves, and their leases.
-use Rattle.std.specs.Prelude.{◌≡◌, ℕ, zero, suc, List, [], ◌&&◌, length, replicate, Bool, true, false, Option, Some, None, option_and_then, slice_get, is_some, if◌then◌else◌, refl}
+use Rattle.std.specs.Prelude.{◌≡◌, ℕ, zero, suc, List, [], ◌&&◌, length, replicate, Bool, true, false, Option, Some, None, option_and_then}
+use Rattle.std.specs.Prelude.{slice_get, is_some, if◌then◌else◌, refl}
 use Rattle.std.specs.List.{list_all}
 use Rattle.std.proofs.Common.{ap, sym, ◌∙◌, subst, inl, inr}
 use Rattle.std.proofs.lemmas.Bool.{and_parts}
@@ -8,7 +9,9 @@ use Rattle.wf_value.specs.declared.outcome.JobResult.{JobResult}
 use Rattle.wf_value.specs.declared.outcome.JobResult.TheVariants as result
 use Rattle.run_table.specs.FirstOf.{changed_at}
 use Rattle.run_table.specs.Places.{LegPlace, run_at, job_at, leg_at, with_run, with_job, with_leg}
-use Rattle.run_table.specs.Rules.{rule_at, opening_rule, leg_rule, closing_rule, whole_rule, is_blocked, is_open, new_leg, opened, settled_as, may_run, decided, next_leg_phase, leg_in_phase, outcome_of, has_ended, result_at, is_settled, next_run_phase, run_in_phase}
+use Rattle.run_table.specs.Rules.{rule_at, opening_rule, leg_rule, closing_rule, whole_rule, is_blocked, is_open, new_leg, opened}
+use Rattle.run_table.specs.Rules.{settled_as, may_run, decided, next_leg_phase, leg_in_phase, outcome_of, has_ended, result_at, is_settled}
+use Rattle.run_table.specs.Rules.{next_run_phase, run_in_phase}
 use Rattle.run_table.specs.Sound.{PhaseFits, MayLackLegs, LegsFit, LeaseFits, is_at_work}
 use Rattle.run_table.specs.TableState.{LegState, JobState, RunState}
 use Rattle.run_table.specs.Words.{needs_have_settled, is_stopping, planned_legs}
@@ -34,20 +37,27 @@ record GoesOn (before after : LegPhase) (lease : Option ℕ) : Type 0 where
   fits : LeaseFits after lease
   works : is_at_work after ≡ is_at_work before
 
-goes_on : (before after : LegPhase) (lease : Option ℕ) → next_leg_phase before ≡ Some after → LeaseFits before lease → GoesOn before after lease
-goes_on leg.New after lease h fits = let e : leg.Waiting ≡ after = cc in record { unended = refl; fits = subst (λ (x : LegPhase). LeaseFits x lease) e fits; works = ap is_at_work (sym e) }
-goes_on leg.Waiting after lease h fits = let e : leg.Ready ≡ after = cc in record { unended = refl; fits = subst (λ (x : LegPhase). LeaseFits x lease) e fits; works = ap is_at_work (sym e) }
+goes_on : (before after : LegPhase) (lease : Option ℕ) → next_leg_phase before ≡ Some after → LeaseFits before lease
+    → GoesOn before after lease
+goes_on leg.New after lease h fits =
+    let e : leg.Waiting ≡ after =
+    cc in record { unended = refl; fits = subst (λ (x : LegPhase). LeaseFits x lease) e fits; works = ap is_at_work (sym e) }
+goes_on leg.Waiting after lease h fits =
+    let e : leg.Ready ≡ after =
+    cc in record { unended = refl; fits = subst (λ (x : LegPhase). LeaseFits x lease) e fits; works = ap is_at_work (sym e) }
 goes_on leg.Ready after lease h fits = cc
 goes_on leg.Running after lease h fits = cc
 goes_on leg.Stopping after lease h fits = cc
 goes_on (leg.Ended r) after lease h fits = cc
 
-leg_rule_settles : (runs next : List RunState) (p : LegPlace) (z : LegState) → RunsFit runs → leg_at runs p ≡ Some z → leg_rule runs p z ≡ Some next → Settles runs next
+leg_rule_settles : (runs next : List RunState) (p : LegPlace) (z : LegState) → RunsFit runs → leg_at runs p ≡ Some z
+    → leg_rule runs p z ≡ Some next → Settles runs next
 leg_rule_settles runs next p z fit was h =
     let made = from_map (λ (phase : LegPhase). with_leg p (leg_in_phase phase) runs) (next_leg_phase z.phase) next h in
     let on = goes_on z.phase made.value z.lease made.is (leases_fit runs fit p z was) in
     subst (Settles runs) made.gives
-    (leg_settles runs fit p z (leg_in_phase made.value) (leg_in runs p z was) on.unended on.fits refl (ap (λ (b : Bool). if b then z.lease else None) on.works))
+    (leg_settles runs fit p z (leg_in_phase made.value) (leg_in runs p z was) on.unended on.fits refl
+    (ap (λ (b : Bool). if b then z.lease else None) on.works))
 
 -- ---- a job opens
 
@@ -77,7 +87,8 @@ may_lack_legs : (stopping : Bool) → MayLackLegs (if stopping then result.Cance
 may_lack_legs true = tt
 may_lack_legs false = tt
 
-made_fits : (may : Bool) (planned : ℕ) (stopping : Bool) (y : JobState) (gathered : JobResult) → y.legs ≡ [] → JobFits planned gathered (made may planned stopping y)
+made_fits : (may : Bool) (planned : ℕ) (stopping : Bool) (y : JobState) (gathered : JobResult) → y.legs ≡ []
+    → JobFits planned gathered (made may planned stopping y)
 made_fits true planned stopping y gathered none = record {
   legs_fit = length-replicate planned new_leg;
   leases_fit = (λ l z e. subst (λ (v : LegState). LeaseFits v.phase v.lease) (each_of_replicate planned new_leg l z e) refl);
@@ -87,17 +98,20 @@ made_fits false planned stopping y gathered none = record {
   leases_fit = (λ l z e. let past : slice_get [] l ≡ Some z = subst (λ (xs : List LegState). slice_get xs l ≡ Some z) none e in cc);
 }
 
-made_reads : (f : LegState → Option ℕ) → f new_leg ≡ None → (may : Bool) (planned : ℕ) (stopping : Bool) (y : JobState) → y.legs ≡ [] → (l : ℕ)
+made_reads : (f : LegState → Option ℕ) → f new_leg ≡ None → (may : Bool) (planned : ℕ) (stopping : Bool) (y : JobState) → y.legs ≡ []
+    → (l : ℕ)
     → option_and_then f (slice_get (made may planned stopping y).legs l) ≡ option_and_then f (slice_get y.legs l)
 made_reads f new true planned stopping y none l = nothing_new f new planned l ∙ sym (nothing_there f y.legs l none)
 made_reads f new false planned stopping y none l = refl
 
-no_legs : (planned : ℕ) (gathered : JobResult) (phase : JobPhase) (legs : List LegState) → LegsFit planned gathered phase legs → phase ≡ job.Blocked → legs ≡ []
+no_legs : (planned : ℕ) (gathered : JobResult) (phase : JobPhase) (legs : List LegState) → LegsFit planned gathered phase legs
+    → phase ≡ job.Blocked → legs ≡ []
 no_legs planned gathered job.Blocked legs fits e = fits
 no_legs planned gathered job.Open legs fits e = cc
 no_legs planned gathered (job.Settled r) legs fits e = cc
 
-opening_rule_settles : (runs next : List RunState) (r j : ℕ) (y : JobState) → RunsFit runs → LivePlace runs (Opening r j) → job_at runs r j ≡ Some y → opening_rule runs r j y ≡ Some next → Settles runs next
+opening_rule_settles : (runs next : List RunState) (r j : ℕ) (y : JobState) → RunsFit runs → LivePlace runs (Opening r j)
+    → job_at runs r j ≡ Some y → opening_rule runs r j y ≡ Some next → Settles runs next
 opening_rule_settles runs next r j y fit live was h =
     let taken = if_some (is_blocked y.phase && needs_have_settled runs r j) (with_job r j (decided runs r j) runs) next h in
     let blocked = is_blocked_blocked y.phase (and_parts (is_blocked y.phase) (needs_have_settled runs r j) taken.0).0 in
@@ -109,7 +123,8 @@ opening_rule_settles runs next r j y fit live was h =
     let none = no_legs (planned_legs runs r j) (result_at runs r j y) y.phase y.legs (run_fits.jobs_fit j y at.job_is).legs_fit blocked in
     subst (Settles runs) taken.1
     (one_settles runs fit r x (λ (v : RunState). record v { jobs = changed_at j (decided runs r j) v.jobs }) at.run_is
-    (job_keeps runs r x run_fits j y (decided runs r j) at.job_is (live_fits x.phase x.stopping (changed_at j (decided runs r j) x.jobs) is_live)
+    (job_keeps runs r x run_fits j y (decided runs r j) at.job_is
+    (live_fits x.phase x.stopping (changed_at j (decided runs r j) x.jobs) is_live)
     (made_fits (may_run runs r j) (planned_legs runs r j) (is_stopping runs r) y (result_at runs r j (decided runs r j y)) none)
     (made_reads (λ (z : LegState). z.lease) refl (may_run runs r j) (planned_legs runs r j) (is_stopping runs r) y none)
     (made_reads work_of refl (may_run runs r j) (planned_legs runs r j) (is_stopping runs r) y none)))
@@ -121,12 +136,14 @@ is_open_open job.Blocked e = cc
 is_open_open job.Open e = refl
 is_open_open (job.Settled r) e = cc
 
-all_legs : (planned : ℕ) (gathered : JobResult) (phase : JobPhase) (legs : List LegState) → LegsFit planned gathered phase legs → phase ≡ job.Open → length legs ≡ planned
+all_legs : (planned : ℕ) (gathered : JobResult) (phase : JobPhase) (legs : List LegState) → LegsFit planned gathered phase legs
+    → phase ≡ job.Open → length legs ≡ planned
 all_legs planned gathered job.Blocked legs fits e = cc
 all_legs planned gathered job.Open legs fits e = fits
 all_legs planned gathered (job.Settled r) legs fits e = cc
 
-closing_rule_settles : (runs next : List RunState) (r j : ℕ) (y : JobState) → RunsFit runs → job_at runs r j ≡ Some y → closing_rule runs r j y ≡ Some next → Settles runs next
+closing_rule_settles : (runs next : List RunState) (r j : ℕ) (y : JobState) → RunsFit runs → job_at runs r j ≡ Some y
+    → closing_rule runs r j y ≡ Some next → Settles runs next
 closing_rule_settles runs next r j y fit was h =
     let close = settled_as (result_at runs r j y) in
     let taken = if_some (is_open y.phase && list_all has_ended y.legs) (with_job r j close runs) next h in
@@ -145,17 +162,21 @@ closing_rule_settles runs next r j y fit was h =
 
 -- ---- a run goes on
 
-next_phase_fits : (before after : RunPhase) (all_settled : Bool) (stopping : Bool) (jobs : List JobState) → next_run_phase before all_settled ≡ Some after → list_all is_settled jobs ≡ all_settled → PhaseFits after stopping jobs
-next_phase_fits run.Waiting after all_settled stopping jobs h e = let is : run.Live ≡ after = cc in subst (λ (phase : RunPhase). PhaseFits phase stopping jobs) is tt
+next_phase_fits : (before after : RunPhase) (all_settled : Bool) (stopping : Bool) (jobs : List JobState)
+    → next_run_phase before all_settled ≡ Some after → list_all is_settled jobs ≡ all_settled → PhaseFits after stopping jobs
+next_phase_fits run.Waiting after all_settled stopping jobs h e =
+    let is : run.Live ≡ after = cc in subst (λ (phase : RunPhase). PhaseFits phase stopping jobs) is tt
 next_phase_fits run.Live after true stopping jobs h e =
     let is : run.Ended ≡ after = cc in
     subst (λ (phase : RunPhase). PhaseFits phase stopping jobs) is (λ j y was. each_passes is_settled jobs j y e was)
 next_phase_fits run.Live after false stopping jobs h e = cc
 next_phase_fits run.Ended after all_settled stopping jobs h e = cc
 
-whole_rule_settles : (runs next : List RunState) (r : ℕ) (x : RunState) → RunsFit runs → run_at runs r ≡ Some x → whole_rule runs r x ≡ Some next → Settles runs next
+whole_rule_settles : (runs next : List RunState) (r : ℕ) (x : RunState) → RunsFit runs → run_at runs r ≡ Some x
+    → whole_rule runs r x ≡ Some next → Settles runs next
 whole_rule_settles runs next r x fit was h =
-    let made = from_map (λ (phase : RunPhase). with_run r (run_in_phase phase) runs) (next_run_phase x.phase (list_all is_settled x.jobs)) next h in
+    let made = from_map (λ (phase : RunPhase). with_run r (run_in_phase phase) runs)
+    (next_run_phase x.phase (list_all is_settled x.jobs)) next h in
     let fits = fit r x was in
     subst (Settles runs) made.gives
     (one_settles runs fit r x (run_in_phase made.value) was
@@ -174,7 +195,8 @@ whole_rule_settles runs next r x fit was h =
 
 -- ---- at each place
 
-pub rule_settles : (runs next : List RunState) (place : Place) → RunsFit runs → LivePlace runs place → rule_at runs place ≡ Some next → Settles runs next
+pub rule_settles : (runs next : List RunState) (place : Place) → RunsFit runs → LivePlace runs place → rule_at runs place ≡ Some next
+    → Settles runs next
 rule_settles runs next (Opening r j) fit live h =
     let made = from_and_then (opening_rule runs r j) (job_at runs r j) next h in
     opening_rule_settles runs next r j made.value fit live made.is made.gives

@@ -30,7 +30,8 @@ RunsFit runs = (r : ℕ) (x : RunState) → run_at runs r ≡ Some x → RunFits
 pub job_in_run : (runs : List RunState) (r j : ℕ) (x : RunState) → run_at runs r ≡ Some x → job_at runs r j ≡ slice_get x.jobs j
 job_in_run runs r j x e = ap (option_and_then (λ (run : RunState). slice_get run.jobs j)) e
 
-pub leg_in_job : (runs : List RunState) (p : LegPlace) (y : JobState) → job_at runs p.run p.job ≡ Some y → leg_at runs p ≡ slice_get y.legs p.leg
+pub leg_in_job : (runs : List RunState) (p : LegPlace) (y : JobState) → job_at runs p.run p.job ≡ Some y
+    → leg_at runs p ≡ slice_get y.legs p.leg
 leg_in_job runs p y e = ap (option_and_then (λ (job : JobState). slice_get job.legs p.leg)) e
 
 pub runs_fit : (runs : List RunState) → JobsAreThePlans runs → RunPhasesFit runs → JobsFit runs → LeasesFit runs → RunsFit runs
@@ -41,7 +42,8 @@ runs_fit runs jobs phases fits leases r x e = record {
       let at = job_in_run runs r j x e ∙ f in
       record {
         legs_fit = fits r j y at;
-        leases_fit = (λ l z g. leases (record { run = r; job = j; leg = l }) z (leg_in_job runs (record { run = r; job = j; leg = l }) y at ∙ g));
+        leases_fit = (λ l z g. leases (record { run = r; job = j; leg = l }) z
+            (leg_in_job runs (record { run = r; job = j; leg = l }) y at ∙ g));
       });
 }
 
@@ -51,7 +53,8 @@ jobs_are_the_plans runs fit r x e = (fit r x e).has_its_jobs
 pub run_phases_fit : (runs : List RunState) → RunsFit runs → RunPhasesFit runs
 run_phases_fit runs fit r x e = (fit r x e).phase_fits
 
-job_fits : (runs : List RunState) → RunsFit runs → (r j : ℕ) (y : JobState) → job_at runs r j ≡ Some y → JobFits (planned_legs runs r j) (result_at runs r j y) y
+job_fits : (runs : List RunState) → RunsFit runs → (r j : ℕ) (y : JobState) → job_at runs r j ≡ Some y
+    → JobFits (planned_legs runs r j) (result_at runs r j y) y
 job_fits runs fit r j y e =
     let f = from_and_then (λ (run : RunState). slice_get run.jobs j) (run_at runs r) y e in
     (fit r f.value f.is).jobs_fit j y f.gives
@@ -69,10 +72,13 @@ leases_fit runs fit p z e =
 abbrev pub admitted_at : List RunState → ℕ → Option Admitted
 admitted_at runs r = option_map (λ run. run.admitted) (run_at runs r)
 
-plan_by_admitted : (runs : List RunState) (r j : ℕ) → option_and_then (λ (a : Admitted). slice_get (plan_of a.body) j) (admitted_at runs r) ≡ plan_at runs r j
-plan_by_admitted runs r j = and_then-option_map (λ (a : Admitted). slice_get (plan_of a.body) j) (λ (run : RunState). run.admitted) (run_at runs r)
+plan_by_admitted : (runs : List RunState) (r j : ℕ)
+    → option_and_then (λ (a : Admitted). slice_get (plan_of a.body) j) (admitted_at runs r) ≡ plan_at runs r j
+plan_by_admitted runs r j =
+    and_then-option_map (λ (a : Admitted). slice_get (plan_of a.body) j) (λ (run : RunState). run.admitted) (run_at runs r)
 
-pub planned_legs_same : (runs next : List RunState) (r j : ℕ) → admitted_at next r ≡ admitted_at runs r → planned_legs next r j ≡ planned_legs runs r j
+pub planned_legs_same : (runs next : List RunState) (r j : ℕ) → admitted_at next r ≡ admitted_at runs r
+    → planned_legs next r j ≡ planned_legs runs r j
 planned_legs_same runs next r j e =
     ap (λ o. option_map_or (λ (planned : PlannedJob). length planned.legs) o 0)
     (sym (plan_by_admitted next r j) ∙ ap (option_and_then (λ (a : Admitted). slice_get (plan_of a.body) j)) e ∙ plan_by_admitted runs r j)

@@ -1,5 +1,6 @@
 -- The runners after one is put among them.
-use Rattle.std.specs.Prelude.{◌≡◌, ℕ, zero, suc, ◌<◌, List, [], ◌∷◌, ◌++◌, length, true, false, Option, Some, None, option_and_then, slice_get, slice_set, refl}
+use Rattle.std.specs.Prelude.{◌≡◌, ℕ, zero, suc, ◌<◌, List, [], ◌∷◌, ◌++◌, length, true, false, Option, Some, None, option_and_then}
+use Rattle.std.specs.Prelude.{slice_get, slice_set, refl}
 use Rattle.std.specs.List.{position}
 use Rattle.std.specs.Option.{option_map_or}
 use Rattle.std.proofs.Common.{arith, ap, sym, ◌∙◌, subst, inl, inr}
@@ -56,16 +57,19 @@ put runners new =
 
 module _ (runners : List RunnerState) (new : RunnerState) where
   -- each runner is the new one or was there
-  pub each_put : (P : RunnerState → Type 0) → P new → ((k : ℕ) (x : RunnerState) → slice_get runners k ≡ Some x → P x) → (k : ℕ) (x : RunnerState) → slice_get (with_runner runners new) k ≡ Some x → P x
+  pub each_put : (P : RunnerState → Type 0) → P new → ((k : ℕ) (x : RunnerState) → slice_get runners k ≡ Some x → P x)
+      → (k : ℕ) (x : RunnerState) → slice_get (with_runner runners new) k ≡ Some x → P x
   each_put P now each k x e =
       let p = put runners new in
       elim (cases_eq k p.place) [
-        | inl s ↦ let same : new ≡ x = let two : Some new ≡ Some x = sym p.here ∙ ap (slice_get (with_runner runners new)) (sym s) ∙ e in cc in subst P same now
+        | inl s ↦ let same : new ≡ x =
+            let two : Some new ≡ Some x = sym p.here ∙ ap (slice_get (with_runner runners new)) (sym s) ∙ e in cc in subst P same now
         | inr n ↦ each k x (sym (p.elsewhere k n) ∙ e)
       ]
 
   -- a runner of its name stands at its place
-  only_here : NamesDiffer runners → (k : ℕ) (x : RunnerState) → slice_get runners k ≡ Some x → x.name ≡ new.name → k ≡ (put runners new).place
+  only_here : NamesDiffer runners → (k : ℕ) (x : RunnerState) → slice_get runners k ≡ Some x → x.name ≡ new.name
+      → k ≡ (put runners new).place
   only_here differ k x e same =
       let p = put runners new in
       let is_named_so : is_named new.name x ≡ true = (bytes_eq-Decides x.name new.name).1 same in
@@ -82,14 +86,17 @@ module _ (runners : List RunnerState) (new : RunnerState) where
   pub names_still_differ : NamesDiffer runners → NamesDiffer (with_runner runners new)
   names_still_differ differ a b x y ea eb same =
       let p = put runners new in
-      let is_new = λ (k : ℕ) (z : RunnerState) (s : k ≡ p.place) (e : slice_get (with_runner runners new) k ≡ Some z). some_same z (sym p.here ∙ ap (slice_get (with_runner runners new)) (sym s) ∙ e) in
+      let is_new = λ (k : ℕ) (z : RunnerState) (s : k ≡ p.place) (e : slice_get (with_runner runners new) k ≡ Some z). some_same z
+      (sym p.here ∙ ap (slice_get (with_runner runners new)) (sym s) ∙ e) in
       elim (cases_eq a p.place) [
         | inl s ↦ elim (cases_eq b p.place) [
           | inl t ↦ s ∙ sym t
-          | inr n ↦ absurd (n (only_here differ b y (sym (p.elsewhere b n) ∙ eb) (sym same ∙ sym (ap (λ (z : RunnerState). z.name) (is_new a x s ea)))))
+          | inr n ↦ absurd
+              (n (only_here differ b y (sym (p.elsewhere b n) ∙ eb) (sym same ∙ sym (ap (λ (z : RunnerState). z.name) (is_new a x s ea)))))
         ]
         | inr n ↦ elim (cases_eq b p.place) [
-          | inl t ↦ absurd (n (only_here differ a x (sym (p.elsewhere a n) ∙ ea) (same ∙ sym (ap (λ (z : RunnerState). z.name) (is_new b y t eb)))))
+          | inl t ↦ absurd
+              (n (only_here differ a x (sym (p.elsewhere a n) ∙ ea) (same ∙ sym (ap (λ (z : RunnerState). z.name) (is_new b y t eb)))))
           | inr m ↦ differ a b x y (sym (p.elsewhere a n) ∙ ea) (sym (p.elsewhere b m) ∙ eb) same
         ]
       ]
@@ -102,7 +109,8 @@ module _ (runners : List RunnerState) (new : RunnerState) where
 abbrev pub holds_at : List RunnerState → ℕ → Option ℕ
 holds_at runners k = option_and_then (λ x. x.holds) (slice_get runners k)
 
-pub holds_changes : (runners : List RunnerState) (new : RunnerState) → ChangesAt (holds_at runners) (holds_at (with_runner runners new)) (put runners new).place new.holds
+pub holds_changes : (runners : List RunnerState) (new : RunnerState)
+    → ChangesAt (holds_at runners) (holds_at (with_runner runners new)) (put runners new).place new.holds
 holds_changes runners new =
     let p = put runners new in
     record {

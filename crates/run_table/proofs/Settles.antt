@@ -35,10 +35,17 @@ pub record Settles (runs next : List RunState) : Type 0 where
   pub same_works : (p : LegPlace) → works_at next p ≡ works_at runs p
 
 pub settles_nothing : (runs : List RunState) → RunsFit runs → Settles runs runs
-settles_nothing runs fit = record { stay = record { same_length = refl; same_admitted = (λ r. refl); fit = fit }; same_had = (λ p. refl); same_works = (λ p. refl) }
+settles_nothing runs fit =
+    record {
+      stay = record { same_length = refl; same_admitted = (λ r. refl); fit = fit };
+      same_had = (λ p. refl);
+      same_works =
+          (λ p. refl);
+    }
 
 pub stay_on : (a b c : List RunState) → StayFit a b → StayFit b c → StayFit a c
-stay_on a b c f g = record { same_length = g.same_length ∙ f.same_length; same_admitted = (λ r. g.same_admitted r ∙ f.same_admitted r); fit = g.fit }
+stay_on a b c f g =
+    record { same_length = g.same_length ∙ f.same_length; same_admitted = (λ r. g.same_admitted r ∙ f.same_admitted r); fit = g.fit }
 
 pub settles_on : (a b c : List RunState) → Settles a b → Settles b c → Settles a c
 settles_on a b c f g = record {
@@ -48,7 +55,8 @@ settles_on a b c f g = record {
 }
 
 -- what fits beside runs fits beside others of the same events
-pub fits_beside : (runs next : List RunState) (r : ℕ) (x : RunState) → admitted_at next r ≡ admitted_at runs r → RunFits runs r x → RunFits next r x
+pub fits_beside : (runs next : List RunState) (r : ℕ) (x : RunState) → admitted_at next r ≡ admitted_at runs r → RunFits runs r x
+    → RunFits next r x
 fits_beside runs next r x same fits = record {
   has_its_jobs = fits.has_its_jobs;
   phase_fits = fits.phase_fits;
@@ -57,14 +65,17 @@ fits_beside runs next r x same fits = record {
       (subst (λ (o : JobResult). JobFits (planned_legs runs r j) o y) (sym (result_same runs next r j y)) (fits.jobs_fit j y e)));
 }
 
-admitted_again : (o : Option RunState) → option_and_then (λ (run : RunState). Some run.admitted) o ≡ option_map (λ (run : RunState). run.admitted) o
+admitted_again : (o : Option RunState)
+    → option_and_then (λ (run : RunState). Some run.admitted) o ≡ option_map (λ (run : RunState). run.admitted) o
 admitted_again None = refl
 admitted_again (Some y) = refl
 
 module _ (runs : List RunState) (fit : RunsFit runs) (r : ℕ) (x : RunState) (g : RunState → RunState) (was : run_at runs r ≡ Some x) where
   admitted_same : StaysFit runs r x (g x) → (s : ℕ) → admitted_at (changed_at r g runs) s ≡ admitted_at runs s
   admitted_same stays s =
-      sym (admitted_again (run_at (changed_at r g runs) s)) ∙ reads_same r g runs x (λ (run : RunState). Some run.admitted) was (ap Some stays.same_admitted) s ∙ admitted_again (run_at runs s)
+      sym (admitted_again (run_at (changed_at r g runs) s))
+      ∙ reads_same r g runs x (λ (run : RunState). Some run.admitted) was (ap Some stays.same_admitted) s
+      ∙ admitted_again (run_at runs s)
 
   pub one_stays : StaysFit runs r x (g x) → StayFit runs (changed_at r g runs)
   one_stays stays =
@@ -73,7 +84,8 @@ module _ (runs : List RunState) (fit : RunsFit runs) (r : ℕ) (x : RunState) (g
       record {
         same_length = length-changed_at r g runs;
         same_admitted = same;
-        fit = holds_of_each r g runs x (RunFits next) was (fits_beside runs next r (g x) (same r) stays.fits) (λ s y e. fits_beside runs next s y (same s) (fit s y e));
+        fit = holds_of_each r g runs x (RunFits next) was (fits_beside runs next r (g x) (same r) stays.fits)
+            (λ s y e. fits_beside runs next s y (same s) (fit s y e));
       }
 
   pub one_settles : Keeps runs r x (g x) → Settles runs (changed_at r g runs)

@@ -12,7 +12,9 @@ use Rattle.run_table.specs.Fitting.{first_fit}
 use Rattle.run_table.specs.Moves.{Step}
 use Rattle.run_table.specs.Places.{LegPlace, with_leg}
 use Rattle.run_table.specs.Sound.{IsSound}
-use Rattle.run_table.specs.Step.{empty, unchanged, admission_answer, new_run, admitting, admitted, claim_answer, claiming_runner, leased_leg, lease_at, leasing, serving_nothing, claiming, claimed, report_answer, reporting_runner, with_ended, reporting, reported, stepped, step}
+use Rattle.run_table.specs.Step.{empty, unchanged, admission_answer, new_run, admitting, admitted, claim_answer, claiming_runner}
+use Rattle.run_table.specs.Step.{leased_leg, lease_at, leasing, serving_nothing, claiming, claimed, report_answer, reporting_runner}
+use Rattle.run_table.specs.Step.{with_ended, reporting, reported, stepped, step}
 use Rattle.run_table.specs.TableState.{TableState}
 use Rattle.run_table.specs.Turns.{with_runner}
 use Rattle.run_plan.specs.declared.last_command.ClaimReply.TheVariants as given
@@ -22,7 +24,8 @@ use Rattle.run_table.proofs.Kept.{kept_from_sound, rest_is_sound}
 use Rattle.run_table.proofs.ReportKeeps.{report_keeps}
 
 -- a command is answered from the table as it is, or changes it
-answered_or_changed : (t : TableState) (answer : Option Reply) (change : Step) → IsSound t → (answer ≡ None → IsSound change.table) → IsSound (option_map_or (unchanged t) answer change).table
+answered_or_changed : (t : TableState) (answer : Option Reply) (change : Step) → IsSound t → (answer ≡ None → IsSound change.table)
+    → IsSound (option_map_or (unchanged t) answer change).table
 answered_or_changed t None change s h = h refl
 answered_or_changed t (Some reply) change s h = s
 
@@ -33,14 +36,23 @@ admitted_is_sound t event s =
 
 claiming_is_sound : (t : TableState) (claim : Claimed) → IsSound t → claim_answer t claim ≡ None → IsSound (claiming t claim).table
 claiming_is_sound t claim s none =
-    elim (first_fit claim.labels t.runs) as (λ o. first_fit claim.labels t.runs ≡ o → IsSound (option_map_or (leasing t claim) o (serving_nothing t claim)).table) [
-      | None ↦ λ is. rest_is_sound (record t { runners = with_runner t.runners (claiming_runner claim None given.Nothing) }) (serving_keeps t claim (kept_from_sound t s) none)
+    elim (first_fit claim.labels t.runs) as
+    (λ o. first_fit claim.labels t.runs ≡ o → IsSound (option_map_or (leasing t claim) o (serving_nothing t claim)).table) [
+      | None ↦ λ is. rest_is_sound (record t { runners = with_runner t.runners (claiming_runner claim None given.Nothing) })
+          (serving_keeps t claim (kept_from_sound t s) none)
       | Some p ↦ λ is. leased_is_sound p is
     ] refl
   where
     leased_is_sound : (p : LegPlace) → first_fit claim.labels t.runs ≡ Some p → IsSound (leasing t claim p).table
     leased_is_sound p is =
-        rest_is_sound (record { last_lease = t.last_lease + 1; runs = with_leg p (λ _. leased_leg (t.last_lease + 1)) t.runs; runners = with_runner t.runners (claiming_runner claim (Some (t.last_lease + 1)) (given.Lease (lease_at t.runs p (t.last_lease + 1)))) })
+        rest_is_sound
+        (record {
+          last_lease = t.last_lease + 1;
+          runs = with_leg p (λ _. leased_leg (t.last_lease + 1)) t.runs;
+          runners =
+              with_runner t.runners
+              (claiming_runner claim (Some (t.last_lease + 1)) (given.Lease (lease_at t.runs p (t.last_lease + 1))));
+        })
         (leasing_keeps t claim p (kept_from_sound t s) none is)
 
 claimed_is_sound : (t : TableState) (claim : Claimed) → IsSound t → IsSound (claimed t claim).table
@@ -49,7 +61,9 @@ claimed_is_sound t claim s = answered_or_changed t (claim_answer t claim) (claim
 reported_is_sound : (t : TableState) (report : Reported) → IsSound t → IsSound (reported t report).table
 reported_is_sound t report s =
     answered_or_changed t (report_answer t report) (reporting t report) s
-    (λ none. rest_is_sound (record t { runs = with_ended report.lease report.result t.runs; runners = with_runner t.runners (reporting_runner report) }) (report_keeps t report (kept_from_sound t s) none))
+    (λ none. rest_is_sound
+    (record t { runs = with_ended report.lease report.result t.runs; runners = with_runner t.runners (reporting_runner report) })
+    (report_keeps t report (kept_from_sound t s) none))
 
 pub stepped_is_sound : (t : TableState) (c : Command) → IsSound t → IsSound (stepped t c).table
 stepped_is_sound t (command.Admit event) s = admitted_is_sound t event s

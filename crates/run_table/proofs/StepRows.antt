@@ -24,7 +24,8 @@ use Rattle.run_table.specs.declared.phases.RunPhase.TheVariants as run
 use Rattle.run_table.specs.declared.place.Place.TheVariants.{Opening, AtLeg, Closing, Whole}
 
 abbrev run_of : RunPhase → List JobState → RunState
-run_of phase jobs = record { admitted = record { delivery = codes "d1"; event = codes "push"; body = [] }; phase = phase; stopping = false; jobs = jobs }
+run_of phase jobs =
+    record { admitted = record { delivery = codes "d1"; event = codes "push"; body = [] }; phase = phase; stopping = false; jobs = jobs }
 
 abbrev open_job : List LegState → JobState
 open_job legs = record { phase = job.Open; legs = legs }
@@ -44,11 +45,13 @@ new_leg_becomes_ready : settled (one_job (new_leg ∷ []) ∷ []) ≡ one_job (r
 new_leg_becomes_ready = refl
 
 -- legs go on by number, each as far as it can before the next
-legs_by_number : first_rule (one_job (record { phase = leg.Waiting; lease = None } ∷ new_leg ∷ []) ∷ []) ≡ Some (one_job (ready_leg ∷ new_leg ∷ []) ∷ [])
+legs_by_number : first_rule (one_job (record { phase = leg.Waiting; lease = None } ∷ new_leg ∷ []) ∷ [])
+    ≡ Some (one_job (ready_leg ∷ new_leg ∷ []) ∷ [])
 legs_by_number = refl
 
 -- a failed leg settles its job, and the job its run
-failed_leg_ends_its_run : settled (one_job (failed_leg ∷ []) ∷ []) ≡ run_of run.Ended (record { phase = job.Settled result.Failure; legs = failed_leg ∷ [] } ∷ []) ∷ []
+failed_leg_ends_its_run : settled (one_job (failed_leg ∷ []) ∷ [])
+    ≡ run_of run.Ended (record { phase = job.Settled result.Failure; legs = failed_leg ∷ [] } ∷ []) ∷ []
 failed_leg_ends_its_run = refl
 
 -- a running leg keeps its job open
@@ -68,7 +71,9 @@ job_opens_with_its_legs : opened 2 (record { phase = job.Blocked; legs = [] }) �
 job_opens_with_its_legs = refl
 
 -- the blocked job of a run that is told to stop settles as cancelled
-stopping_job_is_cancelled : rule_at (record (run_of run.Live (record { phase = job.Blocked; legs = [] } ∷ [])) { stopping = true } ∷ []) (Opening 0 0) ≡ Some (record (run_of run.Live (record { phase = job.Settled result.Cancelled; legs = [] } ∷ [])) { stopping = true } ∷ [])
+stopping_job_is_cancelled : rule_at (record (run_of run.Live (record { phase = job.Blocked; legs = [] } ∷ [])) { stopping = true } ∷ [])
+    (Opening 0 0)
+    ≡ Some (record (run_of run.Live (record { phase = job.Settled result.Cancelled; legs = [] } ∷ [])) { stopping = true } ∷ [])
 stopping_job_is_cancelled = refl
 
 -- each rule lowers what is left: a job that settles by one, a leg that goes on by one
@@ -96,7 +101,8 @@ claim_again : step (table_with served_nothing) (command.Claim (claim_of 1)) ≡ 
 claim_again = refl
 
 -- the last number with another command is out of turn
-claim_changed : step (table_with served_nothing) (command.Claim (record { runner = codes "r1"; number = 1; labels = codes "gpu" ∷ [] })) ≡ (table_with served_nothing, reply.Refused (Turn 1))
+claim_changed : step (table_with served_nothing) (command.Claim (record { runner = codes "r1"; number = 1; labels = codes "gpu" ∷ [] }))
+    ≡ (table_with served_nothing, reply.Refused (Turn 1))
 claim_changed = refl
 
 abbrev holding : RunnerState
@@ -105,7 +111,9 @@ holding = claiming_runner (claim_of 2) (Some 1) given.Nothing
 claim_while_holding : step (table_with holding) (command.Claim (claim_of 3)) ≡ (table_with holding, refused HasLease)
 claim_while_holding = refl
 
-report_of_another_lease : step (table_with holding) (command.Done (record { runner = codes "r1"; number = 3; lease = 9; result = outcome.Success })) ≡ (table_with holding, refused LeaseNotHeld)
+report_of_another_lease : step (table_with holding)
+    (command.Done (record { runner = codes "r1"; number = 3; lease = 9; result = outcome.Success }))
+    ≡ (table_with holding, refused LeaseNotHeld)
 report_of_another_lease = refl
 
 abbrev working : TableState
@@ -119,11 +127,14 @@ failed = record {
 }
 
 -- a report ends the leg of its lease, its job and its run
-report_of_a_failure : step working (command.Done (record { runner = codes "r1"; number = 3; lease = 1; result = outcome.Failure })) ≡ (failed, reply.Ok)
+report_of_a_failure : step working (command.Done (record { runner = codes "r1"; number = 3; lease = 1; result = outcome.Failure }))
+    ≡ (failed, reply.Ok)
 report_of_a_failure = refl
 
 -- the lease of a leg is found whatever job it is of
-lease_is_found : place_of_lease (one_job (leased_leg 1 ∷ []) ∷ run_of run.Live (open_job (leased_leg 2 ∷ []) ∷ open_job (failed_leg ∷ leased_leg 3 ∷ []) ∷ []) ∷ []) 3 ≡ Some (record { run = 1; job = 1; leg = 1 })
+lease_is_found : place_of_lease
+    (one_job (leased_leg 1 ∷ []) ∷ run_of run.Live (open_job (leased_leg 2 ∷ []) ∷ open_job (failed_leg ∷ leased_leg 3 ∷ []) ∷ []) ∷ []) 3
+    ≡ Some (record { run = 1; job = 1; leg = 1 })
 lease_is_found = refl
 
 look_at_no_run : step empty (command.Look 1) ≡ (empty, refused NoRun)

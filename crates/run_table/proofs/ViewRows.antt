@@ -38,7 +38,8 @@ go = planned (codes "go") ∷ []
 abbrev three : List PlannedJob
 three = planned (codes "a") ∷ planned (codes "b") ∷ planned (codes "c") ∷ []
 
-completed : run_text build phase.Ended (job (state.Settled result.Success) (claimed (leg.Ended outcome.Success) ∷ []) ∷ []) ≡ codes "completed success build:success(success)"
+completed : run_text build phase.Ended (job (state.Settled result.Success) (claimed (leg.Ended outcome.Success) ∷ []) ∷ [])
+    ≡ codes "completed success build:success(success)"
 completed = refl
 
 queued : run_text build phase.Live (job state.Open (unclaimed leg.Ready ∷ []) ∷ []) ≡ codes "queued - build:open(ready)"
@@ -50,17 +51,25 @@ running = refl
 pending : run_text go phase.Waiting (job state.Blocked [] ∷ []) ≡ codes "pending - go:blocked"
 pending = refl
 
-cancelled_while_pending : run_text go phase.Ended (job (state.Settled result.Cancelled) [] ∷ []) ≡ codes "completed cancelled go:cancelled()"
+cancelled_while_pending : run_text go phase.Ended (job (state.Settled result.Cancelled) [] ∷ [])
+    ≡ codes "completed cancelled go:cancelled()"
 cancelled_while_pending = refl
 
 -- one leg is ready, one was cancelled without a claim, and one waits
-three_legs : run_text (planned (codes "m") ∷ []) phase.Live (job state.Open (unclaimed leg.Ready ∷ unclaimed (leg.Ended outcome.Cancelled) ∷ unclaimed leg.Waiting ∷ []) ∷ []) ≡ codes "queued - m:open(ready,cancelled,waiting)"
+three_legs : run_text (planned (codes "m") ∷ []) phase.Live
+    (job state.Open (unclaimed leg.Ready ∷ unclaimed (leg.Ended outcome.Cancelled) ∷ unclaimed leg.Waiting ∷ []) ∷ [])
+    ≡ codes "queued - m:open(ready,cancelled,waiting)"
 three_legs = refl
 
-failed_with_skipped : run_text three phase.Ended (job (state.Settled result.Failure) (claimed (leg.Ended outcome.Failure) ∷ []) ∷ job (state.Settled result.Success) (claimed (leg.Ended outcome.Success) ∷ []) ∷ job (state.Settled result.Skipped) [] ∷ []) ≡ codes "completed failure a:failure(failure) b:success(success) c:skipped()"
+failed_with_skipped : run_text three phase.Ended
+    (job (state.Settled result.Failure) (claimed (leg.Ended outcome.Failure) ∷ [])
+    ∷ job (state.Settled result.Success) (claimed (leg.Ended outcome.Success) ∷ []) ∷ job (state.Settled result.Skipped) [] ∷ [])
+    ≡ codes "completed failure a:failure(failure) b:success(success) c:skipped()"
 failed_with_skipped = refl
 
-stopping : run_text (planned (codes "m") ∷ []) phase.Live (job state.Open (claimed leg.Stopping ∷ claimed (leg.Ended outcome.Failure) ∷ unclaimed (leg.Ended outcome.Cancelled) ∷ []) ∷ []) ≡ codes "in_progress - m:open(stopping,failure,cancelled)"
+stopping : run_text (planned (codes "m") ∷ []) phase.Live
+    (job state.Open (claimed leg.Stopping ∷ claimed (leg.Ended outcome.Failure) ∷ unclaimed (leg.Ended outcome.Cancelled) ∷ []) ∷ [])
+    ≡ codes "in_progress - m:open(stopping,failure,cancelled)"
 stopping = refl
 
 -- ---- whole views, of runs whose bodies have a known plan, repository and path
@@ -69,14 +78,25 @@ abbrev admitted : List ℕ → Admitted
 admitted body = record { delivery = codes "d1"; event = codes "push"; body = body }
 
 abbrev completed_run : List ℕ → RunState
-completed_run body = record { admitted = admitted body; phase = phase.Ended; stopping = false; jobs = job (state.Settled result.Success) (claimed (leg.Ended outcome.Success) ∷ []) ∷ [] }
+completed_run body =
+    record {
+      admitted = admitted body;
+      phase = phase.Ended;
+      stopping = false;
+      jobs =
+          job (state.Settled result.Success) (claimed (leg.Ended outcome.Success) ∷ []) ∷ [];
+    }
 
-look_at_a_completed_run : (body : List ℕ) → plan_of body ≡ build → seen_text (record { id = 1; number = 1; run = completed_run body }) ≡ codes "run 1 1 completed success build:success(success)"
+look_at_a_completed_run : (body : List ℕ) → plan_of body ≡ build
+    → seen_text (record { id = 1; number = 1; run = completed_run body }) ≡ codes "run 1 1 completed success build:success(success)"
 unfolding digits
 look_at_a_completed_run body planned_so = ap (λ plan. codes "run 1 1 " ++ run_text plan phase.Ended (completed_run body).jobs) planned_so
 
 -- the number counts the runs of the same repository and path: here the third run is the second of its workflow
-numbered_by_workflow : (ci cd : List ℕ) → (event_of ci).repo ≡ codes "o/r" → (event_of cd).repo ≡ codes "o/r" → (event_of ci).path ≡ codes "ci.json" → (event_of cd).path ≡ codes "cd.json" → seen_of (completed_run ci ∷ completed_run cd ∷ completed_run ci ∷ completed_run ci ∷ []) 3 ≡ Some (record { id = 3; number = 2; run = completed_run ci })
+numbered_by_workflow : (ci cd : List ℕ) → (event_of ci).repo ≡ codes "o/r" → (event_of cd).repo ≡ codes "o/r"
+    → (event_of ci).path ≡ codes "ci.json" → (event_of cd).path ≡ codes "cd.json"
+    → seen_of (completed_run ci ∷ completed_run cd ∷ completed_run ci ∷ completed_run ci ∷ []) 3
+    ≡ Some (record { id = 3; number = 2; run = completed_run ci })
 numbered_by_workflow ci cd ci_repo cd_repo ci_path cd_path = simp (ci_repo, cd_repo, ci_path, cd_path)
 
 no_such_run : (body : List ℕ) → seen_of (completed_run body ∷ []) 2 ≡ None

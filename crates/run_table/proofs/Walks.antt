@@ -1,5 +1,6 @@
 -- The first place of a table where a rule applies, found run by run and job by job.
-use Rattle.std.specs.Prelude.{◌≡◌, ℕ, ◌+◌, ◌&&◌, List, [], ◌∷◌, ◌++◌, map, flat_map, find, Bool, true, false, is_some, Option, Some, None, option_map, option_and_then, slice_get, if◌then◌else◌, refl}
+use Rattle.std.specs.Prelude.{◌≡◌, ℕ, ◌+◌, ◌&&◌, List, [], ◌∷◌, ◌++◌, map, flat_map, find, Bool, true, false, is_some, Option, Some, None}
+use Rattle.std.specs.Prelude.{option_map, option_and_then, slice_get, if◌then◌else◌, refl}
 use Rattle.std.specs.List.{enumerate_from, list_all, position, position_from}
 use Rattle.std.specs.Option.{option_or, option_map_or}
 use Rattle.std.proofs.Common.{ap, sym, ◌∙◌}
@@ -7,7 +8,8 @@ use Rattle.std.proofs.lemmas.Iterator.Adapters.{position_from-zero}
 use Rattle.std.proofs.lemmas.List.Folds.{find-append}
 use Rattle.run_table.specs.FirstOf.{first_some, placed}
 use Rattle.run_table.specs.Places.{LegPlace, run_at, job_at, leg_at}
-use Rattle.run_table.specs.Rules.{job_places, run_places, places, is_live, is_blocked, is_done, is_settled, next_leg_phase, next_run_phase, opening_rule, leg_rule, closing_rule, whole_rule}
+use Rattle.run_table.specs.Rules.{job_places, run_places, places, is_live, is_blocked, is_done, is_settled, next_leg_phase, next_run_phase}
+use Rattle.run_table.specs.Rules.{opening_rule, leg_rule, closing_rule, whole_rule}
 use Rattle.run_table.specs.Settling.{applies, first_place}
 use Rattle.run_table.specs.TableState.{LegState, JobState, RunState}
 use Rattle.run_table.specs.WithinRun.{goes_on, leg_place, first_of_open, first_in_job, first_in_jobs, first_of_whole, first_in_run}
@@ -32,12 +34,15 @@ and_true : (b : Bool) → (b && true) ≡ b
 and_true true = refl
 and_true false = refl
 
-job_found : (runs : List RunState) (r j : ℕ) (run : RunState) (job : JobState) → slice_get runs r ≡ Some run → slice_get run.jobs j ≡ Some job → job_at runs r j ≡ Some job
+job_found : (runs : List RunState) (r j : ℕ) (run : RunState) (job : JobState) → slice_get runs r ≡ Some run
+    → slice_get run.jobs j ≡ Some job → job_at runs r j ≡ Some job
 job_found runs r j run job at_run at_job = ap (option_and_then (λ x. slice_get x.jobs j)) at_run ∙ at_job
 
-opening_applies : (runs : List RunState) (r j : ℕ) (job : JobState) → job_at runs r j ≡ Some job → applies runs (Opening r j) ≡ is_blocked job.phase
+opening_applies : (runs : List RunState) (r j : ℕ) (job : JobState) → job_at runs r j ≡ Some job
+    → applies runs (Opening r j) ≡ is_blocked job.phase
 opening_applies runs r j job at =
-    ap (λ o. is_some (option_and_then (opening_rule runs r j) o)) at ∙ some_if (is_blocked job.phase && true) _ ∙ and_true (is_blocked job.phase)
+    ap (λ o. is_some (option_and_then (opening_rule runs r j) o)) at ∙ some_if (is_blocked job.phase && true) _
+    ∙ and_true (is_blocked job.phase)
 
 leg_applies : (runs : List RunState) (p : LegPlace) (l : LegState) → leg_at runs p ≡ Some l → applies runs (AtLeg p) ≡ goes_on l
 leg_applies runs p l at = ap (λ o. is_some (option_and_then (leg_rule runs p) o)) at ∙ some_mapped (next_leg_phase l.phase) _
@@ -45,37 +50,49 @@ leg_applies runs p l at = ap (λ o. is_some (option_and_then (leg_rule runs p) o
 closing_applies : (runs : List RunState) (r j : ℕ) (job : JobState) → job_at runs r j ≡ Some job → applies runs (Closing r j) ≡ is_done job
 closing_applies runs r j job at = ap (λ o. is_some (option_and_then (closing_rule runs r j) o)) at ∙ some_if (is_done job) _
 
-whole_applies : (runs : List RunState) (r : ℕ) (run : RunState) → slice_get runs r ≡ Some run → applies runs (Whole r) ≡ is_some (next_run_phase run.phase (list_all is_settled run.jobs))
+whole_applies : (runs : List RunState) (r : ℕ) (run : RunState) → slice_get runs r ≡ Some run
+    → applies runs (Whole r) ≡ is_some (next_run_phase run.phase (list_all is_settled run.jobs))
 whole_applies runs r run at =
     ap (λ o. is_some (option_and_then (whole_rule runs r) o)) at ∙ some_mapped (next_run_phase run.phase (list_all is_settled run.jobs)) _
 
 -- ---- the first leg of a list that passes a test
 
-passing_from : {X Y : Type 0} (test : X → Bool) (place : ℕ → Y) (xs : List X) (n : ℕ) → first_some (λ e. if test e.1 then Some (place e.0) else None) (enumerate_from n xs) ≡ option_map place (position_from test n xs)
+passing_from : {X Y : Type 0} (test : X → Bool) (place : ℕ → Y) (xs : List X) (n : ℕ)
+    → first_some (λ e. if test e.1 then Some (place e.0) else None) (enumerate_from n xs) ≡ option_map place (position_from test n xs)
 passing_from test place [] n = refl
 passing_from test place (x ∷ xs) n =
-    elim (test x) as (λ b. option_or (if b then Some (place n) else None) (first_some (λ e. if test e.1 then Some (place e.0) else None) (enumerate_from (n + 1) xs)) ≡ option_map place (if b then Some n else position_from test (n + 1) xs)) [
+    elim (test x) as
+    (λ b. option_or (if b then Some (place n) else None)
+    (first_some (λ e. if test e.1 then Some (place e.0) else None) (enumerate_from (n + 1) xs))
+    ≡ option_map place (if b then Some n else position_from test (n + 1) xs)) [
       | true ↦ refl
       | false ↦ passing_from test place xs (n + 1)
     ]
 
-pub first_passing : {X Y : Type 0} (test : X → Bool) (place : ℕ → Y) (xs : List X) → first_some (λ e. if test e.1 then Some (place e.0) else None) (placed xs) ≡ option_map place (position test xs)
+pub first_passing : {X Y : Type 0} (test : X → Bool) (place : ℕ → Y) (xs : List X)
+    → first_some (λ e. if test e.1 then Some (place e.0) else None) (placed xs) ≡ option_map place (position test xs)
 first_passing test place xs = passing_from test place xs 0 ∙ ap (option_map place) (sym (position_from-zero test xs))
 
 -- ---- within a job
 
-at_legs : (runs : List RunState) (r j : ℕ) (run : RunState) (job : JobState) → slice_get runs r ≡ Some run → slice_get run.jobs j ≡ Some job → find (applies runs) (map (λ l. AtLeg (leg_place r j l.0)) (placed job.legs)) ≡ option_map (λ l. AtLeg (leg_place r j l)) (position goes_on job.legs)
+at_legs : (runs : List RunState) (r j : ℕ) (run : RunState) (job : JobState) → slice_get runs r ≡ Some run → slice_get run.jobs j ≡ Some job
+    → find (applies runs) (map (λ l. AtLeg (leg_place r j l.0)) (placed job.legs))
+    ≡ option_map (λ l. AtLeg (leg_place r j l)) (position goes_on job.legs)
 at_legs runs r j run job at_run at_job =
     find-map (applies runs) (λ (l : ℕ × LegState). AtLeg (leg_place r j l.0)) (placed job.legs)
-    ∙ first_same_placed (λ l. if applies runs (AtLeg (leg_place r j l.0)) then Some (AtLeg (leg_place r j l.0)) else None) (λ l. if goes_on l.1 then Some (AtLeg (leg_place r j l.0)) else None) job.legs
-    (λ l leg at. ap (λ b. if b then Some (AtLeg (leg_place r j l)) else None) (leg_applies runs (leg_place r j l) leg (ap (option_and_then (λ x. slice_get x.legs l)) (job_found runs r j run job at_run at_job) ∙ at)))
+    ∙ first_same_placed (λ l. if applies runs (AtLeg (leg_place r j l.0)) then Some (AtLeg (leg_place r j l.0)) else None)
+    (λ l. if goes_on l.1 then Some (AtLeg (leg_place r j l.0)) else None) job.legs
+    (λ l leg at. ap (λ b. if b then Some (AtLeg (leg_place r j l)) else None)
+    (leg_applies runs (leg_place r j l) leg
+    (ap (option_and_then (λ x. slice_get x.legs l)) (job_found runs r j run job at_run at_job) ∙ at)))
     ∙ first_passing goes_on (λ l. AtLeg (leg_place r j l)) job.legs
 
 or_none : {X : Type 0} (o : Option X) → option_or o None ≡ o
 or_none None = refl
 or_none (Some x) = refl
 
-in_job : (runs : List RunState) (r j : ℕ) (run : RunState) (job : JobState) → slice_get runs r ≡ Some run → slice_get run.jobs j ≡ Some job → find (applies runs) (job_places r (j, job)) ≡ first_in_job r j job
+in_job : (runs : List RunState) (r j : ℕ) (run : RunState) (job : JobState) → slice_get runs r ≡ Some run → slice_get run.jobs j ≡ Some job
+    → find (applies runs) (job_places r (j, job)) ≡ first_in_job r j job
 in_job runs r j run job at_run at_job =
     let at = job_found runs r j run job at_run at_job in
     let legs = map (λ l. AtLeg (leg_place r j l.0)) (placed job.legs) in
@@ -83,24 +100,31 @@ in_job runs r j run job at_run at_job =
     ∙ ap (λ o. if is_blocked job.phase then Some (Opening r j) else o)
     (find-append (applies runs) legs (Closing r j ∷ [])
     ∙ ap (λ o. option_or o (find (applies runs) (Closing r j ∷ []))) (at_legs runs r j run job at_run at_job)
-    ∙ ap (λ b. option_or (option_map (λ l. AtLeg (leg_place r j l)) (position goes_on job.legs)) (if b then Some (Closing r j) else None)) (closing_applies runs r j job at))
+    ∙ ap (λ b. option_or (option_map (λ l. AtLeg (leg_place r j l)) (position goes_on job.legs)) (if b then Some (Closing r j) else None))
+    (closing_applies runs r j job at))
 
 -- ---- within a run
 
-in_jobs : (runs : List RunState) (r : ℕ) (run : RunState) → slice_get runs r ≡ Some run → find (applies runs) (flat_map (job_places r) (placed run.jobs)) ≡ first_in_jobs r run.jobs
+in_jobs : (runs : List RunState) (r : ℕ) (run : RunState) → slice_get runs r ≡ Some run
+    → find (applies runs) (flat_map (job_places r) (placed run.jobs)) ≡ first_in_jobs r run.jobs
 in_jobs runs r run at =
     find-flat_map (applies runs) (job_places r) (placed run.jobs)
-    ∙ first_same_placed (λ j. find (applies runs) (job_places r j)) (λ j. first_in_job r j.0 j.1) run.jobs (λ j job at_job. in_job runs r j run job at at_job)
+    ∙ first_same_placed (λ j. find (applies runs) (job_places r j)) (λ j. first_in_job r j.0 j.1) run.jobs
+    (λ j job at_job. in_job runs r j run job at at_job)
 
-jobs_if_live : (runs : List RunState) (r : ℕ) (run : RunState) (live : Bool) → slice_get runs r ≡ Some run → find (applies runs) (if live then flat_map (job_places r) (placed run.jobs) else []) ≡ (if live then first_in_jobs r run.jobs else None)
+jobs_if_live : (runs : List RunState) (r : ℕ) (run : RunState) (live : Bool) → slice_get runs r ≡ Some run
+    → find (applies runs) (if live then flat_map (job_places r) (placed run.jobs) else [])
+    ≡ (if live then first_in_jobs r run.jobs else None)
 jobs_if_live runs r run true at = in_jobs runs r run at
 jobs_if_live runs r run false at = refl
 
-in_run : (runs : List RunState) (r : ℕ) (run : RunState) → slice_get runs r ≡ Some run → find (applies runs) (run_places (r, run)) ≡ first_in_run r run
+in_run : (runs : List RunState) (r : ℕ) (run : RunState) → slice_get runs r ≡ Some run
+    → find (applies runs) (run_places (r, run)) ≡ first_in_run r run
 in_run runs r run at =
     find-append (applies runs) (if is_live run.phase then flat_map (job_places r) (placed run.jobs) else []) (Whole r ∷ [])
     ∙ ap (λ o. option_or o (find (applies runs) (Whole r ∷ []))) (jobs_if_live runs r run (is_live run.phase) at)
-    ∙ ap (λ b. option_or (if is_live run.phase then first_in_jobs r run.jobs else None) (if b then Some (Whole r) else None)) (whole_applies runs r run at)
+    ∙ ap (λ b. option_or (if is_live run.phase then first_in_jobs r run.jobs else None) (if b then Some (Whole r) else None))
+    (whole_applies runs r run at)
 
 -- ---- in the whole table
 

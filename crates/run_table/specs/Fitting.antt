@@ -29,7 +29,8 @@ is_ready (leg.Ended r) = false
 
 -- whether the leg at a place is ready and asks for no label that the runner lacks
 abbrev pub fits : List (List ℕ) → List RunState → LegPlace → Bool
-fits labels runs p = option_map_or (λ l. is_ready l.phase) (leg_at runs p) false && option_map_or (has_labels labels) (labels_at runs p) false
+fits labels runs p =
+    option_map_or (λ l. is_ready l.phase) (leg_at runs p) false && option_map_or (has_labels labels) (labels_at runs p) false
 
 abbrev pub first_fit : List (List ℕ) → List RunState → Option LegPlace
 first_fit labels runs = find (fits labels runs) (leg_places runs)

@@ -1,7 +1,8 @@
 -- The settling rules: what the rule at each place makes of the runs, where it applies. GitHub Docs, "Workflow
 -- syntax for GitHub Actions": jobs.<job_id>.needs and jobs.<job_id>.if; "Control the concurrency of workflows
 -- and jobs". That what has no group goes straight on, and the order of places, are own.
-use Rattle.std.specs.Prelude.{ℕ, List, [], ◌∷◌, ◌++◌, ◌&&◌, map, flat_map, filter_map, replicate, Bool, true, false, is_some, Option, Some, None, option_map, option_and_then, if◌then◌else◌}
+use Rattle.std.specs.Prelude.{ℕ, List, [], ◌∷◌, ◌++◌, ◌&&◌, map, flat_map, filter_map, replicate, Bool, true, false, is_some, Option, Some}
+use Rattle.std.specs.Prelude.{None, option_map, option_and_then, if◌then◌else◌}
 use Rattle.std.specs.List.{list_all}
 use Rattle.wf_value.specs.declared.outcome.JobResult.{JobResult}
 use Rattle.wf_value.specs.declared.outcome.JobResult.TheVariants as result
@@ -109,7 +110,9 @@ abbrev pub is_done : JobState → Bool
 is_done j = is_open j.phase && list_all has_ended j.legs
 
 abbrev pub leg_end : List RunState → ℕ → ℕ → ℕ × LegState → Option LegEnd
-leg_end runs r j l = option_map (λ o. record { outcome = o; continue_on_error = passes_over runs (record { run = r; job = j; leg = l.0 }) }) (outcome_of l.1.phase)
+leg_end runs r j l =
+    option_map (λ o. record { outcome = o; continue_on_error = passes_over runs (record { run = r; job = j; leg = l.0 }) })
+    (outcome_of l.1.phase)
 
 -- how the legs of a job ended that have
 abbrev pub leg_ends : List RunState → ℕ → ℕ → JobState → List LegEnd

@@ -28,7 +28,8 @@ use Rattle.run_table.specs.declared.phases.RunPhase.TheVariants as run
 
 -- no delivery made two runs
 abbrev pub DeliveriesDiffer : List RunState → Type 0
-DeliveriesDiffer runs = (a b : ℕ) (x y : RunState) → run_at runs a ≡ Some x → run_at runs b ≡ Some y → x.admitted.delivery ≡ y.admitted.delivery → a ≡ b
+DeliveriesDiffer runs =
+    (a b : ℕ) (x y : RunState) → run_at runs a ≡ Some x → run_at runs b ≡ Some y → x.admitted.delivery ≡ y.admitted.delivery → a ≡ b
 
 -- a run has one job for each job of its plan
 abbrev pub JobsAreThePlans : List RunState → Type 0
@@ -57,7 +58,8 @@ MayLackLegs result.Skipped = Unit {0}
 abbrev pub LegsFit : ℕ → JobResult → JobPhase → List LegState → Type 0
 LegsFit planned gathered job.Blocked legs = legs ≡ []
 LegsFit planned gathered job.Open legs = length legs ≡ planned
-LegsFit planned gathered (job.Settled r) legs = ((legs ≡ []) × MayLackLegs r) ⊎ ((length legs ≡ planned) × (list_all has_ended legs ≡ true) × (r ≡ gathered))
+LegsFit planned gathered (job.Settled r) legs =
+    ((legs ≡ []) × MayLackLegs r) ⊎ ((length legs ≡ planned) × (list_all has_ended legs ≡ true) × (r ≡ gathered))
 
 abbrev pub JobsFit : List RunState → Type 0
 JobsFit runs = (r j : ℕ) (x : JobState) → job_at runs r j ≡ Some x → LegsFit (planned_legs runs r j) (result_at runs r j x) x.phase x.legs
@@ -84,7 +86,9 @@ LeasesAreGiven last runs = (p : LegPlace) (x : LegState) (n : ℕ) → leg_at ru
 
 -- no two legs have one lease
 abbrev pub LeasesDiffer : List RunState → Type 0
-LeasesDiffer runs = (p q : LegPlace) (x y : LegState) (n : ℕ) → leg_at runs p ≡ Some x → leg_at runs q ≡ Some y → x.lease ≡ Some n → y.lease ≡ Some n → p ≡ q
+LeasesDiffer runs =
+    (p q : LegPlace) (x y : LegState) (n : ℕ) → leg_at runs p ≡ Some x → leg_at runs q ≡ Some y → x.lease ≡ Some n → y.lease ≡ Some n
+    → p ≡ q
 
 -- ---- runners
 
@@ -110,7 +114,8 @@ IsAtWork runs n = (p : LegPlace) × (x : LegState) × (leg_at runs p ≡ Some x)
 
 -- the leases of the legs at work are held
 abbrev pub WorkIsHeld : List RunState → List RunnerState → Type 0
-WorkIsHeld runs runners = (p : LegPlace) (x : LegState) (n : ℕ) → leg_at runs p ≡ Some x → is_at_work x.phase ≡ true → x.lease ≡ Some n → IsHeld runners n
+WorkIsHeld runs runners =
+    (p : LegPlace) (x : LegState) (n : ℕ) → leg_at runs p ≡ Some x → is_at_work x.phase ≡ true → x.lease ≡ Some n → IsHeld runners n
 
 -- and no others are
 abbrev pub HeldIsAtWork : List RunState → List RunnerState → Type 0
@@ -118,7 +123,9 @@ HeldIsAtWork runs runners = (k : ℕ) (x : RunnerState) (n : ℕ) → slice_get 
 
 -- each by one runner
 abbrev pub HeldOnce : List RunnerState → Type 0
-HeldOnce runners = (a b : ℕ) (x y : RunnerState) (n : ℕ) → slice_get runners a ≡ Some x → slice_get runners b ≡ Some y → x.holds ≡ Some n → y.holds ≡ Some n → a ≡ b
+HeldOnce runners =
+    (a b : ℕ) (x y : RunnerState) (n : ℕ) → slice_get runners a ≡ Some x → slice_get runners b ≡ Some y → x.holds ≡ Some n
+    → y.holds ≡ Some n → a ≡ b
 
 -- a runner's last command is its own, and has its last number
 abbrev pub IsLastOf : List ℕ → ℕ → LastCommand → Type 0

@@ -1,7 +1,8 @@
 -- One step of the table: what a command is answered, and the table after it. A command is either answered from
 -- the table as it is, which then stays: the refusals, in the order of their checks, a delivery that is known, a
 -- command that is repeated, and what is looked at. Or it changes the table, which settles then.
-use Rattle.std.specs.Prelude.{ℕ, ◌+◌, ◌&&◌, List, [], ◌∷◌, ◌++◌, map, length, Bool, false, not, is_some, nat_le, Option, Some, None, option_map, if◌then◌else◌}
+use Rattle.std.specs.Prelude.{ℕ, ◌+◌, ◌&&◌, List, [], ◌∷◌, ◌++◌, map, length, Bool, false, not, is_some, nat_le, Option, Some, None}
+use Rattle.std.specs.Prelude.{option_map, if◌then◌else◌}
 use Rattle.std.specs.List.{position}
 use Rattle.std.specs.Option.{option_or, option_map_or}
 use Rattle.std.specs.Str.{bytes_eq}
@@ -110,7 +111,12 @@ abbrev pub leasing : TableState → Claimed → LegPlace → Step
 leasing t claim p =
     let lease = t.last_lease + 1 in
     let told = lease_at t.runs p lease in
-    at_rest (record { last_lease = lease; runs = with_leg p (λ _. leased_leg lease) t.runs; runners = with_runner t.runners (claiming_runner claim (Some lease) (given.Lease told)) }) (reply.Lease told)
+    at_rest (record {
+      last_lease = lease;
+      runs = with_leg p (λ _. leased_leg lease) t.runs;
+      runners =
+          with_runner t.runners (claiming_runner claim (Some lease) (given.Lease told));
+    }) (reply.Lease told)
 
 -- no leg fits
 abbrev pub serving_nothing : TableState → Claimed → Step
@@ -139,7 +145,11 @@ with_ended lease outcome runs = option_map_or (λ p. with_leg p (leg_in_phase (l
 
 abbrev pub reporting : TableState → Reported → Step
 reporting t report =
-    at_rest (record t { runs = with_ended report.lease report.result t.runs; runners = with_runner t.runners (reporting_runner report) }) reply.Ok
+    at_rest (record t {
+      runs = with_ended report.lease report.result t.runs;
+      runners =
+          with_runner t.runners (reporting_runner report);
+    }) reply.Ok
 
 abbrev pub reported : TableState → Reported → Step
 reported t report = option_map_or (unchanged t) (report_answer t report) (reporting t report)

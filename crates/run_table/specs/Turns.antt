@@ -1,6 +1,7 @@
 -- The numbered commands of runners: each command of a runner has the number after its last one, or is the
 -- last one again and gets the kept reply (own).
-use Rattle.std.specs.Prelude.{ℕ, ◌+◌, ◌&&◌, List, [], ◌∷◌, ◌++◌, find, Bool, true, false, nat_eq, is_some, Option, Some, None, option_map, slice_set, if◌then◌else◌}
+use Rattle.std.specs.Prelude.{ℕ, ◌+◌, ◌&&◌, List, [], ◌∷◌, ◌++◌, find, Bool, true, false, nat_eq, is_some, Option, Some, None, option_map}
+use Rattle.std.specs.Prelude.{slice_set, if◌then◌else◌}
 use Rattle.std.specs.List.{position}
 use Rattle.std.specs.Option.{option_map_or}
 use Rattle.std.specs.Str.{bytes_eq}
@@ -44,7 +45,8 @@ needs_text answer = option_map_or carries_text answer false
 
 -- the runners with this one in the place of that of its name, or at the end
 abbrev pub with_runner : List RunnerState → RunnerState → List RunnerState
-with_runner runners runner = option_map_or (λ i. slice_set runners i runner) (position (is_named runner.name) runners) (runners ++ runner ∷ [])
+with_runner runners runner =
+    option_map_or (λ i. slice_set runners i runner) (position (is_named runner.name) runners) (runners ++ runner ∷ [])
 
 abbrev pub holds_lease : Option RunnerState → Bool
 holds_lease runner = option_map_or (λ r. is_some r.holds) runner false

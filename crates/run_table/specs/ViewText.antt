@@ -1,5 +1,6 @@
 -- The view of a run, and its text.
-use Rattle.std.specs.Prelude.{ℕ, ◌-◌, ◌&&◌, List, ◌++◌, map, flat_map, filter_map, take, count_by, Bool, is_some, codes, Option, option_map, slice_get, if◌then◌else◌}
+use Rattle.std.specs.Prelude.{ℕ, ◌-◌, ◌&&◌, List, ◌++◌, map, flat_map, filter_map, take, count_by, Bool, is_some, codes, Option, option_map}
+use Rattle.std.specs.Prelude.{slice_get, if◌then◌else◌}
 use Rattle.std.specs.List.{list_any, zip, join_with_byte}
 use Rattle.std.specs.Fmt.{decimal}
 use Rattle.std.specs.Str.{bytes_eq}
@@ -27,11 +28,13 @@ pub record Seen : Type 0 where
 -- runs of the same repository and path
 abbrev pub same_workflow : RunState → RunState → Bool
 same_workflow a b =
-    bytes_eq (event_of a.admitted.body).repo (event_of b.admitted.body).repo && bytes_eq (event_of a.admitted.body).path (event_of b.admitted.body).path
+    bytes_eq (event_of a.admitted.body).repo (event_of b.admitted.body).repo && bytes_eq (event_of a.admitted.body).path
+    (event_of b.admitted.body).path
 
 -- a run's number counts the runs of its repository and path up to it
 abbrev pub seen_of : List RunState → ℕ → Option Seen
-seen_of runs id = option_map (λ run. record { id = id; number = count_by (same_workflow run) (take id runs); run = run }) (slice_get runs (id - 1))
+seen_of runs id =
+    option_map (λ run. record { id = id; number = count_by (same_workflow run) (take id runs); run = run }) (slice_get runs (id - 1))
 
 abbrev pub leg_text : LegPhase → List ℕ
 leg_text leg.New = codes "new"
@@ -93,4 +96,5 @@ run_text plan phase jobs = status_text phase jobs ++ codes " " ++ conclusion_tex
 -- `run ID NUMBER` and the rest
 abbrev pub seen_text : Seen → List ℕ
 seen_text seen =
-    codes "run " ++ decimal seen.id ++ codes " " ++ decimal seen.number ++ codes " " ++ run_text (plan_of seen.run.admitted.body) seen.run.phase seen.run.jobs
+    codes "run " ++ decimal seen.id ++ codes " " ++ decimal seen.number ++ codes " "
+    ++ run_text (plan_of seen.run.admitted.body) seen.run.phase seen.run.jobs

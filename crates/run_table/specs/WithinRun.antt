@@ -1,5 +1,6 @@
 -- The first place with a rule, and the first leg that is sought, within one run: no plain rule looks beyond it.
-use Rattle.std.specs.Prelude.{ℕ, ◌&&◌, List, [], ◌∷◌, Bool, false, is_some, nat_eq, Option, Some, None, option_map, option_and_then, slice_get, if◌then◌else◌}
+use Rattle.std.specs.Prelude.{ℕ, ◌&&◌, List, [], ◌∷◌, Bool, false, is_some, nat_eq, Option, Some, None, option_map, option_and_then}
+use Rattle.std.specs.Prelude.{slice_get, if◌then◌else◌}
 use Rattle.std.specs.List.{list_all, position}
 use Rattle.std.specs.Option.{option_or, option_map_or}
 use Rattle.run_plan.specs.PlanOf.{plan_of}
@@ -26,7 +27,8 @@ leg_place r j l = record { run = r; job = j; leg = l }
 
 -- of a job that is not blocked: its first leg with a rule, else where it settles
 abbrev pub first_of_open : ℕ → ℕ → JobState → Option Place
-first_of_open r j job = option_or (option_map (λ l. AtLeg (leg_place r j l)) (position goes_on job.legs)) (if is_done job then Some (Closing r j) else None)
+first_of_open r j job =
+    option_or (option_map (λ l. AtLeg (leg_place r j l)) (position goes_on job.legs)) (if is_done job then Some (Closing r j) else None)
 
 abbrev pub first_in_job : ℕ → ℕ → JobState → Option Place
 first_in_job r j job = if is_blocked job.phase then Some (Opening r j) else first_of_open r j job
@@ -44,10 +46,12 @@ first_in_run r run = option_or (if is_live run.phase then first_in_jobs r run.jo
 
 -- the first ready leg of a job for which the plan asks no label that the runner lacks
 abbrev pub fit_in_job : List (List ℕ) → PlannedJob → ℕ → ℕ → JobState → Option LegPlace
-fit_in_job labels planned r j job = if has_labels labels planned.labels then option_map (leg_place r j) (position (λ l. is_ready l.phase) job.legs) else None
+fit_in_job labels planned r j job =
+    if has_labels labels planned.labels then option_map (leg_place r j) (position (λ l. is_ready l.phase) job.legs) else None
 
 abbrev pub fit_in_jobs : List (List ℕ) → List PlannedJob → ℕ → List JobState → Option LegPlace
-fit_in_jobs labels plan r jobs = first_some (λ j. option_and_then (λ planned. fit_in_job labels planned r j.0 j.1) (slice_get plan j.0)) (placed jobs)
+fit_in_jobs labels plan r jobs =
+    first_some (λ j. option_and_then (λ planned. fit_in_job labels planned r j.0 j.1) (slice_get plan j.0)) (placed jobs)
 
 abbrev pub fit_in_run : List (List ℕ) → ℕ → RunState → Option LegPlace
 fit_in_run labels r run = fit_in_jobs labels (plan_of run.admitted.body) r run.jobs

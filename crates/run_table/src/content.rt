@@ -2,7 +2,9 @@ ghost use Rattle.std.specs.Prelude.{◌≡◌, ◌<◌, ◌+◌, true, length, O
 ghost use Rattle.std.specs.Option.{option_map_or};
 ghost use Rattle.wf_value.specs.declared.code.Code.TheVariants.{LastCounter};
 ghost use Rattle.wf_value.specs.Gives.{Gives};
-ghost use Rattle.run_table.specs.Step.{admission_answer, admitted, admitting, answered, claim_answer, claimed, claiming, empty, is_free, last_number, lease_answer, lease_at, leasing, look_answer, outcome, refused, report_answer, reported, reporting, seen, serving_nothing, step, unchanged};
+ghost use Rattle.run_table.specs.Step.{admission_answer, admitted, admitting, answered, claim_answer, claimed, claiming, empty, is_free};
+ghost use Rattle.run_table.specs.Step.{last_number, lease_answer, lease_at, leasing, look_answer, outcome, refused, report_answer};
+ghost use Rattle.run_table.specs.Step.{reported, reporting, seen, serving_nothing, step, unchanged};
 
 use crate::fit::first_fit;
 use crate::leg::Leg;

@@ -1,10 +1,12 @@
-ghost use Rattle.std.specs.Prelude.{◌≡◌, ◌≤◌, ◌<◌, ◌∷◌, ◌++◌, [], false, if◌then◌else◌, length, Some, None, IfSome, IfOk, OnErr, option_map, option_and_then, option_copied, slice_get, Ok};
+ghost use Rattle.std.specs.Prelude.{◌≡◌, ◌≤◌, ◌<◌, ◌∷◌, ◌++◌, [], false, if◌then◌else◌, length, Some, None, IfSome, IfOk, OnErr};
+ghost use Rattle.std.specs.Prelude.{option_map, option_and_then, option_copied, slice_get, Ok};
 ghost use Rattle.std.specs.List.{position};
 ghost use Rattle.std.specs.Option.{option_map_or};
 ghost use Rattle.wf_value.specs.Gives.{Gives};
 ghost use Rattle.run_table.specs.FirstOf.{changed_at};
 ghost use Rattle.run_table.specs.Places.{job_at, leg_at, plan_at, run_at, with_job, with_leg, with_run};
-ghost use Rattle.run_table.specs.Rules.{closing_rule, decided, leg_in_phase, leg_rule, opened, rule_at, run_in_phase, settled_as, whole_rule};
+ghost use Rattle.run_table.specs.Rules.{closing_rule, decided, leg_in_phase, leg_rule, opened, rule_at, run_in_phase, settled_as};
+ghost use Rattle.run_table.specs.Rules.{whole_rule};
 ghost use Rattle.run_table.specs.Settling.{first_place, first_rule, settled};
 ghost use Rattle.run_table.specs.Step.{is_delivered_as, with_ended};
 ghost use Rattle.run_table.specs.WithinRun.{leg_place, next_leg};

@@ -6,5 +6,8 @@ pub returns-in_err-extend_from_slice-clause-limit : goal.returns-in_err-extend_f
 returns-in_err-extend_from_slice-clause-limit g c =
     let before = c.loop-buffer.bytes.items in
     let more = take c.in_ok-count.count c.read_some.new.buffer in
-    let room = simp length-take at c.read_some.auto.buffer in
-    (before ++ more, Consumes-trans _ _ _ before more c.loop-buffer.invariant.1 c.in_ok-count.ensures.bytes, simp (length-append, length-take) (omega arith))
+    let room = simp length-take at c.read_some.auto.buffer in (
+      before ++ more,
+      Consumes-trans _ _ _ before more c.loop-buffer.invariant.1 c.in_ok-count.ensures.bytes,
+      simp (length-append, length-take) (omega arith),
+    )

@@ -11,7 +11,8 @@ returns-in_err-play_line-clause-front g c =
     let answered = c.in_err-play_line.ensures.front in
     let line = answered.0 ++ 10 ∷ [] in
     let filled : has_bytes c.in-Some.line.now ≡ true = grind (arith, nat_tests) in
-    let past = leads_past_line c.args.script.now c.loop-line.table c.play_line.new.table c.loop-line.rest.now so_far.0 c.in-Some.line.now c.in-Some.after.now answered.0 so_far.2 c.in-Some.ensures.lines filled answered.2 in
+    let past = leads_past_line c.args.script.now c.loop-line.table c.play_line.new.table c.loop-line.rest.now so_far.0 c.in-Some.line.now
+    c.in-Some.after.now answered.0 so_far.2 c.in-Some.ensures.lines filled answered.2 in
     let on = leads_on_within c.args.script.now c.play_line.new.table c.in-Some.after.now so_far.0 line answered.1 past in
     (so_far.0 ++ take answered.1 line, on.0, Appends-trans _ _ _ so_far.0 (take answered.1 line) so_far.1 answered.3, on.1)
 
@@ -21,7 +22,8 @@ loop-line-preserved-in_ok-play_line g c =
     let answered = c.in_ok-play_line.ensures.all in
     let line = answered.0 ++ 10 ∷ [] in
     let filled : has_bytes c.in-Some.line.now ≡ true = grind (arith, nat_tests) in
-    let past = leads_past_line c.args.script.now c.loop-line.table c.play_line.new.table c.loop-line.rest.now so_far.0 c.in-Some.line.now c.in-Some.after.now answered.0 so_far.2 c.in-Some.ensures.lines filled answered.1 in
+    let past = leads_past_line c.args.script.now c.loop-line.table c.play_line.new.table c.loop-line.rest.now so_far.0 c.in-Some.line.now
+    c.in-Some.after.now answered.0 so_far.2 c.in-Some.ensures.lines filled answered.1 in
     (so_far.0 ++ line, Appends-trans _ _ _ so_far.0 line so_far.1 answered.2, past)
 
 pub returns-clause-all : goal.returns-clause-all

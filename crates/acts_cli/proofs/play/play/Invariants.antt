@@ -4,7 +4,8 @@ use Rattle.acts_cli.proofs.Plays.{Leads}
 use Rattle.acts_cli.proofs.play.play.Given as goal
 
 abbrev pub invariant-loop-line : goal.invariant-loop-line
-invariant-loop-line g l = (out : List ℕ) × Appends (g.W.Write.contents l.initial.writer) (g.W.Write.contents l.writer) out × Leads l.script l.table l.rest out
+invariant-loop-line g l =
+    (out : List ℕ) × Appends (g.W.Write.contents l.initial.writer) (g.W.Write.contents l.writer) out × Leads l.script l.table l.rest out
 
 abbrev pub decreases-loop-line : goal.decreases-loop-line
 decreases-loop-line g l = length l.rest

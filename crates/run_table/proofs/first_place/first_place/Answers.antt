@@ -9,12 +9,15 @@ pub returns-then-is_some : goal.returns-then-is_some
 returns-then-is_some c =
     let some : is_some c.first_in_run-place.result ≡ true = search rules in
     sym (first_place_by_run c.args.runs.now
-    ∙ answer_found first_in_run c.args.runs.now c.loop-r.r c.index-runs-r.result c.first_in_run-place.result c.loop-r.invariant (omega arith) c.index-runs-r.is c.first_in_run-place.ensures some)
+    ∙ answer_found first_in_run c.args.runs.now c.loop-r.r c.index-runs-r.result c.first_in_run-place.result c.loop-r.invariant
+    (omega arith) c.index-runs-r.is c.first_in_run-place.ensures some)
 
 pub loop-r-preserved : goal.loop-r-preserved
 loop-r-preserved c =
     let none : is_some c.first_in_run-place.result ≡ false = search rules in
-    below_more _ _ c.loop-r.invariant (answer_passed first_in_run c.args.runs.now c.loop-r.r c.index-runs-r.result c.first_in_run-place.result (omega arith) c.index-runs-r.is c.first_in_run-place.ensures none)
+    below_more _ _ c.loop-r.invariant
+    (answer_passed first_in_run c.args.runs.now c.loop-r.r c.index-runs-r.result c.first_in_run-place.result
+    (omega arith) c.index-runs-r.is c.first_in_run-place.ensures none)
 
 pub returns : goal.returns
 returns c = sym (first_place_by_run c.args.runs.now ∙ none_found first_in_run c.args.runs.now c.loop-r.r c.loop-r.invariant (omega arith))

@@ -6,4 +6,5 @@ use Rattle.run_table.specs.Rules.{is_settled}
 use Rattle.run_table.proofs.first_place.has_settled_jobs.Goals as goal
 
 pub returns : goal.returns
-returns c = c.are_settled.ensures ∙ sym (list_all-map is_settled (λ (x : JobCells). x.state) c.jobs.result.now) ∙ ap (list_all is_settled) c.jobs.ensures
+returns c = c.are_settled.ensures ∙ sym (list_all-map is_settled (λ (x : JobCells). x.state) c.jobs.result.now)
+    ∙ ap (list_all is_settled) c.jobs.ensures

@@ -9,12 +9,18 @@ pub returns-then-is_some-clause-found : goal.returns-then-is_some-clause-found
 returns-then-is_some-clause-found c =
     let some : is_some c.fit_in_run-place.result ≡ true = search rules in
     sym (first_fit_by_run c.args.labels.now c.args.runs.now
-    ∙ answer_found (fit_in_run c.args.labels.now) c.args.runs.now c.loop-r.r c.index-runs-r.result c.fit_in_run-place.result c.loop-r.invariant (omega arith) c.index-runs-r.is c.fit_in_run-place.ensures.found some)
+    ∙ answer_found
+    (fit_in_run c.args.labels.now) c.args.runs.now c.loop-r.r c.index-runs-r.result c.fit_in_run-place.result c.loop-r.invariant
+    (omega arith) c.index-runs-r.is c.fit_in_run-place.ensures.found some)
 
 pub loop-r-preserved : goal.loop-r-preserved
 loop-r-preserved c =
     let none : is_some c.fit_in_run-place.result ≡ false = search rules in
-    below_more _ _ c.loop-r.invariant (answer_passed (fit_in_run c.args.labels.now) c.args.runs.now c.loop-r.r c.index-runs-r.result c.fit_in_run-place.result (omega arith) c.index-runs-r.is c.fit_in_run-place.ensures.found none)
+    below_more _ _ c.loop-r.invariant
+    (answer_passed (fit_in_run c.args.labels.now) c.args.runs.now c.loop-r.r c.index-runs-r.result c.fit_in_run-place.result
+    (omega arith) c.index-runs-r.is c.fit_in_run-place.ensures.found none)
 
 pub returns-clause-found : goal.returns-clause-found
-returns-clause-found c = sym (first_fit_by_run c.args.labels.now c.args.runs.now ∙ none_found (fit_in_run c.args.labels.now) c.args.runs.now c.loop-r.r c.loop-r.invariant (omega arith))
+returns-clause-found c =
+    sym (first_fit_by_run c.args.labels.now c.args.runs.now
+    ∙ none_found (fit_in_run c.args.labels.now) c.args.runs.now c.loop-r.r c.loop-r.invariant (omega arith))

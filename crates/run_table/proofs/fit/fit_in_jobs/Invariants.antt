@@ -5,4 +5,5 @@ use Rattle.run_table.proofs.fit.fit_in_jobs.Given as goal
 
 -- none so far is the one
 abbrev pub invariant-loop-j : goal.invariant-loop-j
-invariant-loop-j l = NoneBefore (λ j job. option_and_then (λ planned. fit_in_job l.labels planned l.r j job.state) (slice_get l.plan j)) l.jobs l.j
+invariant-loop-j l =
+    NoneBefore (λ j job. option_and_then (λ planned. fit_in_job l.labels planned l.r j job.state) (slice_get l.plan j)) l.jobs l.j

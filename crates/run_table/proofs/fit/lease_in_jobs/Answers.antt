@@ -10,12 +10,17 @@ pub returns-then-is_some : goal.returns-then-is_some
 returns-then-is_some c =
     let some : is_some c.lease_in_job-place.result ≡ true = search rules in
     sym (first_placed-map (λ (j : ℕ) (job : JobState). lease_in_job c.args.lease c.args.r j job) (λ (x : JobCells). x.state) c.args.jobs.now
-    ∙ answer_found (λ j job. lease_in_job c.args.lease c.args.r j job.state) c.args.jobs.now c.loop-j.j c.index-jobs-j.result c.lease_in_job-place.result c.loop-j.invariant (omega arith) c.index-jobs-j.is c.lease_in_job-place.ensures some)
+    ∙ answer_found
+    (λ j job. lease_in_job c.args.lease c.args.r j job.state) c.args.jobs.now c.loop-j.j c.index-jobs-j.result
+    c.lease_in_job-place.result c.loop-j.invariant (omega arith) c.index-jobs-j.is c.lease_in_job-place.ensures some)
 
 pub loop-j-preserved : goal.loop-j-preserved
 loop-j-preserved c =
     let none : is_some c.lease_in_job-place.result ≡ false = search rules in
-    below_more _ _ c.loop-j.invariant (answer_passed (λ j job. lease_in_job c.args.lease c.args.r j job.state) c.args.jobs.now c.loop-j.j c.index-jobs-j.result c.lease_in_job-place.result (omega arith) c.index-jobs-j.is c.lease_in_job-place.ensures none)
+    below_more _ _ c.loop-j.invariant
+    (answer_passed
+    (λ j job. lease_in_job c.args.lease c.args.r j job.state) c.args.jobs.now c.loop-j.j c.index-jobs-j.result
+    c.lease_in_job-place.result (omega arith) c.index-jobs-j.is c.lease_in_job-place.ensures none)
 
 pub returns : goal.returns
 returns c =

@@ -6,4 +6,6 @@ use Rattle.run_table.proofs.view_text.push_jobs.Given as goal
 
 -- what has been added, and what is left, are the whole
 abbrev pub invariant-loop-planned : goal.invariant-loop-planned
-invariant-loop-planned l = string_bytes l.text ++ jobs_text l.planned-iterator.a.rest.now (states l.planned-iterator.b.rest.now) ≡ string_bytes l.initial.text ++ jobs_text l.plan (states l.jobs)
+invariant-loop-planned l =
+    string_bytes l.text ++ jobs_text l.planned-iterator.a.rest.now (states l.planned-iterator.b.rest.now)
+    ≡ string_bytes l.initial.text ++ jobs_text l.plan (states l.jobs)

@@ -8,15 +8,20 @@ use Rattle.run_table.proofs.run.Run.open_job.Goals as goal
 
 pub invariant_of-self : goal.invariant_of-self
 invariant_of-self c =
-    rooms_kept c.self.inside.jobs.items c.args.j c.index_mut-job.result.now c.open.new.self (search rules) c.index_mut-job.ensures.value (ap (λ x. x.room) c.open.ensures) ∙ c.self.invariant
+    rooms_kept c.self.inside.jobs.items c.args.j c.index_mut-job.result.now c.open.new.self (search rules) c.index_mut-job.ensures.value
+    (ap (λ x. x.room) c.open.ensures) ∙ c.self.invariant
 
 pub returns-then-j-len : goal.returns-then-j-len
 returns-then-j-len c =
-    let room = room_is_planned c.self.inside.jobs.items (plan_of c.self.inside.prepared.body) c.args.j c.index_mut-job.result.now (search rules) c.index_mut-job.ensures.value c.self.invariant in
+    let room = room_is_planned c.self.inside.jobs.items (plan_of c.self.inside.prepared.body) c.args.j c.index_mut-job.result.now
+    (search rules) c.index_mut-job.ensures.value c.self.invariant in
     run_with_jobs c.self.inside.prepared c.self.inside.phase c.self.inside.stopping c.self.inside.jobs.items _ c.args.self.now
     (λ a jobs. changed_at c.args.j (opened (legs_in_plan (plan_of a.body) c.args.j)) jobs)
     c.self.view_is
-    (states_written (opened (legs_in_plan (plan_of c.self.inside.prepared.body) c.args.j)) c.self.inside.jobs.items c.args.j c.index_mut-job.result.now c.open.new.self (search rules) c.index_mut-job.ensures.value
+    (states_written
+    (opened (legs_in_plan
+    (plan_of c.self.inside.prepared.body) c.args.j)) c.self.inside.jobs.items c.args.j c.index_mut-job.result.now c.open.new.self
+    (search rules) c.index_mut-job.ensures.value
     (ap (λ x. x.state) c.open.ensures ∙ ap (λ n. opened n c.index_mut-job.result.now.state) room))
 
 pub returns-else-j-len : goal.returns-else-j-len

@@ -6,7 +6,8 @@ use Rattle.run_table.proofs.run.Run.set_leg.Goals as goal
 
 pub invariant_of-self : goal.invariant_of-self
 invariant_of-self c =
-    rooms_kept c.self.inside.jobs.items c.args.j c.index_mut-job.result.now c.set_leg.new.self (search rules) c.index_mut-job.ensures.value (ap (λ x. x.room) c.set_leg.ensures) ∙ c.self.invariant
+    rooms_kept c.self.inside.jobs.items c.args.j c.index_mut-job.result.now c.set_leg.new.self (search rules) c.index_mut-job.ensures.value
+    (ap (λ x. x.room) c.set_leg.ensures) ∙ c.self.invariant
 
 pub returns-then-j-len : goal.returns-then-j-len
 returns-then-j-len c =
@@ -14,7 +15,8 @@ returns-then-j-len c =
     run_with_jobs c.self.inside.prepared c.self.inside.phase c.self.inside.stopping c.self.inside.jobs.items _ c.args.self.now
     (λ a jobs. changed_at c.args.j put jobs)
     c.self.view_is
-    (states_written put c.self.inside.jobs.items c.args.j c.index_mut-job.result.now c.set_leg.new.self (search rules) c.index_mut-job.ensures.value (ap (λ x. x.state) c.set_leg.ensures))
+    (states_written put c.self.inside.jobs.items c.args.j c.index_mut-job.result.now c.set_leg.new.self
+    (search rules) c.index_mut-job.ensures.value (ap (λ x. x.state) c.set_leg.ensures))
 
 pub returns-else-j-len : goal.returns-else-j-len
 returns-else-j-len c =

@@ -6,14 +6,16 @@ use Rattle.run_table.proofs.run.Run.settle_job.Goals as goal
 
 pub invariant_of-self : goal.invariant_of-self
 invariant_of-self c =
-    rooms_kept c.self.inside.jobs.items c.args.j c.index_mut-job.result.now c.settle.new.self (search rules) c.index_mut-job.ensures.value (ap (λ x. x.room) c.settle.ensures) ∙ c.self.invariant
+    rooms_kept c.self.inside.jobs.items c.args.j c.index_mut-job.result.now c.settle.new.self (search rules) c.index_mut-job.ensures.value
+    (ap (λ x. x.room) c.settle.ensures) ∙ c.self.invariant
 
 pub returns-then-j-len : goal.returns-then-j-len
 returns-then-j-len c =
     run_with_jobs c.self.inside.prepared c.self.inside.phase c.self.inside.stopping c.self.inside.jobs.items _ c.args.self.now
     (λ a jobs. changed_at c.args.j (settled_as c.args.settled) jobs)
     c.self.view_is
-    (states_written (settled_as c.args.settled) c.self.inside.jobs.items c.args.j c.index_mut-job.result.now c.settle.new.self (search rules) c.index_mut-job.ensures.value (ap (λ x. x.state) c.settle.ensures))
+    (states_written (settled_as c.args.settled) c.self.inside.jobs.items c.args.j c.index_mut-job.result.now c.settle.new.self
+    (search rules) c.index_mut-job.ensures.value (ap (λ x. x.state) c.settle.ensures))
 
 pub returns-else-j-len : goal.returns-else-j-len
 returns-else-j-len c =

@@ -7,11 +7,22 @@ use Rattle.run_table.proofs.runs.Runs.set_leg.Goals as goal
 
 pub returns-then-r-len : goal.returns-then-r-len
 returns-then-r-len c =
-    let change : RunState → RunState = λ run. record run { jobs = changed_at c.args.j (λ job. record job { legs = changed_at c.args.l (λ _. c.args.leg) job.legs }) run.jobs } in
-    subst (λ (xs : List RunState). slice_set c.self.inside.runs.items c.args.r c.set_leg.new.self ≡ changed_at c.args.r change xs) c.self.view_is
-    (changed_within change c.self.inside.runs.items c.args.r c.index_mut-run.result.now c.set_leg.new.self (search rules) c.index_mut-run.ensures.value (c.set_leg.ensures))
+    let change : RunState → RunState =
+    λ run. record run {
+      jobs =
+          changed_at c.args.j (λ job. record job { legs = changed_at c.args.l (λ _. c.args.leg) job.legs }) run.jobs;
+    } in
+    subst (λ (xs : List RunState). slice_set c.self.inside.runs.items c.args.r c.set_leg.new.self
+    ≡ changed_at c.args.r change xs) c.self.view_is
+    (changed_within change c.self.inside.runs.items c.args.r c.index_mut-run.result.now c.set_leg.new.self
+    (search rules) c.index_mut-run.ensures.value (c.set_leg.ensures))
 
 pub returns-else-r-len : goal.returns-else-r-len
 returns-else-r-len c =
-    let change : RunState → RunState = λ run. record run { jobs = changed_at c.args.j (λ job. record job { legs = changed_at c.args.l (λ _. c.args.leg) job.legs }) run.jobs } in
-    subst (λ (xs : List RunState). xs ≡ changed_at c.args.r change xs) c.self.view_is (changed_past change c.self.inside.runs.items c.args.r (search rules))
+    let change : RunState → RunState =
+    λ run. record run {
+      jobs =
+          changed_at c.args.j (λ job. record job { legs = changed_at c.args.l (λ _. c.args.leg) job.legs }) run.jobs;
+    } in
+    subst (λ (xs : List RunState). xs ≡ changed_at c.args.r change xs) c.self.view_is
+    (changed_past change c.self.inside.runs.items c.args.r (search rules))

@@ -9,10 +9,13 @@ use Rattle.run_table.proofs.runs.Runs.settle_job.Goals as goal
 pub returns-then-r-len : goal.returns-then-r-len
 returns-then-r-len c =
     let change : RunState → RunState = λ run. record run { jobs = changed_at c.args.j (settled_as c.args.settled) run.jobs } in
-    subst (λ (xs : List RunState). slice_set c.self.inside.runs.items c.args.r c.settle_job.new.self ≡ changed_at c.args.r change xs) c.self.view_is
-    (changed_within change c.self.inside.runs.items c.args.r c.index_mut-run.result.now c.settle_job.new.self (search rules) c.index_mut-run.ensures.value (c.settle_job.ensures))
+    subst (λ (xs : List RunState). slice_set c.self.inside.runs.items c.args.r c.settle_job.new.self
+    ≡ changed_at c.args.r change xs) c.self.view_is
+    (changed_within change c.self.inside.runs.items c.args.r c.index_mut-run.result.now c.settle_job.new.self
+    (search rules) c.index_mut-run.ensures.value (c.settle_job.ensures))
 
 pub returns-else-r-len : goal.returns-else-r-len
 returns-else-r-len c =
     let change : RunState → RunState = λ run. record run { jobs = changed_at c.args.j (settled_as c.args.settled) run.jobs } in
-    subst (λ (xs : List RunState). xs ≡ changed_at c.args.r change xs) c.self.view_is (changed_past change c.self.inside.runs.items c.args.r (search rules))
+    subst (λ (xs : List RunState). xs ≡ changed_at c.args.r change xs) c.self.view_is
+    (changed_past change c.self.inside.runs.items c.args.r (search rules))
