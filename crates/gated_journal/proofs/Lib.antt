@@ -1,0 +1,5 @@
+mod ClosedGate
+mod Composed
+mod Frames
+mod Grown
+mod OneReading

@@ -1,0 +1,4 @@
+pub mod Appends
+pub mod Choice
+pub mod Layout
+pub mod OnDisk
