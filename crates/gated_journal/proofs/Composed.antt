@@ -27,6 +27,10 @@ pub on_ok : {T E : Type 0} (r : Result T E) {P Q : Type 0} → OnOk r P → (P �
 on_ok (Ok x) p weaker = weaker p
 on_ok (Err e) p weaker = _
 
+pub both_ok : {T E : Type 0} (r : Result T E) {P Q R : Type 0} → OnOk r P → OnOk r Q → (P → Q → R) → OnOk r R
+both_ok (Ok x) p q weaker = weaker p q
+both_ok (Err e) p q weaker = _
+
 module _ {D : Type 0} (moment : D → ℕ) (images_since : D → ℕ → List ℕ → Type 0) (images : D → List ℕ → Type 0) (gate : ℕ) (bytes : List ℕ) where
   -- after the record's write and its sync
   pub written_behind : (old new : D) → EachSince moment images_since old new (From (Torn (gate + 1) (length bytes)) (images old))

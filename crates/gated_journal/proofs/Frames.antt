@@ -40,7 +40,7 @@ module _ (start len : ℕ) where
               ∙ sym (drop-part (at + n) d inside);
         }
 
-    part_held : (at : ℕ) (bytes : List ℕ) → at + length bytes ≤ len → Holds c (start + at) bytes → Holds (part start len c) at bytes
+    pub part_held : (at : ℕ) (bytes : List ℕ) → at + length bytes ≤ len → Holds c (start + at) bytes → Holds (part start len c) at bytes
     part_held at bytes inside held =
         ap (λ (l : List ℕ). take (length bytes) l) (drop-part at c (omega (arith, inside)))
         ∙ take-take (length bytes) (len - at) (drop (start + at) c) (omega (arith, inside)) ∙ held

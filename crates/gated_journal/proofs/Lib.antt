@@ -1,3 +1,4 @@
+mod Areas
 mod ClosedGate
 mod Composed
 mod Frames

@@ -2,7 +2,9 @@
 #![tactic(auto)]
 
 mod append;
+mod area;
 pub mod laws;
 mod side;
 
+pub use area::Area;
 pub use side::Side;
