@@ -9,7 +9,7 @@ use Rattle.gated_journal.specs.Appends.{record_of, IsWhole, Appends}
 use Rattle.gated_journal.specs.Layout.{Head, head_bytes, framed, record_bytes, opened, IsClosed, Fits, Reads}
 use Rattle.gated_journal.proofs.ClosedGate.{same_reading}
 
-record_bytes-push : (bodies : List (List ℕ)) (body : List ℕ) → record_bytes (bodies ++ body ∷ []) ≡ record_bytes bodies ++ 0xA5 ∷ framed body
+pub record_bytes-push : (bodies : List (List ℕ)) (body : List ℕ) → record_bytes (bodies ++ body ∷ []) ≡ record_bytes bodies ++ 0xA5 ∷ framed body
 record_bytes-push [] body = ap (λ (l : List ℕ). 0xA5 ∷ l) (append-nil (framed body))
 record_bytes-push (b ∷ bodies) body =
     ap (λ (l : List ℕ). 0xA5 ∷ framed b ++ l) (record_bytes-push bodies body)
@@ -20,7 +20,7 @@ opened-push head bodies body =
     ap (λ (l : List ℕ). 0xA5 ∷ l)
     (ap (λ (l : List ℕ). head_bytes head ++ l) (record_bytes-push bodies body) ∙ sym (append_assoc (head_bytes head) (record_bytes bodies) (0xA5 ∷ framed body)))
 
-all_short-push : (bodies : List (List ℕ)) (body : List ℕ) → AllByRecursion (λ b. length b < 2 ^ 32) bodies → length body < 2 ^ 32 → AllByRecursion (λ b. length b < 2 ^ 32) (bodies ++ body ∷ [])
+pub all_short-push : (bodies : List (List ℕ)) (body : List ℕ) → AllByRecursion (λ b. length b < 2 ^ 32) bodies → length body < 2 ^ 32 → AllByRecursion (λ b. length b < 2 ^ 32) (bodies ++ body ∷ [])
 all_short-push [] body all short = (short, _)
 all_short-push (b ∷ bodies) body all short = (all.0, all_short-push bodies body all.1 short)
 

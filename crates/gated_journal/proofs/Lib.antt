@@ -4,3 +4,4 @@ mod Composed
 mod Frames
 mod Grown
 mod OneReading
+mod Scanning

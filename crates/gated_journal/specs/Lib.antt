@@ -2,3 +2,4 @@ pub mod Appends
 pub mod Choice
 pub mod Layout
 pub mod OnDisk
+pub mod Scanned

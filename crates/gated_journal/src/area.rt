@@ -19,27 +19,27 @@ impl Area {
     ///
     /// The record's bytes are its body behind its length, and a closed gate. Whatever moment the machine
     /// stops at, the area reads as before, or with the new body behind the others; after `Ok` it has it.
-    pub fn append<D: Disk>(&self, disk: &mut D, at: u64, record: &[u8]) -> Result<(), DiskFault>
+    pub fn append<D: Disk>(&self, disk: &mut D, at: u64, bytes: &[u8]) -> Result<(), DiskFault>
         requires countable { D.fault_count disk.old < u64.MAX }
         requires addressed { self.now.start + self.now.len < 2 ^ 64 }
-        requires fits { at + (length record.now + 1) ≤ self.now.len }
+        requires fits { at + (length bytes.now + 1) ≤ self.now.len }
         // Each image since is one of those before, with any bytes in the record's place and its gate as it
         // was, or with the whole record.
         ensures any_moment { D.honest disk.old → EachSince D.moment D.images_since disk.old disk.new
-            (From (Appends (self.now.start + at) record.now) (D.images disk.old)) }
+            (From (Appends (self.now.start + at) bytes.now) (D.images disk.old)) }
         ensures stable { OnOk result (D.honest disk.old → Only (D.seen disk.new) (D.images disk.new)) }
         ensures reads { (head : Head) (bodies : List (List ℕ)) (body : List ℕ) → D.honest disk.old
-            → Awaits self.now.start self.now.len at record.now (D.images disk.old) head bodies body
+            → Awaits self.now.start self.now.len at bytes.now (D.images disk.old) head bodies body
             → EachSince D.moment D.images_since disk.old disk.new (MayHaveGrown self.now.start self.now.len head bodies body) }
         ensures grown { OnOk result ((head : Head) (bodies : List (List ℕ)) (body : List ℕ) → D.honest disk.old
-            → Awaits self.now.start self.now.len at record.now (D.images disk.old) head bodies body
+            → Awaits self.now.start self.now.len at bytes.now (D.images disk.old) head bodies body
             → ReadsAt self.now.start self.now.len (D.seen disk.new) head (bodies ++ body ∷ [])) }
         ensures no_shorter { D.size disk.old ≤ D.size disk.new }
         ensures calls { D.calls disk.new ≤ D.calls disk.old + 4 }
         ensures faults { CountsFault result (D.fault_count disk.old) (D.fault_count disk.new) }
         ensures honest { D.honest disk.new ↔ D.honest disk.old }
     {
-        append_behind(disk, self.start + at, record)
+        append_behind(disk, self.start + at, bytes)
     }
 
     /// Writes a part of what the area is to hold behind its gate. Nothing is synced.

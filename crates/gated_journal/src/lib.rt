@@ -4,7 +4,9 @@
 mod append;
 mod area;
 pub mod laws;
+mod records;
 mod side;
 
 pub use area::Area;
+pub use records::record_at;
 pub use side::Side;

@@ -1,0 +1,45 @@
+ghost use Rattle.std.specs.Prelude.{◌≡◌, ◌<◌, ◌≤◌, ℕ, List, length, take, drop, IfSome, IsNone};
+ghost use Rattle.std.specs.Int.{from_be_bytes, w32};
+ghost use Rattle.gated_journal.specs.Scanned.{Frames, OpensWith};
+
+use crate::append::OPEN;
+
+/// The number at the front, and what stands behind it.
+fn number_at(bytes: &[u8]) -> Option<(u32, &[u8])>
+    ensures long { IfSome result (λ found. 4 ≤ length bytes.now) }
+    ensures number { IfSome result (λ found. found.0 ≡ from_be_bytes w32 (take 4 bytes.now)) }
+    ensures rest { IfSome result (λ found. found.1.now ≡ drop 4 bytes.now) }
+    ensures none { IsNone result → length bytes.now < 4 }
+{
+    if bytes.len() < 4 {
+        return None;
+    }
+    let (front, rest) = bytes.split_at(4);
+    let number = u32::from_be_bytes([front[0], front[1], front[2], front[3]]);
+    Some((number, rest))
+}
+
+/// The body at the front behind its length, and what stands behind it.
+#[tactic(auto, using(crate::proofs::Scanning::no_frame_short, crate::proofs::Scanning::no_frame_long))]
+fn frame_at(bytes: &[u8]) -> Option<(&[u8], &[u8])>
+    ensures some { IfSome result (λ found. Frames bytes.now found.0.now found.1.now) }
+    ensures none { IsNone result → (body rest : List ℕ) → Frames bytes.now body rest → ⊥ }
+{
+    let (count, rest) = number_at(bytes)?;
+    let count = count as usize;
+    if rest.len() < count {
+        return None;
+    }
+    Some(rest.split_at(count))
+}
+
+/// The body of the open record at the front, and what stands behind it.
+pub fn record_at(bytes: &[u8]) -> Option<(&[u8], &[u8])>
+    ensures some { IfSome result (λ found. OpensWith bytes.now found.0.now found.1.now) }
+    ensures none { IsNone result → (body rest : List ℕ) → OpensWith bytes.now body rest → ⊥ }
+{
+    match bytes {
+        [OPEN, behind @ ..] => frame_at(behind),
+        _ => None,
+    }
+}
