@@ -1,7 +1,8 @@
 -- What an area reads as doesn't depend on what stands behind its first closed gate.
-use Rattle.std.proofs.Common.{◌≡◌, ℕ, ◌+◌, List, [], ◌∷◌, ◌++◌, length, take, drop, refl, sym, ◌∙◌, ap, arith, append_assoc, length-append, take-append-drop}
+use Rattle.std.proofs.Common.{◌≡◌, ℕ, ◌+◌, List, [], ◌∷◌, ◌++◌, length, take, drop, sym, ◌∙◌, ap, append_assoc}
+use Rattle.std.proofs.Common.{length-append, take-append-drop}
 use Rattle.std.proofs.lemmas.List.{take_at}
-use Rattle.gated_journal.specs.Layout.{Head, opened, IsClosed, Fits, Reads}
+use Rattle.gated_journal.specs.Layout.{Head, opened, IsClosed, Reads}
 
 behind : (start rest other : List ℕ) → IsClosed rest → take (length start + 1) other ≡ take (length start + 1) (start ++ rest)
     → (tail : List ℕ) × (other ≡ start ++ tail) × IsClosed tail
@@ -9,7 +10,8 @@ behind start [] other closed same = absurd closed
 behind start (gate ∷ rest) other closed same =
     let n = length start + 1 in
     let front : take n other ≡ start ++ gate ∷ [] =
-    same ∙ ap (λ (l : List ℕ). take n l) (sym (append_assoc start (gate ∷ []) rest)) ∙ take_at (start ++ gate ∷ []) rest n (length-append start (gate ∷ [])) in (
+    same ∙ ap (λ (l : List ℕ). take n l) (sym (append_assoc start (gate ∷ []) rest))
+    ∙ take_at (start ++ gate ∷ []) rest n (length-append start (gate ∷ [])) in (
       gate ∷ drop n other,
       sym (take-append-drop n other) ∙ ap (λ (l : List ℕ). l ++ drop n other) front ∙ append_assoc start (gate ∷ []) (drop n other),
       closed,

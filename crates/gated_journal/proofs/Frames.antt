@@ -1,5 +1,5 @@
 -- A write of a disk, seen from one of its areas.
-use Rattle.std.proofs.Common.{◌≡◌, ◌⊎◌, inl, inr, ℕ, ◌+◌, ◌-◌, ◌≤◌, min, max, List, length, take, drop, sym, ◌∙◌, ap, subst, arith}
+use Rattle.std.proofs.Common.{◌≡◌, ◌⊎◌, inl, inr, ℕ, ◌+◌, ◌-◌, ◌≤◌, min, List, length, take, drop, sym, ◌∙◌, ap, subst, arith}
 use Rattle.std.proofs.lemmas.List.{take-take, drop-take, drop-drop, length-take, length-drop}
 use Rattle.act_disk.specs.Images.{Torn, Holds}
 use Rattle.act_disk.specs.Kept.{rest_kept, range_kept}
@@ -45,15 +45,18 @@ module _ (start len : ℕ) where
         ap (λ (l : List ℕ). take (length bytes) l) (drop-part at c (omega (arith, inside)))
         ∙ take-take (length bytes) (len - at) (drop (start + at) c) (omega (arith, inside)) ∙ held
 
-    pub part_whole : (gate : ℕ) (bytes : List ℕ) → gate + (length bytes + 1) ≤ len → IsWhole (start + gate) bytes d c → IsWhole gate bytes (part start len d) (part start len c)
+    pub part_whole : (gate : ℕ) (bytes : List ℕ) → gate + (length bytes + 1) ≤ len → IsWhole (start + gate) bytes d c
+        → IsWhole gate bytes (part start len d) (part start len c)
     part_whole gate bytes inside whole =
         let place : (start + gate) + 1 ≡ start + (gate + 1) = omega arith in
         record {
           torn = part_torn gate (length bytes + 1) inside whole.torn;
-          held = part_held (gate + 1) bytes (omega (arith, inside)) (ap (λ (k : ℕ). take (length bytes) (drop k c)) (sym place) ∙ whole.held);
+          held = part_held (gate + 1) bytes (omega (arith, inside)) (ap (λ (k : ℕ). take (length bytes) (drop k c)) (sym place)
+              ∙ whole.held);
         }
 
-    pub part_appends : (gate : ℕ) (bytes : List ℕ) → gate + (length bytes + 1) ≤ len → Appends (start + gate) bytes d c → Appends gate bytes (part start len d) (part start len c)
+    pub part_appends : (gate : ℕ) (bytes : List ℕ) → gate + (length bytes + 1) ≤ len → Appends (start + gate) bytes d c
+        → Appends gate bytes (part start len d) (part start len c)
     part_appends gate bytes inside (inl torn) =
         let place : (start + gate) + 1 ≡ start + (gate + 1) = omega arith in
         inl (part_torn (gate + 1) (length bytes) (omega (arith, inside)) (subst (λ (k : ℕ). Torn k (length bytes) d c) place torn))

@@ -1,26 +1,31 @@
 -- What an append makes of what an area reads as.
-use Rattle.std.proofs.Common.{◌≡◌, ◌⊎◌, inl, inr, ℕ, ◌+◌, ◌<◌, ◌≤◌, ◌^◌, List, [], ◌∷◌, ◌++◌, length, get_or, take, drop, refl, sym, ◌∙◌, ap, arith, append_assoc, length-append, take-append-drop}
+use Rattle.std.proofs.Common.{◌≡◌, ◌⊎◌, inl, inr, ℕ, ◌+◌, ◌<◌, ◌≤◌, ◌^◌, List, [], ◌∷◌, ◌++◌, length, get_or, take, drop, refl, sym, ◌∙◌}
+use Rattle.std.proofs.Common.{ap, arith, append_assoc, length-append, take-append-drop}
 use Rattle.std.specs.List.{AllByRecursion}
-use Rattle.std.proofs.lemmas.List.{take_at, drop_more, append-nil, length-take, length-drop}
+use Rattle.std.proofs.lemmas.List.{take_at, drop_more, append-nil}
 use Rattle.std.proofs.lemmas.Bool.{cases_eq}
 use Rattle.act_disk.specs.Images.{Torn, Holds}
 use Rattle.act_disk.specs.Kept.{front_kept}
 use Rattle.gated_journal.specs.Appends.{record_of, IsWhole, Appends}
-use Rattle.gated_journal.specs.Layout.{Head, head_bytes, framed, record_bytes, opened, IsClosed, Fits, Reads}
+use Rattle.gated_journal.specs.Layout.{Head, head_bytes, framed, record_bytes, opened, IsClosed, Reads}
 use Rattle.gated_journal.proofs.ClosedGate.{same_reading}
 
-pub record_bytes-push : (bodies : List (List ℕ)) (body : List ℕ) → record_bytes (bodies ++ body ∷ []) ≡ record_bytes bodies ++ 0xA5 ∷ framed body
+pub record_bytes-push : (bodies : List (List ℕ)) (body : List ℕ)
+    → record_bytes (bodies ++ body ∷ []) ≡ record_bytes bodies ++ 0xA5 ∷ framed body
 record_bytes-push [] body = ap (λ (l : List ℕ). 0xA5 ∷ l) (append-nil (framed body))
 record_bytes-push (b ∷ bodies) body =
     ap (λ (l : List ℕ). 0xA5 ∷ framed b ++ l) (record_bytes-push bodies body)
     ∙ ap (λ (l : List ℕ). 0xA5 ∷ l) (sym (append_assoc (framed b) (record_bytes bodies) (0xA5 ∷ framed body)))
 
-pub opened-push : (head : Head) (bodies : List (List ℕ)) (body : List ℕ) → opened head (bodies ++ body ∷ []) ≡ opened head bodies ++ 0xA5 ∷ framed body
+pub opened-push : (head : Head) (bodies : List (List ℕ)) (body : List ℕ)
+    → opened head (bodies ++ body ∷ []) ≡ opened head bodies ++ 0xA5 ∷ framed body
 opened-push head bodies body =
     ap (λ (l : List ℕ). 0xA5 ∷ l)
-    (ap (λ (l : List ℕ). head_bytes head ++ l) (record_bytes-push bodies body) ∙ sym (append_assoc (head_bytes head) (record_bytes bodies) (0xA5 ∷ framed body)))
+    (ap (λ (l : List ℕ). head_bytes head ++ l) (record_bytes-push bodies body)
+    ∙ sym (append_assoc (head_bytes head) (record_bytes bodies) (0xA5 ∷ framed body)))
 
-pub all_short-push : (bodies : List (List ℕ)) (body : List ℕ) → AllByRecursion (λ b. length b < 2 ^ 32) bodies → length body < 2 ^ 32 → AllByRecursion (λ b. length b < 2 ^ 32) (bodies ++ body ∷ [])
+pub all_short-push : (bodies : List (List ℕ)) (body : List ℕ) → AllByRecursion (λ b. length b < 2 ^ 32) bodies → length body < 2 ^ 32
+    → AllByRecursion (λ b. length b < 2 ^ 32) (bodies ++ body ∷ [])
 all_short-push [] body all short = (short, _)
 all_short-push (b ∷ bodies) body all short = (all.0, all_short-push bodies body all.1 short)
 
@@ -92,6 +97,7 @@ module _ (head : Head) (bodies : List (List ℕ)) (d c : List ℕ) (reads : Read
     pub opened_reads : Holds c used (0xA5 ∷ []) → Reads c head (bodies ++ body ∷ [])
     opened_reads holds = one_more (let first : gate_of ∷ [] ≡ 0xA5 ∷ [] = sym (ap (λ (l : List ℕ). take 1 l) gated) ∙ holds in cc first)
 
-  pub appends_reads : (body : List ℕ) → length body < 2 ^ 32 → Appends used (record_of body) d c → Reads c head bodies ⊎ Reads c head (bodies ++ body ∷ [])
+  pub appends_reads : (body : List ℕ) → length body < 2 ^ 32 → Appends used (record_of body) d c
+      → Reads c head bodies ⊎ Reads c head (bodies ++ body ∷ [])
   appends_reads body short (inl torn) = inl (behind_reads (used + 1) (length (record_of body)) (omega arith) torn)
   appends_reads body short (inr whole) = whole_reads body short whole

@@ -14,7 +14,8 @@ abbrev pub MayHaveGrown : ℕ → ℕ → Head → List (List ℕ) → List ℕ 
 MayHaveGrown start len head bodies body disk = ReadsAt start len disk head bodies ⊎ ReadsAt start len disk head (bodies ++ body ∷ [])
 
 -- In each of these images the area reads so, its first closed gate is at `at`, and the bytes are a record of that body.
-pub record Awaits (start len at : ℕ) (bytes : List ℕ) (images : List ℕ → Type 0) (head : Head) (bodies : List (List ℕ)) (body : List ℕ) : Type 0 where
+pub record Awaits (start len at : ℕ) (bytes : List ℕ) (images : List ℕ → Type 0)
+    (head : Head) (bodies : List (List ℕ)) (body : List ℕ) : Type 0 where
   pub each : (c : List ℕ) → images c → ReadsAt start len c head bodies
   pub gate : length (opened head bodies) ≡ at
   pub framed : bytes ≡ record_of body

@@ -4,7 +4,7 @@ use Rattle.act_disk.specs.Moments.{weakened}
 use Rattle.gated_journal.specs.Appends.{Appends}
 use Rattle.gated_journal.specs.OnDisk.{MayHaveGrown}
 use Rattle.gated_journal.proofs.Areas.{may_have_grown, has_grown}
-use Rattle.gated_journal.proofs.Composed.{on_ok, both_ok}
+use Rattle.gated_journal.proofs.Composed.{both_ok}
 use Rattle.gated_journal.proofs.area.Area.append.Goals as goal
 
 pub returns-clause-reads : goal.returns-clause-reads
