@@ -4,4 +4,5 @@ mod Composed
 mod Frames
 mod Grown
 mod OneReading
+mod Parting
 mod Scanning

@@ -1,6 +1,7 @@
 ghost use Rattle.std.specs.Prelude.{◌≡◌, ◌<◌, ◌≤◌, ℕ, List, length, take, drop, IfSome, IsNone};
 ghost use Rattle.std.specs.Int.{from_be_bytes, w32};
-ghost use Rattle.gated_journal.specs.Scanned.{Frames, OpensWith};
+ghost use Rattle.gated_journal.specs.Scanned.{Frames, OpensWith, Parts};
+ghost use Rattle.gated_journal.specs.Layout.{IsClosed};
 
 use crate::append::OPEN;
 
@@ -40,6 +41,22 @@ pub fn record_at(bytes: &[u8]) -> Option<(&[u8], &[u8])>
 {
     match bytes {
         [OPEN, behind @ ..] => frame_at(behind),
+        _ => None,
+    }
+}
+
+/// What stands behind the open records, where that is a closed gate.
+#[tactic(auto, using(crate::proofs::Parting::parts_more, crate::proofs::Parting::shorter, crate::proofs::Parting::rest_closed))]
+pub(crate) fn behind_records(bytes: &[u8]) -> Option<&[u8]>
+    ensures some { IfSome result (λ rest. IsClosed rest.now × (bodies : List (List ℕ)) × Parts bytes.now bodies rest.now) }
+    ensures none { IsNone result → (bodies : List (List ℕ)) (rest : List ℕ) → Parts bytes.now bodies rest → IsClosed rest → ⊥ }
+{
+    let mut rest = bytes;
+    while let Some((_body, behind)) = record_at(rest) {
+        rest = behind;
+    }
+    match rest.first() {
+        Some(gate) if *gate != OPEN => Some(rest),
         _ => None,
     }
 }
