@@ -1,10 +1,11 @@
-ghost use Rattle.std.specs.Prelude.{◌≡◌, ◌↔◌, ◌+◌, ◌<◌, ◌≤◌, ◌^◌, ℕ, List, [], ◌∷◌, ◌++◌, length, OnOk};
+ghost use Rattle.std.specs.Prelude.{◌≡◌, ◌↔◌, ◌+◌, ◌<◌, ◌≤◌, ◌^◌, ℕ, List, [], ◌∷◌, ◌++◌, length, OnOk, IsOk};
 ghost use Rattle.act_disk.specs.Images.{Torn, IsWritten, Holds, From, Only, EachSince, CountsFault};
 ghost use Rattle.gated_journal.specs.Appends.{Appends};
 ghost use Rattle.gated_journal.specs.Layout.{Head};
 ghost use Rattle.gated_journal.specs.OnDisk.{ReadsAt, MayHaveGrown, Awaits};
 
 use crate::append::{OPEN, append_behind};
+use crate::gate::{CLOSED, Gate};
 use act_disk::{Disk, DiskFault, write_synced};
 
 /// A range of a disk that holds a head and records.
@@ -75,5 +76,26 @@ impl Area {
         ensures honest { D.honest disk.new ↔ D.honest disk.old }
     {
         write_synced(disk, self.start, &[OPEN])
+    }
+
+    /// Closes the area's own gate, and syncs. A gate that is closed already is not written again, since a
+    /// stop inside of that write might leave it open: then no call is made.
+    pub fn close_gate<D: Disk>(&self, disk: &mut D, gate: Gate) -> Result<(), DiskFault>
+        requires countable { D.fault_count disk.old < u64.MAX }
+        ensures same { gate ≡ Gate.Closed → (disk.new ≡ disk.old) × IsOk result }
+        ensures any_moment { gate ≡ Gate.Open → D.honest disk.old → EachSince D.moment D.images_since disk.old disk.new
+            (From (Torn self.now.start 1) (D.images disk.old)) }
+        ensures stable { OnOk result (gate ≡ Gate.Open → D.honest disk.old → Only (D.seen disk.new) (D.images disk.new)) }
+        ensures closed { OnOk result (gate ≡ Gate.Open → D.honest disk.old
+            → IsWritten self.now.start (0 ∷ []) (D.seen disk.old) (D.seen disk.new)) }
+        ensures no_shorter { D.size disk.old ≤ D.size disk.new }
+        ensures calls { D.calls disk.new ≤ D.calls disk.old + 2 }
+        ensures faults { CountsFault result (D.fault_count disk.old) (D.fault_count disk.new) }
+        ensures honest { D.honest disk.new ↔ D.honest disk.old }
+    {
+        match gate {
+            Gate::Open => write_synced(disk, self.start, &[CLOSED]),
+            Gate::Closed => Ok(()),
+        }
     }
 }

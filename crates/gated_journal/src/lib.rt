@@ -3,10 +3,12 @@
 
 mod append;
 mod area;
+mod gate;
 pub mod laws;
 mod records;
 mod side;
 
 pub use area::Area;
+pub use gate::Gate;
 pub use records::record_at;
 pub use side::Side;
