@@ -1,0 +1,25 @@
+-- What an area reads as doesn't depend on what stands behind its first closed gate.
+use Rattle.std.proofs.Common.{◌≡◌, ℕ, ◌+◌, List, [], ◌∷◌, ◌++◌, length, take, drop, sym, ◌∙◌, ap, append_assoc}
+use Rattle.std.proofs.Common.{length-append, take-append-drop}
+use Rattle.std.proofs.lemmas.List.{take_at}
+use Rattle.gated_journal.specs.Layout.{Head, opened, IsClosed, Reads}
+
+behind : (start rest other : List ℕ) → IsClosed rest → take (length start + 1) other ≡ take (length start + 1) (start ++ rest)
+    → (tail : List ℕ) × (other ≡ start ++ tail) × IsClosed tail
+behind start [] other closed same = absurd closed
+behind start (gate ∷ rest) other closed same =
+    let n = length start + 1 in
+    let front : take n other ≡ start ++ gate ∷ [] =
+    same ∙ ap (λ (l : List ℕ). take n l) (sym (append_assoc start (gate ∷ []) rest))
+    ∙ take_at (start ++ gate ∷ []) rest n (length-append start (gate ∷ [])) in (
+      gate ∷ drop n other,
+      sym (take-append-drop n other) ∙ ap (λ (l : List ℕ). l ++ drop n other) front ∙ append_assoc start (gate ∷ []) (drop n other),
+      closed,
+    )
+
+pub same_reading : (area other : List ℕ) (head : Head) (bodies : List (List ℕ)) → Reads area head bodies
+    → take (length (opened head bodies) + 1) other ≡ take (length (opened head bodies) + 1) area → Reads other head bodies
+same_reading area other head bodies reads same =
+    let n = length (opened head bodies) + 1 in
+    let tail = behind (opened head bodies) reads.rest other reads.closed (same ∙ ap (λ (l : List ℕ). take n l) reads.split) in
+    record { rest = tail.0; split = tail.1; closed = tail.2; fits = reads.fits }

@@ -1,0 +1,53 @@
+-- Open records at the front of bytes, and what stands behind them.
+use Rattle.std.proofs.Common.{◌≡◌, ℕ, ◌<◌, ◌^◌, List, [], ◌∷◌, ◌++◌, length, refl, sym, ◌∙◌, ap, subst, arith, append_assoc}
+use Rattle.std.proofs.Common.{length-append, Some, None}
+use Rattle.std.specs.List.{AllByRecursion, slice_get}
+use Rattle.gated_journal.specs.Layout.{framed, record_bytes, IsClosed}
+use Rattle.gated_journal.specs.Scanned.{OpensWith, Parts}
+use Rattle.gated_journal.proofs.Grown.{record_bytes-push, all_short-push}
+use Rattle.gated_journal.proofs.OneReading.{same_frames}
+
+-- one record more
+pub parts_more : (bytes : List ℕ) (bodies : List (List ℕ)) (rest body past : List ℕ) → Parts bytes bodies rest → OpensWith rest body past
+    → Parts bytes (bodies ++ body ∷ []) past
+parts_more bytes bodies rest body past parts opens = record {
+  split = parts.split ∙ ap (λ (l : List ℕ). record_bytes bodies ++ l) opens.split
+      ∙ sym (append_assoc (record_bytes bodies) (0xA5 ∷ framed body) past)
+      ∙ ap (λ (l : List ℕ). l ++ past) (sym (record_bytes-push bodies body));
+  short = all_short-push bodies body parts.short opens.short;
+}
+
+pub shorter : (rest body past : List ℕ) → OpensWith rest body past → length past < length rest
+shorter rest body past opens =
+    omega (arith, ap (λ (l : List ℕ). length l) opens.split, length-append (framed body) past)
+
+-- where no open record stands behind the first ones, and all of them end at a closed gate, that gate stands there
+same_rest : (one two : List (List ℕ)) (r s : List ℕ) → AllByRecursion (λ b. length b < 2 ^ 32) one
+    → AllByRecursion (λ b. length b < 2 ^ 32) two
+    → IsClosed r → ((body past : List ℕ) → OpensWith s body past → ⊥) → record_bytes one ++ r ≡ record_bytes two ++ s → IsClosed s
+same_rest [] [] r s f g closed last same = subst IsClosed same closed
+same_rest [] (b ∷ two) r s f g closed last same = absurd ((subst IsClosed same closed) refl)
+same_rest (a ∷ one) [] r s f g closed last same =
+    absurd (last a (record_bytes one ++ r) (record {
+      split = sym same ∙ ap (λ (l : List ℕ). 0xA5 ∷ l) (append_assoc (framed a) (record_bytes one) r);
+      short = f.0;
+    }))
+same_rest (a ∷ one) (b ∷ two) r s f g closed last same =
+    let tails : (framed a ++ record_bytes one) ++ r ≡ (framed b ++ record_bytes two) ++ s = cc same in
+    let apart : framed a ++ (record_bytes one ++ r) ≡ framed b ++ (record_bytes two ++ s) =
+    sym (append_assoc (framed a) (record_bytes one) r) ∙ tails ∙ append_assoc (framed b) (record_bytes two) s in
+    let frames = same_frames a b (record_bytes one ++ r) (record_bytes two ++ s) f.0 g.0 apart in
+    same_rest one two r s f.1 g.1 closed last frames.1
+
+pub rest_closed : (bytes rest end : List ℕ) (found bodies : List (List ℕ)) → Parts bytes found rest
+    → ((body past : List ℕ) → OpensWith rest body past → ⊥) → Parts bytes bodies end → IsClosed end → IsClosed rest
+rest_closed bytes rest end found bodies so_far last parts closed =
+    same_rest bodies found end rest parts.short so_far.short closed last (sym parts.split ∙ so_far.split)
+
+pub shut_first : (rest : List ℕ) (gate : ℕ) → IsClosed rest → Some gate ≡ slice_get rest 0 → gate ≡ 0xA5 → ⊥
+shut_first [] gate closed is same = closed
+shut_first (x ∷ rest) gate closed is same = closed (cc (is, same))
+
+pub none_first : (rest : List ℕ) → IsClosed rest → None ≡ slice_get rest 0 → ⊥
+none_first [] closed is = closed
+none_first (x ∷ rest) closed is = absurd (cc is)

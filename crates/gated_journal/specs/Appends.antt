@@ -1,0 +1,17 @@
+-- What an append makes of an image: a record written behind the present gate, a sync, and the gate.
+use Rattle.std.specs.Prelude.{◌⊎◌, ℕ, ◌+◌, List, [], ◌∷◌, ◌++◌, length}
+use Rattle.act_disk.specs.Images.{Torn, Holds}
+use Rattle.gated_journal.specs.Layout.{framed}
+
+-- what is written behind the gate: the body behind its length, and a closed gate
+abbrev pub record_of : List ℕ → List ℕ
+record_of body = framed body ++ 0 ∷ []
+
+-- The record is there. Its gate may be any byte.
+pub record IsWhole (gate : ℕ) (bytes old new : List ℕ) : Type 0 where
+  pub torn : Torn gate (length bytes + 1) old new
+  pub held : Holds new (gate + 1) bytes
+
+-- the gate as it was and anything in the place of the record, or the whole record
+abbrev pub Appends : ℕ → List ℕ → List ℕ → List ℕ → Type 0
+Appends gate bytes old new = Torn (gate + 1) (length bytes) old new ⊎ IsWhole gate bytes old new

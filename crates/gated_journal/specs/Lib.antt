@@ -1,0 +1,5 @@
+pub mod Appends
+pub mod Choice
+pub mod Layout
+pub mod OnDisk
+pub mod Scanned

@@ -1,0 +1,101 @@
+ghost use Rattle.std.specs.Prelude.{◌≡◌, ◌↔◌, ◌+◌, ◌<◌, ◌≤◌, ◌^◌, ℕ, List, [], ◌∷◌, ◌++◌, length, OnOk, IsOk};
+ghost use Rattle.act_disk.specs.Images.{Torn, IsWritten, Holds, From, Only, EachSince, CountsFault};
+ghost use Rattle.gated_journal.specs.Appends.{Appends};
+ghost use Rattle.gated_journal.specs.Layout.{Head};
+ghost use Rattle.gated_journal.specs.OnDisk.{ReadsAt, MayHaveGrown, Awaits};
+
+use crate::append::{OPEN, append_behind};
+use crate::gate::{CLOSED, Gate};
+use act_disk::{Disk, DiskFault, write_synced};
+
+/// A range of a disk that holds a head and records.
+#[derive(Clone, Copy)]
+pub struct Area {
+    pub start: u64,
+    pub len: u64,
+}
+
+impl Area {
+    /// Writes a record behind the area's first closed gate, which is at `at`, and opens that gate.
+    ///
+    /// The record's bytes are its body behind its length, and a closed gate. Whatever moment the machine
+    /// stops at, the area reads as before, or with the new body behind the others; after `Ok` it has it.
+    pub fn append<D: Disk>(&self, disk: &mut D, at: u64, bytes: &[u8]) -> Result<(), DiskFault>
+        requires countable { D.fault_count disk.old < u64.MAX }
+        requires addressed { self.now.start + self.now.len < 2 ^ 64 }
+        requires fits { at + (length bytes.now + 1) ≤ self.now.len }
+        // Each image since is one of those before, with any bytes in the record's place and its gate as it
+        // was, or with the whole record.
+        ensures any_moment { D.honest disk.old → EachSince D.moment D.images_since disk.old disk.new
+            (From (Appends (self.now.start + at) bytes.now) (D.images disk.old)) }
+        ensures stable { OnOk result (D.honest disk.old → Only (D.seen disk.new) (D.images disk.new)) }
+        ensures reads { (head : Head) (bodies : List (List ℕ)) (body : List ℕ) → D.honest disk.old
+            → Awaits self.now.start self.now.len at bytes.now (D.images disk.old) head bodies body
+            → EachSince D.moment D.images_since disk.old disk.new (MayHaveGrown self.now.start self.now.len head bodies body) }
+        ensures grown { OnOk result ((head : Head) (bodies : List (List ℕ)) (body : List ℕ) → D.honest disk.old
+            → Awaits self.now.start self.now.len at bytes.now (D.images disk.old) head bodies body
+            → ReadsAt self.now.start self.now.len (D.seen disk.new) head (bodies ++ body ∷ [])) }
+        ensures no_shorter { D.size disk.old ≤ D.size disk.new }
+        ensures calls { D.calls disk.new ≤ D.calls disk.old + 4 }
+        ensures faults { CountsFault result (D.fault_count disk.old) (D.fault_count disk.new) }
+        ensures honest { D.honest disk.new ↔ D.honest disk.old }
+    {
+        append_behind(disk, self.start + at, bytes)
+    }
+
+    /// Writes a part of what the area is to hold behind its gate. Nothing is synced.
+    pub fn put<D: Disk>(&self, disk: &mut D, at: u64, bytes: &[u8]) -> Result<(), DiskFault>
+        requires countable { D.fault_count disk.old < u64.MAX }
+        requires addressed { self.now.start + self.now.len < 2 ^ 64 }
+        requires behind { 0 < at }
+        requires fits { at + length bytes.now ≤ self.now.len }
+        ensures any_moment { D.honest disk.old → EachSince D.moment D.images_since disk.old disk.new
+            (From (Torn (self.now.start + at) (length bytes.now)) (D.images disk.old)) }
+        ensures written { OnOk result (D.honest disk.old
+            → IsWritten (self.now.start + at) bytes.now (D.seen disk.old) (D.seen disk.new)) }
+        ensures no_shorter { D.size disk.old ≤ D.size disk.new }
+        ensures calls { D.calls disk.new ≡ D.calls disk.old + 1 }
+        ensures faults { CountsFault result (D.fault_count disk.old) (D.fault_count disk.new) }
+        ensures honest { D.honest disk.new ↔ D.honest disk.old }
+    {
+        disk.write_at(self.start + at, bytes)
+    }
+
+    /// Opens the area's own gate, and syncs.
+    ///
+    /// Whatever moment the machine stops at, the area stands as it was but for its gate.
+    pub fn open_gate<D: Disk>(&self, disk: &mut D) -> Result<(), DiskFault>
+        requires countable { D.fault_count disk.old < u64.MAX }
+        ensures any_moment { D.honest disk.old → EachSince D.moment D.images_since disk.old disk.new
+            (From (Torn self.now.start 1) (D.images disk.old)) }
+        ensures stable { OnOk result (D.honest disk.old → Only (D.seen disk.new) (D.images disk.new)) }
+        ensures open { OnOk result (D.honest disk.old → IsWritten self.now.start (0xA5 ∷ []) (D.seen disk.old) (D.seen disk.new)) }
+        ensures no_shorter { D.size disk.old ≤ D.size disk.new }
+        ensures calls { D.calls disk.new ≤ D.calls disk.old + 2 }
+        ensures faults { CountsFault result (D.fault_count disk.old) (D.fault_count disk.new) }
+        ensures honest { D.honest disk.new ↔ D.honest disk.old }
+    {
+        write_synced(disk, self.start, &[OPEN])
+    }
+
+    /// Closes the area's own gate, and syncs. A gate that is closed already is not written again, since a
+    /// stop inside of that write might leave it open: then no call is made.
+    pub fn close_gate<D: Disk>(&self, disk: &mut D, gate: Gate) -> Result<(), DiskFault>
+        requires countable { D.fault_count disk.old < u64.MAX }
+        ensures same { gate ≡ Gate.Closed → (disk.new ≡ disk.old) × IsOk result }
+        ensures any_moment { gate ≡ Gate.Open → D.honest disk.old → EachSince D.moment D.images_since disk.old disk.new
+            (From (Torn self.now.start 1) (D.images disk.old)) }
+        ensures stable { OnOk result (gate ≡ Gate.Open → D.honest disk.old → Only (D.seen disk.new) (D.images disk.new)) }
+        ensures closed { OnOk result (gate ≡ Gate.Open → D.honest disk.old
+            → IsWritten self.now.start (0 ∷ []) (D.seen disk.old) (D.seen disk.new)) }
+        ensures no_shorter { D.size disk.old ≤ D.size disk.new }
+        ensures calls { D.calls disk.new ≤ D.calls disk.old + 2 }
+        ensures faults { CountsFault result (D.fault_count disk.old) (D.fault_count disk.new) }
+        ensures honest { D.honest disk.new ↔ D.honest disk.old }
+    {
+        match gate {
+            Gate::Open => write_synced(disk, self.start, &[CLOSED]),
+            Gate::Closed => Ok(()),
+        }
+    }
+}

@@ -1,0 +1,62 @@
+ghost use Rattle.std.specs.Prelude.{◌≡◌, ◌<◌, ◌≤◌, ℕ, List, length, take, drop, IfSome, IsNone};
+ghost use Rattle.std.specs.Int.{from_be_bytes, w32};
+ghost use Rattle.gated_journal.specs.Scanned.{Frames, OpensWith, Parts};
+ghost use Rattle.gated_journal.specs.Layout.{IsClosed};
+
+use crate::append::OPEN;
+
+/// The number at the front, and what stands behind it.
+fn number_at(bytes: &[u8]) -> Option<(u32, &[u8])>
+    ensures long { IfSome result (λ found. 4 ≤ length bytes.now) }
+    ensures number { IfSome result (λ found. found.0 ≡ from_be_bytes w32 (take 4 bytes.now)) }
+    ensures rest { IfSome result (λ found. found.1.now ≡ drop 4 bytes.now) }
+    ensures none { IsNone result → length bytes.now < 4 }
+{
+    if bytes.len() < 4 {
+        return None;
+    }
+    let (front, rest) = bytes.split_at(4);
+    let number = u32::from_be_bytes([front[0], front[1], front[2], front[3]]);
+    Some((number, rest))
+}
+
+/// The body at the front behind its length, and what stands behind it.
+#[tactic(auto, using(crate::proofs::Scanning::no_frame_short, crate::proofs::Scanning::no_frame_long))]
+fn frame_at(bytes: &[u8]) -> Option<(&[u8], &[u8])>
+    ensures some { IfSome result (λ found. Frames bytes.now found.0.now found.1.now) }
+    ensures none { IsNone result → (body rest : List ℕ) → Frames bytes.now body rest → ⊥ }
+{
+    let (count, rest) = number_at(bytes)?;
+    let count = count as usize;
+    if rest.len() < count {
+        return None;
+    }
+    Some(rest.split_at(count))
+}
+
+/// The body of the open record at the front, and what stands behind it.
+pub fn record_at(bytes: &[u8]) -> Option<(&[u8], &[u8])>
+    ensures some { IfSome result (λ found. OpensWith bytes.now found.0.now found.1.now) }
+    ensures none { IsNone result → (body rest : List ℕ) → OpensWith bytes.now body rest → ⊥ }
+{
+    match bytes {
+        [OPEN, behind @ ..] => frame_at(behind),
+        _ => None,
+    }
+}
+
+/// What stands behind the open records, where that is a closed gate.
+#[tactic(auto, using(crate::proofs::Parting::parts_more, crate::proofs::Parting::shorter, crate::proofs::Parting::rest_closed))]
+pub(crate) fn behind_records(bytes: &[u8]) -> Option<&[u8]>
+    ensures some { IfSome result (λ rest. IsClosed rest.now × (bodies : List (List ℕ)) × Parts bytes.now bodies rest.now) }
+    ensures none { IsNone result → (bodies : List (List ℕ)) (rest : List ℕ) → Parts bytes.now bodies rest → IsClosed rest → ⊥ }
+{
+    let mut rest = bytes;
+    while let Some((_body, behind)) = record_at(rest) {
+        rest = behind;
+    }
+    match rest.first() {
+        Some(gate) if *gate != OPEN => Some(rest),
+        _ => None,
+    }
+}
