@@ -44,8 +44,7 @@ space-operands ps os (o ∷ more_os) more after rest text pieces T are spaces sp
       between = j.between;
       inner = j.inner;
       spaces_before = (refl, j.spaces_before);
-      spaces_between =
-          j.spaces_between;
+      spaces_between = j.spaces_between;
       is_operand = j.is_operand;
       whole = ap (λ t. 32 ∷ t) j.whole;
     } in
@@ -86,8 +85,7 @@ space-names ps os names (n ∷ more) dotted rest text T are whole goes_on =
       between = d.between;
       letters = d.letters;
       spaces_before = (refl, d.spaces_before);
-      spaces_between =
-          d.spaces_between;
+      spaces_between = d.spaces_between;
       is_name = d.is_name;
       named = d.named;
       whole = ap (λ t. 32 ∷ t) d.whole;
@@ -140,8 +138,7 @@ dot-after_name ps os names text T f =
       letters = f.letters;
       spaces_before = tt;
       spaces_between = f.spaces;
-      is_name =
-          f.is_name;
+      is_name = f.is_name;
       named = refl;
       whole = refl;
     } in
@@ -341,8 +338,7 @@ step-after_bar ps os c text T ih true e h =
       inner = k.inner;
       spaces_before = tt;
       spaces_between = k.spaces;
-      is_operand =
-          k.is_operand;
+      is_operand = k.is_operand;
       whole = refl;
     } in
     record {
@@ -419,8 +415,7 @@ open-braced ps w text T k =
       more = g.more;
       after = g.after;
       spaces_before = k.spaces;
-      spaces_after =
-          g.spaces;
+      spaces_after = g.spaces;
       is_operand = k.is_operand;
       are_more = g.are_more;
       whole = refl;

@@ -10,8 +10,7 @@ old c = record {
   first = c.self.inside.first.items;
   calls = c.self.inside.calls.items;
   faults = c.self.inside.faults;
-  made =
-      c.self.inside.tally.calls;
+  made = c.self.inside.tally.calls;
 }
 
 abbrev new : goal.After-counted → Record
@@ -19,8 +18,7 @@ new c = record {
   first = c.self.inside.first.items;
   calls = c.write_noted-outcome.new.calls.items;
   faults = c.counted.new.faults;
-  made =
-      c.count.new.self.calls;
+  made = c.count.new.self.calls;
 }
 
 pub returns-clause-written : goal.returns-clause-written

@@ -13,17 +13,15 @@ pub returns-clause-within : goal.returns-clause-within
 returns-clause-within c =
     hit _ _ _ _ (changed
     (record (out-Properties c.args.self.now) {
-      inner =
-          c.insert.new.self;
+      inner = c.insert.new.self;
     }) c.args.self.now c.args.inner _ c.args.name.now refl c.in_ok-insert.ensures.updates
     (c.in_ok-name.ensures.ok ∙ c.as_str.ensures))
 
 pub returns-clause-others : goal.returns-clause-others
 returns-clause-others c =
     behind-others _ _ _ _
-    (changed (record
-    (out-Properties c.args.self.now) {
-      inner =
-          c.insert.new.self;
+    (changed
+    (record (out-Properties c.args.self.now) {
+      inner = c.insert.new.self;
     }) c.args.self.now c.args.inner _ c.args.name.now refl c.in_ok-insert.ensures.updates
     (c.in_ok-name.ensures.ok ∙ c.as_str.ensures))
