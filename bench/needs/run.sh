@@ -17,4 +17,5 @@ cp "$here/main.rt.txt" "$work/crates/needs_bench/src/main.rt"
 [ -f "$top/HANDLES" ] && cp "$top/HANDLES" "$work/"
 cd "$work/crates/needs_bench"
 rt fmt > /dev/null
-rt run 2>&1 | grep -E '^[0-9]+ jobs'
+rt run > "$work/log" 2>&1 || { cat "$work/log" >&2; exit 1; }
+grep -E '^[0-9]+ jobs' "$work/log"
