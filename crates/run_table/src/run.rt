@@ -100,7 +100,9 @@ impl Run {
 
     /// The job at a place opens, with all legs of its plan.
     pub(crate) fn open_job(&mut self, j: usize)
-        ensures { self.new ≡ record self.old { jobs = changed_at j (opened (legs_in_plan (plan_of self.old.admitted.body) j)) self.old.jobs } }
+        ensures { self.new ≡ record self.old {
+          jobs = changed_at j (opened (legs_in_plan (plan_of self.old.admitted.body) j)) self.old.jobs;
+        } }
     {
         if j < self.jobs.len() {
             let job = &mut self.jobs[j];
@@ -120,7 +122,9 @@ impl Run {
 
     /// Puts the leg in the place of the one that is there, if one is.
     pub(crate) fn set_leg(&mut self, j: usize, l: usize, leg: Leg)
-        ensures { self.new ≡ record self.old { jobs = changed_at j (λ job. record job { legs = changed_at l (λ _. leg) job.legs }) self.old.jobs } }
+        ensures { self.new ≡ record self.old {
+          jobs = changed_at j (λ job. record job { legs = changed_at l (λ _. leg) job.legs }) self.old.jobs;
+        } }
     {
         if j < self.jobs.len() {
             let job = &mut self.jobs[j];

@@ -37,8 +37,10 @@ pub fn answer_to_claim(
     runner: Option<&Runner>,
     claim: &Claim,
 ) -> Result<Option<Reply>, Refusal>
-    ensures gives { Gives (λ r. r) result (Ok (answer_of_turn (option_map (λ r. r.now) runner.entry) claim.now.number (is_last_claim claim.now))) }
-    ensures answers { needs_text (answer_of_turn (option_map (λ r. r.now) runner.entry) claim.now.number (is_last_claim claim.now)) ≡ false → IsOk result }
+    ensures gives { Gives (λ r. r) result
+        (Ok (answer_of_turn (option_map (λ r. r.now) runner.entry) claim.now.number (is_last_claim claim.now))) }
+    ensures answers { needs_text (answer_of_turn (option_map (λ r. r.now) runner.entry) claim.now.number (is_last_claim claim.now)) ≡ false
+        → IsOk result }
 {
     match runner {
         None => Ok(turn_answer(0, claim.number)),
@@ -54,8 +56,10 @@ pub fn answer_to_report(
     runner: Option<&Runner>,
     report: &Done,
 ) -> Result<Option<Reply>, Refusal>
-    ensures gives { Gives (λ r. r) result (Ok (answer_of_turn (option_map (λ r. r.now) runner.entry) report.now.number (is_last_report report.now))) }
-    ensures answers { needs_text (answer_of_turn (option_map (λ r. r.now) runner.entry) report.now.number (is_last_report report.now)) ≡ false → IsOk result }
+    ensures gives { Gives (λ r. r) result
+        (Ok (answer_of_turn (option_map (λ r. r.now) runner.entry) report.now.number (is_last_report report.now))) }
+    ensures answers { needs_text (answer_of_turn (option_map (λ r. r.now) runner.entry) report.now.number (is_last_report report.now)) ≡ false
+        → IsOk result }
 {
     match runner {
         None => Ok(turn_answer(0, report.number)),

@@ -7,4 +7,5 @@ use Rattle.wf_reader.proofs.fields.check_contexts.Given as goal
 -- the members so far have no fault
 abbrev pub invariant-loop-name : goal.invariant-loop-name
 invariant-loop-name l =
-    flat_map (λ name. optional object_faults (get name.now (view l.object))) l.names ≡ flat_map (λ name. optional object_faults (get name.now (view l.object))) (drop l.name-index l.names)
+    flat_map (λ name. optional object_faults (get name.now (view l.object))) l.names
+    ≡ flat_map (λ name. optional object_faults (get name.now (view l.object))) (drop l.name-index l.names)

@@ -7,4 +7,5 @@ use Rattle.wf_reader.proofs.fields.refuse_each_left_out.Given as goal
 -- the members so far have no fault
 abbrev pub invariant-loop-name : goal.invariant-loop-name
 invariant-loop-name l =
-    flat_map (λ name. left_out (get name.now (view l.object))) l.names ≡ flat_map (λ name. left_out (get name.now (view l.object))) (drop l.name-index l.names)
+    flat_map (λ name. left_out (get name.now (view l.object))) l.names
+    ≡ flat_map (λ name. left_out (get name.now (view l.object))) (drop l.name-index l.names)

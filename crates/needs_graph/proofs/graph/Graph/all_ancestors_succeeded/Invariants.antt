@@ -6,4 +6,5 @@ use Rattle.needs_graph.proofs.graph.Graph.all_ancestors_succeeded.Given as goal
 -- no ancestor so far lacks success
 abbrev pub invariant-loop-other : goal.invariant-loop-other
 invariant-loop-other g l =
-    (k : ℕ) → k < l.other → (is_ancestor l.self l.job k && not (has_succeeded (get_or (map g.J.HasResult.job_result l.jobs) k None))) ≡ false
+    (k : ℕ) → k < l.other
+    → (is_ancestor l.self l.job k && not (has_succeeded (get_or (map g.J.HasResult.job_result l.jobs) k None))) ≡ false
