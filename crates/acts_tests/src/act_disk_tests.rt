@@ -202,7 +202,7 @@ fn disks_can_be_sent(rt: HostRuntime) -> Result<(), Fail> {
     let disk = sent(FuseDisk::once(MemoryDisk::new(rt.alloc()), 0));
     let inner = sent(disk.into_inner());
     assert_eq!(rt; inner.faults(), 0);
-    let opened = RealDisk::open(&rt, "act_disk_no_such_folder/disk").map(|disk| sent(disk));
+    let opened = RealDisk::open(&rt, "act_disk_no_such_folder/disk");
     assert!(rt; is_61(opened));
     Ok(())
 }
