@@ -192,21 +192,6 @@ fn write_and_sync_are_two_calls(rt: HostRuntime) -> Result<(), Fail> {
     Ok(())
 }
 
-/// A disk that another thread may have.
-fn sent<D: Disk + Send>(disk: D) -> D {
-    disk
-}
-
-#[test]
-fn disks_can_be_sent(rt: HostRuntime) -> Result<(), Fail> {
-    let disk = sent(FuseDisk::once(MemoryDisk::new(rt.alloc()), 0));
-    let inner = sent(disk.into_inner());
-    assert_eq!(rt; inner.faults(), 0);
-    let opened = RealDisk::open(&rt, "act_disk_no_such_folder/disk");
-    assert!(rt; is_61(opened));
-    Ok(())
-}
-
 #[test]
 fn fault_is_refusal_51(rt: HostRuntime) {
     let refusal: Refusal = DiskFault.into();
