@@ -3,6 +3,9 @@ mod ClosedGate
 mod Composed
 mod Frames
 mod Grown
+mod Heads
+mod Loaded
 mod OneReading
 mod Parting
 mod Scanning
+mod Scans

@@ -21,7 +21,7 @@ same_number_4 m n x y fits_m fits_n same =
       parts.1,
     )
 
-same_number_8 : (m n : ℕ) (x y : List ℕ) → m < 2 ^ 64 → n < 2 ^ 64 → to_be_bytes w64 m ++ x ≡ to_be_bytes w64 n ++ y → (m ≡ n) × (x ≡ y)
+pub same_number_8 : (m n : ℕ) (x y : List ℕ) → m < 2 ^ 64 → n < 2 ^ 64 → to_be_bytes w64 m ++ x ≡ to_be_bytes w64 n ++ y → (m ≡ n) × (x ≡ y)
 same_number_8 m n x y fits_m fits_n same =
     let parts = same_parts (to_be_bytes w64 m) (to_be_bytes w64 n) x y refl same in (
       sym (from_be_bytes-to_be_bytes_8 m fits_m) ∙ ap (λ (l : List ℕ). from_be_bytes w64 l) parts.0
@@ -54,7 +54,7 @@ same_bodies (a ∷ one) (b ∷ two) r s fits_one fits_two cr cs same =
     ap (λ (l : List ℕ). l ∷ one) frames.0 ∙ ap (λ (l : List (List ℕ)). b ∷ l) others
 
 -- a head and what stands behind it, its number and its text apart
-apart : (head : Head) (rest : List ℕ)
+pub apart : (head : Head) (rest : List ℕ)
     → head_bytes head ++ rest ≡ head.version ∷ to_be_bytes w64 head.generation ++ (to_be_bytes w64 (length head.text) ++
     (head.text ++ rest))
 apart head rest =
@@ -66,7 +66,7 @@ apart head rest =
 abbrev made : ℕ → ℕ → List ℕ → Head
 made version generation text = record { version = version; generation = generation; text = text }
 
-same_head : (one two : Head) (x y : List ℕ) → one.generation < 2 ^ 64 → two.generation < 2 ^ 64 → length one.text < 2 ^ 64
+pub same_head : (one two : Head) (x y : List ℕ) → one.generation < 2 ^ 64 → two.generation < 2 ^ 64 → length one.text < 2 ^ 64
     → length two.text < 2 ^ 64
     → head_bytes one ++ x ≡ head_bytes two ++ y → (one ≡ two) × (x ≡ y)
 same_head one two x y g1 g2 t1 t2 same =

@@ -51,3 +51,16 @@ shut_first (x ∷ rest) gate closed is same = closed (cc (is, same))
 pub none_first : (rest : List ℕ) → IsClosed rest → None ≡ slice_get rest 0 → ⊥
 none_first [] closed is = closed
 none_first (x ∷ rest) closed is = absurd (cc is)
+
+-- where no open record stands behind the parted ones, these are all
+pub all_parted : (bodies parted : List (List ℕ)) (rest : List ℕ) → AllByRecursion (λ b. length b < 2 ^ 32) bodies
+    → Parts (record_bytes bodies) parted rest → ((body past : List ℕ) → OpensWith rest body past → ⊥) → parted ≡ bodies
+all_parted [] [] rest short parts last = refl
+all_parted [] (p ∷ parted) rest short parts last = cc parts.split
+all_parted (b ∷ bodies) [] rest short parts last = absurd (last b (record_bytes bodies) (record { split = sym parts.split; short = short.0 }))
+all_parted (b ∷ bodies) (p ∷ parted) rest short parts last =
+    let tails : framed b ++ record_bytes bodies ≡ (framed p ++ record_bytes parted) ++ rest = cc parts.split in
+    let frames = same_frames b p (record_bytes bodies) (record_bytes parted ++ rest) short.0 parts.short.0
+    (tails ∙ append_assoc (framed p) (record_bytes parted) rest) in
+    let others = all_parted bodies parted rest short.1 (record { split = frames.1; short = parts.short.1 }) last in
+    ap (λ (l : List ℕ). l ∷ parted) (sym frames.0) ∙ ap (λ (l : List (List ℕ)). b ∷ l) others

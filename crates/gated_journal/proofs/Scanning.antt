@@ -11,7 +11,7 @@ use Rattle.gated_journal.specs.Scanned.{Frames}
 abbrev pub AreBytes : List ℕ → Type 0
 AreBytes bytes = (i : ℕ) → get_or bytes i 0 < 256
 
-AreBytes-take : (n : ℕ) (bytes : List ℕ) → AreBytes bytes → AreBytes (take n bytes)
+pub AreBytes-take : (n : ℕ) (bytes : List ℕ) → AreBytes bytes → AreBytes (take n bytes)
 AreBytes-take n bytes are i =
     elim (cases_lt i n) [
       | inl below ↦ rw (get_or-take n bytes i 0 below) (are i)

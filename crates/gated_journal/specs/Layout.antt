@@ -1,8 +1,7 @@
 -- The layout of an area: a gate, a head, and records, each of them behind a gate of its own.
 --
 -- A gate is one byte: open where it is A5, and closed where it is any other. Numbers stand with their highest byte first. What stands
--- behind the first
--- closed gate of a record is not there.
+-- behind the first closed gate of a record is not there.
 use Rattle.std.specs.Prelude.{◌≡◌, ◌≢◌, ℕ, ◌<◌, ◌^◌, List, [], ◌∷◌, ◌++◌, length}
 use Rattle.std.specs.List.{AllByRecursion}
 use Rattle.std.specs.Int.{to_be_bytes, w32, w64}

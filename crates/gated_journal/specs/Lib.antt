@@ -3,3 +3,5 @@ pub mod Choice
 pub mod Layout
 pub mod OnDisk
 pub mod Scanned
+pub mod ScannedHead
+pub mod Spelled

@@ -4,11 +4,17 @@
 mod append;
 mod area;
 mod gate;
+mod head;
 pub mod laws;
+mod read;
+pub mod record_laws;
 mod records;
+mod scanned;
 mod side;
 
 pub use area::Area;
 pub use gate::Gate;
+pub use head::AreaHead;
 pub use records::record_at;
+pub use scanned::{ScannedArea, scan};
 pub use side::Side;

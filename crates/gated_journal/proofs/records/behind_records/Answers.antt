@@ -3,13 +3,15 @@ use Rattle.std.specs.Option.{option_copied}
 use Rattle.gated_journal.specs.Scanned.{OpensWith}
 use Rattle.gated_journal.proofs.Parting.{parts_more, rest_closed, shut_first, none_first}
 use Rattle.gated_journal.proofs.records.behind_records.Goals as goal
-use Rattle.gated_journal.proofs.records.behind_records.Goals.{in_default-first-via-in-Some-first+else-gate, in_default-first-via-in_default-first}
+use Rattle.gated_journal.proofs.records.behind_records.Goals.{in_default-first-via-in-Some-first+else-gate as shut}
+use Rattle.gated_journal.proofs.records.behind_records.Goals.{in_default-first-via-in_default-first as none_left}
 
 pub loop-body-preserved : goal.loop-body-preserved
 loop-body-preserved c =
     let so_far = c.loop-body.invariant in
     let body = c.in-Some._body.now in
-    (so_far.0 ++ body ∷ [], parts_more c.args.bytes.now so_far.0 c.loop-body.rest.now body c.in-Some.behind.now so_far.1 c.in-Some.ensures.some)
+    let more = parts_more c.args.bytes.now so_far.0 c.loop-body.rest.now body c.in-Some.behind.now so_far.1 c.in-Some.ensures.some in
+    (so_far.0 ++ body ∷ [], more)
 
 pub returns-in_default-first-clause-none : goal.returns-in_default-first-clause-none
 returns-in_default-first-clause-none c = λ _ bodies end parts ends.
@@ -18,6 +20,6 @@ returns-in_default-first-clause-none c = λ _ bodies end parts ends.
     let last : (body past : List ℕ) → OpensWith rest body past → ⊥ = c.record_at.ensures.none (search rules) in
     let closed = rest_closed c.args.bytes.now rest end so_far.0 bodies so_far.1 last parts ends in
     elim c.in_default-first.branch [
-      | in_default-first-via-in-Some-first+else-gate w ↦ shut_first rest w.in-Some-first.gate.now closed w.in-Some-first.ensures.value w.if-gate.false
-      | in_default-first-via-in_default-first w ↦ none_first rest closed (ap option_copied (sym w.in_default-first.is) ∙ c.first.ensures.value)
+      | shut w ↦ shut_first rest w.in-Some-first.gate.now closed w.in-Some-first.ensures.value w.if-gate.false
+      | none_left w ↦ none_first rest closed (ap option_copied (sym w.in_default-first.is) ∙ c.first.ensures.value)
     ]

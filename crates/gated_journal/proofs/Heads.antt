@@ -1,0 +1,117 @@
+-- What the head of an area is read as is what stands there.
+use Rattle.std.proofs.Common.{◌≡◌, ℕ, suc, ◌+◌, ◌<◌, ◌≤◌, ◌^◌, List, [], ◌∷◌, ◌++◌, length, take, drop, refl, sym, ◌∙◌, ap, subst}
+use Rattle.std.proofs.Common.{arith, append_assoc, length-append, take-append-drop}
+use Rattle.std.specs.Prelude.{slice_index_or}
+use Rattle.std.specs.Int.{from_be_bytes, to_be_bytes, w64}
+use Rattle.std.proofs.lemmas.List.{length-take, take_at, drop_at}
+use Rattle.std.proofs.lemmas.Nat.{be_bytes_8, from_be_bytes-to_be_bytes_8}
+use Rattle.gated_journal.specs.Layout.{Head, head_bytes}
+use Rattle.gated_journal.specs.Scanned.{HasNumber, HasText, HasHead, HasFront}
+use Rattle.gated_journal.proofs.OneReading.{same_number_8, same_head, apart}
+use Rattle.gated_journal.proofs.Scanning.{AreBytes, AreBytes-take}
+
+-- eight bytes spell the number that they are read as
+pub has_number : (bytes : List ℕ) (n : ℕ) (rest : List ℕ) → AreBytes bytes → 8 ≤ length bytes → n < 2 ^ 64
+    → n ≡ from_be_bytes w64 (take 8 bytes) → rest ≡ drop 8 bytes → HasNumber bytes n rest
+has_number bytes n rest are long fits is rest_is = record {
+  split = sym (take-append-drop 8 bytes)
+      ∙ ap (λ (l : List ℕ). l ++ drop 8 bytes) (sym (be_bytes_8 (take 8 bytes) n (omega (arith, length-take 8 bytes, long))
+      (AreBytes-take 8 bytes are) is))
+      ∙ ap (λ (l : List ℕ). to_be_bytes w64 n ++ l) (sym rest_is);
+  fits = fits;
+}
+
+pub no_number : (bytes : List ℕ) (n : ℕ) (rest : List ℕ) → length bytes < 8 → HasNumber bytes n rest → ⊥
+no_number bytes n rest few has =
+    let eight : length (to_be_bytes w64 n) ≡ 8 = refl in
+    omega (arith, few, eight, ap (λ (l : List ℕ). length l) has.split, length-append (to_be_bytes w64 n) rest)
+
+one_number : (bytes : List ℕ) (m n : ℕ) (x y : List ℕ) → HasNumber bytes m x → HasNumber bytes n y → (m ≡ n) × (x ≡ y)
+one_number bytes m n x y one two = same_number_8 m n x y one.fits two.fits (sym one.split ∙ two.split)
+
+-- the number of bytes that the number says, and what stands behind them
+pub has_text : (bytes : List ℕ) (n : ℕ) (behind text rest : List ℕ) → HasNumber bytes n behind → n ≤ length behind
+    → text ≡ take n behind → rest ≡ drop n behind → HasText bytes text rest
+has_text bytes n behind text rest has within text_is rest_is =
+    let many : length text ≡ n = omega (arith, ap (λ (l : List ℕ). length l) text_is, length-take n behind, within) in
+    let parted : behind ≡ text ++ rest = sym (take-append-drop n behind) ∙ ap (λ (l : List ℕ). l ++ drop n behind) (sym text_is)
+    ∙ ap (λ (l : List ℕ). text ++ l) (sym rest_is) in
+    record {
+      split = has.split
+          ∙ ap (λ (l : List ℕ). to_be_bytes w64 n ++ l) parted
+          ∙ ap (λ (k : ℕ). to_be_bytes w64 k ++ text ++ rest) (sym many);
+      fits = omega (arith, many, has.fits);
+    }
+
+text_number : (bytes text rest : List ℕ) → HasText bytes text rest → HasNumber bytes (length text) (text ++ rest)
+text_number bytes text rest has = record { split = has.split; fits = has.fits }
+
+pub no_text : (bytes text rest : List ℕ) → length bytes < 8 → HasText bytes text rest → ⊥
+no_text bytes text rest few has = no_number bytes (length text) (text ++ rest) few (text_number bytes text rest has)
+
+-- and the number at the front is read as it
+number_read : (bytes : List ℕ) (n : ℕ) (rest : List ℕ) → HasNumber bytes n rest
+    → (from_be_bytes w64 (take 8 bytes) ≡ n) × (drop 8 bytes ≡ rest)
+number_read bytes n rest has = (
+  ap (λ (l : List ℕ). from_be_bytes w64 l) (ap (λ (l : List ℕ). take 8 l) has.split ∙ take_at (to_be_bytes w64 n) rest 8 refl)
+      ∙ from_be_bytes-to_be_bytes_8 n has.fits,
+  ap (λ (l : List ℕ). drop 8 l) has.split ∙ drop_at (to_be_bytes w64 n) rest 8 refl,
+)
+
+pub no_text_long : (bytes text rest : List ℕ) (n : ℕ) → n ≡ from_be_bytes w64 (take 8 bytes) → length (drop 8 bytes) < n
+    → HasText bytes text rest → ⊥
+no_text_long bytes text rest n is long has =
+    let read = number_read bytes (length text) (text ++ rest) (text_number bytes text rest has) in
+    omega (arith, is, long, read.0, ap (λ (l : List ℕ). length l) read.1, length-append text rest)
+
+-- a version, a number and a text are a head
+pub has_head : (version : ℕ) (behind : List ℕ) (n : ℕ) (past text rest : List ℕ) → HasNumber behind n past → HasText past text rest
+    → HasHead (version ∷ behind) (record { version = version; generation = n; text = text }) rest
+has_head version behind n past text rest number has = record {
+  split = ap (λ (l : List ℕ). version ∷ l) (number.split ∙ ap (λ (l : List ℕ). to_be_bytes w64 n ++ l) has.split)
+      ∙ sym (apart (record { version = version; generation = n; text = text }) rest);
+  generation = number.fits;
+  text = has.fits;
+}
+
+pub has_head_there : (bytes behind : List ℕ) (n : ℕ) (past text rest : List ℕ) → AreBytes bytes → 1 ≤ length bytes → behind ≡ drop 1 bytes
+    → 8 ≤ length behind
+    → n < 2 ^ 64
+    → n ≡ from_be_bytes w64 (take 8 behind) → past ≡ drop 8 behind → HasText past text rest
+    → HasHead bytes (record { version = slice_index_or bytes 0 0; generation = n; text = text }) rest
+has_head_there [] behind n past text rest are one is long fits number past_is has = absurd (omega (arith, one))
+has_head_there (version ∷ tail) behind n past text rest are one is long fits number past_is has =
+    let bytes_behind : AreBytes behind = subst (λ (l : List ℕ). AreBytes l) (sym is) (λ i. are (suc i)) in
+    subst (λ (l : List ℕ). HasHead (version ∷ l) (record { version = version; generation = n; text = text }) rest) is
+    (has_head version behind n past text rest (has_number behind n past bytes_behind long fits number past_is) has)
+
+-- behind an open gate
+pub no_front : (area behind : List ℕ) → behind ≡ drop 1 area → ((head : Head) (rest : List ℕ) → HasHead behind head rest → ⊥)
+    → (head : Head) (rest : List ℕ) → HasFront area head rest → ⊥
+no_front area behind is none head rest front =
+    let same : front.behind ≡ behind = sym (ap (λ (l : List ℕ). drop 1 l) front.split) ∙ sym is in
+    none head rest (subst (λ (l : List ℕ). HasHead l head rest) same front.headed)
+
+module _ (version : ℕ) (behind : List ℕ) (head : Head) (rest : List ℕ) (has : HasHead (version ∷ behind) head rest) where
+  abbrev text_bytes : List ℕ
+  text_bytes = to_be_bytes w64 (length head.text) ++ head.text ++ rest
+
+  head_number : HasNumber behind head.generation text_bytes
+  head_number = record { split = cc (has.split ∙ apart head rest); fits = has.generation }
+
+  pub no_head_number : length behind < 8 → ⊥
+  no_head_number few = no_number behind head.generation text_bytes few head_number
+
+  pub no_head_text : (n : ℕ) (past : List ℕ) → HasNumber behind n past → ((text rest : List ℕ) → HasText past text rest → ⊥) → ⊥
+  no_head_text n past number none =
+      none head.text rest (record {
+        split = (one_number behind n head.generation past text_bytes number head_number).1;
+        fits = has.text;
+      })
+
+pub no_head : (head : Head) (rest : List ℕ) → HasHead [] head rest → ⊥
+no_head head rest has = cc has.split
+
+pub one_head : (bytes : List ℕ) (one two : Head) (x y : List ℕ) → HasHead bytes one x → HasHead bytes two y → (one ≡ two) × (x ≡ y)
+one_head bytes one two x y first second =
+    same_head one two x y first.generation second.generation first.text second.text (sym first.split ∙ second.split)

@@ -1,0 +1,14 @@
+use Rattle.std.proofs.Common.{rules, arith, ◌-◌, length, take, drop}
+use Rattle.std.proofs.lemmas.List.{take_rest}
+use Rattle.gated_journal.proofs.Heads.{has_head_there}
+use Rattle.gated_journal.proofs.head.head_at.Goals as goal
+
+pub returns-clause-some : goal.returns-clause-some
+returns-clause-some c =
+    let bytes = c.args.bytes.now in
+    let number = c.in_ok-generation.ensures in
+    let text = c.in_ok-text in
+    has_head_there bytes (take (length bytes - 1) (drop 1 bytes)) c.in_ok-generation.generation c.in_ok-generation.behind.now
+    text.text.now text.rest.now
+    (λ i. omega (arith, c.type_inv.bytes i)) c.in-len1-up.len_at_least (take_rest bytes 1) number.long (search rules) number.number
+    number.rest text.ensures.some

@@ -1,0 +1,9 @@
+use Rattle.std.proofs.Common.{◌-◌, length, take, drop}
+use Rattle.std.proofs.lemmas.List.{take_rest}
+use Rattle.gated_journal.proofs.Heads.{no_front}
+use Rattle.gated_journal.proofs.scanned.front_of.Goals as goal
+
+pub returns-in-165-clause-none : goal.returns-in-165-clause-none
+returns-in-165-clause-none c = λ none.
+    let area = c.args.area.now in
+    no_front area (take (length area - 1) (drop 1 area)) (take_rest area 1) (c.head_at.ensures.none none)

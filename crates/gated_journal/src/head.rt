@@ -1,0 +1,62 @@
+ghost use Rattle.std.specs.Prelude.{◌≡◌, ◌<◌, ◌≤◌, ℕ, List, length, take, drop, IfSome, IsNone};
+ghost use Rattle.std.specs.Int.{from_be_bytes, w64};
+ghost use Rattle.gated_journal.specs.Layout.{Head};
+ghost use Rattle.gated_journal.specs.Scanned.{HasText, HasHead};
+ghost use Rattle.gated_journal.specs.ScannedHead.{head_of};
+
+/// What an area begins with behind its gate.
+#[derive(Clone, Copy)]
+pub struct AreaHead<'a> {
+    pub version: u8,
+    pub generation: u64,
+    pub text: &'a [u8],
+}
+
+/// The number of eight bytes at the front, and what stands behind it.
+fn long_number_at(bytes: &[u8]) -> Option<(u64, &[u8])>
+    ensures long { IfSome result (λ found. 8 ≤ length bytes.now) }
+    ensures number { IfSome result (λ found. found.0 ≡ from_be_bytes w64 (take 8 bytes.now)) }
+    ensures rest { IfSome result (λ found. found.1.now ≡ drop 8 bytes.now) }
+    ensures none { IsNone result → length bytes.now < 8 }
+{
+    if bytes.len() < 8 {
+        return None;
+    }
+    let (front, rest) = bytes.split_at(8);
+    let number = u64::from_be_bytes([
+        front[0], front[1], front[2], front[3], front[4], front[5], front[6], front[7],
+    ]);
+    Some((number, rest))
+}
+
+/// The text at the front behind its length, and what stands behind it.
+#[tactic(auto, using(crate::proofs::Heads::no_text, crate::proofs::Heads::no_text_long))]
+fn text_at(bytes: &[u8]) -> Option<(&[u8], &[u8])>
+    ensures some { IfSome result (λ found. HasText bytes.now found.0.now found.1.now) }
+    ensures none { IsNone result → (text rest : List ℕ) → HasText bytes.now text rest → ⊥ }
+{
+    let (count, behind) = long_number_at(bytes)?;
+    let count = count as usize;
+    if behind.len() < count {
+        return None;
+    }
+    Some(behind.split_at(count))
+}
+
+/// The head at the front, and what stands behind it.
+pub(crate) fn head_at(bytes: &[u8]) -> Option<(AreaHead<'_>, &[u8])>
+    ensures some { IfSome result (λ found. HasHead bytes.now (head_of found.0) found.1.now) }
+    ensures none { IsNone result → (head : Head) (rest : List ℕ) → HasHead bytes.now head rest → ⊥ }
+{
+    let [version, behind @ ..] = bytes else {
+        return None;
+    };
+    let (generation, behind) = long_number_at(behind)?;
+    let (text, rest) = text_at(behind)?;
+    let head = AreaHead {
+        version: *version,
+        generation,
+        text,
+    };
+    Some((head, rest))
+}

@@ -1,0 +1,56 @@
+ghost use Rattle.std.specs.Prelude.{◌≡◌, ◌+◌, ◌<◌, ◌≤◌, length, OnOk, IfOk};
+ghost use Rattle.act_disk.specs.Images.{SameImages, Only, EachSince, CountsFault};
+ghost use Rattle.gated_journal.specs.Choice.{part};
+ghost use Rattle.gated_journal.specs.Spelled.{EachSpells};
+
+use crate::area::Area;
+use crate::scanned::{ScannedArea, scan};
+use act_disk::{Disk, DiskFault};
+
+impl Area {
+    /// Syncs, and then fills the buffer with the area's bytes.
+    ///
+    /// What was read is what a stop leaves from then on. No image comes to those from before.
+    pub fn read_synced<D: Disk>(&self, disk: &mut D, bytes: &mut [u8]) -> Result<(), DiskFault>
+        requires countable { D.fault_count disk.old < u64.MAX }
+        requires whole { length bytes.old ≡ self.now.len }
+        requires within { self.now.start + self.now.len ≤ D.size disk.old }
+        ensures bytes { OnOk result (D.honest disk.new → bytes.new ≡ part self.now.start self.now.len (D.seen disk.old)) }
+        ensures stable { OnOk result (D.honest disk.new → Only (D.seen disk.old) (D.images disk.new)) }
+        ensures any_moment { D.honest disk.new
+            → EachSince D.moment D.images_since disk.old disk.new (D.images disk.old) }
+        ensures seen { D.honest disk.new → D.seen disk.new ≡ D.seen disk.old }
+        ensures size { D.size disk.new ≡ D.size disk.old }
+        ensures calls { D.calls disk.new ≤ D.calls disk.old + 2 }
+        ensures faults { CountsFault result (D.fault_count disk.old) (D.fault_count disk.new) }
+        ensures honest { D.honest disk.new → D.honest disk.old }
+        ensures length { length bytes.new ≡ length bytes.old }
+    {
+        disk.sync()?;
+        disk.read(self.start, bytes)
+    }
+
+    /// Syncs, reads the area into the buffer, and scans it: what a stop left is what it spells.
+    pub fn load<'b, D: Disk>(
+        &self,
+        disk: &mut D,
+        bytes: &'b mut [u8],
+    ) -> Result<Option<ScannedArea<'b>>, DiskFault>
+        requires countable { D.fault_count disk.old < u64.MAX }
+        requires whole { length bytes.old ≡ self.now.len }
+        requires within { self.now.start + self.now.len ≤ D.size disk.old }
+        ensures spells { IfOk result (λ found. D.honest disk.new
+            → EachSpells self.now.start self.now.len (D.images disk.new) found) }
+        ensures stable { OnOk result (D.honest disk.new → Only (D.seen disk.old) (D.images disk.new)) }
+        ensures any_moment { D.honest disk.new
+            → EachSince D.moment D.images_since disk.old disk.new (D.images disk.old) }
+        ensures seen { D.honest disk.new → D.seen disk.new ≡ D.seen disk.old }
+        ensures size { D.size disk.new ≡ D.size disk.old }
+        ensures calls { D.calls disk.new ≤ D.calls disk.old + 2 }
+        ensures faults { CountsFault result (D.fault_count disk.old) (D.fault_count disk.new) }
+        ensures honest { D.honest disk.new → D.honest disk.old }
+    {
+        self.read_synced(disk, bytes)?;
+        Ok(scan(bytes))
+    }
+}
