@@ -6,6 +6,8 @@ mod act_disk_tests;
 #[cfg(test)]
 mod acts_cli_tests;
 #[cfg(test)]
+mod gated_journal_tests;
+#[cfg(test)]
 mod matrix_expand_tests;
 #[cfg(test)]
 mod needs_graph_tests;
