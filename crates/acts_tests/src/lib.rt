@@ -7,6 +7,7 @@ mod act_disk_tests;
 mod acts_cli_tests;
 #[cfg(test)]
 mod group_name_tests;
+mod gated_journal_tests;
 #[cfg(test)]
 mod matrix_expand_tests;
 #[cfg(test)]

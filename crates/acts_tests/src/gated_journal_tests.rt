@@ -1,0 +1,65 @@
+mod rows;
+mod steps;
+mod sweep;
+mod torn;
+
+use act_disk::{Call, Disk, DiskFault, MemoryDisk};
+use gated_journal::{Area, scan};
+use std::alloc::Global;
+use std::process::Abort;
+use std::test::Fail;
+
+/// The first half of a disk of 8,192 bytes.
+const FIRST: Area = Area {
+    start: 0,
+    len: 4096,
+};
+
+/// An open area of version 1 and generation 1 with twelve zeros as its text, up to its first gate, and that gate.
+const FRONT: [u8; 31] = [
+    0xA5, 1, 0, 0, 0, 0, 0, 0, 0, 1, 0, 0, 0, 0, 0, 0, 0, 12, 0, 0, 0, 0, 0, 0, 0, 0, 0, 0, 0, 0, 0,
+];
+
+/// A body of nine bytes behind its length, and a closed gate.
+const RECORD: [u8; 14] = [0, 0, 0, 9, 0, 0, 0, 1, 7, 0, 0, 0, 1, 0];
+
+/// A disk with that front; all behind it is FF, but for a closed gate at the other half.
+fn fresh_disk(alloc: Global) -> Result<MemoryDisk, Fail> {
+    let mut bytes = vec![in alloc; 0xFF_u8; 8192]?;
+    bytes[..31].copy_from_slice(&FRONT);
+    bytes[4096] = 0;
+    Ok(MemoryDisk::from_slice(alloc, &bytes)?)
+}
+
+/// Appends to an area of a disk.
+fn append<D: Disk>(
+    rt: &impl Abort,
+    area: Area,
+    disk: &mut D,
+    at: u64,
+    bytes: &[u8],
+) -> Result<(), DiskFault> {
+    assert!(rt; disk.faults() < u64::MAX);
+    assert!(rt; area.start <= 1 << 32 && area.len <= 1 << 32);
+    let len = bytes.len() as u64;
+    assert!(rt; at <= 1 << 32 && len <= 1 << 32 && at + len + 1 <= area.len);
+    area.append(disk, at, bytes)
+}
+
+/// The offset of an area's first closed gate, where it reads as something.
+fn gate_in(area: &[u8]) -> Option<u64> {
+    Some(scan(area)?.gate)
+}
+
+/// The same of the first area of a disk.
+fn gate_of(disk: &MemoryDisk) -> Option<u64> {
+    gate_in(disk.bytes().get(..4096)?)
+}
+
+/// Whether a call wrote these bytes there.
+fn wrote(call: &Call, offset: u64, want: &[u8]) -> bool {
+    match call {
+        Call::Write { at, bytes } => *at == offset && bytes.as_slice() == want,
+        Call::Sync => false,
+    }
+}
