@@ -6,8 +6,9 @@ mod act_disk_tests;
 #[cfg(test)]
 mod acts_cli_tests;
 #[cfg(test)]
-mod group_name_tests;
 mod gated_journal_tests;
+#[cfg(test)]
+mod group_name_tests;
 #[cfg(test)]
 mod matrix_expand_tests;
 #[cfg(test)]
