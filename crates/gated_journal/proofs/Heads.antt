@@ -1,11 +1,11 @@
 -- What the head of an area is read as is what stands there.
-use Rattle.std.proofs.Common.{◌≡◌, ℕ, suc, ◌+◌, ◌<◌, ◌≤◌, ◌^◌, List, [], ◌∷◌, ◌++◌, length, take, drop, refl, sym, ◌∙◌, ap, subst}
-use Rattle.std.proofs.Common.{arith, append_assoc, length-append, take-append-drop}
+use Rattle.std.proofs.Common.{◌≡◌, ℕ, suc, ◌<◌, ◌≤◌, ◌^◌, List, [], ◌∷◌, ◌++◌, length, take, drop, refl, sym, ◌∙◌, ap, subst}
+use Rattle.std.proofs.Common.{arith, length-append, take-append-drop}
 use Rattle.std.specs.Prelude.{slice_index_or}
 use Rattle.std.specs.Int.{from_be_bytes, to_be_bytes, w64}
 use Rattle.std.proofs.lemmas.List.{length-take, take_at, drop_at}
 use Rattle.std.proofs.lemmas.Nat.{be_bytes_8, from_be_bytes-to_be_bytes_8}
-use Rattle.gated_journal.specs.Layout.{Head, head_bytes}
+use Rattle.gated_journal.specs.Layout.{Head}
 use Rattle.gated_journal.specs.Scanned.{HasNumber, HasText, HasHead, HasFront}
 use Rattle.gated_journal.proofs.OneReading.{same_number_8, same_head, apart}
 use Rattle.gated_journal.proofs.Scanning.{AreBytes, AreBytes-take}

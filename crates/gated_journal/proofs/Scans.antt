@@ -1,5 +1,5 @@
 -- What a scan of an area gives is what stands there.
-use Rattle.std.proofs.Common.{◌≡◌, ℕ, ◌+◌, ◌-◌, ◌≤◌, List, ◌∷◌, ◌++◌, length, take, refl, sym, ◌∙◌, ap, subst, arith, append_assoc, length-append}
+use Rattle.std.proofs.Common.{◌≡◌, ℕ, ◌-◌, ◌≤◌, List, ◌∷◌, ◌++◌, length, take, refl, sym, ◌∙◌, ap, subst, arith, append_assoc, length-append}
 use Rattle.std.proofs.lemmas.List.{take_at}
 use Rattle.gated_journal.specs.Layout.{Head, head_bytes, record_bytes, opened, IsClosed, Reads, ReadsNothing}
 use Rattle.gated_journal.specs.Scanned.{Parts, HasHead, HasFront, IsScanned}
