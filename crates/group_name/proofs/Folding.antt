@@ -1,12 +1,18 @@
 -- The characters that a folded text spells, and what two groups have in common.
-use Rattle.std.proofs.Common.{◌≡◌, ℕ, List, [], ◌∷◌, Some, chars, encode_utf8_all, IsUtf8, refl, sym, ap, ap₂, ◌∙◌}
-use Rattle.std.specs.Prelude.{◌≢◌}
-use Rattle.std.proofs.lemmas.Str.{chars_from_encodes, encodes-chars}
+use Rattle.std.proofs.Common.{◌≡◌, ℕ, List, [], ◌∷◌, Some, chars, encode_utf8_all, IsUtf8, refl, sym, ap, ap₂, subst, ◌∙◌}
+use Rattle.std.specs.Prelude.{◌≢◌, String, string_bytes}
+use Rattle.std.proofs.lemmas.Str.{IsUtf8-string_bytes, chars_from_encodes, encodes-chars}
 use Rattle.group_name.specs.Group.{Group, folded_name, group_of}
 
+-- the bytes of a text that a `String` is
+pub text_of_string : {Z : Type 0} (folding : String Z) (text : List ℕ) → text ≡ string_bytes folding → IsUtf8 text
+text_of_string folding text same = subst IsUtf8 (sym same) (IsUtf8-string_bytes folding)
+
 -- a text that encodes a folding spells it
-spelled : (name text : List ℕ) → IsUtf8 text → text ≡ encode_utf8_all (folded_name name) → folded_name name ≡ chars text
-spelled name text utf8 encodes = chars_from_encodes (folded_name name) text utf8 (sym encodes)
+pub spelled : {Z : Type 0} (folding : String Z) (name text : List ℕ) → text ≡ string_bytes folding
+    → string_bytes folding ≡ encode_utf8_all (folded_name name) → folded_name name ≡ chars text
+spelled folding name text same encodes =
+    chars_from_encodes (folded_name name) text (text_of_string folding text same) (sym encodes ∙ sym same)
 
 -- the group of a name that is not empty
 pub group_of_name : (repository name : List ℕ) → name ≢ []
@@ -14,12 +20,11 @@ pub group_of_name : (repository name : List ℕ) → name ≢ []
 group_of_name repository [] filled = absurd (filled refl)
 group_of_name repository (b ∷ bs) filled = refl
 
--- it is kept as the repository and the text that encodes the folding
-pub kept_group : (repository name kept text : List ℕ) → name ≢ [] → repository ≡ kept → IsUtf8 text
-    → text ≡ encode_utf8_all (folded_name name)
+-- it is kept as the repository and a text of the name without its case
+pub kept_group : (repository name kept text : List ℕ) → name ≢ [] → repository ≡ kept → folded_name name ≡ chars text
     → group_of repository name ≡ Some (record { repository = kept; folded = chars text })
-kept_group repository name kept text filled same utf8 encodes = group_of_name repository name filled
-    ∙ ap₂ (λ r f. Some (record { repository = r; folded = f })) same (spelled name text utf8 encodes)
+kept_group repository name kept text filled same folds = group_of_name repository name filled
+    ∙ ap₂ (λ r f. Some (record { repository = r; folded = f })) same folds
 
 -- texts that spell the same characters are the same
 same_bytes : (one other : List ℕ) → IsUtf8 one → IsUtf8 other → chars one ≡ chars other → one ≡ other

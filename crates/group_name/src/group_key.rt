@@ -1,5 +1,5 @@
-ghost use Rattle.std.specs.Prelude.{◌≡◌, ◌↔◌, [], IsTrue, Ok, None};
-ghost use Rattle.group_name.specs.Group.{Group, group_of};
+ghost use Rattle.std.specs.Prelude.{◌≡◌, ◌↔◌, [], IsTrue, IsUtf8, chars, Ok, IfOk, None};
+ghost use Rattle.group_name.specs.Group.{folded_name, group_of};
 ghost use Rattle.wf_value.specs.Gives.{Gives};
 
 use caseless::default_case_fold_str;
@@ -42,9 +42,18 @@ impl GroupKey {
         }
         Ok(Some(GroupKey {
             repository: Chars::from_str(alloc, repository)?,
-            folded: Chars::new(default_case_fold_str(alloc, name)?),
+            folded: folded(alloc, name)?,
         }))
     }
+}
+
+/// A name without its case.
+fn folded(alloc: Global, name: &str) -> Result<Chars, Refusal>
+    ensures gives { Gives chars result (Ok (folded_name name.now)) }
+    ensures utf8 { IfOk result IsUtf8 }
+{
+    let folding = default_case_fold_str(alloc, name)?;
+    Ok(Chars::new(folding))
 }
 
 impl Same for GroupKey {
