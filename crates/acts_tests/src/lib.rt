@@ -6,6 +6,10 @@ mod act_disk_tests;
 #[cfg(test)]
 mod acts_cli_tests;
 #[cfg(test)]
+mod commands;
+#[cfg(test)]
+mod given;
+#[cfg(test)]
 mod matrix_expand_tests;
 #[cfg(test)]
 mod needs_graph_tests;
