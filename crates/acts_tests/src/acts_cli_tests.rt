@@ -10,17 +10,45 @@ use std::io::{ErrorKind, Read, Write};
 use std::process::Abort;
 use wf_value::Refusal;
 
-pub const FIRST: &str =
-    "admit d1 push {\"repo\":\"o/r\",\"path\":\"ci.json\",\"workflow\":{\"jobs\":{\"build\":{\"runs-on\":\"linux\"}}}}\nclaim r1 1 linux\ndone r1 2 1 success\nlook 1\n";
+pub const FIRST: &str = concat!(
+    "admit d1 push {\"repo\":\"o/r\",\"path\":\"ci.json\",\"workflow\":{\"jobs\":{\"build\":{\"runs-on\":\"linux\"}}}}\n",
+    "claim r1 1 linux\n",
+    "done r1 2 1 success\n",
+    "look 1\n",
+);
 
-pub const FIRST_ANSWERS: &str =
-    "created 1\nlease 1 1 build 0 {}\nok\nrun 1 1 completed success build:success(success)\n";
+pub const FIRST_ANSWERS: &str = concat!(
+    "created 1\n",
+    "lease 1 1 build 0 {}\n",
+    "ok\n",
+    "run 1 1 completed success build:success(success)\n",
+);
 
-const SECOND: &str =
-    "claim r1 2 linux\nclaim r1 1 linux\nadmit d1 push [\nadmit d_1 push {}\nadmit d1 push {\"repo\":\"o/r\",\"path\":\"ci.json\",\"workflow\":{\"jobs\":{\"b\":{\"runs-on\":[\"linux\",\"x64\"]}}}}\nclaim r1 2 X64,linux\nclaim r1 3 linux\ndone r1 3 9 success\ndone r1 3 1 failure\nlook 1\n";
+const SECOND: &str = concat!(
+    "claim r1 2 linux\n",
+    "claim r1 1 linux\n",
+    "admit d1 push [\n",
+    "admit d_1 push {}\n",
+    "admit d1 push {\"repo\":\"o/r\",\"path\":\"ci.json\",\"workflow\":{\"jobs\":{\"b\":{\"runs-on\":[\"linux\",\"x64\"]}}}}\n",
+    "claim r1 2 X64,linux\n",
+    "claim r1 3 linux\n",
+    "done r1 3 9 success\n",
+    "done r1 3 1 failure\n",
+    "look 1\n",
+);
 
-const SECOND_ANSWERS: &str =
-    "refused 43 0\nnothing\nrefused 10\nrefused 75\ncreated 1\nlease 1 1 b 0 {}\nrefused 42\nrefused 44\nok\nrun 1 1 completed failure b:failure(failure)\n";
+const SECOND_ANSWERS: &str = concat!(
+    "refused 43 0\n",
+    "nothing\n",
+    "refused 10\n",
+    "refused 75\n",
+    "created 1\n",
+    "lease 1 1 b 0 {}\n",
+    "refused 42\n",
+    "refused 44\n",
+    "ok\n",
+    "run 1 1 completed failure b:failure(failure)\n",
+);
 
 const BODY: &str =
     "{\"repo\":\"o/r\",\"path\":\"ci.json\",\"workflow\":{\"jobs\":{\"build\":{\"runs-on\":\"linux\"}}}}";

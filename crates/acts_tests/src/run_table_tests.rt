@@ -19,8 +19,10 @@ pub const BUILD_ELSEWHERE: &str =
     "{\"repo\":\"o/r\",\"path\":\"cd.json\",\"workflow\":{\"jobs\":{\"build\":{\"runs-on\":\"linux\"}}}}";
 
 /// Three jobs, which are read in another order than that of their ids.
-pub const THREE: &str =
-    "{\"repo\":\"o/r\",\"path\":\"ci.json\",\"workflow\":{\"jobs\":{\"c\":{\"runs-on\":\"x\"},\"a\":{\"runs-on\":\"x\"},\"b\":{\"runs-on\":\"x\"}}}}";
+pub const THREE: &str = concat!(
+    "{\"repo\":\"o/r\",\"path\":\"ci.json\",\"workflow\":{\"jobs\":",
+    "{\"c\":{\"runs-on\":\"x\"},\"a\":{\"runs-on\":\"x\"},\"b\":{\"runs-on\":\"x\"}}}}",
+);
 
 /// A command, and the printed reply.
 pub type Row = (Words<'static>, &'static str);

@@ -252,7 +252,11 @@ const SHOWN: [(&str, &str); 2] = [
         "o/r ci.json [] build:linux",
     ),
     (
-        "{\"repo\":\"r\",\"path\":\"p\",\"workflow\":{\"name\":\"n\",\"jobs\":{\"b\":{\"runs-on\":[\"linux\",\"x64\"]},\"B\":{\"runs-on\":\"y\"},\"a-\":{\"runs-on\":\"z\"},\"a\":{\"runs-on\":\"w\"}}}}",
+        concat!(
+            "{\"repo\":\"r\",\"path\":\"p\",\"workflow\":{\"name\":\"n\",\"jobs\":",
+            "{\"b\":{\"runs-on\":[\"linux\",\"x64\"]},\"B\":{\"runs-on\":\"y\"},",
+            "\"a-\":{\"runs-on\":\"z\"},\"a\":{\"runs-on\":\"w\"}}}}",
+        ),
         "r p [n] B:y a:w a-:z b:linux:x64",
     ),
 ];

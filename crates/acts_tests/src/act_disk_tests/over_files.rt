@@ -17,8 +17,36 @@ fn is_61(opened: &Result<RealDisk, Refusal>) -> bool {
 /// Makes the calls of a disk that was opened.
 fn play_opened(rt: &impl Abort, opened: Result<RealDisk, Refusal>, len: u64, rows: &[Row]) {
     let mut disk = opened.expect(rt, "a disk");
-    assert!(rt; disk.len() == len && disk.faults() == 0);
+    expect_opened(rt, &disk, len);
     play(rt, &mut disk, rows);
+}
+
+fn expect_opened(rt: &impl Abort, disk: &RealDisk, len: u64) {
+    assert!(rt; disk.len() == len);
+    assert!(rt; disk.faults() == 0);
+}
+
+/// A folder of this name with nothing in it.
+fn make_folder(rt: &HostRuntime, folder: &str) {
+    let _ = fs::remove_dir_all(rt, folder);
+    fs::create_dir(rt, folder).expect(rt, "a folder");
+}
+
+fn remove_folder(rt: &HostRuntime, folder: &str) {
+    fs::remove_dir_all(rt, folder).expect(rt, "a folder");
+}
+
+fn expect_file(rt: &HostRuntime, path: &str, bytes: &[u8]) {
+    let found = fs::read(rt, path).expect(rt, "a file");
+    assert!(rt; found.as_slice() == bytes);
+}
+
+fn expect_61(rt: &HostRuntime, path: &str) {
+    assert!(rt; is_61(&RealDisk::open(rt, path)));
+}
+
+fn play_created(rt: &HostRuntime, path: &str, len: u64, rows: &[Row]) {
+    play_opened(rt, RealDisk::create(rt, path), len, rows);
 }
 
 const FOLDER: &str = "act_disk_test";
@@ -43,15 +71,13 @@ const OPENED: [Row; 1] = [(Ask::Read(7, b"\0z\0\0"), true, 0, 11)];
 
 #[test]
 fn file_keeps_what_was_written(rt: HostRuntime) {
-    let _ = fs::remove_dir_all(&rt, FOLDER);
-    fs::create_dir(&rt, FOLDER).expect(&rt, "a folder");
-    assert!(rt; is_61(&RealDisk::open(&rt, PATH)));
-    play_opened(&rt, RealDisk::create(&rt, PATH), 0, &CREATED);
-    let found = fs::read(&rt, PATH).expect(&rt, "a file");
-    assert!(rt; found.as_slice() == b"abXYef\0\0z".as_slice());
-    play_opened(&rt, RealDisk::create(&rt, PATH), 9, &CREATED_AGAIN);
+    make_folder(&rt, FOLDER);
+    expect_61(&rt, PATH);
+    play_created(&rt, PATH, 0, &CREATED);
+    expect_file(&rt, PATH, b"abXYef\0\0z");
+    play_created(&rt, PATH, 9, &CREATED_AGAIN);
     play_opened(&rt, RealDisk::open(&rt, PATH), 11, &OPENED);
-    fs::remove_dir_all(&rt, FOLDER).expect(&rt, "a folder");
+    remove_folder(&rt, FOLDER);
 }
 
 const FAULT_FOLDER: &str = "act_disk_fault_test";
@@ -73,17 +99,20 @@ const CUT: [Row; 3] = [
     (Ask::Read(0, b"wxyz"), true, 1, 4),
 ];
 
+/// Opens the file, cuts it, and makes calls.
+fn play_cut(rt: &HostRuntime, path: &str, len: u64, rows: &[Row]) {
+    let opened = RealDisk::open(rt, path);
+    fs::write(rt, path, b"ab".as_slice()).expect(rt, "a file");
+    play_opened(rt, opened, len, rows);
+}
+
 #[test]
 fn file_fails_from_a_failed_write_on(rt: HostRuntime) {
-    let _ = fs::remove_dir_all(&rt, FAULT_FOLDER);
-    fs::create_dir(&rt, FAULT_FOLDER).expect(&rt, "a folder");
-    play_opened(&rt, RealDisk::create(&rt, FAULT_PATH), 0, &WRITTEN_TOO_FAR);
-    let found = fs::read(&rt, FAULT_PATH).expect(&rt, "a file");
-    assert!(rt; found.as_slice() == b"abcd".as_slice());
-    let opened = RealDisk::open(&rt, FAULT_PATH);
-    fs::write(&rt, FAULT_PATH, b"ab".as_slice()).expect(&rt, "a file");
-    play_opened(&rt, opened, 4, &CUT);
-    fs::remove_dir_all(&rt, FAULT_FOLDER).expect(&rt, "a folder");
+    make_folder(&rt, FAULT_FOLDER);
+    play_created(&rt, FAULT_PATH, 0, &WRITTEN_TOO_FAR);
+    expect_file(&rt, FAULT_PATH, b"abcd");
+    play_cut(&rt, FAULT_PATH, 4, &CUT);
+    remove_folder(&rt, FAULT_FOLDER);
 }
 
 /// A folder, a path below a file, and a file that nobody may write.
@@ -91,8 +120,8 @@ const NO_FILES: [&str; 3] = ["/tmp", "/dev/null/disk", "/proc/sys/kernel/osrelea
 
 #[test]
 fn file_that_cannot_be_opened_is_61(rt: HostRuntime) {
-    for path in NO_FILES {
-        assert!(rt; is_61(&RealDisk::open(&rt, path)), "{path}");
-        assert!(rt; is_61(&RealDisk::create(&rt, path)), "{path}");
+    for path in &NO_FILES {
+        expect_61(&rt, path);
+        assert!(rt; is_61(&RealDisk::create(&rt, path)));
     }
 }

@@ -83,23 +83,31 @@ fn length_that_fails_is_61(rt: HostRuntime) {
     assert!(rt; matches!(opened, Err(Refusal::Numbered(Code::StreamFailed))));
 }
 
-/// A write that fails, with the file this long, and what is asked after it.
-fn unwritten(len: u64) -> [Row; 5] {
-    [
-        (Ask::Write(0, b"abcdef"), false, 1, len),
-        (Ask::Sync, false, 2, len),
-        (Ask::Read(0, b""), false, 3, len),
-        (Ask::Write(0, b"x"), false, 4, len),
-        (Ask::Sync, false, 5, len),
-    ]
+// A write that fails, with the file this long, and what is asked after it.
+macro_rules! unwritten {
+    ($len:expr) => {
+        [
+            (Ask::Write(0, b"abcdef"), false, 1, $len),
+            (Ask::Sync, false, 2, $len),
+            (Ask::Read(0, b""), false, 3, $len),
+            (Ask::Write(0, b"x"), false, 4, $len),
+            (Ask::Sync, false, 5, $len),
+        ]
+    };
 }
+
+/// Which call fails, how many calls are made then, and what is asked.
+const UNWRITTEN: [(usize, usize, [Row; 5]); 3] = [
+    (1, 2, unwritten!(0)),
+    (2, 3, unwritten!(2)),
+    (3, 4, unwritten!(4)),
+];
 
 #[test]
 fn nothing_is_asked_after_a_failed_write(rt: HostRuntime) {
-    // Which call fails, how many calls were made then, and how long the file is known to be.
-    for (place, turns, len) in [(1, 2, 0), (2, 3, 2), (3, 4, 4)] {
-        let disk = failing_at(&rt, rt.alloc(), place);
-        expect_turns(&rt, disk, &unwritten(len), turns);
+    for (place, turns, rows) in &UNWRITTEN {
+        let disk = failing_at(&rt, rt.alloc(), *place);
+        expect_turns(&rt, disk, rows, *turns);
     }
 }
 

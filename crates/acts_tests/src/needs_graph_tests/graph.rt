@@ -72,14 +72,16 @@ const THREE_IN_A_CYCLE: Rows<'static> = &[
     ("d", &["a"]),
 ];
 
-fn expect_refused(rt: &impl Abort, alloc: Global, rows: Rows<'_>, want: &str) {
+fn refused(rt: &impl Abort, alloc: Global, rows: Rows<'_>) -> Refusal {
     match build(rt, alloc, rows) {
         Ok(_) => panic!(rt; "a graph in place of a refusal"),
-        Err(refusal) => {
-            let text = refusal.text(alloc).expect(rt, "a text");
-            assert!(rt; text.as_str() == want);
-        }
+        Err(refusal) => refusal,
     }
+}
+
+fn expect_refused(rt: &impl Abort, alloc: Global, rows: Rows<'_>, want: &str) {
+    let text = refused(rt, alloc, rows).text(alloc).expect(rt, "a text");
+    assert!(rt; text.as_str() == want);
 }
 
 #[test]
@@ -123,24 +125,40 @@ fn expect_diamond(rt: &impl Abort, graph: &Graph) {
     expect_ancestors(rt, graph, 4, [false; 5]);
 }
 
+/// A graph that is not refused.
+fn built(rt: &impl Abort, alloc: Global, rows: Rows<'_>) -> Graph {
+    build(rt, alloc, rows).expect(rt, "a graph")
+}
+
+fn copied(rt: &impl Abort, alloc: Global, graph: &Graph) -> Graph {
+    graph.copy(alloc).expect(rt, "a copy")
+}
+
 #[test]
 fn builds_a_diamond(rt: HostRuntime) {
-    let graph = build(&rt, rt.alloc(), DIAMOND).expect(&rt, "a graph");
+    let graph = built(&rt, rt.alloc(), DIAMOND);
     expect_diamond(&rt, &graph);
-    expect_diamond(&rt, &graph.copy(rt.alloc()).expect(&rt, "a copy"));
+    expect_diamond(&rt, &copied(&rt, rt.alloc(), &graph));
+}
+
+/// The number with which a graph is refused, 0 where it is none. What is built is a diamond.
+fn number_of(rt: &impl Abort, alloc: Global, rows: Rows<'_>) -> u64 {
+    match build(rt, alloc, rows) {
+        Ok(graph) => {
+            expect_diamond(rt, &graph);
+            0
+        }
+        Err(refusal) => refusal.number(),
+    }
 }
 
 /// Holds whichever allocation is refused.
 #[test]
 fn gives_its_answer_or_refuses_memory(rt: HostRuntime) {
-    match build(&rt, rt.alloc(), DIAMOND) {
-        Ok(graph) => expect_diamond(&rt, &graph),
-        Err(refusal) => assert!(rt; refusal.number() == 50),
-    }
-    match build(&rt, rt.alloc(), THREE_IN_A_CYCLE) {
-        Ok(_) => panic!(rt; "a graph with a cycle"),
-        Err(refusal) => assert!(rt; refusal.number() == 14 || refusal.number() == 50),
-    }
+    let number = number_of(&rt, rt.alloc(), DIAMOND);
+    assert!(rt; number == 0 || number == 50);
+    let number = number_of(&rt, rt.alloc(), THREE_IN_A_CYCLE);
+    assert!(rt; number == 14 || number == 50);
 }
 
 /// The result of a first job, and whether `success()` and `failure()` hold then of the last of three
@@ -170,7 +188,7 @@ fn expect_decided(
 #[test]
 fn sees_past_direct_needs(rt: HostRuntime) {
     let rows: Rows<'_> = &[("a", &[]), ("b", &["a"]), ("c", &["b"])];
-    let graph = build(&rt, rt.alloc(), rows).expect(&rt, "a graph");
+    let graph = built(&rt, rt.alloc(), rows);
     assert!(rt; graph.job_count() == 3);
     assert!(rt; graph.needs(2) == [1].as_slice());
     assert!(rt; graph.has_ancestor(2, 0));
@@ -220,8 +238,7 @@ fn sees_along_a_long_chain(rt: HostRuntime) {
 
 #[test]
 fn builds_from_no_jobs(rt: HostRuntime) {
-    let graph = build(&rt, rt.alloc(), &[]).expect(&rt, "a graph");
-    assert!(rt; graph.job_count() == 0);
+    assert!(rt; built(&rt, rt.alloc(), &[]).job_count() == 0);
 }
 
 /// Jobs, and whether their ids rise.
