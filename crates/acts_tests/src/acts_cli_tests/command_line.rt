@@ -178,16 +178,38 @@ const PLAY: &[&str] = &["acts", "play"];
 
 const HELP: &[&str] = &["acts", "--help"];
 
+/// A refusal's number is explained with an input that gets it.
+const EXPLAINED: &str = concat!(
+    "refused 15: a job has no \"runs-on\", or an empty list there.\n",
+    "What gets it: the workflow {\"jobs\":{\"a\":{}}}.\n",
+    "What helps: name one label at least, as \"runs-on\":\"linux\".\n",
+);
+
 /// Words, the room on standard output, and how that ends over the first script: with 0 where all is well
 /// and after a help text, and with 2 after a fault of the words.
-const ROWS: [(&[&str], usize, Ended<'static>); 7] = [
+const ROWS: [(&[&str], usize, Ended<'static>); 14] = [
     (PLAY, 10_000, (0, Some(FIRST_ANSWERS), Some(""))),
     (HELP, 10_000, (0, None, Some(""))),
     (HELP, 0, FULL),
+    (
+        &["acts", "--version"],
+        10_000,
+        (0, Some("acts 0.1.0\n"), Some("")),
+    ),
+    (
+        &["acts", "explain", "15"],
+        10_000,
+        (0, Some(EXPLAINED), Some("")),
+    ),
     (&["acts"], 10_000, FAULT),
     (&["acts", "serve"], 10_000, FAULT),
     (&["acts", "play", "script"], 10_000, FAULT),
     (&["acts", "--verbose", "play"], 10_000, FAULT),
+    (&["acts", "explain"], 10_000, FAULT),
+    (&["acts", "explain", "17", "18"], 10_000, FAULT),
+    (&["acts", "explain", "9"], 10_000, FAULT),
+    (&["acts", "explain", "017"], 10_000, FAULT),
+    (&["acts", "explain", "refused"], 10_000, FAULT),
 ];
 
 /// 1 after a refusal, which stands on standard error.
@@ -200,6 +222,21 @@ const FAULT: Ended<'static> = (2, Some(""), None);
 fn ends_with_its_status(rt: HostRuntime) {
     for (words, room, ended) in ROWS {
         expect(&rt, rt.alloc(), words, FIRST, room, ended);
+    }
+}
+
+/// The numbers that can be met.
+const NUMBERS: [&str; 28] = [
+    "10", "11", "12", "13", "14", "15", "16", "17", "18", "19", "20", "21", "22", "23", "24", "25",
+    "26", "40", "41", "42", "43", "44", "45", "48", "50", "61", "75", "76",
+];
+
+#[test]
+fn explains_each_number_that_is_met(rt: HostRuntime) {
+    for number in NUMBERS {
+        let words = ["acts", "explain", number];
+        expect(&rt, rt.alloc(), &words, FIRST, 10_000, (0, None, Some("")));
+        expect(&rt, rt.alloc(), &words, FIRST, 10, FULL);
     }
 }
 
