@@ -3,8 +3,8 @@
 
 use group_name::GroupKey;
 use std::alloc::Global;
-use std::test::Fail;
-use wf_value::{Refusal, Same, TryCopy};
+use std::process::Abort;
+use wf_value::{Same, TryCopy};
 
 /// A repository and a name.
 type Named = (&'static str, &'static str);
@@ -29,39 +29,32 @@ const TWO_GROUPS: [(Named, Named); 6] = [
     (("o/r", "prod"), ("o/r", " prod")),
 ];
 
-/// Whether both are groups, and one.
-fn are_one(alloc: Global, one: Named, other: Named) -> Result<Option<bool>, Refusal> {
-    let Some(one) = GroupKey::of(alloc, one.0, one.1)? else {
-        return Ok(None);
-    };
-    let Some(other) = GroupKey::of(alloc, other.0, other.1)? else {
-        return Ok(None);
-    };
-    Ok(Some(one.same(&other)))
+fn group(rt: &impl Abort, alloc: Global, named: Named) -> GroupKey {
+    let made = GroupKey::of(alloc, named.0, named.1).expect(rt, "memory");
+    made.expect(rt, "a group")
+}
+
+fn expect_groups(rt: &impl Abort, alloc: Global, rows: &[(Named, Named)], one: bool) {
+    for (name, other) in rows {
+        assert!(rt; group(rt, alloc, *name).same(&group(rt, alloc, *other)) == one);
+    }
 }
 
 #[test]
-fn folds_names(rt: HostRuntime) -> Result<(), Fail> {
-    for (one, other) in ONE_GROUP {
-        assert_eq!(rt; are_one(rt.alloc(), one, other)?, Some(true));
-    }
-    for (one, other) in TWO_GROUPS {
-        assert_eq!(rt; are_one(rt.alloc(), one, other)?, Some(false));
-    }
-    Ok(())
+fn folds_names(rt: HostRuntime) {
+    expect_groups(&rt, rt.alloc(), &ONE_GROUP, true);
+    expect_groups(&rt, rt.alloc(), &TWO_GROUPS, false);
 }
 
 #[test]
-fn empty_name_is_no_group(rt: HostRuntime) -> Result<(), Fail> {
-    assert!(rt; GroupKey::of(rt.alloc(), "o/r", "")?.is_none());
-    Ok(())
+fn empty_name_is_no_group(rt: HostRuntime) {
+    let made = GroupKey::of(rt.alloc(), "o/r", "").expect(&rt, "memory");
+    assert!(rt; made.is_none());
 }
 
 #[test]
-fn copies_a_group(rt: HostRuntime) -> Result<(), Fail> {
-    match GroupKey::of(rt.alloc(), "o/r", "Prod")? {
-        Some(group) => assert!(rt; group.copy(rt.alloc())?.same(&group)),
-        None => panic!(rt; "a name without a group"),
-    }
-    Ok(())
+fn copies_a_group(rt: HostRuntime) {
+    let made = group(&rt, rt.alloc(), ("o/r", "Prod"));
+    let copy = made.copy(rt.alloc()).expect(&rt, "memory");
+    assert!(rt; copy.same(&made));
 }

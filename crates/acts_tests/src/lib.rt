@@ -6,7 +6,11 @@ mod act_disk_tests;
 #[cfg(test)]
 mod acts_cli_tests;
 #[cfg(test)]
+mod commands;
+#[cfg(test)]
 mod gated_journal_tests;
+#[cfg(test)]
+mod given;
 #[cfg(test)]
 mod group_name_tests;
 #[cfg(test)]

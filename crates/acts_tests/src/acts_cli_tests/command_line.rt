@@ -1,6 +1,7 @@
 //! The command line, over a runtime of the tests.
 
 use crate::acts_cli_tests::{FIRST, FIRST_ANSWERS};
+use crate::given::spelled;
 use acts_cli::{MOST_BYTES, run};
 use std::alloc::{Allocator, Global};
 use std::cell::RefCell;
@@ -10,7 +11,6 @@ use std::io;
 use std::io::{BufRead, ErrorKind, Lines};
 use std::process::{Abort, ExitCode};
 use std::rt::Env;
-use std::test::Fail;
 
 /// Where texts are printed, up to a number of bytes.
 #[derive(Drop)]
@@ -36,6 +36,12 @@ impl Page {
         }
         text.extend_from_slice(bytes)?;
         Ok(())
+    }
+
+    /// Prints a value, and `end` behind it.
+    fn show<D: Display + Drop>(&self, alloc: Global, value: D, end: &str) -> io::Result<()> {
+        let text = format!(in alloc; "{value}{end}")?;
+        self.print(text.as_bytes())
     }
 
     fn into_text(self) -> Vec<u8> {
@@ -101,13 +107,11 @@ impl<'a> Input for Process<'a> {
 
 impl<'a> Print for Process<'a> {
     fn print<D: Display + Drop>(&self, value: D) -> io::Result<()> {
-        let text = format!(in self.alloc; "{value}")?;
-        self.out.print(text.as_bytes())
+        self.out.show(self.alloc, value, "")
     }
 
     fn println<D: Display + Drop>(&self, value: D) -> io::Result<()> {
-        let text = format!(in self.alloc; "{value}\n")?;
-        self.out.print(text.as_bytes())
+        self.out.show(self.alloc, value, "\n")
     }
 
     fn write_all(&self, bytes: &[u8]) -> io::Result<()> {
@@ -117,34 +121,36 @@ impl<'a> Print for Process<'a> {
 
 impl<'a> Eprint for Process<'a> {
     fn eprint<D: Display + Drop>(&self, value: D) -> io::Result<()> {
-        let text = format!(in self.alloc; "{value}")?;
-        self.err.print(text.as_bytes())
+        self.err.show(self.alloc, value, "")
     }
 
     fn eprintln<D: Display + Drop>(&self, value: D) -> io::Result<()> {
-        let text = format!(in self.alloc; "{value}\n")?;
-        self.err.print(text.as_bytes())
+        self.err.show(self.alloc, value, "\n")
     }
 }
 
-/// Runs `acts` with these words and this input, and compares its status and what it printed, where `None`
-/// stands for any text but the empty one. Standard output has room for so many bytes.
+/// The status, and what is printed on standard output and on standard error, where `None` stands for any
+/// text but the empty one.
+type Ended<'a> = (u8, Option<&'a str>, Option<&'a str>);
+
+/// Runs `acts` with these words and this input, with room for so many bytes on standard output.
 fn expect(
     rt: &impl Abort,
     alloc: Global,
-    given: (&[&str], &[u8], usize),
-    want: (u8, Option<&str>, Option<&str>),
+    words: &[&str],
+    input: &str,
+    room: usize,
+    ended: Ended<'_>,
 ) {
-    let (words, input, room) = given;
     let process = Process {
         alloc,
         words,
-        input,
+        input: input.as_bytes(),
         out: Page::new(alloc, room),
         err: Page::new(alloc, 10_000),
     };
-    let (status, out, err) = want;
-    assert_eq!(rt; run(&process), ExitCode::from(status));
+    let (status, out, err) = ended;
+    assert!(rt; run(&process) == ExitCode::from(status), "{status}");
     let Process {
         out: printed,
         err: told,
@@ -168,91 +174,82 @@ fn is_as_wanted(page: Page, want: Option<&str>) -> bool {
     }
 }
 
-/// 0 where all is well, and after a help text.
-#[test]
-fn ends_well(rt: HostRuntime) {
-    let alloc = rt.alloc();
-    let script = FIRST.as_bytes();
-    let play = (["acts", "play"].as_slice(), script, 10_000);
-    expect(&rt, alloc, play, (0, Some(FIRST_ANSWERS), Some("")));
-    let help = (["acts", "--help"].as_slice(), script, 10_000);
-    expect(&rt, alloc, help, (0, None, Some("")));
-}
+const PLAY: &[&str] = &["acts", "play"];
 
-#[test]
-fn prints_its_version(rt: HostRuntime) {
-    let version = (["acts", "--version"].as_slice(), b"".as_slice(), 10_000);
-    expect(
-        &rt,
-        rt.alloc(),
-        version,
-        (0, Some("acts 0.1.0\n"), Some("")),
-    );
-}
+const HELP: &[&str] = &["acts", "--help"];
 
 /// A refusal's number is explained with an input that gets it.
+const EXPLAINED: &str = concat!(
+    "refused 15: a job has no \"runs-on\", or an empty list there.\n",
+    "What gets it: the workflow {\"jobs\":{\"a\":{}}}.\n",
+    "What helps: name one label at least, as \"runs-on\":\"linux\".\n",
+);
+
+/// Words, the room on standard output, and how that ends over the first script: with 0 where all is well
+/// and after a help text, and with 2 after a fault of the words.
+const ROWS: [(&[&str], usize, Ended<'static>); 14] = [
+    (PLAY, 10_000, (0, Some(FIRST_ANSWERS), Some(""))),
+    (HELP, 10_000, (0, None, Some(""))),
+    (HELP, 0, FULL),
+    (
+        &["acts", "--version"],
+        10_000,
+        (0, Some("acts 0.1.0\n"), Some("")),
+    ),
+    (
+        &["acts", "explain", "15"],
+        10_000,
+        (0, Some(EXPLAINED), Some("")),
+    ),
+    (&["acts"], 10_000, FAULT),
+    (&["acts", "serve"], 10_000, FAULT),
+    (&["acts", "play", "script"], 10_000, FAULT),
+    (&["acts", "--verbose", "play"], 10_000, FAULT),
+    (&["acts", "explain"], 10_000, FAULT),
+    (&["acts", "explain", "17", "18"], 10_000, FAULT),
+    (&["acts", "explain", "9"], 10_000, FAULT),
+    (&["acts", "explain", "017"], 10_000, FAULT),
+    (&["acts", "explain", "refused"], 10_000, FAULT),
+];
+
+/// 1 after a refusal, which stands on standard error.
+const FULL: Ended<'static> = (1, Some(""), Some("acts: refused 61\n"));
+
+/// 2 after a fault of the command line.
+const FAULT: Ended<'static> = (2, Some(""), None);
+
 #[test]
-fn explains_a_refusal(rt: HostRuntime) {
-    let explained =
-        "refused 15: a job has no \"runs-on\", or an empty list there.\nWhat gets it: the workflow {\"jobs\":{\"a\":{}}}.\nWhat helps: name one label at least, as \"runs-on\":\"linux\".\n";
-    let explain = (["acts", "explain", "15"].as_slice(), b"".as_slice(), 10_000);
-    expect(&rt, rt.alloc(), explain, (0, Some(explained), Some("")));
+fn ends_with_its_status(rt: HostRuntime) {
+    for (words, room, ended) in ROWS {
+        expect(&rt, rt.alloc(), words, FIRST, room, ended);
+    }
 }
+
+/// The numbers that can be met.
+const NUMBERS: [&str; 28] = [
+    "10", "11", "12", "13", "14", "15", "16", "17", "18", "19", "20", "21", "22", "23", "24", "25",
+    "26", "40", "41", "42", "43", "44", "45", "48", "50", "61", "75", "76",
+];
 
 #[test]
 fn explains_each_number_that_is_met(rt: HostRuntime) {
-    let numbers = [
-        "10", "11", "12", "13", "14", "15", "16", "17", "18", "19", "20", "21", "22", "23", "24",
-        "25", "26", "40", "41", "42", "43", "44", "45", "48", "50", "61", "75", "76",
-    ];
-    for number in numbers {
+    for number in NUMBERS {
         let words = ["acts", "explain", number];
-        let explain = (words.as_slice(), b"".as_slice(), 10_000);
-        expect(&rt, rt.alloc(), explain, (0, None, Some("")));
-        let full = (words.as_slice(), b"".as_slice(), 10);
-        let refused = Some("acts: refused 61\n");
-        expect(&rt, rt.alloc(), full, (1, Some(""), refused));
+        expect(&rt, rt.alloc(), &words, FIRST, 10_000, (0, None, Some("")));
+        expect(&rt, rt.alloc(), &words, FIRST, 10, FULL);
     }
 }
 
-/// 1 after a refusal, which stands on standard error.
 #[test]
-fn ends_with_a_refusal(rt: HostRuntime) -> Result<(), Fail> {
-    let alloc = rt.alloc();
-    let full = Some("acts: refused 61\n");
+fn ends_with_a_full_standard_output(rt: HostRuntime) {
     for room in 0..FIRST_ANSWERS.len() {
-        let play = (["acts", "play"].as_slice(), FIRST.as_bytes(), room);
-        expect(&rt, alloc, play, (1, Some(""), full));
+        expect(&rt, rt.alloc(), PLAY, FIRST, room, FULL);
     }
-    let help = (["acts", "--help"].as_slice(), FIRST.as_bytes(), 0);
-    expect(&rt, alloc, help, (1, Some(""), full));
-    let long = vec![in alloc; b'\n'; MOST_BYTES + 1]?;
-    let play = (["acts", "play"].as_slice(), long.as_slice(), 10_000);
-    expect(&rt, alloc, play, (1, Some(""), Some("acts: refused 76\n")));
-    Ok(())
 }
 
-/// 2 after a fault of the command line.
 #[test]
-fn ends_with_a_fault_of_its_words(rt: HostRuntime) {
-    let alloc = rt.alloc();
-    let rows = [
-        ["acts"].as_slice(),
-        ["acts", "serve"].as_slice(),
-        ["acts", "play", "script"].as_slice(),
-        ["acts", "--verbose", "play"].as_slice(),
-        ["acts", "explain"].as_slice(),
-        ["acts", "explain", "17", "18"].as_slice(),
-        ["acts", "explain", "9"].as_slice(),
-        ["acts", "explain", "017"].as_slice(),
-        ["acts", "explain", "refused"].as_slice(),
-    ];
-    for words in rows {
-        expect(
-            &rt,
-            alloc,
-            (words, b"look 1\n", 10_000),
-            (2, Some(""), None),
-        );
-    }
+fn ends_with_a_script_that_is_too_long(rt: HostRuntime) {
+    let long = spelled(rt.alloc(), &[("\n", MOST_BYTES + 1)]).expect(&rt, "a script");
+    let ended = (1, Some(""), Some("acts: refused 76\n"));
+    expect(&rt, rt.alloc(), PLAY, long.as_str(), 10_000, ended);
 }

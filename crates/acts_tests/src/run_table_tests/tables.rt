@@ -1,65 +1,61 @@
-use crate::run_table_tests::{BUILD, BUILD_ELSEWHERE, Words, expect_view, play};
+use crate::commands::Words;
+use crate::run_table_tests::{BUILD, BUILD_ELSEWHERE, Row, expect_view, play, played};
 use run_plan::Number;
 use run_table::Table;
 use std::alloc::Global;
 use std::process::Abort;
-use std::test::Fail;
 use wf_value::{Outcome, TryCopy};
 
 /// Runs of two workflows, the third the second of its own, each of whose legs a runner has.
-fn leased_table(rt: &impl Abort, alloc: Global) -> Result<Table, Fail> {
-    let rows = [
-        (Words::Admit("d1", BUILD), "created 1"),
-        (Words::Claim("r1", "1", "linux"), "lease 1 1 build 0 {}"),
-        (Words::Admit("d2", BUILD_ELSEWHERE), "created 2"),
-        (Words::Claim("r2", "1", "linux"), "lease 2 2 build 0 {}"),
-        (Words::Admit("d3", BUILD), "created 3"),
-        (Words::Claim("r3", "1", "linux"), "lease 3 3 build 0 {}"),
-    ];
-    let mut table = Table::new(alloc);
-    play(rt, alloc, &mut table, &rows)?;
-    Ok(table)
-}
+const LEASED: [Row; 6] = [
+    (Words::Admit("d1", BUILD), "created 1"),
+    (Words::Claim("r1", "1", "linux"), "lease 1 1 build 0 {}"),
+    (Words::Admit("d2", BUILD_ELSEWHERE), "created 2"),
+    (Words::Claim("r2", "1", "linux"), "lease 2 2 build 0 {}"),
+    (Words::Admit("d3", BUILD), "created 3"),
+    (Words::Claim("r3", "1", "linux"), "lease 3 3 build 0 {}"),
+];
 
-/// What is seen of its runs.
-fn expect_runs(rt: &impl Abort, alloc: Global, table: &Table) -> Result<(), Fail> {
-    let rows = [
-        ("1", "run 1 1 in_progress - build:open(running)"),
-        ("2", "run 2 1 in_progress - build:open(running)"),
-        ("3", "run 3 2 in_progress - build:open(running)"),
-    ];
-    for (id, want) in rows {
-        expect_view(rt, alloc, table, id, want)?;
+const LEASED_RUNS: [(&str, &str); 3] = [
+    ("1", "run 1 1 in_progress - build:open(running)"),
+    ("2", "run 2 1 in_progress - build:open(running)"),
+    ("3", "run 3 2 in_progress - build:open(running)"),
+];
+
+/// What is seen of the runs of `LEASED`.
+fn expect_runs(rt: &impl Abort, alloc: Global, table: &Table) {
+    for (id, want) in LEASED_RUNS {
+        expect_view(rt, alloc, table, id, want);
     }
     assert!(rt; table.look(Number::new(4)).is_none());
-    Ok(())
 }
 
 #[test]
-fn numbers_runs_by_workflow(rt: HostRuntime) -> Result<(), Fail> {
-    expect_runs(&rt, rt.alloc(), &leased_table(&rt, rt.alloc())?)
+fn numbers_runs_by_workflow(rt: HostRuntime) {
+    expect_runs(&rt, rt.alloc(), &played(&rt, rt.alloc(), &LEASED));
 }
 
 /// Runs, a runner's number, its last command with the reply, the lease that it holds, and the last
 /// lease of all.
+const GONE_ON: [Row; 8] = [
+    (Words::Claim("r1", "1", "linux"), "lease 1 1 build 0 {}"),
+    (Words::Claim("r1", "1", "gpu"), "refused 43 1"),
+    (Words::Claim("r1", "2", "linux"), "refused 42"),
+    (Words::Done("r1", "2", "2", Outcome::Success), "refused 44"),
+    (Words::Admit("d4", BUILD), "created 4"),
+    (Words::Claim("r4", "1", "linux"), "lease 4 4 build 0 {}"),
+    (Words::Done("r1", "2", "1", Outcome::Failure), "ok"),
+    (
+        Words::Look("1"),
+        "run 1 1 completed failure build:failure(failure)",
+    ),
+];
+
 #[test]
-fn copies_a_table(rt: HostRuntime) -> Result<(), Fail> {
-    let rows = [
-        (Words::Claim("r1", "1", "linux"), "lease 1 1 build 0 {}"),
-        (Words::Claim("r1", "1", "gpu"), "refused 43 1"),
-        (Words::Claim("r1", "2", "linux"), "refused 42"),
-        (Words::Done("r1", "2", "2", Outcome::Success), "refused 44"),
-        (Words::Admit("d4", BUILD), "created 4"),
-        (Words::Claim("r4", "1", "linux"), "lease 4 4 build 0 {}"),
-        (Words::Done("r1", "2", "1", Outcome::Failure), "ok"),
-        (
-            Words::Look("1"),
-            "run 1 1 completed failure build:failure(failure)",
-        ),
-    ];
-    let table = leased_table(&rt, rt.alloc())?;
-    let mut copy = table.copy(rt.alloc())?;
-    expect_runs(&rt, rt.alloc(), &copy)?;
-    play(&rt, rt.alloc(), &mut copy, &rows)?;
-    expect_runs(&rt, rt.alloc(), &table)
+fn copies_a_table(rt: HostRuntime) {
+    let table = played(&rt, rt.alloc(), &LEASED);
+    let mut copy = table.copy(rt.alloc()).expect(&rt, "a copy");
+    expect_runs(&rt, rt.alloc(), &copy);
+    play(&rt, rt.alloc(), &mut copy, &GONE_ON);
+    expect_runs(&rt, rt.alloc(), &table);
 }

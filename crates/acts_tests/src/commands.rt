@@ -1,0 +1,90 @@
+//! Commands, made of their words. Words that make none are refused 75.
+
+use run_plan::{
+    Claim, Command, DeliveryId, Done, EventName, Labels, Number, Prepared, RunnerName, prepare,
+};
+use std::alloc::Global;
+use wf_value::{Code, Outcome, Refusal};
+
+/// A command in words: the delivery and the body of a `push`, or what a runner sends, or a run.
+pub enum Words<'a> {
+    Admit(&'a str, &'a str),
+    Claim(&'a str, &'a str, &'a str),
+    Done(&'a str, &'a str, &'a str, Outcome),
+    Look(&'a str),
+}
+
+/// A value that has to be there.
+pub fn there<T: Drop>(found: Option<T>) -> Result<T, Refusal> {
+    match found {
+        Some(value) => Ok(value),
+        None => Err(Refusal::Numbered(Code::Line)),
+    }
+}
+
+pub fn number(text: &str) -> Result<Number, Refusal> {
+    there(Number::of(text.as_bytes()))
+}
+
+pub fn labels(alloc: Global, text: &str) -> Result<Labels, Refusal> {
+    there(Labels::of(alloc, text.as_bytes())?)
+}
+
+fn runner(alloc: Global, text: &str) -> Result<RunnerName, Refusal> {
+    there(RunnerName::of(alloc, text.as_bytes())?)
+}
+
+fn delivery(alloc: Global, text: &str) -> Result<DeliveryId, Refusal> {
+    there(DeliveryId::of(alloc, text.as_bytes())?)
+}
+
+fn event(alloc: Global, text: &str) -> Result<EventName, Refusal> {
+    there(EventName::of(alloc, text.as_bytes())?)
+}
+
+/// The event of this name, with its delivery's id and its body.
+pub fn prepared(alloc: Global, id: &str, name: &str, body: &str) -> Result<Prepared, Refusal> {
+    let event = event(alloc, name)?;
+    let delivery = delivery(alloc, id)?;
+    let body = body.as_bytes().to_vec(alloc)?;
+    prepare(alloc, event, delivery, body)
+}
+
+pub fn claim(alloc: Global, name: &str, count: &str, asked: &str) -> Result<Claim, Refusal> {
+    let number = number(count)?;
+    let runner = runner(alloc, name)?;
+    let labels = labels(alloc, asked)?;
+    Ok(Claim {
+        runner,
+        number,
+        labels,
+    })
+}
+
+pub fn done(
+    alloc: Global,
+    name: &str,
+    count: &str,
+    lease: &str,
+    outcome: Outcome,
+) -> Result<Done, Refusal> {
+    let lease = number(lease)?;
+    let number = number(count)?;
+    Ok(Done {
+        runner: runner(alloc, name)?,
+        number,
+        lease,
+        result: outcome,
+    })
+}
+
+pub fn command_of(alloc: Global, words: &Words<'_>) -> Result<Command, Refusal> {
+    match words {
+        Words::Admit(id, body) => Ok(Command::Admit(prepared(alloc, id, "push", body)?)),
+        Words::Claim(name, count, asked) => Ok(Command::Claim(claim(alloc, name, count, asked)?)),
+        Words::Done(name, count, lease, outcome) => {
+            Ok(Command::Done(done(alloc, name, count, lease, *outcome)?))
+        }
+        Words::Look(run) => Ok(Command::Look(number(run)?)),
+    }
+}
