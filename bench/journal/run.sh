@@ -1,0 +1,61 @@
+#!/bin/bash
+# Appends of 1, 14, 109 and 4,096 bytes with both syncs, through `gated_journal::Area`, beside a plain loop
+# in C of the same four calls of the system, in turn, on one file system; and a read with a scan of a full
+# area of 64 MiB beside one read of it in C. Prints the median of the times of both and their ratio.
+# Usage: bench/journal/run.sh [FOLDER [COUNT [ROUNDS]]]; FOLDER lies on the file system to be measured.
+set -eu
+here=$(cd "$(dirname "$0")" && pwd)
+top=$(cd "$here/../.." && pwd)
+folder=${1:-$top/bench/journal/out}
+count=${2:-200}
+rounds=${3:-7}
+scratch=$(mktemp -d)
+trap 'rm -rf "$scratch"' EXIT
+
+# The program is no crate of the repository: it is built in a copy of the crates below it.
+mkdir -p "$scratch/crates/journal_bench/src" "$folder"
+cp "$top/HANDLES" "$scratch/"
+cp -r "$top/crates/wf_value" "$top/crates/act_disk" "$top/crates/gated_journal" "$scratch/crates/"
+cp "$here/main.rt.txt" "$scratch/crates/journal_bench/src/main.rt"
+printf '%s\n' 'wf_value: thiserror' 'act_disk: wf_value thiserror' 'gated_journal: wf_value act_disk' \
+    'journal_bench: gated_journal act_disk wf_value anyhow' > "$scratch/crates.txt"
+file=$folder/area
+head -c 16384 /dev/zero > "$scratch/try"
+(cd "$scratch/crates/journal_bench" && rt run --jobs 1 -- "$scratch/try" 1 1 > "$scratch/log" 2>&1) || { tail -20 "$scratch/log"; exit 1; }
+cc -O2 -o "$scratch/plain" "$here/plain.c"
+journal=$scratch/crates/journal_bench/out/journal_bench
+
+median() { cut -d ' ' -f 1 | sort -n | awk '{ v[NR] = $1 } END { print v[int((NR + 1) / 2)] }'; }
+report() { # NAME DIVISOR
+    awk -v n="$1" -v d="$(median < "$scratch/ours")" -v c="$(median < "$scratch/c")" -v k="$2" \
+        'BEGIN { printf "%s: journal %.1f us, plain C %.1f us, ratio %.3f\n", n, d / k * 1e6, c / k * 1e6, d / c }'
+}
+fresh() { # SIZE: a file of zeros, written out, in which all appends fit
+    head -c $((count * $1 + 16384)) /dev/zero > "$file"
+    sync "$file"
+}
+
+echo "appends $count, rounds $rounds, folder $(df -T "$folder" | awk 'NR == 2 { print $2 }')"
+for size in 1 14 109 4096; do
+    : > "$scratch/ours"; : > "$scratch/c"
+    fresh "$size"
+    "$scratch/plain" "$file" "$size" "$count" > /dev/null
+    for _ in $(seq "$rounds"); do
+        fresh "$size"
+        "$journal" "$file" "$size" "$count" >> "$scratch/ours"
+        fresh "$size"
+        "$scratch/plain" "$file" "$size" "$count" >> "$scratch/c"
+    done
+    report "an append of $size bytes" "$count"
+done
+for body in 0 104 65536; do
+    python3 "$here/full_area.py" "$file" "$body"
+    : > "$scratch/ours"; : > "$scratch/c"
+    "$scratch/plain" "$file" 0 1 > /dev/null
+    for _ in $(seq "$rounds"); do
+        "$journal" "$file" 0 1 >> "$scratch/ours"
+        "$scratch/plain" "$file" 0 1 >> "$scratch/c"
+    done
+    report "64 MiB of bodies of $body bytes" 1
+done
+rm -f "$file"
