@@ -1,11 +1,11 @@
 -- What the head of an area is read as is what stands there.
-use Rattle.std.proofs.Common.{◌≡◌, ℕ, suc, ◌+◌, ◌<◌, ◌≤◌, ◌^◌, List, [], ◌∷◌, ◌++◌, length, take, drop, refl, sym, ◌∙◌, ap, subst}
-use Rattle.std.proofs.Common.{arith, append_assoc, length-append, take-append-drop}
+use Rattle.std.proofs.Common.{◌≡◌, ℕ, suc, ◌<◌, ◌≤◌, ◌^◌, List, [], ◌∷◌, ◌++◌, length, take, drop, refl, sym, ◌∙◌, ap, subst}
+use Rattle.std.proofs.Common.{arith, length-append, take-append-drop}
 use Rattle.std.specs.Prelude.{slice_index_or}
 use Rattle.std.specs.Int.{from_be_bytes, to_be_bytes, w64}
 use Rattle.std.proofs.lemmas.List.{length-take, take_at, drop_at}
 use Rattle.std.proofs.lemmas.Nat.{be_bytes_8, from_be_bytes-to_be_bytes_8}
-use Rattle.gated_journal.specs.Layout.{Head, head_bytes}
+use Rattle.gated_journal.specs.Layout.{Head}
 use Rattle.gated_journal.specs.Scanned.{HasNumber, HasText, HasHead, HasFront}
 use Rattle.gated_journal.proofs.OneReading.{same_number_8, same_head, apart}
 use Rattle.gated_journal.proofs.Scanning.{AreBytes, AreBytes-take}
@@ -91,26 +91,6 @@ pub no_front : (area behind : List ℕ) → behind ≡ drop 1 area → ((head : 
 no_front area behind is none head rest front =
     let same : front.behind ≡ behind = sym (ap (λ (l : List ℕ). drop 1 l) front.split) ∙ sym is in
     none head rest (subst (λ (l : List ℕ). HasHead l head rest) same front.headed)
-
-module _ (version : ℕ) (behind : List ℕ) (head : Head) (rest : List ℕ) (has : HasHead (version ∷ behind) head rest) where
-  abbrev text_bytes : List ℕ
-  text_bytes = to_be_bytes w64 (length head.text) ++ head.text ++ rest
-
-  head_number : HasNumber behind head.generation text_bytes
-  head_number = record { split = cc (has.split ∙ apart head rest); fits = has.generation }
-
-  pub no_head_number : length behind < 8 → ⊥
-  no_head_number few = no_number behind head.generation text_bytes few head_number
-
-  pub no_head_text : (n : ℕ) (past : List ℕ) → HasNumber behind n past → ((text rest : List ℕ) → HasText past text rest → ⊥) → ⊥
-  no_head_text n past number none =
-      none head.text rest (record {
-        split = (one_number behind n head.generation past text_bytes number head_number).1;
-        fits = has.text;
-      })
-
-pub no_head : (head : Head) (rest : List ℕ) → HasHead [] head rest → ⊥
-no_head head rest has = cc has.split
 
 pub one_head : (bytes : List ℕ) (one two : Head) (x y : List ℕ) → HasHead bytes one x → HasHead bytes two y → (one ≡ two) × (x ≡ y)
 one_head bytes one two x y first second =
