@@ -1,4 +1,4 @@
-/* The same appends by the system's own calls. */
+/* The same appends by the system's own calls, with a fourth word in a file that was filled with zeros first. */
 #define _GNU_SOURCE
 #include <fcntl.h>
 #include <stdio.h>
@@ -10,13 +10,19 @@
 int main(int argc, char **argv) {
     char bytes[4096];
     struct timespec start, end;
-    if (argc != 4) return 2;
+    if (argc != 4 && argc != 5) return 2;
     size_t size = strtoul(argv[2], NULL, 10);
     unsigned long count = strtoul(argv[3], NULL, 10);
     int fd = open(argv[1], O_RDWR | O_CREAT | O_CLOEXEC, 0666);
     if (fd < 0 || size > sizeof bytes) return 1;
-    memset(bytes, 0x5A, sizeof bytes);
     off_t at = 0;
+    if (argc == 5) {
+        memset(bytes, 0, sizeof bytes);
+        for (unsigned long i = 0; i < count; i++)
+            if (pwrite(fd, bytes, size, i * size) != (ssize_t)size) return 1;
+        if (fdatasync(fd) != 0) return 1;
+    }
+    memset(bytes, 0x5A, sizeof bytes);
     clock_gettime(CLOCK_MONOTONIC, &start);
     for (unsigned long i = 0; i < count; i++) {
         if (pwrite(fd, bytes, size, at) != (ssize_t)size) return 1;

@@ -1,6 +1,7 @@
 #!/bin/bash
 # Appends of 1, 64 and 4,096 bytes with a sync each: `FileDisk` beside a plain loop in C, in turn, on one
-# file system. Prints for each size the median of the times of both and their ratio.
+# file system, to a file that grows and to one that was filled with zeros first. Prints for each the median
+# of the times of both and their ratio.
 # Usage: bench/disk/run.sh [FOLDER [COUNT [ROUNDS]]]; FOLDER lies on the file system to be measured.
 set -eu
 here=$(cd "$(dirname "$0")" && pwd)
@@ -20,21 +21,25 @@ printf 'wf_value: thiserror\nact_disk: wf_value thiserror\ndisk_bench: act_disk 
 (cd "$scratch/crates/disk_bench" && rt run --jobs 1 -- "$scratch/try" 1 1 > "$scratch/log" 2>&1) || { tail -20 "$scratch/log"; exit 1; }
 cc -O2 -o "$scratch/plain" "$here/plain.c"
 
-one() { # PROGRAM SIZE
+one() { # PROGRAM SIZE [grown]
     rm -f "$folder/appended"
-    "$1" "$folder/appended" "$2" "$count"
+    "$1" "$folder/appended" "$2" "$count" "${@:3}"
     rm -f "$folder/appended"
 }
 median() { sort -n | awk '{ v[NR] = $1 } END { print v[int((NR + 1) / 2)] }'; }
+compare() { # SIZE [grown]
+    : > "$scratch/disk"; : > "$scratch/c"
+    one "$scratch/plain" "$@" > /dev/null
+    for _ in $(seq "$rounds"); do
+        one "$scratch/crates/disk_bench/out/disk_bench" "$@" >> "$scratch/disk"
+        one "$scratch/plain" "$@" >> "$scratch/c"
+    done
+    awk -v s="$1" -v g="${2:-grows}" -v d="$(median < "$scratch/disk")" -v c="$(median < "$scratch/c")" -v n="$count" \
+        'BEGIN { printf "%5d bytes, %s: FileDisk %.1f us, plain C %.1f us an append, ratio %.3f\n", s, g, d / n * 1e6, c / n * 1e6, d / c }'
+}
 
 echo "appends $count, rounds $rounds, folder $(df -T "$folder" | awk 'NR == 2 { print $2 }')"
 for size in 1 64 4096; do
-    : > "$scratch/disk"; : > "$scratch/c"
-    one "$scratch/plain" "$size" > /dev/null
-    for _ in $(seq "$rounds"); do
-        one "$scratch/crates/disk_bench/out/disk_bench" "$size" >> "$scratch/disk"
-        one "$scratch/plain" "$size" >> "$scratch/c"
-    done
-    awk -v s="$size" -v d="$(median < "$scratch/disk")" -v c="$(median < "$scratch/c")" -v n="$count" \
-        'BEGIN { printf "%5d bytes: FileDisk %.1f us, plain C %.1f us an append, ratio %.3f\n", s, d / n * 1e6, c / n * 1e6, d / c }'
+    compare "$size"
+    compare "$size" grown
 done

@@ -1,5 +1,5 @@
 ghost use Rattle.std.specs.Prelude.{◌≡◌, ◌↔◌, ◌-◌, ◌<◌, ◌≤◌, ◌++◌, max, replicate, OnOk};
-ghost use Rattle.act_disk.specs.Images.{CountsFault};
+ghost use Rattle.act_disk.specs.Images.{Torn, From, EachSince, CountsFault};
 
 use crate::disk::Disk;
 use crate::fault::DiskFault;
@@ -8,9 +8,12 @@ use crate::fault::DiskFault;
 const MOST_ZEROS: usize = 4096;
 
 /// Makes a disk that long with zeros past its old end, where it was shorter. They are written, so that a
-/// file has its blocks from then on; nothing is synced.
+/// file has its blocks from then on; nothing is synced. At each moment, and after a fault, a stop leaves
+/// below the old end what it might have left before.
 pub fn grow_to<D: Disk>(disk: &mut D, len: u64) -> Result<(), DiskFault>
     requires { D.fault_count disk.old < u64.MAX }
+    ensures any_moment { D.honest disk.old → EachSince D.moment D.images_since disk.old disk.new
+        (From (Torn (D.size disk.old) (len - D.size disk.old)) (D.images disk.old)) }
     ensures size { OnOk result (D.size disk.new ≡ max (D.size disk.old) len) }
     ensures no_shorter { D.size disk.old ≤ D.size disk.new }
     ensures zeros { OnOk result (D.honest disk.old → D.seen disk.new ≡ D.seen disk.old ++ replicate (len - D.size disk.old) 0) }

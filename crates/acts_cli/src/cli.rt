@@ -1,24 +1,64 @@
+use crate::explain::{Explanation, explanation_of, numbers};
 use crate::play::run_script;
 use clap::error::ErrorKind;
-use clap::{Command, Error};
-use std::alloc::Global;
+use clap::{Arg, ArgMatches, Command, Error};
+use std::alloc::{AllocError, Global};
 use std::io::BufWriter;
 use std::process::ExitCode;
 use std::rt::Env;
 use std::{env, io};
 use wf_value::{Code, Refusal};
 
-/// Reads the words of the command line: its one subcommand is `play`.
-fn parse<'a>(alloc: Global, words: &'a [String]) -> Result<(), Error> {
+/// The version of the program.
+const VERSION: &str = "0.1.0";
+
+/// What the command line asks for.
+#[derive(Drop)]
+enum Request {
+    Play,
+    Explain(Explanation),
+}
+
+/// The command line of `acts`. Its `explain` takes one of these numbers.
+fn command<'a>(alloc: Global, numbers: &'a [&'a str]) -> Result<Command<'a>, AllocError> {
     let play = Command::new(alloc, "play").about(
         "Plays the script on standard input, and prints one answer for each line",
     );
-    let command = Command::new(alloc, "acts")
+    let number = Arg::new(alloc, "NUMBER")
+        .required(true)
+        .value_parser(numbers);
+    let explain = Command::new(alloc, "explain")
+        .about("Says what the refusal with a number means, and what helps")
+        .arg(number)?;
+    Command::new(alloc, "acts")
         .about("The coordinating half of GitHub Actions")
+        .version(VERSION)
         .subcommand_required(true)
-        .subcommand(play)?;
-    let _matches = command.try_get_matches_from(words)?;
-    Ok(())
+        .subcommand(play)?
+        .subcommand(explain)
+}
+
+/// What the words that `clap` took ask for.
+fn request_of(matches: &ArgMatches<'_>) -> Option<Request> {
+    match matches.subcommand() {
+        Some(("play", _)) => Some(Request::Play),
+        Some(("explain", matches)) => matches
+            .get_str("NUMBER")
+            .and_then(explanation_of)
+            .map(Request::Explain),
+        _ => None,
+    }
+}
+
+/// Reads the words of the command line.
+fn parse(alloc: Global, words: &[String]) -> Result<Request, Error> {
+    let numbers = numbers(alloc)?;
+    let mut command = command(alloc, numbers.as_slice())?;
+    let matches = command.try_get_matches_from_mut(words)?;
+    match request_of(&matches) {
+        Some(request) => Ok(request),
+        None => Err(command.error(ErrorKind::InvalidSubcommand, "no such subcommand")?),
+    }
 }
 
 /// The words of the command line.
@@ -48,12 +88,20 @@ fn tell<R: Print + Eprint>(rt: &R, error: &Error) -> Result<u8, Refusal> {
     Ok(if error.use_stderr() { 2 } else { 0 })
 }
 
+fn print_line<R: Print>(rt: &R, explanation: Explanation) -> Result<(), Refusal> {
+    match rt.println(explanation) {
+        Ok(()) => Ok(()),
+        Err(_) => Err(Refusal::Numbered(Code::StreamFailed)),
+    }
+}
+
 fn obey<R: Input + Print + Eprint + Env + AllocGlobal>(rt: &R) -> Result<u8, Refusal> {
     let words = words(rt)?;
-    if let Err(error) = parse(rt.alloc(), words.as_slice()) {
-        return tell(rt, &error);
+    match parse(rt.alloc(), words.as_slice()) {
+        Ok(Request::Play) => play(rt)?,
+        Ok(Request::Explain(explanation)) => print_line(rt, explanation)?,
+        Err(error) => return tell(rt, &error),
     }
-    play(rt)?;
     Ok(0)
 }
 

@@ -1,9 +1,10 @@
 //! What the program `acts` does, by its command line. `acts play` reads a script and prints one answer
-//! for each line that is not empty.
+//! for each line that is not empty. `acts explain` says what a refusal means.
 #![tactic(auto)]
 
 mod answer;
 mod cli;
+mod explain;
 mod fields;
 mod input;
 mod line;

@@ -5,6 +5,7 @@ use act_disk::{
 use std::alloc::Global;
 use std::fs;
 use std::process::Abort;
+use std::sync::Mutex;
 use std::test::Fail;
 use wf_value::{Code, Refusal};
 
@@ -421,4 +422,31 @@ fn file_that_cannot_be_opened_is_61(rt: HostRuntime) -> Result<(), Fail> {
         assert!(rt; is_61(RealDisk::create(&rt, path)), "{path}");
     }
     Ok(())
+}
+
+/// A disk that another thread may have.
+fn sent<D: Disk + Send>(disk: D) -> D {
+    disk
+}
+
+/// A value that threads may share.
+fn shared<T: Sync>(_value: &T) {}
+
+#[test]
+fn disks_can_be_sent(rt: HostRuntime) -> Result<(), Fail> {
+    let alloc = rt.alloc();
+    let disk = sent(FuseDisk::once(MemoryDisk::new(alloc), 0));
+    let inner = sent(disk.into_inner());
+    assert_eq!(rt; inner.faults(), 0);
+    shared(&Mutex::new(inner));
+    shared(&Mutex::new(sent(scripted(alloc, &[])?)));
+    Ok(())
+}
+
+#[test]
+fn disk_over_a_file_can_be_sent(rt: HostRuntime) {
+    if let Ok(disk) = RealDisk::open(&rt, "act_disk_no_such_folder/disk") {
+        shared(&Mutex::new(sent(disk)));
+        panic!(rt; "there is no such folder");
+    }
 }

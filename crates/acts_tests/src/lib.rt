@@ -8,6 +8,8 @@ mod acts_cli_tests;
 #[cfg(test)]
 mod gated_journal_tests;
 #[cfg(test)]
+mod group_name_tests;
+#[cfg(test)]
 mod matrix_expand_tests;
 #[cfg(test)]
 mod needs_graph_tests;

@@ -1,5 +1,5 @@
 -- What an append makes of an image: a record written behind the present gate, a sync, and the gate.
-use Rattle.std.specs.Prelude.{◌⊎◌, ℕ, ◌+◌, List, [], ◌∷◌, ◌++◌, length}
+use Rattle.std.specs.Prelude.{◌≡◌, ◌⊎◌, ℕ, ◌+◌, ◌-◌, ◌<◌, ◌^◌, List, [], ◌∷◌, ◌++◌, length, take, drop}
 use Rattle.act_disk.specs.Images.{Torn, Holds}
 use Rattle.gated_journal.specs.Layout.{framed}
 
@@ -15,3 +15,12 @@ pub record IsWhole (gate : ℕ) (bytes old new : List ℕ) : Type 0 where
 -- the gate as it was and anything in the place of the record, or the whole record
 abbrev pub Appends : ℕ → List ℕ → List ℕ → List ℕ → Type 0
 Appends gate bytes old new = Torn (gate + 1) (length bytes) old new ⊎ IsWhole gate bytes old new
+
+-- what stands between the first four bytes and the last one
+abbrev pub body_in : List ℕ → List ℕ
+body_in bytes = take (length bytes - 5) (drop 4 bytes)
+
+-- the bytes are a record of what stands there
+pub record IsRecord (bytes : List ℕ) : Type 0 where
+  pub is : bytes ≡ record_of (body_in bytes)
+  pub short : length (body_in bytes) < 2 ^ 32

@@ -5,3 +5,5 @@ pub mod OnDisk
 pub mod Scanned
 pub mod ScannedHead
 pub mod Spelled
+pub mod Turning
+pub mod TwoAreas

@@ -1,6 +1,6 @@
 -- An area of a disk.
 use Rattle.std.specs.Prelude.{◌≡◌, ◌⊎◌, ℕ, ◌+◌, ◌<◌, ◌≤◌, ◌^◌, List, [], ◌∷◌, ◌++◌, length}
-use Rattle.gated_journal.specs.Layout.{Head, opened, Reads}
+use Rattle.gated_journal.specs.Layout.{Head, opened, IsClosed, Reads, WouldRead}
 use Rattle.gated_journal.specs.Choice.{part}
 use Rattle.gated_journal.specs.Appends.{record_of}
 
@@ -8,6 +8,20 @@ use Rattle.gated_journal.specs.Appends.{record_of}
 pub record ReadsAt (start len : ℕ) (disk : List ℕ) (head : Head) (bodies : List (List ℕ)) : Type 0 where
   pub within : start + len ≤ length disk
   pub reads : Reads (part start len disk) head bodies
+
+-- it lies within the disk, and would read so, were its gate open
+pub record WouldReadAt (start len : ℕ) (disk : List ℕ) (head : Head) (bodies : List (List ℕ)) : Type 0 where
+  pub within : start + len ≤ length disk
+  pub would : WouldRead (part start len disk) head bodies
+
+-- it would read so, and its gate is closed
+pub record ShutAt (start len : ℕ) (disk : List ℕ) (head : Head) (bodies : List (List ℕ)) : Type 0 where
+  pub would : WouldReadAt start len disk head bodies
+  pub closed : IsClosed (part start len disk)
+
+-- it reads so, or it would and its gate is closed
+abbrev pub OpenOrShut : ℕ → ℕ → Head → List (List ℕ) → List ℕ → Type 0
+OpenOrShut start len head bodies disk = ReadsAt start len disk head bodies ⊎ ShutAt start len disk head bodies
 
 -- it reads so, or with this body too
 abbrev pub MayHaveGrown : ℕ → ℕ → Head → List (List ℕ) → List ℕ → List ℕ → Type 0

@@ -2,7 +2,7 @@ ghost use Rattle.std.specs.Prelude.{◌≡◌, ◌↔◌, ◌+◌, ◌<◌, ◌�
 ghost use Rattle.act_disk.specs.Images.{Torn, IsWritten, Holds, From, Only, EachSince, CountsFault};
 ghost use Rattle.gated_journal.specs.Appends.{Appends};
 ghost use Rattle.gated_journal.specs.Layout.{Head};
-ghost use Rattle.gated_journal.specs.OnDisk.{ReadsAt, MayHaveGrown, Awaits};
+ghost use Rattle.gated_journal.specs.OnDisk.{ReadsAt, MayHaveGrown, Awaits, WouldReadAt, ShutAt, OpenOrShut};
 
 use crate::append::{OPEN, append_behind};
 use crate::gate::{CLOSED, Gate};
@@ -63,13 +63,20 @@ impl Area {
 
     /// Opens the area's own gate, and syncs.
     ///
-    /// Whatever moment the machine stops at, the area stands as it was but for its gate.
+    /// Whatever moment the machine stops at, the area is as it was but for its gate. One that would read
+    /// as a head and bodies, were its gate open, reads so after `Ok`.
     pub fn open_gate<D: Disk>(&self, disk: &mut D) -> Result<(), DiskFault>
         requires countable { D.fault_count disk.old < u64.MAX }
         ensures any_moment { D.honest disk.old → EachSince D.moment D.images_since disk.old disk.new
             (From (Torn self.now.start 1) (D.images disk.old)) }
         ensures stable { OnOk result (D.honest disk.old → Only (D.seen disk.new) (D.images disk.new)) }
         ensures open { OnOk result (D.honest disk.old → IsWritten self.now.start (0xA5 ∷ []) (D.seen disk.old) (D.seen disk.new)) }
+        ensures reads { (head : Head) (bodies : List (List ℕ)) → D.honest disk.old
+            → ((c : List ℕ) → D.images disk.old c → WouldReadAt self.now.start self.now.len c head bodies)
+            → EachSince D.moment D.images_since disk.old disk.new (OpenOrShut self.now.start self.now.len head bodies) }
+        ensures opened { OnOk result ((head : Head) (bodies : List (List ℕ)) → D.honest disk.old
+            → WouldReadAt self.now.start self.now.len (D.seen disk.old) head bodies
+            → ReadsAt self.now.start self.now.len (D.seen disk.new) head bodies) }
         ensures no_shorter { D.size disk.old ≤ D.size disk.new }
         ensures calls { D.calls disk.new ≤ D.calls disk.old + 2 }
         ensures faults { CountsFault result (D.fault_count disk.old) (D.fault_count disk.new) }
@@ -88,6 +95,12 @@ impl Area {
         ensures stable { OnOk result (gate ≡ Gate.Open → D.honest disk.old → Only (D.seen disk.new) (D.images disk.new)) }
         ensures closed { OnOk result (gate ≡ Gate.Open → D.honest disk.old
             → IsWritten self.now.start (0 ∷ []) (D.seen disk.old) (D.seen disk.new)) }
+        ensures reads { (head : Head) (bodies : List (List ℕ)) → gate ≡ Gate.Open → D.honest disk.old
+            → ((c : List ℕ) → D.images disk.old c → WouldReadAt self.now.start self.now.len c head bodies)
+            → EachSince D.moment D.images_since disk.old disk.new (OpenOrShut self.now.start self.now.len head bodies) }
+        ensures shut { OnOk result ((head : Head) (bodies : List (List ℕ)) → gate ≡ Gate.Open → D.honest disk.old
+            → WouldReadAt self.now.start self.now.len (D.seen disk.old) head bodies
+            → ShutAt self.now.start self.now.len (D.seen disk.new) head bodies) }
         ensures no_shorter { D.size disk.old ≤ D.size disk.new }
         ensures calls { D.calls disk.new ≤ D.calls disk.old + 2 }
         ensures faults { CountsFault result (D.fault_count disk.old) (D.fault_count disk.new) }

@@ -3,18 +3,26 @@
 
 mod append;
 mod area;
+mod area_call;
 mod gate;
 mod head;
 pub mod laws;
+mod places;
 mod read;
+mod record;
 pub mod record_laws;
 mod records;
 mod scanned;
 mod side;
+mod standing;
+mod turning;
 
 pub use area::Area;
+pub use area_call::AreaCall;
 pub use gate::Gate;
 pub use head::AreaHead;
+pub use record::Record;
 pub use records::record_at;
 pub use scanned::{ScannedArea, scan};
 pub use side::Side;
+pub use standing::Standing;

@@ -5,6 +5,7 @@ ghost use Rattle.wf_value.specs.ScalarValue.{scalar_text};
 ghost use Rattle.wf_expr.specs.declared.piece.Piece.{Piece};
 ghost use Rattle.wf_value.specs.declared.refusal.Refusal.{Refusal};
 ghost use Rattle.wf_expr.specs.Faults.{wrong_expression, wrong_place};
+ghost use Rattle.wf_expr.specs.FlagValue.{SetsFlag, sets_flag};
 ghost use Rattle.wf_expr.specs.Outcome.{IsOutcome, SpellsNone, SpellsElsewhere};
 ghost use Rattle.wf_expr.specs.Parsing.{template_of};
 ghost use Rattle.wf_expr.specs.Profile.{Spells, AllowedIn};
@@ -13,6 +14,7 @@ ghost use Rattle.wf_expr.specs.TemplateValue.{template_value};
 use crate::case::Case;
 use crate::comparison::are_text;
 use crate::context::Context;
+use crate::flag::view_sets_flag;
 use crate::piece::Piece;
 use crate::place::Place;
 use crate::profile::{are_in_profile, pieces_allowed};
@@ -80,6 +82,20 @@ impl Template {
             (lowered (scalar_text (template_value (C.values context.now) self.now)) ≡ lowered text.now) }
     {
         are_text(self.pieces(), context, text, Case::Insensitive)
+    }
+
+    /// Whether the template's value in the context sets a flag: whether it is the truth value true or the
+    /// text `true`. It takes no memory.
+    pub fn sets_flag<C: Context>(&self, context: &C) -> bool
+        ensures set { IsTrue result ↔ SetsFlag (template_value (C.values context.now) self.now) }
+        ensures test { result ≡ sets_flag (template_value (C.values context.now) self.now) }
+    {
+        match self.pieces() {
+            [Piece::Braced(operands)] => {
+                view_sets_flag(expression_value(operands.as_slice(), context))
+            }
+            pieces => are_text(pieces, context, b"true", Case::Sensitive),
+        }
     }
 }
 

@@ -179,6 +179,42 @@ fn ends_well(rt: HostRuntime) {
     expect(&rt, alloc, help, (0, None, Some("")));
 }
 
+#[test]
+fn prints_its_version(rt: HostRuntime) {
+    let version = (["acts", "--version"].as_slice(), b"".as_slice(), 10_000);
+    expect(
+        &rt,
+        rt.alloc(),
+        version,
+        (0, Some("acts 0.1.0\n"), Some("")),
+    );
+}
+
+/// A refusal's number is explained with an input that gets it.
+#[test]
+fn explains_a_refusal(rt: HostRuntime) {
+    let explained =
+        "refused 15: a job has no \"runs-on\", or an empty list there.\nWhat gets it: the workflow {\"jobs\":{\"a\":{}}}.\nWhat helps: name one label at least, as \"runs-on\":\"linux\".\n";
+    let explain = (["acts", "explain", "15"].as_slice(), b"".as_slice(), 10_000);
+    expect(&rt, rt.alloc(), explain, (0, Some(explained), Some("")));
+}
+
+#[test]
+fn explains_each_number_that_is_met(rt: HostRuntime) {
+    let numbers = [
+        "10", "11", "12", "13", "14", "15", "16", "17", "18", "19", "20", "21", "22", "23", "24",
+        "25", "26", "40", "41", "42", "43", "44", "45", "48", "50", "61", "75", "76",
+    ];
+    for number in numbers {
+        let words = ["acts", "explain", number];
+        let explain = (words.as_slice(), b"".as_slice(), 10_000);
+        expect(&rt, rt.alloc(), explain, (0, None, Some("")));
+        let full = (words.as_slice(), b"".as_slice(), 10);
+        let refused = Some("acts: refused 61\n");
+        expect(&rt, rt.alloc(), full, (1, Some(""), refused));
+    }
+}
+
 /// 1 after a refusal, which stands on standard error.
 #[test]
 fn ends_with_a_refusal(rt: HostRuntime) -> Result<(), Fail> {
@@ -205,6 +241,11 @@ fn ends_with_a_fault_of_its_words(rt: HostRuntime) {
         ["acts", "serve"].as_slice(),
         ["acts", "play", "script"].as_slice(),
         ["acts", "--verbose", "play"].as_slice(),
+        ["acts", "explain"].as_slice(),
+        ["acts", "explain", "17", "18"].as_slice(),
+        ["acts", "explain", "9"].as_slice(),
+        ["acts", "explain", "017"].as_slice(),
+        ["acts", "explain", "refused"].as_slice(),
     ];
     for words in rows {
         expect(

@@ -1,0 +1,238 @@
+use std::alloc::{AllocError, Global};
+use std::fmt;
+
+/// What is said of a refusal.
+#[derive(Drop)]
+pub struct Explanation {
+    number: &'static str,
+    /// Why something is refused so.
+    meaning: &'static str,
+    /// An input that is.
+    input: &'static str,
+    /// What helps.
+    remedy: &'static str,
+}
+
+/// The refusals that can be met, in order. docs/FORMATS.md repeats them.
+const EXPLANATIONS: [Explanation; 28] = [
+    Explanation {
+        number: "10",
+        meaning: "a body, or a workflow, is not JSON, or not UTF-8",
+        input: "the body [",
+        remedy: "check the text with a JSON tool: comments and a comma behind the last member are not \
+            allowed, and lists and objects nest 127 deep at most",
+    },
+    Explanation {
+        number: "11",
+        meaning: "a member is of the wrong kind, or one that is required is missing",
+        input: "the workflow {}, which has no \"jobs\"",
+        remedy: "compare the members with the tables of docs/FORMATS.md; null counts as a kind of its \
+            own, so leave a member out that is not wanted",
+    },
+    Explanation {
+        number: "12",
+        meaning: "the id of a job is not of its form",
+        input: "the workflow {\"jobs\":{\"1a\":{\"runs-on\":\"x\"}}}",
+        remedy: "begin the id with a letter or _, use letters, digits, - and _ alone, and 100 bytes at most",
+    },
+    Explanation {
+        number: "13",
+        meaning: "\"needs\" names a job that the workflow does not have",
+        input: "the workflow {\"jobs\":{\"a\":{\"runs-on\":\"x\",\"needs\":\"b\"}}} (while \"needs\" is \
+            not read yet, it is refused 16)",
+        remedy: "name the ids of jobs of the same workflow, letter by letter",
+    },
+    Explanation {
+        number: "14",
+        meaning: "jobs need one another in a circle; the ids of all jobs of such circles follow the number",
+        input: "the workflow {\"jobs\":{\"a\":{\"runs-on\":\"x\",\"needs\":\"a\"}}} (while \"needs\" is \
+            not read yet, it is refused 16)",
+        remedy: "take a job out of the \"needs\" of one that it waits for",
+    },
+    Explanation {
+        number: "15",
+        meaning: "a job has no \"runs-on\", or an empty list there",
+        input: "the workflow {\"jobs\":{\"a\":{}}}",
+        remedy: "name one label at least, as \"runs-on\":\"linux\"",
+    },
+    Explanation {
+        number: "16",
+        meaning: "a workflow has a member, or a kind of job, that is left out",
+        input: "the workflow {\"jobs\":{\"a\":{\"uses\":\"./x.yml\"}}}",
+        remedy: "write the job's own steps in place of \"uses\", and labels in place of a runner group; \
+            docs/FORMATS.md says which other members are not read yet",
+    },
+    Explanation {
+        number: "17",
+        meaning: "a text holds an expression that is not read: references joined by || are, functions \
+            and comparisons are not",
+        input: "the workflow {\"jobs\":{\"a\":{\"runs-on\":\"${{ secrets.x }}\"}}}",
+        remedy: "use the contexts github, inputs, vars, needs, strategy and matrix, texts in single \
+            quotes, and 32 references at most, or let the sender work out the value",
+    },
+    Explanation {
+        number: "18",
+        meaning: "an expression uses a context that has no value in its place",
+        input: "the workflow {\"concurrency\":\"${{ matrix.os }}\",\"jobs\":{\"a\":{\"runs-on\":\"x\"}}} \
+            (while \"concurrency\" is not read yet, it is refused 16)",
+        remedy: "use github, inputs and vars alone in the concurrency of the workflow, or move the group \
+            to the job",
+    },
+    Explanation {
+        number: "19",
+        meaning: "a matrix holds what it can't: a variable that is no list, an include or exclude that \
+            is no list of objects, or a value that is a list, an object, or a number other than a signed \
+            64-bit whole number",
+        input: "the workflow {\"jobs\":{\"a\":{\"runs-on\":\"x\",\"strategy\":{\"matrix\":{\"n\":[1.5]}}}}}",
+        remedy: "write such a value as a text, as \"1.5\"",
+    },
+    Explanation {
+        number: "20",
+        meaning: "a variable of a matrix has an empty list, or an object of its include or exclude is empty",
+        input: "the workflow {\"jobs\":{\"a\":{\"runs-on\":\"x\",\"strategy\":{\"matrix\":{\"n\":[]}}}}}",
+        remedy: "give the variable a value, or leave it or the object out",
+    },
+    Explanation {
+        number: "21",
+        meaning: "the lengths of the lists of a matrix multiply to over 4,096",
+        input: "a job whose matrix has 13 variables of two values each",
+        remedy: "shorten the lists, or part the job in two; exclude does not help, since it comes later",
+    },
+    Explanation {
+        number: "22",
+        meaning: "a matrix gives no leg, or more than 256",
+        input: "the workflow {\"jobs\":{\"a\":{\"runs-on\":\"x\",\"strategy\":{\"matrix\":{}}}}}",
+        remedy: "leave an empty matrix out; else shorten its lists, exclude combinations, or part the \
+            job in two",
+    },
+    Explanation {
+        number: "23",
+        meaning: "a workflow has more than 256 jobs",
+        input: "a workflow of 257 jobs",
+        remedy: "part the workflow in two, or let a matrix stand for jobs that are alike",
+    },
+    Explanation {
+        number: "24",
+        meaning: "a body, or a workflow, is longer than 65,536 bytes",
+        input: "a body of 65,537 bytes, spaces included",
+        remedy: "leave out the spaces that JSON does not need, and move long scripts of steps into files \
+            of the repository",
+    },
+    Explanation {
+        number: "25",
+        meaning: "a member of \"strategy\" is none of \"matrix\", \"fail-fast\" and \"max-parallel\", or \
+            of the wrong kind or range",
+        input: "the workflow {\"jobs\":{\"a\":{\"runs-on\":\"x\",\"strategy\":{\"max-parallel\":0}}}}",
+        remedy: "give \"fail-fast\" true or false, \"max-parallel\" a whole number from 1 to 256, and \
+            \"matrix\" an object; expressions are not read there",
+    },
+    Explanation {
+        number: "26",
+        meaning: "the \"if\" of a job is a condition that is not read",
+        input: "the workflow {\"jobs\":{\"a\":{\"runs-on\":\"x\",\"if\":\"github.ref == 'x'\"}}} (while \
+            \"if\" is not read yet, it is refused 16)",
+        remedy: "use success(), failure(), always(), cancelled(), !cancelled(), true or false, or let a \
+            step decide",
+    },
+    Explanation {
+        number: "40",
+        meaning: "there is no run with this id",
+        input: "the line: look 1, before any admit",
+        remedy: "use an id that an admit was answered, as 1 of: created 1",
+    },
+    Explanation {
+        number: "41",
+        meaning: "the run has completed, so it can't be cancelled",
+        input: "the line: cancel 1, after run 1 has completed (while cancel is not read yet, it is \
+            refused 75)",
+        remedy: "nothing needs to be done; look at the run for its conclusion",
+    },
+    Explanation {
+        number: "42",
+        meaning: "the runner has a lease already, and holds one at a time",
+        input: "the line: claim r1 2 linux, after claim r1 1 linux was answered by a lease",
+        remedy: "report that leg by done first, or claim under the name of another runner",
+    },
+    Explanation {
+        number: "43",
+        meaning: "a command is out of its runner's turn; the runner's last number follows, 0 where it \
+            has none",
+        input: "the line: claim r1 2 linux, as the first of runner r1",
+        remedy: "number the commands of each runner 1, 2, 3 and so on, and repeat a command word for \
+            word, with its number, to get its reply again",
+    },
+    Explanation {
+        number: "44",
+        meaning: "the runner does not hold that lease",
+        input: "the line: done r1 1 9 success, where r1 does not run the leg of lease 9",
+        remedy: "report the lease that the runner's claim was answered, and that leg once",
+    },
+    Explanation {
+        number: "45",
+        meaning: "no command of this runner is known",
+        input: "the line: beat r9 1, before any claim of r9 (while beat is not read yet, it is refused 75)",
+        remedy: "claim under this name first; names of runners compare by bytes",
+    },
+    Explanation {
+        number: "48",
+        meaning: "a counter is at its last value: 100,000 runs, or 999,999,999 leases",
+        input: "the admit of a run past 100,000",
+        remedy: "begin again with an empty table",
+    },
+    Explanation {
+        number: "50",
+        meaning: "memory was refused, and what was asked was not done",
+        input: "any, on a machine that has no memory left",
+        remedy: "free memory, and ask again: the table is as it was",
+    },
+    Explanation {
+        number: "61",
+        meaning: "an input or an output failed",
+        input: "acts play < script > /dev/full",
+        remedy: "see whether the disk is full, or the other end of a pipe has gone; a part of the \
+            answers may have been written",
+    },
+    Explanation {
+        number: "75",
+        meaning: "a line of a script is no command",
+        input: "the line: look 01",
+        remedy: "part the fields by one space, write numbers without leading zeros, and compare names \
+            with the forms of docs/FORMATS.md",
+    },
+    Explanation {
+        number: "76",
+        meaning: "a script, or the input of acts check, is longer than 1,048,576 bytes",
+        input: "a script of 1,048,577 bytes",
+        remedy: "part the script in two; a workflow is 65,536 bytes at most (24)",
+    },
+];
+
+impl fmt::Display for Explanation {
+    fn fmt<W: fmt::Write>(&self, f: &mut fmt::Formatter<W>) -> fmt::Result {
+        let Explanation {
+            number,
+            meaning,
+            input,
+            remedy,
+        } = self;
+        writeln!(f, "refused {number}: {meaning}.")?;
+        writeln!(f, "What gets it: {input}.")?;
+        write!(f, "What helps: {remedy}.")
+    }
+}
+
+/// The numbers that are explained.
+pub fn numbers(alloc: Global) -> Result<Vec<&'static str>, AllocError> {
+    let mut numbers = Vec::new(alloc);
+    for explanation in EXPLANATIONS {
+        numbers.push(explanation.number)?;
+    }
+    Ok(numbers)
+}
+
+/// What is said of the refusal with this number, or `None` where it is not explained.
+pub fn explanation_of(number: &str) -> Option<Explanation> {
+    EXPLANATIONS
+        .into_iter()
+        .find(|explanation| explanation.number == number)
+}

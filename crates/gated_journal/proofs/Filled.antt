@@ -1,0 +1,58 @@
+-- What stands behind an area's gate once all of it is put.
+use Rattle.std.proofs.Common.{◌≡◌, inl, ℕ, ◌+◌, ◌≤◌, List, [], ◌∷◌, ◌++◌, length, take, drop, sym, ◌∙◌, ap, subst, arith, append_assoc}
+use Rattle.std.proofs.Common.{take-append-drop, take-add, drop-drop, length-append}
+use Rattle.act_disk.specs.Images.{Holds, IsWritten}
+use Rattle.act_disk.specs.Kept.{range_kept}
+use Rattle.gated_journal.specs.Layout.{Head, head_bytes, record_bytes, Fits, WouldRead}
+use Rattle.gated_journal.specs.TwoAreas.{start_of, other, area_on, behind_gate, Completes}
+use Rattle.gated_journal.specs.declared.side.Side.{Side}
+use Rattle.gated_journal.proofs.Frames.{part_held, length-part}
+use Rattle.gated_journal.proofs.TwoAreas.{within}
+
+-- two texts, one behind the other
+holds_both : (file : List ℕ) (at : ℕ) (x y : List ℕ) → Holds file at x → Holds file (at + length x) y → Holds file at (x ++ y)
+holds_both file at x y first second =
+    ap (λ (n : ℕ). take n (drop at file)) (length-append x y) ∙ take-add (length x) (length y) (drop at file)
+    ∙ ap (λ (l : List ℕ). l ++ take (length y) (drop (length x) (drop at file))) first
+    ∙ ap (λ (l : List ℕ). x ++ l) (ap (λ (l : List ℕ). take (length y) l) (drop-drop (length x) at file) ∙ second)
+
+-- one more behind those that stand there
+pub holds_more : (start at : ℕ) (front bytes old new : List ℕ) → at ≡ 1 + length front → start + at ≤ length old
+    → Holds old (start + 1) front → IsWritten (start + at) bytes old new → Holds new (start + 1) (front ++ bytes)
+holds_more start at front bytes old new place long held written =
+    let next : start + at ≡ (start + 1) + length front = omega (arith, place) in
+    holds_both new (start + 1) front bytes
+    (range_kept (start + at) (length bytes) old new written.torn (start + 1) (length front) (omega (arith, next, long))
+    (inl (omega (arith, next))) ∙ held)
+    (subst (λ (k : ℕ). Holds new k bytes) next written.held)
+
+parted : (behind rest : List ℕ) (head : Head) (bodies : List (List ℕ)) → behind ≡ behind_gate head bodies ++ rest
+    → 0xA5 ∷ behind ≡ (0xA5 ∷ head_bytes head ++ record_bytes bodies) ++ 0 ∷ rest
+parted behind rest head bodies is =
+    ap (λ (l : List ℕ). 0xA5 ∷ l) (is ∙ append_assoc (head_bytes head ++ record_bytes bodies) (0 ∷ []) rest)
+
+would_of : (area text : List ℕ) (head : Head) (bodies : List (List ℕ)) → 1 ≤ length area → Holds area 1 text
+    → text ≡ behind_gate head bodies → Fits head bodies → WouldRead area head bodies
+would_of [] text head bodies some held is fits = absurd (omega (arith, some))
+would_of (gate ∷ behind) text head bodies some held is fits =
+    let rest = drop (length text) behind in
+    record {
+      rest = 0 ∷ rest;
+      split = parted behind rest head bodies (sym (take-append-drop (length text) behind) ∙ ap (λ (l : List ℕ). l ++ rest) (held ∙ is));
+      closed = omega arith;
+      fits = fits;
+    }
+
+module _ (len : ℕ) (side : Side) (old mid : List ℕ) (at : ℕ) (bytes : List ℕ) (head next : Head) (others : List (List ℕ)) where
+  pub completed : len + len ≤ length old → at + length bytes ≤ len → Completes len side old at bytes head next others
+      → IsWritten (start_of len (other side) + at) bytes old mid → WouldRead (area_on len (other side) mid) next others
+  completed long inside completes written =
+      let start = start_of len (other side) in
+      let front = completes.front in
+      let lies = within len (other side) old long in
+      let lies_on = within len (other side) mid (omega (arith, long, written.torn.no_shorter)) in
+      let all = length-append front bytes in
+      let held = part_held start len old mid lies 1 (front ++ bytes) (omega (arith, all, inside, completes.place))
+      (holds_more start at front bytes old mid completes.place (omega (arith, lies, inside)) completes.held written) in
+      would_of (area_on len (other side) mid) (front ++ bytes) next others
+      (omega (arith, inside, completes.place, length-part start len mid lies_on)) held completes.whole completes.fits

@@ -1,0 +1,239 @@
+-- A write of a disk of two areas, seen from both.
+use Rattle.std.proofs.Common.{◌≡◌, ◌⊎◌, inl, inr, ⊎_elim, ℕ, ◌+◌, ◌<◌, ◌≤◌, ◌^◌, List}
+use Rattle.std.proofs.Common.{[], ◌∷◌, ◌++◌, length, take, drop, refl, sym, ◌∙◌, ap, subst, arith}
+use Rattle.std.proofs.Common.{min}
+use Rattle.std.proofs.lemmas.Bool.{cases_eq}
+use Rattle.act_disk.specs.Images.{Torn, Holds}
+use Rattle.act_disk.specs.Kept.{front_kept}
+use Rattle.gated_journal.specs.Appends.{record_of, Appends}
+use Rattle.gated_journal.specs.Choice.{open_generation}
+use Rattle.gated_journal.specs.Layout.{Head, opened, IsClosed, Reads, WouldRead}
+use Rattle.gated_journal.specs.TwoAreas.{start_of, other, area_on, IsGate, Stands}
+use Rattle.gated_journal.specs.declared.gate.Gate.{Gate}
+use Rattle.gated_journal.specs.declared.gate.Gate.TheVariants.{Open, Closed}
+use Rattle.gated_journal.specs.declared.side.Side.{Side}
+use Rattle.gated_journal.specs.declared.side.Side.TheVariants.{First, Second}
+use Rattle.gated_journal.proofs.Choosing.{generation_read, closed_none, alone, same_standing, greater}
+use Rattle.gated_journal.proofs.Frames.{length-part, part_kept, part_torn, part_appends, part_held}
+use Rattle.gated_journal.proofs.Gates.{gate_torn, would_read}
+use Rattle.gated_journal.proofs.Grown.{appends_reads}
+
+-- a gate that was open or closed stays so where its byte does
+gate_same : (gate : Gate) (a b : List ℕ) → take 1 b ≡ take 1 a → IsGate gate a → IsGate gate b
+gate_same Open [] b same is = absurd is
+gate_same Closed [] b same is = absurd is
+gate_same Open (x ∷ a) [] same is = absurd (cc same)
+gate_same Closed (x ∷ a) [] same is = absurd (cc same)
+gate_same Open (x ∷ a) (y ∷ b) same is = let first : y ≡ x = cc same in first ∙ is
+gate_same Closed (x ∷ a) (y ∷ b) same is = let first : y ≡ x = cc same in λ open_there. is (sym first ∙ open_there)
+
+not_empty : (gate : Gate) (a : List ℕ) → IsGate gate a → 0 < length a
+not_empty Open [] is = absurd is
+not_empty Closed [] is = absurd is
+not_empty gate (x ∷ a) is = omega arith
+
+other_twice : (side : Side) → other (other side) ≡ side
+other_twice First = refl
+other_twice Second = refl
+
+read_open : (area : List ℕ) (head : Head) (bodies : List (List ℕ)) → Reads area head bodies → IsGate Open area
+read_open area head bodies reads = subst (λ (l : List ℕ). IsGate Open l) (sym reads.split) refl
+
+module _ (len : ℕ) where
+  -- both lie within the disk
+  pub within : (side : Side) (disk : List ℕ) → len + len ≤ length disk → start_of len side + len ≤ length disk
+  within First disk long = omega (arith, long)
+  within Second disk long = long
+
+  -- one lies beside the other
+  apart_after : (side : Side) (at n : ℕ) → at + n ≤ len
+      → (start_of len side + len ≤ start_of len (other side) + at) ⊎ ((start_of len (other side) + at) + n ≤ start_of len side)
+  apart_after First at n inside = inl (omega arith)
+  apart_after Second at n inside = inr (omega (arith, inside))
+
+  -- two ranges, one in each
+  pub apart_between : (side : Side) (from m at n : ℕ) → from + m ≤ len → at + n ≤ len
+      → ((start_of len side + at) + n ≤ start_of len (other side) + from) ⊎ ((start_of len
+      (other side) + from) + m ≤ start_of len side + at)
+  apart_between First from m at n below inside = inl (omega (arith, inside))
+  apart_between Second from m at n below inside = inr (omega (arith, below))
+
+  module _ (side : Side) (d c : List ℕ) (long : len + len ≤ length d) (at n : ℕ) (inside : at + n ≤ len) where
+    -- a write of the other area
+    pub kept : Torn (start_of len (other side) + at) n d c → area_on len side c ≡ area_on len side d
+    kept torn = part_kept (start_of len side) len d c (within side d long) (start_of len (other side) + at) n torn
+        (apart_after side at n inside)
+
+    pub torn_inside : Torn (start_of len side + at) n d c → Torn at n (area_on len side d) (area_on len side c)
+    torn_inside torn = part_torn (start_of len side) len d c (within side d long) at n inside torn
+
+  -- an append is a write of its range
+  appends_torn : (gate : ℕ) (bytes d c : List ℕ) → Appends gate bytes d c → gate + 1 ≤ length d → Torn gate (length bytes + 1) d c
+  appends_torn gate bytes d c (inr whole) there = whole.torn
+  appends_torn gate bytes d c (inl torn) there = record {
+    no_shorter = torn.no_shorter;
+    no_longer = omega (arith, torn.no_longer);
+    before = front_kept (gate + 1) (length bytes) d c torn (min gate (length d)) (omega arith) (omega arith);
+    after = let place : gate + (length bytes + 1) ≡ (gate + 1) + length bytes = omega arith in
+        ap (λ (k : ℕ). drop k c) place ∙ torn.after ∙ ap (λ (k : ℕ). drop k d) (sym place);
+  }
+
+open_is : (a : List ℕ) → IsGate Open a → a ≡ 0xA5 ∷ drop 1 a
+open_is [] is = absurd is
+open_is (x ∷ a) is = ap (λ (g : ℕ). g ∷ a) is
+
+module _ (len : ℕ) (side : Side) (head : Head) (bodies : List (List ℕ)) (d c : List ℕ) where
+  -- with the other one's gate closed
+  pub shut_beside : len + len ≤ length c → Reads (area_on len side c) head bodies → IsClosed (area_on len (other side) c)
+      → Stands len side Closed c head bodies
+  shut_beside long reads closed = record {
+    spells = record {
+      long = long;
+      stands = alone len side c head.generation (generation_read (area_on len side c) head bodies reads)
+          (closed_none (area_on len (other side) c) closed);
+      reads = reads;
+    };
+    other_gate = closed;
+  }
+
+  -- with the other one as it was
+  same_beside : (gate : Gate) (more : List (List ℕ)) → Stands len side gate d head bodies → length d ≤ length c
+      → area_on len (other side) c ≡ area_on len (other side) d
+      → Reads (area_on len side c) head more → Stands len side gate c head more
+  same_beside gate more stands longer same reads =
+      let before = stands.spells in record {
+        spells = record {
+          long = omega (arith, before.long, longer);
+          stands = same_standing len side d c
+              (generation_read (area_on len side c) head more reads ∙ sym (generation_read (area_on len side d) head bodies before.reads))
+              (ap (λ (l : List ℕ). open_generation l) same) ∙ before.stands;
+          reads = reads;
+        };
+        other_gate = subst (λ (l : List ℕ). IsGate gate l) (sym same) stands.other_gate;
+      }
+
+  -- what was written in the one that stands leaves the other one
+  pub append_grew : (gate : Gate) (at n : ℕ) (more : List (List ℕ)) → Stands len side gate d head bodies → at + n ≤ len
+      → Torn (start_of len side + at) n d c → Reads (area_on len side c) head more → Stands len side gate c head more
+  append_grew gate at n more stands inside torn reads =
+      same_beside gate more stands torn.no_shorter
+      (kept len (other side) d c stands.spells.long at n inside
+      (subst (λ (s : Side). Torn (start_of len s + at) n d c) (sym (other_twice side)) torn)) reads
+
+  -- an append to the one that stands
+  pub append_keeps : (gate : Gate) (at : ℕ) (bytes body : List ℕ) → Stands len side gate d head bodies → at ≡ length (opened head bodies)
+      → bytes ≡ record_of body → length body < 2 ^ 32 → at + (length bytes + 1) ≤ len → Appends (start_of len side + at) bytes d c
+      → Stands len side gate c head bodies ⊎ Stands len side gate c head (bodies ++ body ∷ [])
+  append_keeps gate at bytes body stands place is short inside appends =
+      let lies = within len side d stands.spells.long in
+      let torn = appends_torn len (start_of len side + at) bytes d c appends (omega (arith, lies, inside)) in
+      let inner : Appends at bytes (area_on len side d) (area_on len side c) =
+      part_appends (start_of len side) len d c lies at bytes inside appends in
+      let behind : Appends (length (opened head bodies)) (record_of body) (area_on len side d) (area_on len side c) =
+      subst (λ (l : List ℕ). Appends (length (opened head bodies)) l (area_on len side d) (area_on len side c)) is
+      (subst (λ (k : ℕ). Appends k bytes (area_on len side d) (area_on len side c)) place inner) in
+      ⊎_elim (λ reads. inl (append_grew gate at (length bytes + 1) bodies stands inside torn reads))
+      (λ reads. inr (append_grew gate at (length bytes + 1) (bodies ++ body ∷ []) stands inside torn reads))
+      (appends_reads head bodies (area_on len side d) (area_on len side c) stands.spells.reads body short behind)
+
+  -- a put into the other one, behind its closed gate
+  pub put_keeps : (at n : ℕ) → Stands len side Closed d head bodies → 0 < at → at + n ≤ len
+      → Torn (start_of len (other side) + at) n d c → Stands len side Closed c head bodies
+  put_keeps at n stands behind inside torn =
+      let long = stands.spells.long in
+      let a = area_on len (other side) d in
+      let b = area_on len (other side) c in
+      let inner = torn_inside len (other side) d c long at n inside torn in
+      let front = front_kept at n a b inner 1 (omega (arith, not_empty Closed a stands.other_gate)) (omega (arith, behind)) in
+      shut_beside (omega (arith, long, torn.no_shorter))
+      (subst (λ (l : List ℕ). Reads l head bodies) (sym (kept len side d c long at n inside torn)) stands.spells.reads)
+      (gate_same Closed a b front stands.other_gate)
+
+  -- a write of the other one's gate
+  module _ (gate : Gate) (stands : Stands len side gate d head bodies) (torn : Torn (start_of len (other side)) 1 d c) where
+    long_before : len + len ≤ length d
+    long_before = stands.spells.long
+
+    some : 0 < length (area_on len (other side) d)
+    some = not_empty gate (area_on len (other side) d) stands.other_gate
+
+    one : 0 + 1 ≤ len
+    one = omega (arith, some, length-part (start_of len (other side)) len d (within len (other side) d long_before))
+
+    placed : Torn (start_of len (other side) + 0) 1 d c
+    placed = let same : start_of len (other side) ≡ start_of len (other side) + 0 = omega arith in subst (λ (k : ℕ). Torn k 1 d c) same torn
+
+    pub side_reads : Reads (area_on len side c) head bodies
+    side_reads = subst (λ (l : List ℕ). Reads l head bodies) (sym (kept len side d c long_before 0 1 one placed)) stands.spells.reads
+
+    pub still_long : len + len ≤ length c
+    still_long = omega (arith, long_before, torn.no_shorter)
+
+    pub gated : (g : ℕ) × (area_on len (other side) c ≡ g ∷ drop 1 (area_on len (other side) d))
+    gated = gate_torn (area_on len (other side) d) (area_on len (other side) c) some
+        (torn_inside len (other side) d c long_before 0 1 one placed)
+
+    -- the gate's byte
+    pub gate_is : (byte : ℕ) → Holds c (start_of len (other side)) (byte ∷ []) → gated.0 ≡ byte
+    gate_is byte holds =
+        let place : start_of len (other side) ≡ start_of len (other side) + 0 = omega arith in
+        let inner : Holds (area_on len (other side) c) 0 (byte ∷ []) =
+        part_held (start_of len (other side)) len d c (within len (other side) d long_before) 0 (byte ∷ [])
+        one (ap (λ (k : ℕ). take 1 (drop k c)) (sym place) ∙ holds) in
+        let first : gated.0 ∷ [] ≡ byte ∷ [] = sym (ap (λ (l : List ℕ). take 1 l) gated.1) ∙ inner in cc first
+
+  -- a close of the other one's gate, which was open
+  pub close_keeps : Stands len side Open d head bodies → Torn (start_of len (other side)) 1 d c
+      → Stands len side Open c head bodies ⊎ Stands len side Closed c head bodies
+  close_keeps stands torn =
+      let a = area_on len (other side) d in
+      let b = area_on len (other side) c in
+      let found = gated Open stands torn in
+      elim (cases_eq found.0 0xA5) [
+        | inl is ↦ inl (same_beside Open bodies stands torn.no_shorter
+            (found.1 ∙ ap (λ (g : ℕ). g ∷ drop 1 a) is ∙ sym (open_is a stands.other_gate)) (side_reads Open stands torn))
+        | inr isnt ↦ inr (shut_beside (still_long Open stands torn) (side_reads Open stands torn) (subst IsClosed (sym found.1) isnt))
+      ]
+
+  -- and once it was done
+  pub close_kept : Stands len side Open d head bodies → Torn (start_of len (other side)) 1 d c
+      → Holds c (start_of len (other side)) (0 ∷ [])
+      → Stands len side Closed c head bodies
+  close_kept stands torn holds =
+      let found = gated Open stands torn in
+      shut_beside (still_long Open stands torn) (side_reads Open stands torn)
+      (subst IsClosed (sym found.1) (λ is. omega (arith, gate_is Open stands torn 0 holds, is)))
+
+  -- the other one's gate opened before what would read as newer
+  module _ (next : Head) (others : List (List ℕ)) (stands : Stands len side Closed d head bodies)
+      (would : WouldRead (area_on len (other side) d) next others) (newer : head.generation < next.generation)
+      (torn : Torn (start_of len (other side)) 1 d c) where
+    turned : (g : ℕ) → area_on len (other side) c ≡ g ∷ drop 1 (area_on len (other side) d) → g ≡ 0xA5
+        → Stands len (other side) Open c next others
+    turned g found is =
+        let a = area_on len (other side) d in
+        let b = area_on len (other side) c in
+        let reads : Reads b next others = subst (λ (l : List ℕ). Reads l next others)
+        (sym (found ∙ ap (λ (x : ℕ). x ∷ drop 1 a) is)) (would_read a next others would) in
+        let here = side_reads Closed stands torn in record {
+          spells = record {
+            long = still_long Closed stands torn;
+            stands = greater len side c head.generation next.generation (generation_read (area_on len side c) head bodies here)
+                (generation_read b next others reads) newer;
+            reads = reads;
+          };
+          other_gate = subst (λ (s : Side). IsGate Open (area_on len s c)) (sym (other_twice side))
+              (read_open (area_on len side c) head bodies here);
+        }
+
+    pub open_turns : Stands len side Closed c head bodies ⊎ Stands len (other side) Open c next others
+    open_turns =
+        let found = gated Closed stands torn in
+        elim (cases_eq found.0 0xA5) [
+          | inl is ↦ inr (turned found.0 found.1 is)
+          | inr isnt ↦ inl (shut_beside (still_long Closed stands torn) (side_reads Closed stands torn) (subst IsClosed (sym found.1) isnt))
+        ]
+
+    pub open_turned : Holds c (start_of len (other side)) (0xA5 ∷ []) → Stands len (other side) Open c next others
+    open_turned holds =
+        let found = gated Closed stands torn in turned found.0 found.1 (gate_is Closed stands torn 0xA5 holds)

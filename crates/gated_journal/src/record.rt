@@ -1,0 +1,71 @@
+ghost use Rattle.std.specs.Prelude.{◌≡◌, ◌+◌, ◌<◌, ◌≤◌, ◌^◌, length, vec_len};
+ghost use Rattle.gated_journal.specs.Appends.{record_of, body_in};
+
+use crate::gate::CLOSED;
+use std::marker::Model;
+
+/// How many bytes a record has beside its body: its length in four, and a closed gate.
+const FRAME: usize = 5;
+
+/// A record as an append writes it: a body behind its length, and a closed gate. A contract sees the body.
+#[derive(Drop)]
+pub struct Record {
+    bytes: Vec<u8>,
+}
+
+impl Model for Record {
+    ghost use Rattle.std.specs.Prelude.{List, ℕ};
+    ghost use Rattle.gated_journal.specs.Appends.{body_in, IsRecord};
+
+    ghost Value = { List ℕ };
+
+    ghost view = { λ r. body_in r.bytes.items };
+
+    ghost invariant = { λ r. IsRecord r.bytes.items };
+}
+
+impl Record {
+    /// The record with the body that stands between the first four bytes and the last one, which may be any.
+    /// No memory is taken.
+    pub fn of(bytes: Vec<u8>) -> Record
+        requires long { 5 ≤ vec_len bytes }
+        requires short { vec_len bytes < 2 ^ 32 + 5 }
+        ensures { result ≡ body_in bytes.items }
+    {
+        let mut bytes = bytes;
+        frame(bytes.as_mut_slice());
+        Record { bytes }
+    }
+
+    /// The bytes that are written.
+    pub fn as_slice(&self) -> &[u8]
+        ensures bytes { result.now ≡ record_of self.now }
+        ensures short { length self.now < 2 ^ 32 }
+    {
+        self.bytes.as_slice()
+    }
+
+    /// The bytes back, with the room that they have.
+    pub fn into_bytes(self) -> Vec<u8>
+        ensures { result.items ≡ record_of self }
+    {
+        let Record { bytes } = self;
+        bytes
+    }
+}
+
+/// Writes the length of what stands between the first four bytes and the last one into the four, and a closed
+/// gate into the last.
+fn frame(bytes: &mut [u8])
+    requires long { 5 ≤ length bytes.old }
+    requires short { length bytes.old < 2 ^ 32 + 5 }
+    ensures { bytes.new ≡ record_of (body_in bytes.old) }
+{
+    let count = bytes.len() - FRAME;
+    let number = (count as u32).to_be_bytes();
+    bytes[0] = number[0];
+    bytes[1] = number[1];
+    bytes[2] = number[2];
+    bytes[3] = number[3];
+    bytes[count + 4] = CLOSED;
+}

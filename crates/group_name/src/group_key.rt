@@ -1,0 +1,74 @@
+ghost use Rattle.std.specs.Prelude.{◌≡◌, ◌↔◌, [], IsTrue, IsUtf8, chars, Ok, IfOk, None};
+ghost use Rattle.group_name.specs.Group.{folded_name, group_of};
+ghost use Rattle.wf_value.specs.Gives.{Gives};
+
+use caseless::default_case_fold_str;
+use std::alloc::Global;
+use std::marker::Model;
+use wf_value::{Chars, Refusal, Same, TryCopy};
+
+/// A concurrency group: a repository and a name without its case. A contract sees the bytes of the
+/// repository, and the characters of the name after default case folding (The Unicode Standard, section
+/// 3.13), as `caseless` has it.
+#[derive(Drop)]
+pub struct GroupKey {
+    repository: Chars,
+    folded: Chars,
+}
+
+impl Model for GroupKey {
+    ghost use Rattle.std.specs.Prelude.{chars};
+    ghost use Rattle.std.specs.Prelude.{IsUtf8};
+    ghost use Rattle.group_name.specs.Group.{Group, coded_group};
+
+    ghost Value = { Group };
+
+    ghost coded = { coded_group };
+
+    ghost view = { λ k. record { repository = k.repository; folded = chars k.folded } };
+
+    ghost invariant = { λ k. IsUtf8 k.folded };
+}
+
+impl GroupKey {
+    /// The group of a name in a repository: none where the name is empty, memory or not. GitHub Docs,
+    /// "Control the concurrency of workflows and jobs". Its `Err` is 50 alone.
+    pub fn of(alloc: Global, repository: &str, name: &str) -> Result<Option<Self>, Refusal>
+        ensures gives { Gives (λ k. k) result (Ok (group_of repository.now name.now)) }
+        ensures answers { name.now ≡ [] → result ≡ Ok None }
+    {
+        if name.is_empty() {
+            return Ok(None);
+        }
+        Ok(Some(GroupKey {
+            repository: Chars::from_str(alloc, repository)?,
+            folded: folded(alloc, name)?,
+        }))
+    }
+}
+
+/// A name without its case.
+fn folded(alloc: Global, name: &str) -> Result<Chars, Refusal>
+    ensures gives { Gives chars result (Ok (folded_name name.now)) }
+    ensures utf8 { IfOk result IsUtf8 }
+{
+    let folding = default_case_fold_str(alloc, name)?;
+    Ok(Chars::new(folding))
+}
+
+impl Same for GroupKey {
+    /// Whether both are one group.
+    #[tactic(auto, using(crate::proofs::Folding::same_groups))]
+    fn same(&self, other: &Self) -> bool {
+        self.repository.same(&other.repository) && self.folded.same(&other.folded)
+    }
+}
+
+impl TryCopy for GroupKey {
+    fn copy(&self, alloc: Global) -> Result<Self, Refusal> {
+        Ok(GroupKey {
+            repository: self.repository.copy(alloc)?,
+            folded: self.folded.copy(alloc)?,
+        })
+    }
+}
