@@ -92,26 +92,6 @@ no_front area behind is none head rest front =
     let same : front.behind ≡ behind = sym (ap (λ (l : List ℕ). drop 1 l) front.split) ∙ sym is in
     none head rest (subst (λ (l : List ℕ). HasHead l head rest) same front.headed)
 
-module _ (version : ℕ) (behind : List ℕ) (head : Head) (rest : List ℕ) (has : HasHead (version ∷ behind) head rest) where
-  abbrev text_bytes : List ℕ
-  text_bytes = to_be_bytes w64 (length head.text) ++ head.text ++ rest
-
-  head_number : HasNumber behind head.generation text_bytes
-  head_number = record { split = cc (has.split ∙ apart head rest); fits = has.generation }
-
-  pub no_head_number : length behind < 8 → ⊥
-  no_head_number few = no_number behind head.generation text_bytes few head_number
-
-  pub no_head_text : (n : ℕ) (past : List ℕ) → HasNumber behind n past → ((text rest : List ℕ) → HasText past text rest → ⊥) → ⊥
-  no_head_text n past number none =
-      none head.text rest (record {
-        split = (one_number behind n head.generation past text_bytes number head_number).1;
-        fits = has.text;
-      })
-
-pub no_head : (head : Head) (rest : List ℕ) → HasHead [] head rest → ⊥
-no_head head rest has = cc has.split
-
 pub one_head : (bytes : List ℕ) (one two : Head) (x y : List ℕ) → HasHead bytes one x → HasHead bytes two y → (one ≡ two) × (x ≡ y)
 one_head bytes one two x y first second =
     same_head one two x y first.generation second.generation first.text second.text (sym first.split ∙ second.split)
