@@ -196,14 +196,10 @@ struct FailingWriter {
     holds_back: bool,
 }
 
-fn broken<T>() -> io::Result<T> {
-    Err(io::Error::from(ErrorKind::BrokenPipe))
-}
-
 impl Write for FailingWriter {
     fn write(&mut self, bytes: &[u8]) -> io::Result<usize> {
         if self.left == 0 {
-            return broken();
+            return Err(io::Error::from(ErrorKind::BrokenPipe));
         }
         let room = bytes.len().min(self.left);
         let count = self.bytes.write(&bytes[..room])?;
@@ -212,7 +208,10 @@ impl Write for FailingWriter {
     }
 
     fn flush(&mut self) -> io::Result<()> {
-        if self.holds_back { broken() } else { Ok(()) }
+        if self.holds_back {
+            return Err(io::Error::from(ErrorKind::BrokenPipe));
+        }
+        Ok(())
     }
 }
 
