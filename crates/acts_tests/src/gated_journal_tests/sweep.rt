@@ -7,7 +7,7 @@ use std::process::Abort;
 use std::test::Fail;
 
 /// How many lists of calls are played, and how many calls each has.
-const LISTS: u64 = 1000;
+const LISTS: u64 = 250;
 
 const STEPS: usize = 12;
 
