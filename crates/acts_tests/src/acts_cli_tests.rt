@@ -1,5 +1,6 @@
 //! The rows of the product, read and written through `run_script`.
 
+mod checks;
 mod command_line;
 
 use crate::given::spelled;

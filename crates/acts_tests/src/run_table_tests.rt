@@ -1,5 +1,6 @@
 //! Steps of the table, and the views of its runs.
 
+mod contexts;
 mod steps;
 mod tables;
 mod views;
