@@ -106,7 +106,7 @@ fn refuses_with_the_first_fault(rt: HostRuntime) -> Result<(), Fail> {
         let mut reader = workflow.as_bytes();
         let mut printed = Vec::new(rt.alloc());
         let ended = run_check(rt.alloc(), &mut reader, &mut printed);
-        assert_eq!(rt; number_of(&ended), number, "{workflow}");
+        assert_eq!(rt; number_of(ended), number, "{workflow}");
         assert!(rt; printed.is_empty(), "{workflow}");
     }
     Ok(())
@@ -134,7 +134,7 @@ fn bounds_a_workflow(rt: HostRuntime) -> Result<(), Fail> {
         let mut reader = workflow.as_slice();
         let mut printed = Vec::new(rt.alloc());
         let ended = run_check(rt.alloc(), &mut reader, &mut printed);
-        assert_eq!(rt; number_of(&ended), number, "{length}");
+        assert_eq!(rt; number_of(ended), number, "{length}");
         let left = if length > MOST_BYTES { 8 } else { 0 };
         assert_eq!(rt; reader.len(), left, "no more than 1,048,577 bytes are read");
     }

@@ -30,7 +30,8 @@ fn expect_claim(
         (Words::Claim("r1", "1", labels), want),
     ];
     let mut table = Table::new(alloc);
-    play(rt, alloc, &mut table, &rows)
+    play(rt, alloc, &mut table, &rows);
+    Ok(())
 }
 
 /// Contexts, a job, and labels that fit it.
@@ -57,7 +58,8 @@ fn expect_failed(
         (Words::Look("1"), want),
     ];
     let mut table = Table::new(alloc);
-    play(rt, alloc, &mut table, &rows)
+    play(rt, alloc, &mut table, &rows);
+    Ok(())
 }
 
 /// What the service says of a run, and of a leg without a matrix.
@@ -150,7 +152,8 @@ fn a_workflow_goes_by_its_name(rt: HostRuntime) -> Result<(), Fail> {
         (Words::Claim("r1", "2", "ci"), "lease 1 1 j 0 {}"),
     ];
     let mut table = Table::new(rt.alloc());
-    play(&rt, rt.alloc(), &mut table, &rows)
+    play(&rt, rt.alloc(), &mut table, &rows);
+    Ok(())
 }
 
 /// The number of a run counts those of its repository and path.
@@ -165,7 +168,8 @@ fn the_second_run_of_a_workflow(rt: HostRuntime) -> Result<(), Fail> {
         (Words::Claim("r1", "2", "n2"), "lease 1 3 j 0 {}"),
     ];
     let mut table = Table::new(rt.alloc());
-    play(&rt, rt.alloc(), &mut table, &rows)
+    play(&rt, rt.alloc(), &mut table, &rows);
+    Ok(())
 }
 
 #[test]
