@@ -1,5 +1,5 @@
 -- What is told of a leg: its labels and its flag follow from it, and it from the events up to its run's.
-use Rattle.std.specs.Prelude.{◌≡◌, ℕ, zero, suc, ◌+◌, ◌<◌, ◌≤◌, List, [], ◌∷◌, map, filter_map, take, count_by, Bool, true, false, Option}
+use Rattle.std.specs.Prelude.{◌≡◌, ℕ, zero, suc, ◌+◌, ◌<◌, ◌≤◌, List, [], ◌∷◌, filter_map, take, count_by, false, Option}
 use Rattle.std.specs.Prelude.{Some, None, option_map, option_and_then, slice_get, refl}
 use Rattle.std.specs.Fmt.{decimal}
 use Rattle.std.specs.List.{cons_option}

@@ -16,10 +16,9 @@ use Rattle.run_plan.specs.declared.command.Command.TheVariants as command
 use Rattle.run_plan.specs.declared.reply.Reply.TheVariants as reply
 use Rattle.run_table.specs.Fitting.{place_of_lease}
 use Rattle.run_table.specs.LegContext.{context_at}
-use Rattle.run_table.specs.Places.{LegPlace, with_leg}
 use Rattle.run_table.specs.Rules.{new_leg, opened, rule_at}
 use Rattle.run_table.specs.Settling.{settled, first_place, first_rule, left}
-use Rattle.run_table.specs.Step.{step, empty, claiming_runner, reporting_runner, refused, leased_leg, new_run, with_ended}
+use Rattle.run_table.specs.Step.{step, empty, claiming_runner, reporting_runner, refused, leased_leg}
 use Rattle.run_table.specs.TableState.{LegState, JobState, RunState, RunnerState, TableState}
 use Rattle.run_table.specs.Words.{is_set}
 use Rattle.run_plan.specs.declared.last_command.ClaimReply.TheVariants as given
@@ -27,7 +26,7 @@ use Rattle.run_table.specs.declared.phases.LegPhase.TheVariants as leg
 use Rattle.run_table.specs.declared.phases.JobPhase.TheVariants as job
 use Rattle.run_table.specs.declared.phases.RunPhase.{RunPhase}
 use Rattle.run_table.specs.declared.phases.RunPhase.TheVariants as run
-use Rattle.run_table.specs.declared.place.Place.TheVariants.{Opening, AtLeg, Closing, Whole}
+use Rattle.run_table.specs.declared.place.Place.TheVariants.{Opening, Whole}
 
 -- a run of the event with this body
 abbrev run_with : List ℕ → RunPhase → List JobState → RunState
