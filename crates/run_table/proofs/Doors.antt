@@ -1,6 +1,6 @@
 -- The changes of a run's cells, as contracts see them.
-use Rattle.std.specs.Prelude.{◌≡◌, ℕ, zero, suc, ◌+◌, ◌<◌, ◌≤◌, ◌||◌, List, [], ◌∷◌, length, map, filter_map, Bool, true, false, slice_get}
-use Rattle.std.specs.Prelude.{slice_set, Option, Some, None, option_and_then, Result, Ok, refl}
+use Rattle.std.specs.Prelude.{◌≡◌, ℕ, zero, suc, ◌<◌, ◌≤◌, ◌||◌, List, [], ◌∷◌, length, map, filter_map, Bool, true, false, slice_get}
+use Rattle.std.specs.Prelude.{slice_set, Some, option_and_then, Result, Ok, refl}
 use Rattle.std.specs.List.{cons_option, list_any}
 use Rattle.std.specs.Option.{option_map_or}
 use Rattle.std.proofs.Common.{arith, ap, subst, sym, ◌∙◌, get_or}

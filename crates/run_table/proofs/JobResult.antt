@@ -4,13 +4,11 @@ use Rattle.std.specs.Prelude.{option_map, if◌then◌else◌, refl}
 use Rattle.std.specs.List.{cons_option, enumerate_from, list_any}
 use Rattle.std.specs.Option.{option_map_or, option_or}
 use Rattle.std.proofs.Common.{ap, ◌∙◌, sym}
-use Rattle.wf_value.specs.declared.outcome.JobResult.{JobResult}
 use Rattle.wf_value.specs.declared.outcome.JobResult.TheVariants as result
 use Rattle.wf_value.specs.declared.outcome.Outcome.{Outcome}
 use Rattle.needs_graph.specs.Results.{fails_job, gathered, is_cancelled, was_cancelled}
 use Rattle.needs_graph.specs.declared.ended.LegEnd.{LegEnd}
 use Rattle.run_table.specs.FirstOf.{first_some, placed}
-use Rattle.run_table.specs.Places.{LegPlace}
 use Rattle.run_table.specs.Rules.{leg_end, outcome_of}
 use Rattle.run_table.specs.TableState.{LegState, RunState}
 use Rattle.run_table.specs.WithinRun.{failing, leg_place}

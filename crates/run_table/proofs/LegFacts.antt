@@ -1,5 +1,5 @@
 -- What is told of a leg: its labels and its flag follow from it, and it from the events up to its run's.
-use Rattle.std.specs.Prelude.{◌≡◌, ℕ, zero, suc, ◌+◌, ◌<◌, ◌≤◌, List, [], ◌∷◌, map, filter_map, take, count_by, Bool, true, false, Option}
+use Rattle.std.specs.Prelude.{◌≡◌, ℕ, zero, suc, ◌+◌, ◌<◌, ◌≤◌, List, [], ◌∷◌, filter_map, take, count_by, false, Option}
 use Rattle.std.specs.Prelude.{Some, None, option_map, option_and_then, slice_get, refl}
 use Rattle.std.specs.Fmt.{decimal}
 use Rattle.std.specs.List.{cons_option}
@@ -40,6 +40,7 @@ plan_in p all (Some run) =
     job_told p (decimal (run_number all p.run run.admitted)) run.admitted (slice_get (plan_of run.admitted.body) p.job)
 
 plan_told : (runs : List RunState) (p : LegPlace) → plan_at runs p.run p.job ≡ option_map (λ f. f.job) (facts_at (events runs) p)
+unfolding facts_at
 plan_told runs p =
     plan_in p (events runs) (slice_get runs p.run)
     ∙ ap (λ o. option_map (λ f. f.job) (option_and_then
@@ -53,6 +54,7 @@ told_of all p o = option_and_then
     (λ event. option_map (told p (decimal (run_number all p.run event)) event) (slice_get (plan_of event.body) p.job)) o
 
 pub told_of_none : (runs : List RunState) (p : LegPlace) → slice_get runs p.run ≡ None → facts_at (events runs) p ≡ None
+unfolding facts_at
 told_of_none runs p none =
     ap (told_of (events runs) p)
     (slice_get-map (λ (run : RunState). run.admitted) runs p.run ∙ ap (option_map (λ (run : RunState). run.admitted)) none)
@@ -60,6 +62,7 @@ told_of_none runs p none =
 pub told_of_run : (runs : List RunState) (p : LegPlace) (run : RunState) → slice_get runs p.run ≡ Some run
     → facts_at (events runs) p
     ≡ option_map (told p (decimal (run_number (events runs) p.run run.admitted)) run.admitted) (slice_get (plan_of run.admitted.body) p.job)
+unfolding facts_at
 told_of_run runs p run at =
     ap (told_of (events runs) p)
     (slice_get-map (λ (run : RunState). run.admitted) runs p.run ∙ ap (option_map (λ (run : RunState). run.admitted)) at)
@@ -76,6 +79,7 @@ served_by labels (Some f) = refl
 pub served_told : (labels : List (List ℕ)) (runs : List RunState) (p : LegPlace)
     → is_served labels runs p
     ≡ option_map_or (λ f. has_labels labels (label_texts (context_of f) f.job.labels)) (facts_at (events runs) p) false
+unfolding context_at
 served_told labels runs p =
     ap (λ o. option_map_or (has_labels labels) (option_map (λ planned. label_texts (context_at runs p) planned.labels) o) false)
     (plan_told runs p)
@@ -89,6 +93,7 @@ passes_by (Some f) = refl
 
 pub passes_told : (runs : List RunState) (p : LegPlace)
     → passes_over runs p ≡ option_map_or (λ f. is_set (context_of f) f.job.continue_on_error) (facts_at (events runs) p) false
+unfolding context_at
 passes_told runs p =
     ap (λ o. option_map_or (λ planned. is_set (context_at runs p) planned.continue_on_error) o false) (plan_told runs p)
     ∙ passes_by (facts_at (events runs) p)
@@ -114,6 +119,7 @@ taken_same (suc n) (x ∷ all) (y ∷ others) same =
     ∙ ap (λ es. y ∷ es) (taken_same n all others (λ s lt. same (suc s) (omega (arith, lt))))
 
 pub facts_same : (all others : List Admitted) (p : LegPlace) → SameUpTo p.run all others → facts_at all p ≡ facts_at others p
+unfolding facts_at
 facts_same all others p same =
     let front : take (p.run + 1) all ≡ take (p.run + 1) others =
     taken_same (p.run + 1) all others (λ s lt. same s (omega (arith, lt))) in

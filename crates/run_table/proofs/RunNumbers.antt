@@ -1,5 +1,5 @@
 -- The numbers that runs are kept with.
-use Rattle.std.specs.Prelude.{◌≡◌, ℕ, zero, suc, ◌+◌, ◌<◌, ◌≤◌, ◌&&◌, List, [], ◌∷◌, ◌++◌, map, length, take, count_by, cond, Bool, true, false}
+use Rattle.std.specs.Prelude.{◌≡◌, ℕ, zero, suc, ◌+◌, ◌<◌, ◌&&◌, List, [], ◌∷◌, ◌++◌, map, length, take, count_by, cond, Bool, true}
 use Rattle.std.specs.Prelude.{Option, Some, None, option_map, slice_get, slice_set, Result, Ok, Err, OnOk, OnErr, refl}
 use Rattle.std.specs.List.{fold}
 use Rattle.std.specs.Str.{bytes_eq}

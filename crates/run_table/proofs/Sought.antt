@@ -8,7 +8,7 @@ use Rattle.run_table.specs.FirstOf.{first_some, placed}
 use Rattle.run_table.specs.Fitting.{is_ready, is_served, fits, first_fit, has_lease, place_of_lease}
 use Rattle.run_table.specs.Places.{LegPlace, leg_at, leg_places, leg_places_of_job, leg_places_of_run}
 use Rattle.run_table.specs.TableState.{LegState, JobState, RunState}
-use Rattle.run_table.specs.WithinRun.{leg_place, fit_in_job, fit_in_jobs, lease_in_job, lease_in_jobs, lease_in_run}
+use Rattle.run_table.specs.WithinRun.{leg_place, fit_in_job, fit_in_jobs, lease_in_job, lease_in_run}
 use Rattle.run_table.proofs.Firsts.{find-flat_map, find-map, first_same_placed}
 use Rattle.run_table.proofs.Walks.{first_passing}
 

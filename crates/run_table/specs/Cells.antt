@@ -1,5 +1,5 @@
 -- A job of a run with room for all legs of its plan from the start.
-use Rattle.std.specs.Prelude.{ℕ, List, [], length, map, Bool, false, Option, if◌then◌else◌}
+use Rattle.std.specs.Prelude.{ℕ, List, [], length, map, Bool, Option, if◌then◌else◌}
 use Rattle.wf_value.specs.declared.outcome.JobResult.{JobResult}
 use Rattle.run_plan.specs.declared.planned.PlannedJob.{PlannedJob}
 use Rattle.run_table.specs.Rules.{settled_result}

@@ -1,7 +1,8 @@
 -- The context of a leg: the values of the paths that a template in its job may use. GitHub Docs, "Contexts reference":
 -- github context, inputs context, vars context, strategy context, matrix context. That a run goes by the service's own
 -- repository, event and numbers, whatever its sender says, is own.
-use Rattle.std.specs.Prelude.{ℕ, ◌+◌, pos, List, [], ◌∷◌, length, find, codes, Option, None, option_map, option_and_then, slice_get, unwrap_or}
+use Rattle.std.specs.Prelude.{ℕ, ◌+◌, pos, List, [], ◌∷◌, length, find, codes, Option, None, option_map, option_and_then, slice_get}
+use Rattle.std.specs.Prelude.{unwrap_or}
 use Rattle.std.specs.Fmt.{decimal}
 use Rattle.std.specs.Option.{option_map_or}
 use Rattle.std.specs.Str.{bytes_eq}
@@ -80,7 +81,7 @@ abbrev pub context_of : LegFacts → Values
 context_of leg = over (service_value leg) (sent_value (event_of leg.event.body).contexts)
 
 -- what is told of the leg at a place, where the events of the runs plan one
-abbrev pub facts_at : List Admitted → LegPlace → Option LegFacts
+unfoldable pub facts_at : List Admitted → LegPlace → Option LegFacts
 facts_at all p =
     option_and_then (λ event. option_map (λ job. record {
       event = event;
@@ -95,5 +96,5 @@ abbrev pub nothing : Values
 nothing path = None
 
 -- the context of the leg at a place of a table
-abbrev pub context_at : List RunState → LegPlace → Values
+unfoldable pub context_at : List RunState → LegPlace → Values
 context_at runs p = option_map_or context_of (facts_at (events runs) p) nothing

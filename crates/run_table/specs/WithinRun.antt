@@ -1,7 +1,7 @@
 -- The first place with a rule, and the first leg that is sought, within one run: no plain rule looks beyond it, and
 -- of the others a leg's labels ask for the events alone.
-use Rattle.std.specs.Prelude.{ℕ, ◌&&◌, List, [], ◌∷◌, Bool, false, is_some, nat_eq, Option, Some, None, option_map, option_and_then}
-use Rattle.std.specs.Prelude.{slice_get, if◌then◌else◌}
+use Rattle.std.specs.Prelude.{ℕ, ◌&&◌, List, Bool, false, is_some, Option, Some, None, option_map}
+use Rattle.std.specs.Prelude.{if◌then◌else◌}
 use Rattle.std.specs.List.{list_all, position}
 use Rattle.std.specs.Option.{option_or, option_map_or}
 use Rattle.needs_graph.specs.Results.{fails_job}

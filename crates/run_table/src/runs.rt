@@ -8,8 +8,8 @@ ghost use Rattle.run_table.specs.FirstOf.{changed_at, first_some, placed};
 ghost use Rattle.run_table.specs.Fitting.{is_served};
 ghost use Rattle.run_table.specs.LegContext.{facts_at};
 ghost use Rattle.run_table.specs.Places.{job_at, leg_at, plan_at, run_at, with_job, with_leg, with_run};
-ghost use Rattle.run_table.specs.Rules.{closing_rule, decided, leg_end, leg_in_phase, leg_rule, opened, outcome_of, rule_at, run_in_phase, settled_as};
-ghost use Rattle.run_table.specs.Rules.{whole_rule};
+ghost use Rattle.run_table.specs.Rules.{closing_rule, decided, leg_end, leg_in_phase, leg_rule, opened, outcome_of, rule_at, run_in_phase};
+ghost use Rattle.run_table.specs.Rules.{settled_as, whole_rule};
 ghost use Rattle.run_table.specs.RunNumber.{events, run_number, same_workflow};
 ghost use Rattle.run_table.specs.Settling.{first_place, first_rule, settled};
 ghost use Rattle.run_table.specs.Step.{is_delivered_as, with_ended};
@@ -111,6 +111,7 @@ impl Runs {
     }
 
     /// The leg at a place, as it is planned.
+    #[tactic(auto, unfolding(crate::specs::LegContext::facts_at))]
     fn leg_view(&self, place: LegPlace) -> Option<LegView<'_>>
         requires leg { place.leg < 2 ^ 63 }
         ensures { result ≡ facts_at (events self.now) place }

@@ -1,4 +1,4 @@
-use Rattle.std.proofs.Common.{arith, ap, sym, ◌∙◌, below_more, ◌≡◌, ℕ, true, false, rules}
+use Rattle.std.proofs.Common.{sym, ◌∙◌, below_more, ◌≡◌, ℕ, true, false, rules}
 use Rattle.std.specs.Prelude.{is_some}
 use Rattle.run_table.specs.TableState.{RunState}
 use Rattle.run_table.specs.WithinRun.{fit_in_jobs}

@@ -1,7 +1,7 @@
-use Rattle.std.proofs.Common.{◌≡◌, ap, subst, ◌∙◌, List, length, rules}
+use Rattle.std.proofs.Common.{◌≡◌, ap, subst, List, rules}
 use Rattle.std.specs.Prelude.{slice_set}
 use Rattle.run_table.specs.FirstOf.{changed_at}
-use Rattle.run_table.specs.TableState.{JobState, RunState}
+use Rattle.run_table.specs.TableState.{RunState}
 use Rattle.run_table.proofs.Doors.{changed_within, changed_past}
 use Rattle.run_table.proofs.RunNumbers.{still_numbered}
 use Rattle.run_table.proofs.runs.Runs.set_leg.Goals as goal
