@@ -7,11 +7,15 @@ use Rattle.acts_cli.proofs.Checks.{checks_within, for_any, unread}
 use Rattle.acts_cli.proofs.check.run_check.Goals as goal
 
 pub returns-in_err-text-clause-written : goal.returns-in_err-text-clause-written
-returns-in_err-text-clause-written g c = for_any _ (λ text. (
-  [],
-  Appends-nil (g.W.Write.contents c.args.writer.now),
-  unread text c.from_residual.result c.in_err-text.field-0.0 c.from_residual.ensures.1 c.in_err-text.ensures.err,
-))
+returns-in_err-text-clause-written g c =
+    let ended = c.from_residual.result in
+    let unwritten : (text : List ℕ) → (out : List ℕ)
+        × Appends (g.W.Write.contents c.args.writer.now) (g.W.Write.contents c.args.writer.now) out × ChecksTo text out ended = λ text. (
+      [],
+      Appends-nil (g.W.Write.contents c.args.writer.now),
+      unread text ended c.in_err-text.field-0.0 c.from_residual.ensures.1 c.in_err-text.ensures.err,
+    ) in
+    for_any (g.R.Read.remaining c.args.reader.now) unwritten
 
 pub returns-clause-written : goal.returns-clause-written
 returns-clause-written g c =

@@ -17,8 +17,8 @@ returns-in_err-write_jobs g c =
     let front = rw c.as_slice.ensures at c.in_err-write_jobs.ensures.front in (
       front.0,
       front.2,
-      front_written c.args.text.now front.0 front.1 lines _ c.in_err-write_jobs.field-0.0 ? c.in_err-write_jobs.ensures.err
-          c.in_ok-plan.ensures front.3,
+      front_written c.args.text.now front.0 front.1 lines c.from_residual-in_err-write_jobs.result c.in_err-write_jobs.field-0.0
+          c.from_residual-in_err-write_jobs.ensures.1 c.in_err-write_jobs.ensures.err c.in_ok-plan.ensures front.3,
     )
 
 pub returns : goal.returns
