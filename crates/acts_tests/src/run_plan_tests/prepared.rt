@@ -84,33 +84,52 @@ fn number_of_refusal(alloc: Global, body: Vec<u8>) -> Result<u64, Refusal> {
     }
 }
 
+/// Bodies and their first faults. A job with a strategy is refused after every other fault.
+const REFUSED: [(&str, u64); 12] = [
+    (BODY, 0),
+    ("[", 10),
+    ("{}", 11),
+    (
+        "{\"repo\":\"\",\"path\":\"p\",\"workflow\":{\"jobs\":{\"a\":{\"runs-on\":\"x\"}}}}",
+        11,
+    ),
+    (
+        "{\"repo\":\"r\",\"path\":\"p\",\"workflow\":{\"jobs\":{\"1a\":{\"runs-on\":\"x\"}}}}",
+        12,
+    ),
+    (
+        "{\"repo\":\"r\",\"path\":\"p\",\"workflow\":{\"jobs\":{\"a\":{}}}}",
+        15,
+    ),
+    (
+        "{\"repo\":\"r\",\"path\":\"p\",\"workflow\":{\"jobs\":{\"a\":{\"runs-on\":\"x\",\"needs\":\"a\"}}}}",
+        16,
+    ),
+    (
+        "{\"repo\":\"r\",\"path\":\"p\",\"workflow\":{\"jobs\":{\"1a\":{},\"b\":{\"uses\":1}}}}",
+        12,
+    ),
+    (
+        "{\"repo\":\"r\",\"path\":\"p\",\"workflow\":{\"jobs\":{\"a\":{\"runs-on\":\"x\",\"strategy\":{}}}}}",
+        16,
+    ),
+    (
+        "{\"repo\":\"r\",\"path\":\"p\",\"workflow\":{\"jobs\":{\"a\":{\"runs-on\":\"x\",\"strategy\":{}},\"b\":{}}}}",
+        15,
+    ),
+    (
+        "{\"repo\":\"r\",\"path\":\"p\",\"workflow\":{\"jobs\":{\"a\":{\"runs-on\":\"x\",\"strategy\":{\"matrix\":{}}}}}}",
+        22,
+    ),
+    (
+        "{\"repo\":\"r\",\"path\":\"p\",\"workflow\":{\"jobs\":{\"a\":{\"runs-on\":\"x\",\"strategy\":{}},\
+        \"b\":{\"runs-on\":\"x\",\"strategy\":{\"matrix\":{\"include\":[]}}}}}}",
+        22,
+    ),
+];
+
 fn refuses(rt: &impl Abort, alloc: Global) -> Result<(), Refusal> {
-    let rows = [
-        (BODY, 0),
-        ("[", 10),
-        ("{}", 11),
-        (
-            "{\"repo\":\"\",\"path\":\"p\",\"workflow\":{\"jobs\":{\"a\":{\"runs-on\":\"x\"}}}}",
-            11,
-        ),
-        (
-            "{\"repo\":\"r\",\"path\":\"p\",\"workflow\":{\"jobs\":{\"1a\":{\"runs-on\":\"x\"}}}}",
-            12,
-        ),
-        (
-            "{\"repo\":\"r\",\"path\":\"p\",\"workflow\":{\"jobs\":{\"a\":{}}}}",
-            15,
-        ),
-        (
-            "{\"repo\":\"r\",\"path\":\"p\",\"workflow\":{\"jobs\":{\"a\":{\"runs-on\":\"x\",\"needs\":\"a\"}}}}",
-            16,
-        ),
-        (
-            "{\"repo\":\"r\",\"path\":\"p\",\"workflow\":{\"jobs\":{\"1a\":{},\"b\":{\"uses\":1}}}}",
-            12,
-        ),
-    ];
-    for (body, want) in rows {
+    for (body, want) in REFUSED {
         assert_eq!(rt;
             number_of_refusal(alloc, body_of(alloc, body)?)?,
             want,

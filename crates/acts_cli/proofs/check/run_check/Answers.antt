@@ -10,7 +10,7 @@ pub returns-in_err-text-clause-written : goal.returns-in_err-text-clause-written
 returns-in_err-text-clause-written g c =
     let ended = c.from_residual.result in
     let unwritten : (text : List ℕ) → (out : List ℕ)
-        × Appends (g.W.Write.contents c.args.writer.now) (g.W.Write.contents c.args.writer.now) out × ChecksTo text out ended = λ text. (
+    × Appends (g.W.Write.contents c.args.writer.now) (g.W.Write.contents c.args.writer.now) out × ChecksTo text out ended = λ text. (
       [],
       Appends-nil (g.W.Write.contents c.args.writer.now),
       unread text ended c.in_err-text.field-0.0 c.from_residual.ensures.1 c.in_err-text.ensures.err,
