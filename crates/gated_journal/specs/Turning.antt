@@ -1,5 +1,5 @@
 -- A list of calls while the other area is made: it is written part by part, and records are appended to the one that stands.
-use Rattle.std.specs.Prelude.{◌≡◌, ◌⊎◌, ℕ, ◌+◌, ◌<◌, List, [], ◌∷◌, ◌++◌, length}
+use Rattle.std.specs.Prelude.{◌≡◌, ◌⊎◌, ℕ, ◌+◌, ◌<◌, List, [], ◌∷◌, ◌++◌, length, sum_by}
 use Rattle.std.specs.List.{flat_map}
 use Rattle.act_disk.specs.Images.{Holds}
 use Rattle.gated_journal.specs.Layout.{Head, opened, Fits}
@@ -25,6 +25,14 @@ appended_of (Append body) = body ∷ []
 
 abbrev pub appended_by : List AreaCall → List (List ℕ)
 appended_by calls = flat_map appended_of calls
+
+-- how many calls of the disk they make at most: a write, and for an append two writes with a sync each
+abbrev pub disk_calls_of : AreaCall → ℕ
+disk_calls_of (Put bytes) = 1
+disk_calls_of (Append body) = 4
+
+abbrev pub disk_calls_by : List AreaCall → ℕ
+disk_calls_by calls = sum_by disk_calls_of calls
 
 -- The disk stands for these bodies and some of the first of those that are appended.
 pub record StandsBefore (len : ℕ) (side : Side) (head : Head) (bodies appended : List (List ℕ)) (disk : List ℕ) : Type 0 where

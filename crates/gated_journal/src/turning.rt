@@ -2,7 +2,7 @@ ghost use Rattle.std.specs.Prelude.{◌≡◌, ◌⊎◌, ◌↔◌, ◌+◌, �
 ghost use Rattle.act_disk.specs.Images.{Only, EachSince, CountsFault};
 ghost use Rattle.gated_journal.specs.Layout.{Head, opened, record_bytes};
 ghost use Rattle.gated_journal.specs.TwoAreas.{other, Stands};
-ghost use Rattle.gated_journal.specs.Turning.{put_of, put_by, appended_of, appended_by, StandsBefore};
+ghost use Rattle.gated_journal.specs.Turning.{put_of, put_by, appended_of, appended_by, disk_calls_of, disk_calls_by, StandsBefore};
 ghost use Rattle.gated_journal.specs.Turning.{StandsOrMore, BeforeOrTurned, IsUnderWay, GoesOn, IsNewer};
 
 use crate::area_call::AreaCall;
@@ -30,6 +30,7 @@ impl Standing {
         ensures under_way { IfOk result (λ next. D.honest disk.old → GoesOn self.now.len self.now.side [] bytes.now places next
             (D.seen disk.old) (D.images disk.old) (D.seen disk.new) (D.images disk.new)) }
         ensures places { IfOk result (λ next. (next.used ≡ places.used) × (next.at ≡ places.at + length bytes.now)) }
+        ensures calls { D.calls disk.new ≡ D.calls disk.old + 1 }
         ensures faults { CountsFault result (D.fault_count disk.old) (D.fault_count disk.new) }
         ensures honest { D.honest disk.new ↔ D.honest disk.old }
     {
@@ -58,6 +59,7 @@ impl Standing {
         ensures under_way { IfOk result (λ next. D.honest disk.old → GoesOn self.now.len self.now.side (added.now ∷ []) [] places next
             (D.seen disk.old) (D.images disk.old) (D.seen disk.new) (D.images disk.new)) }
         ensures places { IfOk result (λ next. (next.used ≡ places.used + length (record_bytes (added.now ∷ []))) × (next.at ≡ places.at)) }
+        ensures calls { D.calls disk.new ≤ D.calls disk.old + 4 }
         ensures faults { CountsFault result (D.fault_count disk.old) (D.fault_count disk.new) }
         ensures honest { D.honest disk.new ↔ D.honest disk.old }
     {
@@ -90,6 +92,7 @@ impl Standing {
             (D.seen disk.old) (D.images disk.old) (D.seen disk.new) (D.images disk.new)) }
         ensures places { IfOk result (λ next. (next.used ≡ places.used + length (record_bytes (appended_of call.now)))
             × (next.at ≡ places.at + length (put_of call.now))) }
+        ensures calls { D.calls disk.new ≤ D.calls disk.old + disk_calls_of call.now }
         ensures faults { CountsFault result (D.fault_count disk.old) (D.fault_count disk.new) }
         ensures honest { D.honest disk.new ↔ D.honest disk.old }
     {
@@ -119,6 +122,7 @@ impl Standing {
             → IsUnderWay self.now.len self.now.side head (bodies ++ appended_by calls.now) (put_by calls.now) next.used next.at
             (D.seen disk.new) (D.images disk.new)) }
         ensures at { IfOk result (λ next. next.at ≡ 1 + length (put_by calls.now)) }
+        ensures calls { D.calls disk.new ≤ D.calls disk.old + disk_calls_by calls.now }
         ensures faults { CountsFault result (D.fault_count disk.old) (D.fault_count disk.new) }
         ensures honest { D.honest disk.new ↔ D.honest disk.old }
     {
@@ -157,6 +161,8 @@ impl Standing {
             → ((c : List ℕ) → D.images disk.old c → Stands self.now.len self.now.side gate c head bodies)
             → used ≡ length (opened head bodies) → IsNewer (put_by calls.now ++ last.now) head next others
             → Stands self.now.len (other self.now.side) Gate.Open (D.seen disk.new) next others) }
+        // At most the close of the other gate, the calls, the last part, and the opened gate, each with its sync.
+        ensures calls { D.calls disk.new ≤ D.calls disk.old + (2 + disk_calls_by calls.now + 4) }
         ensures faults { CountsFault result (D.fault_count disk.old) (D.fault_count disk.new) }
         ensures honest { D.honest disk.new ↔ D.honest disk.old }
     {

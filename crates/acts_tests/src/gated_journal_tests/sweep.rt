@@ -1,3 +1,5 @@
+//! 1,000 random lists of calls. Each test plays a part of them, so that it is short in a trial run too.
+
 use super::steps::{Dice, Journal, LEN};
 use act_disk::{Disk, Fill, FuseDisk, MemoryDisk};
 use gated_journal::scan;
@@ -6,12 +8,8 @@ use std::ops::Range;
 use std::process::Abort;
 use std::test::Fail;
 
-/// How many lists of calls are played, and how many calls each has.
-const LISTS: u64 = 250;
-
+/// How many calls a list has.
 const STEPS: usize = 12;
-
-const FAULTY_LISTS: u64 = 100;
 
 const FILLS: [Fill; 4] = [Fill::Old, Fill::New, Fill::Half, Fill::Gates];
 
@@ -126,13 +124,31 @@ fn check_list(rt: &impl Abort, alloc: Global, seed: u64) -> Result<(), Fail> {
     Ok(())
 }
 
-#[test]
-fn each_image_reads_as_before_or_after_its_call(rt: HostRuntime) -> Result<(), Fail> {
-    let alloc = rt.alloc();
-    for seed in 0..LISTS {
-        check_list(&rt, alloc, seed)?;
+fn check_lists(rt: &impl Abort, alloc: Global, seeds: Range<u64>) -> Result<(), Fail> {
+    for seed in seeds {
+        check_list(rt, alloc, seed)?;
     }
     Ok(())
+}
+
+#[test]
+fn images_of_lists_0_to_249(rt: HostRuntime) -> Result<(), Fail> {
+    check_lists(&rt, rt.alloc(), 0..250)
+}
+
+#[test]
+fn images_of_lists_250_to_499(rt: HostRuntime) -> Result<(), Fail> {
+    check_lists(&rt, rt.alloc(), 250..500)
+}
+
+#[test]
+fn images_of_lists_500_to_749(rt: HostRuntime) -> Result<(), Fail> {
+    check_lists(&rt, rt.alloc(), 500..750)
+}
+
+#[test]
+fn images_of_lists_750_to_999(rt: HostRuntime) -> Result<(), Fail> {
+    check_lists(&rt, rt.alloc(), 750..1000)
 }
 
 /// Plays a list of calls up to the first that fails, and says how many were made before it.
@@ -192,11 +208,49 @@ fn check_faults(rt: &impl Abort, alloc: Global, seed: u64) -> Result<(), Fail> {
     Ok(())
 }
 
-#[test]
-fn each_fault_leaves_what_stood_before_or_after(rt: HostRuntime) -> Result<(), Fail> {
-    let alloc = rt.alloc();
-    for seed in 0..FAULTY_LISTS {
-        check_faults(&rt, alloc, seed)?;
+fn check_faulty_lists(rt: &impl Abort, alloc: Global, seeds: Range<u64>) -> Result<(), Fail> {
+    for seed in seeds {
+        check_faults(rt, alloc, seed)?;
     }
     Ok(())
+}
+
+#[test]
+fn faults_of_lists_0_to_124(rt: HostRuntime) -> Result<(), Fail> {
+    check_faulty_lists(&rt, rt.alloc(), 0..125)
+}
+
+#[test]
+fn faults_of_lists_125_to_249(rt: HostRuntime) -> Result<(), Fail> {
+    check_faulty_lists(&rt, rt.alloc(), 125..250)
+}
+
+#[test]
+fn faults_of_lists_250_to_374(rt: HostRuntime) -> Result<(), Fail> {
+    check_faulty_lists(&rt, rt.alloc(), 250..375)
+}
+
+#[test]
+fn faults_of_lists_375_to_499(rt: HostRuntime) -> Result<(), Fail> {
+    check_faulty_lists(&rt, rt.alloc(), 375..500)
+}
+
+#[test]
+fn faults_of_lists_500_to_624(rt: HostRuntime) -> Result<(), Fail> {
+    check_faulty_lists(&rt, rt.alloc(), 500..625)
+}
+
+#[test]
+fn faults_of_lists_625_to_749(rt: HostRuntime) -> Result<(), Fail> {
+    check_faulty_lists(&rt, rt.alloc(), 625..750)
+}
+
+#[test]
+fn faults_of_lists_750_to_874(rt: HostRuntime) -> Result<(), Fail> {
+    check_faulty_lists(&rt, rt.alloc(), 750..875)
+}
+
+#[test]
+fn faults_of_lists_875_to_999(rt: HostRuntime) -> Result<(), Fail> {
+    check_faulty_lists(&rt, rt.alloc(), 875..1000)
 }

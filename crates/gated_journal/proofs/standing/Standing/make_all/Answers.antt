@@ -1,6 +1,7 @@
 use Rattle.std.proofs.Common.{◌≡◌, ◌+◌, ◌++◌, List, ℕ, length, drop, ap, ◌∙◌, arith, length-append, subst, [], drop_of_length-le}
+use Rattle.std.proofs.lemmas.List.Sums.{sum_by-cons}
 use Rattle.gated_journal.specs.Layout.{record_bytes}
-use Rattle.gated_journal.specs.Turning.{put_of, put_by, appended_of, appended_by}
+use Rattle.gated_journal.specs.Turning.{put_of, put_by, appended_of, appended_by, disk_calls_of, disk_calls_by}
 use Rattle.gated_journal.specs.declared.area_call.AreaCall.{AreaCall}
 use Rattle.gated_journal.proofs.Ways.{SoFar, left_is, first_so_far, next_since, next_so_far, all_so_far, record_bytes-append}
 use Rattle.gated_journal.proofs.standing.Standing.make_all.Goals as goal
@@ -13,6 +14,7 @@ loop-call-init g c =
       behind = omega arith;
       put_fits = omega arith;
       records_fit = omega arith;
+      calls = omega arith;
       faults = omega arith;
       honest = ((λ h. h), (λ h. h));
       so_far = λ head bodies honest under.
@@ -38,6 +40,14 @@ returns-in_err-places-clause-any_moment g c = λ head bodies honest under.
     (drop (i + 1) calls) d0 d1 c.make.new.disk c.loop-call.places.used c.loop-call.places.at so
     (c.make.ensures.any_moment head (bodies ++ so.front) so.put (inv.honest.1 honest) so.under)
 
+pub returns-in_err-places-clause-calls : goal.returns-in_err-places-clause-calls
+returns-in_err-places-clause-calls g c =
+    let call = c.call-item.result in
+    let left = drop (c.loop-call.call-index + 1) c.args.calls.now in
+    let split = left_is c.args.calls.now c.loop-call.call-index call c.loop-call-test.true c.call-item.is in
+    let made = ap (λ (l : List AreaCall). disk_calls_by l) split ∙ sum_by-cons disk_calls_of call left in
+    omega (arith, c.loop-call.invariant.calls, made, c.make.ensures.calls)
+
 pub loop-call-preserved : goal.loop-call-preserved
 loop-call-preserved g c =
     let disk = g.D.Disk in
@@ -57,10 +67,12 @@ loop-call-preserved g c =
     let records = ap (λ (l : List AreaCall). length (record_bytes (appended_by l))) split
     ∙ ap (λ (l : List ℕ). length l) (record_bytes-append (appended_of call) (appended_by left))
     ∙ length-append (record_bytes (appended_of call)) (record_bytes (appended_by left)) in
+    let made = ap (λ (l : List AreaCall). disk_calls_by l) split ∙ sum_by-cons disk_calls_of call left in
     record {
       behind = omega (arith, inv.behind, done.places.1);
       put_fits = omega (arith, inv.put_fits, puts, done.places.1);
       records_fit = omega (arith, inv.records_fit, records, done.places.0);
+      calls = omega (arith, inv.calls, made, done.calls);
       faults = done.faults ∙ inv.faults;
       honest = ((λ h. inv.honest.0 (done.honest.0 h)), (λ h. done.honest.1 (inv.honest.1 h)));
       so_far = λ head bodies honest under.
@@ -94,3 +106,8 @@ pub returns-clause-at : goal.returns-clause-at
 returns-clause-at g c =
     let none : drop c.loop-call.call-index c.args.calls.now ≡ [] = drop_of_length-le c.args.calls.now c.loop-call-test.false in
     omega (arith, c.loop-call.invariant.put_fits, ap (λ (l : List AreaCall). length (put_by l)) none)
+
+pub returns-clause-calls : goal.returns-clause-calls
+returns-clause-calls g c =
+    let none : drop c.loop-call.call-index c.args.calls.now ≡ [] = drop_of_length-le c.args.calls.now c.loop-call-test.false in
+    omega (arith, c.loop-call.invariant.calls, ap (λ (l : List AreaCall). disk_calls_by l) none)

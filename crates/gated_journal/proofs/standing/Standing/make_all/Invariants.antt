@@ -1,6 +1,6 @@
-use Rattle.std.proofs.Common.{◌≡◌, ◌↔◌, ◌+◌, ◌<◌, List, ℕ, [], length, drop}
+use Rattle.std.proofs.Common.{◌≡◌, ◌↔◌, ◌+◌, ◌<◌, ◌≤◌, List, ℕ, [], length, drop}
 use Rattle.gated_journal.specs.Layout.{Head, record_bytes}
-use Rattle.gated_journal.specs.Turning.{put_by, appended_by, IsUnderWay}
+use Rattle.gated_journal.specs.Turning.{put_by, appended_by, disk_calls_by, IsUnderWay}
 use Rattle.gated_journal.proofs.Ways.{SoFar}
 use Rattle.gated_journal.proofs.standing.Standing.make_all.Given as goal
 
@@ -13,6 +13,7 @@ invariant-loop-call g l =
       behind : 0 < l.places.at;
       put_fits : l.places.at + length (put_by left) ≡ 1 + length (put_by l.calls);
       records_fit : l.places.used + length (record_bytes (appended_by left)) ≡ l.used + length (record_bytes (appended_by l.calls));
+      calls : disk.calls now + disk_calls_by left ≤ disk.calls old + disk_calls_by l.calls;
       faults : disk.fault_count now ≡ disk.fault_count old;
       honest : disk.honest now ↔ disk.honest old;
       so_far : (head : Head) (bodies : List (List ℕ)) → disk.honest old
