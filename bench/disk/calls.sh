@@ -13,9 +13,9 @@ mkdir -p "$scratch/crates/disk_calls/src"
 cp "$top/HANDLES" "$scratch/"
 cp -r "$top/crates/wf_value" "$top/crates/act_disk" "$scratch/crates/"
 cp "$here/calls.rt.txt" "$scratch/crates/disk_calls/src/main.rt"
-printf 'wf_value: thiserror\nact_disk: wf_value thiserror\ndisk_calls: act_disk wf_value anyhow\n' > "$scratch/crates.txt"
+{ grep -E '^(wf_value|act_disk):' "$top/crates.txt"; echo 'disk_calls: act_disk wf_value anyhow'; } > "$scratch/crates.txt"
 (cd "$scratch/crates/disk_calls" && rt run --jobs 1 -- "$scratch/try" > "$scratch/log" 2>&1) || { tail -20 "$scratch/log"; exit 1; }
 
-strace -o "$scratch/trace" -e trace=openat,fstat,statx,newfstatat,pread64,pwrite64,ftruncate,fdatasync,fsync,write \
+strace -o "$scratch/trace" -e trace=openat,fstat,statx,newfstatat,pread64,pwrite64,ftruncate,fadvise64,fdatasync,fsync,write \
     "$scratch/crates/disk_calls/out/disk_calls" "$scratch/disk" > /dev/null
 sed -n "\\|$scratch/disk|,\$p" "$scratch/trace" | sed "s|$scratch/||"

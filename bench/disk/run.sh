@@ -17,7 +17,7 @@ mkdir -p "$scratch/crates/disk_bench/src" "$folder"
 cp "$top/HANDLES" "$scratch/"
 cp -r "$top/crates/wf_value" "$top/crates/act_disk" "$scratch/crates/"
 cp "$here/main.rt.txt" "$scratch/crates/disk_bench/src/main.rt"
-printf 'wf_value: thiserror\nact_disk: wf_value thiserror\ndisk_bench: act_disk wf_value anyhow\n' > "$scratch/crates.txt"
+{ grep -E '^(wf_value|act_disk):' "$top/crates.txt"; echo 'disk_bench: act_disk wf_value anyhow'; } > "$scratch/crates.txt"
 (cd "$scratch/crates/disk_bench" && rt run --jobs 1 -- "$scratch/try" 1 1 > "$scratch/log" 2>&1) || { tail -20 "$scratch/log"; exit 1; }
 cc -O2 -o "$scratch/plain" "$here/plain.c"
 

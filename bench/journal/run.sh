@@ -17,8 +17,8 @@ mkdir -p "$scratch/crates/journal_bench/src" "$folder"
 cp "$top/HANDLES" "$scratch/"
 cp -r "$top/crates/wf_value" "$top/crates/act_disk" "$top/crates/gated_journal" "$scratch/crates/"
 cp "$here/main.rt.txt" "$scratch/crates/journal_bench/src/main.rt"
-printf '%s\n' 'wf_value: thiserror' 'act_disk: wf_value thiserror' 'gated_journal: wf_value act_disk' \
-    'journal_bench: gated_journal act_disk wf_value anyhow' > "$scratch/crates.txt"
+{ grep -E '^(wf_value|act_disk|gated_journal):' "$top/crates.txt"; echo 'journal_bench: gated_journal act_disk wf_value anyhow'; } \
+    > "$scratch/crates.txt"
 file=$folder/area
 head -c 16384 /dev/zero > "$scratch/try"
 (cd "$scratch/crates/journal_bench" && rt run --jobs 1 -- "$scratch/try" 1 1 > "$scratch/log" 2>&1) || { tail -20 "$scratch/log"; exit 1; }

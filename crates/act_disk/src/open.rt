@@ -10,6 +10,7 @@ use crate::host_file::HostFile;
 use crate::start::Start;
 use std::fs::{File, Files, OpenOptions};
 use std::io;
+use std::os::fd::AsRawFd;
 use std::path::Path;
 use wf_value::{Code, Refusal};
 
@@ -47,10 +48,19 @@ impl<S: Start> FileDisk<HostFile<S>> {
         ensures refused { IfErr result (λ refusal. refusal ≡ cannot_open) }
     {
         match opened {
-            Ok(file) => FileDisk::over(HostFile::new(file)),
+            Ok(file) => {
+                drop_clean_pages(&file);
+                FileDisk::over(HostFile::new(file))
+            }
             Err(_) => Err(Refusal::Numbered(Code::StreamFailed)),
         }
     }
+}
+
+/// Asks the kernel to drop its clean pages of a file. After a failed sync these may be other than what
+/// the device has, and a read would give them. It is advice, and whether it was taken is not asked.
+fn drop_clean_pages(file: &File) {
+    let _ = libc::posix_fadvise(file.as_raw_fd(), 0, 0, libc::POSIX_FADV_DONTNEED);
 }
 
 /// Makes the names in a file's folder stable.
