@@ -22,6 +22,8 @@ mod run_plan_tests;
 #[cfg(test)]
 mod run_table_tests;
 #[cfg(test)]
+mod values;
+#[cfg(test)]
 mod wf_expr_tests;
 #[cfg(test)]
 mod wf_reader_tests;

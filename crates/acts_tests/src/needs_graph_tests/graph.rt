@@ -1,8 +1,8 @@
 use crate::needs_graph_tests::settled::Settled;
+use crate::values::texts;
 use needs_graph::{Graph, JobNeeds, ids_rise};
 use std::alloc::Global;
 use std::process::Abort;
-use std::test::Fail;
 use wf_value::{Chars, Condition, JobResult, Refusal, TryCopy};
 
 /// Jobs, each with the ids that it lists.
@@ -15,19 +15,18 @@ struct Listed {
     needs: Vec<Chars>,
 }
 
+fn texts_of_job(alloc: Global, id: &str, needs: &[&str]) -> Result<Listed, Refusal> {
+    let needs = texts(alloc, needs)?;
+    let id = Chars::from_str(alloc, id)?;
+    Ok(Listed { id, needs })
+}
+
 fn texts_of(alloc: Global, rows: Rows<'_>) -> Result<Vec<Listed>, Refusal> {
-    let mut listed = Vec::new(alloc);
+    let mut all = Vec::new(alloc);
     for (id, needs) in rows {
-        let mut ids = Vec::new(alloc);
-        for need in needs.iter() {
-            ids.push(Chars::from_str(alloc, need)?)?;
-        }
-        listed.push(Listed {
-            id: Chars::from_str(alloc, id)?,
-            needs: ids,
-        })?;
+        all.push(texts_of_job(alloc, id, needs)?)?;
     }
-    Ok(listed)
+    Ok(all)
 }
 
 fn jobs<'a>(alloc: Global, listed: &'a [Listed]) -> Result<Vec<JobNeeds<'a>>, Refusal> {
@@ -38,40 +37,58 @@ fn jobs<'a>(alloc: Global, listed: &'a [Listed]) -> Result<Vec<JobNeeds<'a>>, Re
     Ok(jobs)
 }
 
-fn build(rt: &impl Abort, alloc: Global, rows: Rows<'_>) -> Result<Graph, Refusal> {
-    let listed = texts_of(alloc, rows)?;
-    let jobs = jobs(alloc, listed.as_slice())?;
+fn graph(rt: &impl Abort, alloc: Global, listed: &[Listed]) -> Result<Graph, Refusal> {
+    let jobs = jobs(alloc, listed)?;
     assert!(rt; ids_rise(jobs.as_slice()));
     Graph::build(alloc, jobs.as_slice())
 }
 
-#[test]
-fn refuses(rt: HostRuntime) -> Result<(), Fail> {
-    let table: [(Rows<'_>, &str); 7] = [
-        (&[("a", &["b"])], "refused 13"),
-        (&[("a", &["a"]), ("b", &["c"])], "refused 13"),
-        (&[("a", &["b"]), ("b", &["a"])], "refused 14 a b"),
-        (
-            &[("a", &["b"]), ("b", &["a"]), ("c", &["a"])],
-            "refused 14 a b",
-        ),
-        (&[("a", &[]), ("b", &["b"])], "refused 14 b"),
-        (
-            &[("a", &["c"]), ("b", &["a"]), ("c", &["b"]), ("d", &["a"])],
-            "refused 14 a b c",
-        ),
-        (
-            &[("a", &["b"]), ("b", &["a"]), ("c", &["d"]), ("d", &["c"])],
-            "refused 14 a b c d",
-        ),
-    ];
-    for (rows, expected) in table {
-        match build(&rt, rt.alloc(), rows) {
-            Ok(_) => panic!(rt; "a graph in place of a refusal"),
-            Err(refusal) => assert_eq!(rt; refusal.text(rt.alloc())?.as_str(), expected),
-        }
+fn build(rt: &impl Abort, alloc: Global, rows: Rows<'_>) -> Result<Graph, Refusal> {
+    let listed = texts_of(alloc, rows)?;
+    graph(rt, alloc, listed.as_slice())
+}
+
+/// Jobs, and the refusal of their graph.
+const REFUSED: [(Rows<'static>, &str); 7] = [
+    (&[("a", &["b"])], "refused 13"),
+    (&[("a", &["a"]), ("b", &["c"])], "refused 13"),
+    (&[("a", &["b"]), ("b", &["a"])], "refused 14 a b"),
+    (
+        &[("a", &["b"]), ("b", &["a"]), ("c", &["a"])],
+        "refused 14 a b",
+    ),
+    (&[("a", &[]), ("b", &["b"])], "refused 14 b"),
+    (THREE_IN_A_CYCLE, "refused 14 a b c"),
+    (
+        &[("a", &["b"]), ("b", &["a"]), ("c", &["d"]), ("d", &["c"])],
+        "refused 14 a b c d",
+    ),
+];
+
+const THREE_IN_A_CYCLE: Rows<'static> = &[
+    ("a", &["c"]),
+    ("b", &["a"]),
+    ("c", &["b"]),
+    ("d", &["a"]),
+];
+
+fn refused(rt: &impl Abort, alloc: Global, rows: Rows<'_>) -> Refusal {
+    match build(rt, alloc, rows) {
+        Ok(_) => panic!(rt; "a graph in place of a refusal"),
+        Err(refusal) => refusal,
     }
-    Ok(())
+}
+
+fn expect_refused(rt: &impl Abort, alloc: Global, rows: Rows<'_>, want: &str) {
+    let text = refused(rt, alloc, rows).text(alloc).expect(rt, "a text");
+    assert!(rt; text.as_str() == want, "{want}");
+}
+
+#[test]
+fn refuses(rt: HostRuntime) {
+    for (rows, want) in REFUSED {
+        expect_refused(&rt, rt.alloc(), rows, want);
+    }
 }
 
 const DIAMOND: Rows<'static> = &[
@@ -81,135 +98,172 @@ const DIAMOND: Rows<'static> = &[
     ("d", &["c", "b"]),
 ];
 
-/// The jobs that are ancestors of each, by a mark for each job in order.
-fn check_ancestors(rt: &impl Abort, graph: &Graph, ancestors: &[&[bool]]) {
-    for (job, row) in ancestors.iter().enumerate() {
-        for (other, expected) in row.iter().enumerate() {
-            assert_eq!(rt; graph.has_ancestor(job, other), *expected);
-        }
+/// Of each job of the diamond: its needs, its dependents, and a mark for each ancestor, with one more
+/// for a job that is not there.
+const DIAMOND_ROWS: [(&[usize], &[usize], [bool; 5]); 4] = [
+    (&[], &[1, 2], [false, false, false, false, false]),
+    (&[0], &[3], [true, false, false, false, false]),
+    (&[0], &[3], [true, false, false, false, false]),
+    (&[1, 2], &[], [true, true, true, false, false]),
+];
+
+/// The jobs that are ancestors of one, by a mark for each job in order.
+fn expect_ancestors(rt: &impl Abort, graph: &Graph, job: usize, ancestors: [bool; 5]) {
+    for (other, want) in ancestors.iter().enumerate() {
+        assert!(rt; graph.has_ancestor(job, other) == *want, "{job} {other}");
     }
 }
 
-fn check_diamond(rt: &impl Abort, graph: &Graph) {
-    let needs: [&[usize]; 4] = [&[], &[0], &[0], &[1, 2]];
-    let dependents: [&[usize]; 4] = [&[1, 2], &[3], &[3], &[]];
-    assert_eq!(rt; graph.job_count(), 4);
-    for job in 0..4 {
-        assert_eq!(rt; graph.needs(job), needs[job]);
-        assert_eq!(rt; graph.dependents(job), dependents[job]);
+fn expect_diamond(rt: &impl Abort, graph: &Graph) {
+    assert!(rt; graph.job_count() == 4);
+    for (job, (needs, dependents, ancestors)) in DIAMOND_ROWS.iter().enumerate() {
+        assert!(rt; job < graph.job_count());
+        assert!(rt; graph.needs(job) == *needs, "{job}");
+        assert!(rt; graph.dependents(job) == *dependents, "{job}");
+        expect_ancestors(rt, graph, job, *ancestors);
     }
-    check_ancestors(
-        rt,
-        graph,
-        &[
-            &[false, false, false, false, false],
-            &[true, false, false, false, false],
-            &[true, false, false, false, false],
-            &[true, true, true, false, false],
-            &[false, false, false, false, false],
-        ],
-    );
+    expect_ancestors(rt, graph, 4, [false; 5]);
+}
+
+/// A graph that is not refused.
+fn built(rt: &impl Abort, alloc: Global, rows: Rows<'_>) -> Graph {
+    build(rt, alloc, rows).expect(rt, "a graph")
+}
+
+fn copied(rt: &impl Abort, alloc: Global, graph: &Graph) -> Graph {
+    graph.copy(alloc).expect(rt, "a copy")
 }
 
 #[test]
-fn builds_a_diamond(rt: HostRuntime) -> Result<(), Fail> {
-    let graph = build(&rt, rt.alloc(), DIAMOND)?;
-    check_diamond(&rt, &graph);
-    check_diamond(&rt, &graph.copy(rt.alloc())?);
-    Ok(())
+fn builds_a_diamond(rt: HostRuntime) {
+    let graph = built(&rt, rt.alloc(), DIAMOND);
+    expect_diamond(&rt, &graph);
+    expect_diamond(&rt, &copied(&rt, rt.alloc(), &graph));
+}
+
+/// The number with which a graph is refused, 0 where it is none. What is built is a diamond.
+fn number_of(rt: &impl Abort, alloc: Global, rows: Rows<'_>) -> u64 {
+    match build(rt, alloc, rows) {
+        Ok(graph) => {
+            expect_diamond(rt, &graph);
+            0
+        }
+        Err(refusal) => refusal.number(),
+    }
 }
 
 /// Holds whichever allocation is refused.
 #[test]
 fn gives_its_answer_or_refuses_memory(rt: HostRuntime) {
-    match build(&rt, rt.alloc(), DIAMOND) {
-        Ok(graph) => check_diamond(&rt, &graph),
-        Err(refusal) => assert_eq!(rt; refusal.number(), 50),
-    }
-    let cycle: Rows<'_> = &[("a", &["c"]), ("b", &["a"]), ("c", &["b"]), ("d", &["a"])];
-    match build(&rt, rt.alloc(), cycle) {
-        Ok(_) => panic!(rt; "a graph with a cycle"),
-        Err(refusal) => assert!(rt; refusal.number() == 14 || refusal.number() == 50),
-    }
+    let number = number_of(&rt, rt.alloc(), DIAMOND);
+    assert!(rt; number == 0 || number == 50);
+    let number = number_of(&rt, rt.alloc(), THREE_IN_A_CYCLE);
+    assert!(rt; number == 14 || number == 50);
+}
+
+/// The result of a first job, and whether `success()` and `failure()` hold then of the last of three
+/// in a chain, of which the second succeeded.
+const FIRST_OF_A_CHAIN: [(Option<JobResult>, bool, bool); 5] = [
+    (Some(JobResult::Success), true, false),
+    (Some(JobResult::Failure), false, true),
+    (Some(JobResult::Cancelled), false, false),
+    (Some(JobResult::Skipped), false, false),
+    (None, false, false),
+];
+
+fn expect_decided(
+    rt: &impl Abort,
+    graph: &Graph,
+    row: usize,
+    wanted: (Option<JobResult>, bool, bool),
+) {
+    let (first, succeeded, failed) = wanted;
+    let jobs = [
+        Settled(first),
+        Settled(Some(JobResult::Success)),
+        Settled(None),
+    ];
+    assert!(rt; graph.job_count() == 3);
+    assert!(rt;
+        graph.decide(2, Condition::Success, &jobs, false) == succeeded,
+        "row {row}"
+    );
+    assert!(rt;
+        graph.decide(2, Condition::Failure, &jobs, false) == failed,
+        "row {row}"
+    );
+    assert!(rt;
+        graph.decide(2, Condition::Always, &jobs, true),
+        "row {row}"
+    );
 }
 
 /// A chain of three, so that its last job has an ancestor that it does not need directly.
 #[test]
-fn sees_past_direct_needs(rt: HostRuntime) -> Result<(), Fail> {
-    let graph = build(&rt, rt.alloc(), &[("a", &[]), ("b", &["a"]), ("c", &["b"])])?;
-    assert_eq!(rt; graph.job_count(), 3);
-    assert_eq!(rt; graph.needs(2), [1].as_slice());
+fn sees_past_direct_needs(rt: HostRuntime) {
+    let rows: Rows<'_> = &[("a", &[]), ("b", &["a"]), ("c", &["b"])];
+    let graph = built(&rt, rt.alloc(), rows);
+    assert!(rt; graph.job_count() == 3);
+    assert!(rt; graph.needs(2) == [1].as_slice());
     assert!(rt; graph.has_ancestor(2, 0));
-
-    let success = Some(JobResult::Success);
-    // The result of the first job, and whether `success()` and `failure()` hold for the last.
-    let rows = [
-        (success, true, false),
-        (Some(JobResult::Failure), false, true),
-        (Some(JobResult::Cancelled), false, false),
-        (Some(JobResult::Skipped), false, false),
-        (None, false, false),
-    ];
-    for (first, succeeded, failed) in rows {
-        let jobs = [Settled(first), Settled(success), Settled(None)];
-        assert_eq!(rt;
-            graph.decide(2, Condition::Success, &jobs, false),
-            succeeded
-        );
-        assert_eq!(rt; graph.decide(2, Condition::Failure, &jobs, false), failed);
-        assert!(rt; graph.decide(2, Condition::Always, &jobs, true));
+    for (row, wanted) in FIRST_OF_A_CHAIN.iter().enumerate() {
+        expect_decided(&rt, &graph, row, *wanted);
     }
-    Ok(())
+}
+
+/// The job of this number, which needs the one before it.
+fn link(alloc: Global, job: u32) -> Result<Listed, Refusal> {
+    let mut needs = Vec::new(alloc);
+    if job > 0 {
+        let before = job - 1;
+        needs.push(Chars::new(format!(in alloc; "j{before:02}")?))?;
+    }
+    let id = Chars::new(format!(in alloc; "j{job:02}")?);
+    Ok(Listed { id, needs })
+}
+
+fn chain(alloc: Global, length: u32) -> Result<Vec<Listed>, Refusal> {
+    let mut listed = Vec::new(alloc);
+    for job in 0..length {
+        listed.push(link(alloc, job)?)?;
+    }
+    Ok(listed)
 }
 
 /// A chain of 70 jobs, whose places are more than the bits of a word.
 #[test]
-fn sees_along_a_long_chain(rt: HostRuntime) -> Result<(), Fail> {
-    let alloc = rt.alloc();
-    let mut listed: Vec<Listed> = Vec::new(alloc);
-    for job in 0..70u32 {
-        let mut needs = Vec::new(alloc);
-        if job > 0 {
-            let before = job - 1;
-            needs.push(Chars::new(format!(in alloc; "j{before:02}")?))?;
-        }
-        listed.push(Listed {
-            id: Chars::new(format!(in alloc; "j{job:02}")?),
-            needs,
-        })?;
-    }
-    let jobs = jobs(alloc, listed.as_slice())?;
-    assert!(rt; ids_rise(jobs.as_slice()));
-    let graph = Graph::build(alloc, jobs.as_slice())?;
+fn sees_along_a_long_chain(rt: HostRuntime) {
+    let listed = chain(rt.alloc(), 70).expect(&rt, "jobs");
+    let graph = graph(&rt, rt.alloc(), listed.as_slice()).expect(&rt, "a graph");
     for job in 0..70 {
         for other in 0..70 {
-            assert_eq!(rt; graph.has_ancestor(job, other), other < job);
+            assert!(rt;
+                graph.has_ancestor(job, other) == (other < job),
+                "{job} {other}"
+            );
         }
     }
-    Ok(())
 }
 
 #[test]
-fn builds_from_no_jobs(rt: HostRuntime) -> Result<(), Fail> {
-    assert_eq!(rt; build(&rt, rt.alloc(), &[])?.job_count(), 0);
-    Ok(())
+fn builds_from_no_jobs(rt: HostRuntime) {
+    assert!(rt; built(&rt, rt.alloc(), &[]).job_count() == 0);
 }
 
+/// Jobs, and whether their ids rise.
+const IDS: [(Rows<'static>, bool); 5] = [
+    (&[], true),
+    (&[("b", &[])], true),
+    (&[("B", &[]), ("a", &[]), ("ab", &[])], true),
+    (&[("a", &[]), ("a", &[])], false),
+    (&[("a", &[]), ("c", &[]), ("b", &[])], false),
+];
+
 #[test]
-fn tells_the_order_of_ids(rt: HostRuntime) -> Result<(), Fail> {
-    let table: [(Rows<'_>, bool); 5] = [
-        (&[], true),
-        (&[("b", &[])], true),
-        (&[("B", &[]), ("a", &[]), ("ab", &[])], true),
-        (&[("a", &[]), ("a", &[])], false),
-        (&[("a", &[]), ("c", &[]), ("b", &[])], false),
-    ];
-    for (rows, expected) in table {
-        let listed = texts_of(rt.alloc(), rows)?;
-        assert_eq!(rt;
-            ids_rise(jobs(rt.alloc(), listed.as_slice())?.as_slice()),
-            expected
-        );
+fn tells_the_order_of_ids(rt: HostRuntime) {
+    for (row, (rows, want)) in IDS.iter().enumerate() {
+        let listed = texts_of(rt.alloc(), rows).expect(&rt, "texts");
+        let jobs = jobs(rt.alloc(), listed.as_slice()).expect(&rt, "jobs");
+        assert!(rt; ids_rise(jobs.as_slice()) == *want, "row {row}");
     }
-    Ok(())
 }

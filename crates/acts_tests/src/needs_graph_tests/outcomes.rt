@@ -1,5 +1,6 @@
 use crate::needs_graph_tests::settled::Settled;
 use needs_graph::{HasEnd, LegEnd, conclude, decide, gather};
+use std::process::Abort;
 use wf_value::{Condition, JobResult, Outcome};
 
 /// A leg's end, and how much it weighs in its job's result: 0 for nothing, 1 for cancelled and 2
@@ -43,19 +44,13 @@ fn result_of_weight(weight: u8) -> JobResult {
 #[test]
 fn gathers_up_to_three_legs(rt: HostRuntime) {
     for a in LEGS {
-        assert_eq!(rt; gather(&[ended_leg(a)]), result_of_weight(a.2));
+        assert!(rt; gather(&[ended_leg(a)]) == result_of_weight(a.2));
         for b in LEGS {
             let two = a.2.max(b.2);
-            assert_eq!(rt;
-                gather(&[ended_leg(a), ended_leg(b)]),
-                result_of_weight(two)
-            );
+            assert!(rt; gather(&[ended_leg(a), ended_leg(b)]) == result_of_weight(two));
             for c in LEGS {
-                let three = two.max(c.2);
-                assert_eq!(rt;
-                    gather(&[ended_leg(a), ended_leg(b), ended_leg(c)]),
-                    result_of_weight(three)
-                );
+                let three = [ended_leg(a), ended_leg(b), ended_leg(c)];
+                assert!(rt; gather(&three) == result_of_weight(two.max(c.2)));
             }
         }
     }
@@ -66,104 +61,108 @@ fn gathers_up_to_three_legs(rt: HostRuntime) {
 fn gathers_what_has_ended(rt: HostRuntime) {
     let running = Leg(None);
     for a in LEGS {
-        assert_eq!(rt;
-            gather(&[running, ended_leg(a), running]),
-            result_of_weight(a.2)
-        );
+        assert!(rt; gather(&[running, ended_leg(a), running]) == result_of_weight(a.2));
     }
     let none: [Leg; 0] = [];
-    assert_eq!(rt; gather(&none), JobResult::Success);
+    assert!(rt; gather(&none) == JobResult::Success);
 }
 
-const SUCCEEDED: Settled = Settled(Some(JobResult::Success));
+const SUCCEEDED: Option<JobResult> = Some(JobResult::Success);
 
-const FAILED: Settled = Settled(Some(JobResult::Failure));
+const FAILED: Option<JobResult> = Some(JobResult::Failure);
 
-const CANCELLED: Settled = Settled(Some(JobResult::Cancelled));
+const CANCELLED: Option<JobResult> = Some(JobResult::Cancelled);
 
-const SKIPPED: Settled = Settled(Some(JobResult::Skipped));
+const SKIPPED: Option<JobResult> = Some(JobResult::Skipped);
 
-const OPEN: Settled = Settled(None);
+/// The results of a run's jobs, and its conclusion.
+const CONCLUSIONS: [(&[Settled], Outcome); 7] = [
+    (&[], Outcome::Success),
+    (&[Settled(SUCCEEDED), Settled(SKIPPED)], Outcome::Success),
+    (&[Settled(SKIPPED)], Outcome::Success),
+    (&[Settled(None), Settled(SUCCEEDED)], Outcome::Success),
+    (&[Settled(CANCELLED), Settled(SKIPPED)], Outcome::Cancelled),
+    (&[Settled(CANCELLED), Settled(FAILED)], Outcome::Failure),
+    (&[Settled(FAILED), Settled(SUCCEEDED)], Outcome::Failure),
+];
 
 #[test]
 fn concludes_runs(rt: HostRuntime) {
-    let rows: [(&[Settled], Outcome); 7] = [
-        (&[], Outcome::Success),
-        (&[SUCCEEDED, SKIPPED], Outcome::Success),
-        (&[SKIPPED], Outcome::Success),
-        (&[OPEN, SUCCEEDED], Outcome::Success),
-        (&[CANCELLED, SKIPPED], Outcome::Cancelled),
-        (&[CANCELLED, FAILED], Outcome::Failure),
-        (&[FAILED, SUCCEEDED], Outcome::Failure),
-    ];
-    for (jobs, expected) in rows {
-        assert_eq!(rt; conclude(jobs), expected);
+    for (row, (jobs, expected)) in CONCLUSIONS.iter().enumerate() {
+        assert!(rt; conclude(jobs) == *expected, "row {row}");
     }
 }
 
-/// What `success()`, `failure()`, `always()`, `cancelled()`, `!cancelled()` and `false` are.
-fn all_conditions(results: &[Option<JobResult>], stopping: bool) -> [bool; 6] {
-    [
-        decide(Condition::Success, results, stopping),
-        decide(Condition::Failure, results, stopping),
-        decide(Condition::Always, results, stopping),
-        decide(Condition::Cancelled, results, stopping),
-        decide(Condition::NotCancelled, results, stopping),
-        decide(Condition::Never, results, stopping),
-    ]
+/// `success()`, `failure()`, `always()`, `cancelled()`, `!cancelled()` and `false`.
+const CONDITIONS: [Condition; 6] = [
+    Condition::Success,
+    Condition::Failure,
+    Condition::Always,
+    Condition::Cancelled,
+    Condition::NotCancelled,
+    Condition::Never,
+];
+
+/// That each condition is as wanted.
+fn expect_conditions(
+    rt: &impl Abort,
+    row: usize,
+    results: &[Option<JobResult>],
+    stopping: bool,
+    want: [bool; 6],
+) {
+    for (place, condition) in CONDITIONS.iter().enumerate() {
+        assert!(rt;
+            decide(*condition, results, stopping) == want[place],
+            "row {row}: {place}"
+        );
+    }
 }
+
+const AFTER_SUCCESS: [bool; 6] = [true, false, true, false, true, false];
+
+const AFTER_FAILURE: [bool; 6] = [false, true, true, false, true, false];
+
+const AFTER_NEITHER: [bool; 6] = [false, false, true, false, true, false];
+
+/// The results of a job's ancestors, and which conditions hold then.
+const RUNNING: [(&[Option<JobResult>], [bool; 6]); 9] = [
+    (&[], AFTER_SUCCESS),
+    (&[SUCCEEDED], AFTER_SUCCESS),
+    (&[SUCCEEDED, SUCCEEDED], AFTER_SUCCESS),
+    (&[SUCCEEDED, FAILED], AFTER_FAILURE),
+    (&[SKIPPED, FAILED], AFTER_FAILURE),
+    (&[SUCCEEDED, SKIPPED], AFTER_NEITHER),
+    (&[CANCELLED, SUCCEEDED], AFTER_NEITHER),
+    (&[None, SUCCEEDED], AFTER_NEITHER),
+    (&[None, FAILED], AFTER_FAILURE),
+];
 
 #[test]
 fn decides_while_running(rt: HostRuntime) {
-    let succeeded = [true, false, true, false, true, false];
-    let failed = [false, true, true, false, true, false];
-    let neither = [false, false, true, false, true, false];
-
-    let rows: [(&[Option<JobResult>], [bool; 6]); 9] = [
-        (&[], succeeded),
-        (&[Some(JobResult::Success)], succeeded),
-        (
-            &[Some(JobResult::Success), Some(JobResult::Success)],
-            succeeded,
-        ),
-        (
-            &[Some(JobResult::Success), Some(JobResult::Failure)],
-            failed,
-        ),
-        (
-            &[Some(JobResult::Skipped), Some(JobResult::Failure)],
-            failed,
-        ),
-        (
-            &[Some(JobResult::Success), Some(JobResult::Skipped)],
-            neither,
-        ),
-        (
-            &[Some(JobResult::Cancelled), Some(JobResult::Success)],
-            neither,
-        ),
-        (&[None, Some(JobResult::Success)], neither),
-        (&[None, Some(JobResult::Failure)], failed),
-    ];
-    for (results, expected) in rows {
-        assert_eq!(rt; all_conditions(results, false), expected);
+    for (row, (results, want)) in RUNNING.iter().enumerate() {
+        expect_conditions(&rt, row, results, false, *want);
     }
 }
 
+const WHILE_STOPPING: [bool; 6] = [false, false, true, true, false, false];
+
+/// The results of a job's ancestors.
+const STOPPING: [&[Option<JobResult>]; 9] = [
+    &[],
+    &[SUCCEEDED],
+    &[SUCCEEDED, FAILED],
+    &[FAILED],
+    &[FAILED, FAILED],
+    &[CANCELLED],
+    &[CANCELLED, FAILED],
+    &[SKIPPED],
+    &[SKIPPED, FAILED],
+];
+
 #[test]
 fn decides_while_stopping(rt: HostRuntime) {
-    let expected = [false, false, true, true, false, false];
-    assert_eq!(rt; all_conditions(&[], true), expected);
-    for result in [
-        JobResult::Success,
-        JobResult::Failure,
-        JobResult::Cancelled,
-        JobResult::Skipped,
-    ] {
-        assert_eq!(rt; all_conditions(&[Some(result)], true), expected);
-        assert_eq!(rt;
-            all_conditions(&[Some(result), Some(JobResult::Failure)], true),
-            expected
-        );
+    for (row, results) in STOPPING.iter().enumerate() {
+        expect_conditions(&rt, row, results, true, WHILE_STOPPING);
     }
 }
