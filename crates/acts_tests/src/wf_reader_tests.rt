@@ -359,7 +359,8 @@ fn reads_an_event(rt: HostRuntime) -> Result<(), Fail> {
             "o/r ci.json [] build:linux",
         ),
         (
-            "{\"repo\":\"r\",\"path\":\"p\",\"workflow\":{\"name\":\"n\",\"jobs\":{\"b\":{\"runs-on\":[\"linux\",\"x64\"]},\"B\":{\"runs-on\":\"y\"},\"a-\":{\"runs-on\":\"z\"},\"a\":{\"runs-on\":\"w\"}}}}",
+            "{\"repo\":\"r\",\"path\":\"p\",\"workflow\":{\"name\":\"n\",\"jobs\":{\"b\":{\"runs-on\":[\"linux\",\"x64\"]},\
+            \"B\":{\"runs-on\":\"y\"},\"a-\":{\"runs-on\":\"z\"},\"a\":{\"runs-on\":\"w\"}}}}",
             "r p [n] B:y a:w a-:z b:linux:x64",
         ),
     ];
@@ -373,9 +374,11 @@ fn reads_an_event(rt: HostRuntime) -> Result<(), Fail> {
 /// The text of a reference over contexts in which a value of each kind stands.
 fn sent(alloc: Global, reference: &str) -> Result<String, Refusal> {
     let github =
-        "{\"n\":null,\"t\":true,\"l\":[1],\"f\":1.5,\"e\":1e2,\"o\":{\"x\":{\"y\":\"deep\"}},\"i\":-9223372036854775808,\"u\":9223372036854775808}";
+        "{\"n\":null,\"t\":true,\"l\":[1],\"f\":1.5,\"e\":1e2,\"o\":{\"x\":{\"y\":\"deep\"}},\
+        \"i\":-9223372036854775808,\"u\":9223372036854775808}";
     let body = format!(in alloc;
-        "{{\"repo\":\"r\",\"path\":\"p\",\"github\":{github},\"vars\":{{\"é\":\"a\",\"l\":\"linux\"}},\"workflow\":{{\"jobs\":{{\"a\":{{\"runs-on\":\"<${{{{ {reference} }}}}>\"}}}}}}}}"
+        "{{\"repo\":\"r\",\"path\":\"p\",\"github\":{github},\"vars\":{{\"é\":\"a\",\"l\":\"linux\"}},\
+        \"workflow\":{{\"jobs\":{{\"a\":{{\"runs-on\":\"<${{{{ {reference} }}}}>\"}}}}}}}}"
     )?;
     labels_shown(alloc, &read_event(alloc, body.as_bytes())?)
 }

@@ -69,6 +69,10 @@ fn prints_the_legs(rt: HostRuntime) -> Result<(), Fail> {
             "{\"jobs\":{\"j\":{\"runs-on\":\"x\",\"strategy\":{\"matrix\":{\"v\":[null,true,\"1\",-7]}}}}}",
             "j 0 {\"v\":null}\nj 1 {\"v\":true}\nj 2 {\"v\":\"1\"}\nj 3 {\"v\":-7}\n",
         ),
+        (
+            "{\"jobs\":{\"j\":{\"runs-on\":\"x\",\"strategy\":{\"matrix\":{\"v\":[\"é\\\"\\n\"]}}}}}",
+            "j 0 {\"v\":\"é\\\"\\n\"}\n",
+        ),
     ];
     for (workflow, lines) in rows {
         let printed = checked(rt.alloc(), workflow.as_bytes())?;

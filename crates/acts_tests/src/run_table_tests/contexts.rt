@@ -126,7 +126,8 @@ fn labels_by_the_sender(rt: HostRuntime) -> Result<(), Fail> {
         ),
         (
             "\"github\":{\"workflow\":\"x\",\"event_name\":\"x\",\"run_id\":7,\"run_number\":7,\"run_attempt\":7},",
-            "\"runs-on\":\"${{ github.workflow }}-${{ github.event_name }}-${{ github.run_id }}${{ github.run_number }}${{ github.run_attempt }}\"",
+            "\"runs-on\":\"${{ github.workflow }}-${{ github.event_name }}-\
+            ${{ github.run_id }}${{ github.run_number }}${{ github.run_attempt }}\"",
             "ci.json-push-111",
         ),
         (
