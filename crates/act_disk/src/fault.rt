@@ -1,4 +1,4 @@
-ghost use Rattle.std.specs.Prelude.{◌≡◌, ◌<◌, is_ok};
+ghost use Rattle.std.specs.Prelude.{◌≡◌, ◌<◌, is_ok, is_err};
 ghost use Rattle.act_disk.specs.Images.{CountsFault};
 
 use thiserror::Error;
@@ -29,6 +29,7 @@ pub(crate) fn counted<T: Drop, E: Drop>(
     requires { faults.old < u64.MAX }
     ensures faults { CountsFault result faults.old faults.new }
     ensures same { is_ok result ≡ is_ok outcome }
+    ensures fails { is_err result ≡ is_err outcome }
 {
     if outcome.is_err() {
         *faults += 1;

@@ -1,5 +1,6 @@
-ghost use Rattle.std.specs.Prelude.{◌≡◌, ◌+◌, ◌<◌, ◌^◌};
+ghost use Rattle.std.specs.Prelude.{◌≡◌, ◌↔◌, ◌+◌, ◌<◌, ◌≤◌, ◌^◌, max, length, take, drop, is_err, OnOk, OnErr};
 ghost use Rattle.act_disk.specs.FileCalls.{IsLong, IsSoundUntil, length_after};
+ghost use Rattle.act_disk.specs.Images.{Torn, IsWritten, Follows, LeavesAny, SameImages, Only, Elapses, CountsFault};
 
 use crate::disk::Disk;
 use crate::fault::{DiskFault, counted};
@@ -27,7 +28,8 @@ pub struct FileDisk<F: SystemFile> {
 impl<F: SystemFile> FileDisk<F> {
     ghost use Rattle.std.specs.Prelude.{◌≡◌, ◌∷◌, IsTrue, IfOk, IfErr};
     ghost use Rattle.act_disk.specs.Failed.{cannot_open};
-    ghost use Rattle.act_disk.specs.FileDisk.{file_of, len_of, faults_of};
+    ghost use Rattle.std.specs.Prelude.{false};
+    ghost use Rattle.act_disk.specs.FileDisk.{file_of, len_of, faults_of, failed_of};
     ghost use Rattle.act_disk.specs.SystemCalls.{Measured, is_sound};
 
     /// A disk over an open file, of which no call has failed. 61 where the system doesn't tell its length.
@@ -35,6 +37,7 @@ impl<F: SystemFile> FileDisk<F> {
         requires { IsTrue (is_sound (F.calls file)) }
         ensures calls { IfOk result (λ disk. F.calls (file_of disk) ≡ Measured (len_of disk) ∷ F.calls file) }
         ensures faults { IfOk result (λ disk. faults_of disk ≡ 0) }
+        ensures live { IfOk result (λ disk. failed_of disk ≡ false) }
         ensures refused { IfErr result (λ refusal. refusal ≡ cannot_open) }
     {
         let mut file = file;
@@ -76,6 +79,8 @@ fn partly_long(len: u64, at: u64, count: usize) -> u64
 
 impl<F: SystemFile> Disk for FileDisk<F> {
     ghost use Rattle.std.specs.Prelude.{length};
+    ghost use Rattle.act_disk.specs.FileDisk.{len_of, faults_of, made_of, failed_of, seen_of, images_of, moment_of};
+    ghost use Rattle.act_disk.specs.FileDisk.{images_since_of, honest_of, StaysFailed};
     ghost use Rattle.std.proofs.Common.{sym};
     ghost use Rattle.act_disk.specs.Past.{left_now, left_last};
     ghost use Rattle.act_disk.specs.SystemCalls.{contents, MayLeave, MayHaveLeft, IsHonest};
@@ -114,14 +119,45 @@ impl<F: SystemFile> Disk for FileDisk<F> {
         self.faults
     }
 
-    fn read(&mut self, at: u64, buf: &mut [u8]) -> Result<(), DiskFault> {
+    /// As the trait says. A read that fails ends nothing.
+    fn read(&mut self, at: u64, buf: &mut [u8]) -> Result<(), DiskFault>
+        requires within { at + length buf.old ≤ len_of self.old }
+        requires countable { faults_of self.old < u64.MAX }
+        ensures stopped { StaysFailed result self.old self.new }
+        ensures live { failed_of self.new ≡ failed_of self.old }
+        ensures bytes { OnOk result (honest_of self.new → buf.new ≡ take (length buf.old) (drop at (seen_of self.old))) }
+        ensures seen { honest_of self.new → seen_of self.new ≡ seen_of self.old }
+        ensures images { honest_of self.new → SameImages (images_of self.old) (images_of self.new) }
+        ensures time { honest_of self.new → Elapses (moment_of self.old) (moment_of self.new)
+            (images_since_of self.old) (images_since_of self.new) (images_of self.new) }
+        ensures size { len_of self.new ≡ len_of self.old }
+        ensures calls { made_of self.new ≡ made_of self.old + 1 }
+        ensures faults { CountsFault result (faults_of self.old) (faults_of self.new) }
+        ensures honest { honest_of self.new → honest_of self.old }
+    {
         self.tally.count();
         let _len = self.len;
         let outcome = read_whole(&mut self.file, self.failed, at, buf);
         counted(outcome, &mut self.faults)
     }
 
-    fn write_at(&mut self, at: u64, bytes: &[u8]) -> Result<(), DiskFault> {
+    /// As the trait says. Once it fails the disk has failed.
+    fn write_at(&mut self, at: u64, bytes: &[u8]) -> Result<(), DiskFault>
+        requires { faults_of self.old < u64.MAX }
+        ensures stopped { StaysFailed result self.old self.new }
+        ensures live { failed_of self.new ≡ is_err result }
+        ensures written { OnOk result (honest_of self.old → IsWritten at bytes.now (seen_of self.old) (seen_of self.new)) }
+        ensures failed { OnErr result (honest_of self.old → Torn at (length bytes.now) (seen_of self.old) (seen_of self.new)) }
+        ensures images { honest_of self.old → Follows (Torn at (length bytes.now)) (images_of self.old) (images_of self.new) }
+        ensures any { OnOk result (honest_of self.old → LeavesAny (Torn at (length bytes.now)) (images_of self.old) (images_of self.new)) }
+        ensures time { honest_of self.old → Elapses (moment_of self.old) (moment_of self.new)
+            (images_since_of self.old) (images_since_of self.new) (images_of self.new) }
+        ensures size { OnOk result (len_of self.new ≡ max (len_of self.old) (at + length bytes.now)) }
+        ensures no_shorter { len_of self.old ≤ len_of self.new }
+        ensures calls { made_of self.new ≡ made_of self.old + 1 }
+        ensures faults { CountsFault result (faults_of self.old) (faults_of self.new) }
+        ensures honest { honest_of self.new ↔ honest_of self.old }
+    {
         self.tally.count();
         match put(&mut self.file, self.failed, self.len, at, bytes) {
             Ok(()) => {
@@ -137,7 +173,21 @@ impl<F: SystemFile> Disk for FileDisk<F> {
         }
     }
 
-    fn sync(&mut self) -> Result<(), DiskFault> {
+    /// As the trait says. Once it fails the disk has failed.
+    fn sync(&mut self) -> Result<(), DiskFault>
+        requires { faults_of self.old < u64.MAX }
+        ensures stopped { StaysFailed result self.old self.new }
+        ensures live { failed_of self.new ≡ is_err result }
+        ensures stable { OnOk result (honest_of self.old → Only (seen_of self.old) (images_of self.new)) }
+        ensures failed { OnErr result (honest_of self.old → SameImages (images_of self.old) (images_of self.new)) }
+        ensures seen { honest_of self.old → seen_of self.new ≡ seen_of self.old }
+        ensures time { honest_of self.old → Elapses (moment_of self.old) (moment_of self.new)
+            (images_since_of self.old) (images_since_of self.new) (images_of self.new) }
+        ensures size { len_of self.new ≡ len_of self.old }
+        ensures calls { made_of self.new ≡ made_of self.old + 1 }
+        ensures faults { CountsFault result (faults_of self.old) (faults_of self.new) }
+        ensures honest { honest_of self.new ↔ honest_of self.old }
+    {
         self.tally.count();
         let outcome = sync_whole(&mut self.file, self.failed);
         self.failed = outcome.is_err();

@@ -1,5 +1,5 @@
 //! One call of a disk by calls of the system: whole ranges, and again where a signal interrupts.
-ghost use Rattle.std.specs.Prelude.{◌≡◌, ◌+◌, ◌<◌, ◌≤◌, ◌^◌, ◌∷◌, [], false};
+ghost use Rattle.std.specs.Prelude.{◌≡◌, ◌+◌, ◌<◌, ◌≤◌, ◌^◌, ◌∷◌, [], true, false, is_err};
 ghost use Rattle.std.specs.Prelude.{length, take, drop, IsTrue, MatchResult, IfOk, IfErr, OnOk, OnErr};
 ghost use Rattle.act_disk.specs.FileCalls.{MayHaveFailed, Puts, Breaks, Reads};
 ghost use Rattle.act_disk.specs.SystemCalls.{Measured, Gave, Wrote, WriteFailed, Grew};
@@ -98,6 +98,7 @@ fn sync_again<F: SystemFile>(file: &mut F) -> Result<(), DiskFault>
 pub(crate) fn sync_whole<F: SystemFile>(file: &mut F, failed: bool) -> Result<(), DiskFault>
     ensures ok { OnOk result (F.calls file.new ≡ Synced ∷ F.calls file.old) }
     ensures live { OnOk result (failed ≡ false) }
+    ensures stopped { failed ≡ true → (is_err result ≡ true) × (F.calls file.new ≡ F.calls file.old) }
     ensures err { OnErr result (MayHaveFailed SyncFailed (F.calls file.old) (F.calls file.new)) }
 {
     if failed {
@@ -117,6 +118,7 @@ pub(crate) fn read_whole<F: SystemFile>(
     ensures bytes { OnOk result ((failed ≡ false → IsTrue (is_sound (F.calls file.old))) → IsHonest F.held (F.calls file.new)
         → buf.new ≡ take (length buf.old) (drop at (contents F.held (F.calls file.old)))) }
     ensures reads { Reads F.left F.held (F.calls file.old) (F.calls file.new) }
+    ensures stopped { failed ≡ true → (is_err result ≡ true) × (F.calls file.new ≡ F.calls file.old) }
 {
     if failed {
         return Err(DiskFault);
@@ -150,6 +152,7 @@ pub(crate) fn put<F: SystemFile>(
     ensures ok { OnOk result (Puts F.left F.held at bytes.now (length bytes.now) (F.calls file.old) (F.calls file.new)) }
     ensures live { OnOk result (failed ≡ false) }
     ensures fits { OnOk result (at + length bytes.now < 2 ^ 64) }
+    ensures stopped { failed ≡ true → (is_err result ≡ true) × (F.calls file.new ≡ F.calls file.old) }
     ensures err { IfErr result (λ count. Breaks F.left F.held at bytes.now count (F.calls file.old) (F.calls file.new)) }
 {
     if failed || bytes.len() as u64 > u64::MAX - at {

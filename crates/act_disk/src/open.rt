@@ -1,7 +1,7 @@
 //! Opening a disk over a file of the system.
-ghost use Rattle.std.specs.Prelude.{◌≡◌, [], ◌∷◌, IfOk, IfErr};
+ghost use Rattle.std.specs.Prelude.{◌≡◌, [], ◌∷◌, false, IfOk, IfErr};
 ghost use Rattle.act_disk.specs.Failed.{cannot_open};
-ghost use Rattle.act_disk.specs.FileDisk.{file_of, len_of, faults_of};
+ghost use Rattle.act_disk.specs.FileDisk.{file_of, len_of, faults_of, failed_of};
 ghost use Rattle.act_disk.specs.HostFile.{calls_of};
 ghost use Rattle.act_disk.specs.SystemCalls.{Measured};
 
@@ -19,6 +19,7 @@ impl<S: Start> FileDisk<HostFile<S>> {
     pub fn open<R: Files<File = File>>(rt: &R, path: &str) -> Result<Self, Refusal>
         ensures calls { IfOk result (λ disk. calls_of (file_of disk) ≡ Measured (len_of disk) ∷ []) }
         ensures faults { IfOk result (λ disk. faults_of disk ≡ 0) }
+        ensures live { IfOk result (λ disk. failed_of disk ≡ false) }
         ensures refused { IfErr result (λ refusal. refusal ≡ cannot_open) }
     {
         let opened = OpenOptions::new().read(true).write(true).open(rt, path);
@@ -30,6 +31,7 @@ impl<S: Start> FileDisk<HostFile<S>> {
     pub fn create<R: Files<File = File>>(rt: &R, path: &str) -> Result<Self, Refusal>
         ensures calls { IfOk result (λ disk. calls_of (file_of disk) ≡ Measured (len_of disk) ∷ []) }
         ensures faults { IfOk result (λ disk. faults_of disk ≡ 0) }
+        ensures live { IfOk result (λ disk. failed_of disk ≡ false) }
         ensures refused { IfErr result (λ refusal. refusal ≡ cannot_open) }
     {
         let opened = OpenOptions::new()
@@ -45,6 +47,7 @@ impl<S: Start> FileDisk<HostFile<S>> {
     fn opened(opened: io::Result<File>) -> Result<Self, Refusal>
         ensures calls { IfOk result (λ disk. calls_of (file_of disk) ≡ Measured (len_of disk) ∷ []) }
         ensures faults { IfOk result (λ disk. faults_of disk ≡ 0) }
+        ensures live { IfOk result (λ disk. failed_of disk ≡ false) }
         ensures refused { IfErr result (λ refusal. refusal ≡ cannot_open) }
     {
         match opened {
