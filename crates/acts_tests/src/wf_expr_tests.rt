@@ -3,13 +3,10 @@
 mod reading;
 mod values;
 
+use crate::values::{Given, scalar};
 use std::alloc::Global;
 use wf_expr::{Place, Properties, Template};
 use wf_value::{Chars, Refusal, Scalar};
-
-pub fn text_of(alloc: Global, text: &str) -> Result<Scalar, Refusal> {
-    Ok(Scalar::Text(Chars::from_str(alloc, text)?))
-}
 
 /// The path of the names, of which `.` stands between each two.
 pub fn path_of(alloc: Global, names: &str) -> Result<Vec<Chars>, Refusal> {
@@ -20,38 +17,42 @@ pub fn path_of(alloc: Global, names: &str) -> Result<Vec<Chars>, Refusal> {
     Ok(path)
 }
 
-pub fn set(
+fn set(
     alloc: Global,
     properties: &mut Properties,
     names: &str,
-    value: Scalar,
+    given: &Given,
 ) -> Result<(), Refusal> {
-    properties.insert(alloc, path_of(alloc, names)?.as_slice(), value)
+    let path = path_of(alloc, names)?;
+    properties.insert(alloc, path.as_slice(), scalar(alloc, given)?)
+}
+
+/// The properties at these paths, set in turn.
+pub fn properties(alloc: Global, rows: &[(&str, Given)]) -> Result<Properties, Refusal> {
+    let mut properties = Properties::new(alloc);
+    for (names, given) in rows {
+        set(alloc, &mut properties, names, given)?;
+    }
+    Ok(properties)
 }
 
 /// The context of the rows.
-pub fn example(alloc: Global) -> Result<Properties, Refusal> {
-    let mut context = Properties::new(alloc);
-    set(
-        alloc,
-        &mut context,
-        "github.workflow",
-        text_of(alloc, "ci.json")?,
-    )?;
-    set(alloc, &mut context, "github.run_id", text_of(alloc, "1")?)?;
-    set(alloc, &mut context, "inputs.none", Scalar::Null)?;
-    set(alloc, &mut context, "inputs.no", Scalar::Truth(false))?;
-    set(alloc, &mut context, "inputs.yes", Scalar::Truth(true))?;
-    set(alloc, &mut context, "inputs.empty", text_of(alloc, "")?)?;
-    set(alloc, &mut context, "inputs.zero", Scalar::Whole(0))?;
-    set(alloc, &mut context, "inputs.most", Scalar::Whole(i64::MAX))?;
-    set(alloc, &mut context, "inputs.least", Scalar::Whole(i64::MIN))?;
-    set(alloc, &mut context, "inputs.a-b_C9", Scalar::Whole(7))?;
-    Ok(context)
-}
+pub const EXAMPLE: [(&str, Given); 10] = [
+    ("github.workflow", Given::Text("ci.json")),
+    ("github.run_id", Given::Text("1")),
+    ("inputs.none", Given::Null),
+    ("inputs.no", Given::Truth(false)),
+    ("inputs.yes", Given::Truth(true)),
+    ("inputs.empty", Given::Text("")),
+    ("inputs.zero", Given::Whole(0)),
+    ("inputs.most", Given::Whole(i64::MAX)),
+    ("inputs.least", Given::Whole(i64::MIN)),
+    ("inputs.a-b_C9", Given::Whole(7)),
+];
 
 /// The value of the text as a job's template, or its refusal.
 pub fn value_of(alloc: Global, text: &str) -> Result<Scalar, Refusal> {
-    let context = example(alloc)?;
-    Template::parse(alloc, text, Place::Job)?.eval(alloc, &context)
+    let context = properties(alloc, &EXAMPLE)?;
+    let template = Template::parse(alloc, text, Place::Job)?;
+    template.eval(alloc, &context)
 }

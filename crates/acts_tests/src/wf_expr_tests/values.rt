@@ -1,216 +1,228 @@
-use crate::wf_expr_tests::{example, path_of, set, text_of, value_of};
+use crate::values::{Given, scalar};
+use crate::wf_expr_tests::{EXAMPLE, path_of, properties, value_of};
 use std::alloc::Global;
 use std::process::Abort;
-use std::test::Fail;
 use wf_expr::{Over, Place, Properties, Template, is_flag_set};
-use wf_value::{Chars, Refusal, Same, Scalar, TryCopy};
+use wf_value::{Chars, Same, Scalar, TryCopy};
 
-fn assert_text(rt: &impl Abort, alloc: Global, text: &str, want: &str) -> Result<(), Refusal> {
-    match value_of(alloc, text)? {
-        Scalar::Text(value) => assert_eq!(rt; value.as_str(), want, "{text}"),
-        _ => panic!(rt; "{text} is no text"),
+/// Templates, and their values.
+fn expect_values(rt: &impl Abort, alloc: Global, rows: &[(&str, Given)]) {
+    for (text, want) in rows {
+        let want = scalar(alloc, want).expect(rt, "a scalar");
+        let value = value_of(alloc, text).expect(rt, text);
+        assert!(rt; value.same(&want), "{text}");
     }
-    Ok(())
 }
 
-#[test]
-fn joins_pieces(rt: HostRuntime) -> Result<(), Fail> {
-    for (text, want) in [
-        ("", ""),
-        ("plain", "plain"),
-        (
-            "${{ github.workflow }}-${{ github.head_ref || github.run_id }}",
-            "ci.json-1",
-        ),
-        ("${{ 'it''s' }}", "it's"),
-        ("${{ '''' }}", "'"),
-        ("${{ '' }}.", "."),
-        ("${{ '}}' }}", "}}"),
-        ("${{ '${{' }}", "${{"),
-        ("${{ '|| a.b' || 'x' }}", "|| a.b"),
-        ("$${{ github.run_id }}", "$1"),
-        ("${${{ github.run_id }}$", "${1$"),
-        ("$$ ${ {{ }}", "$$ ${ {{ }}"),
-        ("a$", "a$"),
-        ("a${", "a${"),
-        ("${{github.run_id}}${{github.run_id}}", "11"),
-        ("${{  github  .  run_id  ||  'x'  }}", "1"),
-        ("${{github.none||'x'||'y'}}", "x"),
-        ("${{ github.event.x }}", ""),
-        ("${{ needs.a.result }}", ""),
-        ("é${{ 'ü' }}ß", "éüß"),
-        (
-            "<${{ inputs.none }}${{ inputs.no }}${{ inputs.yes }}>",
-            "<falsetrue>",
-        ),
-        (
-            "${{ inputs.most }},${{ inputs.least }}",
-            "9223372036854775807,-9223372036854775808",
-        ),
-        ("${{ inputs.a-b_C9 }}.", "7."),
-    ] {
-        assert_text(&rt, rt.alloc(), text, want)?;
-    }
-    Ok(())
-}
+const JOINED: [(&str, Given); 23] = [
+    ("", Given::Text("")),
+    ("plain", Given::Text("plain")),
+    (
+        "${{ github.workflow }}-${{ github.head_ref || github.run_id }}",
+        Given::Text("ci.json-1"),
+    ),
+    ("${{ 'it''s' }}", Given::Text("it's")),
+    ("${{ '''' }}", Given::Text("'")),
+    ("${{ '' }}.", Given::Text(".")),
+    ("${{ '}}' }}", Given::Text("}}")),
+    ("${{ '${{' }}", Given::Text("${{")),
+    ("${{ '|| a.b' || 'x' }}", Given::Text("|| a.b")),
+    ("$${{ github.run_id }}", Given::Text("$1")),
+    ("${${{ github.run_id }}$", Given::Text("${1$")),
+    ("$$ ${ {{ }}", Given::Text("$$ ${ {{ }}")),
+    ("a$", Given::Text("a$")),
+    ("a${", Given::Text("a${")),
+    ("${{github.run_id}}${{github.run_id}}", Given::Text("11")),
+    ("${{  github  .  run_id  ||  'x'  }}", Given::Text("1")),
+    ("${{github.none||'x'||'y'}}", Given::Text("x")),
+    ("${{ github.event.x }}", Given::Text("")),
+    ("${{ needs.a.result }}", Given::Text("")),
+    ("é${{ 'ü' }}ß", Given::Text("éüß")),
+    (
+        "<${{ inputs.none }}${{ inputs.no }}${{ inputs.yes }}>",
+        Given::Text("<falsetrue>"),
+    ),
+    (
+        "${{ inputs.most }},${{ inputs.least }}",
+        Given::Text("9223372036854775807,-9223372036854775808"),
+    ),
+    ("${{ inputs.a-b_C9 }}.", Given::Text("7.")),
+];
 
 #[test]
-fn keeps_the_scalar_of_a_sole_piece(rt: HostRuntime) -> Result<(), Fail> {
-    let alloc = rt.alloc();
-    for (text, want) in [
-        ("${{ inputs.most }}", Scalar::Whole(i64::MAX)),
-        ("${{ inputs.zero }}", Scalar::Whole(0)),
-        ("${{ inputs.none }}", Scalar::Null),
-        ("${{ inputs.zero || inputs.none }}", Scalar::Null),
-        ("${{ inputs.none || inputs.no }}", Scalar::Truth(false)),
-        (
-            "${{ inputs.zero || inputs.empty || inputs.no || inputs.none || inputs.a-b_C9 }}",
-            Scalar::Whole(7),
-        ),
-        ("${{ inputs.yes || inputs.most }}", Scalar::Truth(true)),
-        ("${{ inputs.none || inputs.zero }}", Scalar::Whole(0)),
-        ("${{ inputs.missing || inputs.no }}", Scalar::Truth(false)),
-    ] {
-        assert!(rt; value_of(alloc, text)?.same(&want), "{text}");
-    }
-    assert!(rt; value_of(alloc, "${{ inputs.missing }}")?.same(&text_of(alloc, "")?));
-    assert!(rt; value_of(alloc, "${{ '0' || 'x' }}")?.same(&text_of(alloc, "0")?));
-    assert!(rt; value_of(alloc, " ${{ inputs.zero }}")?.same(&text_of(alloc, " 0")?));
-    Ok(())
+fn joins_pieces(rt: HostRuntime) {
+    expect_values(&rt, rt.alloc(), &JOINED);
 }
 
-#[test]
-fn keeps_the_newest_value_of_a_path(rt: HostRuntime) -> Result<(), Fail> {
-    let alloc = rt.alloc();
-    let mut properties = Properties::new(alloc);
-    let path = path_of(alloc, "github.workflow")?;
-    assert!(rt; properties.get(path.as_slice()).is_none());
-    set(alloc, &mut properties, "github.workflow", Scalar::Whole(1))?;
-    set(
-        alloc,
-        &mut properties,
-        "github.workflow.x",
-        Scalar::Whole(2),
-    )?;
-    set(alloc, &mut properties, "github.workflow", Scalar::Whole(3))?;
-    for (names, want) in [("github.workflow", 3), ("github.workflow.x", 2)] {
-        let path = path_of(alloc, names)?;
-        let value = properties.get(path.as_slice()).expect(&rt, "a value");
-        assert!(rt; value.same(&Scalar::Whole(want)), "{names}");
-    }
-    assert!(rt;
-        properties
-            .get(path_of(alloc, "github")?.as_slice())
-            .is_none()
-    );
-    assert!(rt;
-        properties
-            .get(path_of(alloc, "github.workflow.y")?.as_slice())
-            .is_none()
-    );
-    Ok(())
-}
+const KEPT: [(&str, Given); 12] = [
+    ("${{ inputs.most }}", Given::Whole(i64::MAX)),
+    ("${{ inputs.zero }}", Given::Whole(0)),
+    ("${{ inputs.none }}", Given::Null),
+    ("${{ inputs.zero || inputs.none }}", Given::Null),
+    ("${{ inputs.none || inputs.no }}", Given::Truth(false)),
+    (
+        "${{ inputs.zero || inputs.empty || inputs.no || inputs.none || inputs.a-b_C9 }}",
+        Given::Whole(7),
+    ),
+    ("${{ inputs.yes || inputs.most }}", Given::Truth(true)),
+    ("${{ inputs.none || inputs.zero }}", Given::Whole(0)),
+    ("${{ inputs.missing || inputs.no }}", Given::Truth(false)),
+    ("${{ inputs.missing }}", Given::Text("")),
+    ("${{ '0' || 'x' }}", Given::Text("0")),
+    (" ${{ inputs.zero }}", Given::Text(" 0")),
+];
 
 #[test]
-fn puts_a_tree_at_a_name(rt: HostRuntime) -> Result<(), Fail> {
-    let alloc = rt.alloc();
-    let mut inner = Properties::new(alloc);
-    set(alloc, &mut inner, "a", Scalar::Whole(1))?;
-    set(alloc, &mut inner, "b.c", Scalar::Whole(2))?;
-    let mut properties = Properties::new(alloc);
-    set(alloc, &mut properties, "inputs.old", Scalar::Whole(3))?;
-    set(alloc, &mut properties, "vars.a", Scalar::Whole(4))?;
-    properties.nest(alloc, &Chars::from_str(alloc, "inputs")?, inner)?;
-    for (names, want) in [("inputs.a", 1), ("inputs.b.c", 2), ("vars.a", 4)] {
-        let path = path_of(alloc, names)?;
-        let value = properties.get(path.as_slice()).expect(&rt, "a value");
-        assert!(rt; value.same(&Scalar::Whole(want)), "{names}");
-    }
-    assert!(rt;
-        properties
-            .get(path_of(alloc, "inputs.old")?.as_slice())
-            .is_none()
-    );
-    Ok(())
+fn keeps_the_scalar_of_a_sole_piece(rt: HostRuntime) {
+    expect_values(&rt, rt.alloc(), &KEPT);
 }
 
+/// Whether that is the whole number, or that nothing is there.
+fn is_whole(found: Option<&Scalar>, want: Option<i64>) -> bool {
+    match (found, want) {
+        (Some(Scalar::Whole(found)), Some(want)) => *found == want,
+        (None, None) => true,
+        _ => false,
+    }
+}
+
+/// That the properties have these whole numbers, and nothing at a path without one.
+fn expect_at(
+    rt: &impl Abort,
+    alloc: Global,
+    properties: &Properties,
+    rows: &[(&str, Option<i64>)],
+) {
+    for (names, want) in rows {
+        let path = path_of(alloc, names).expect(rt, "a path");
+        assert!(rt; is_whole(properties.get(path.as_slice()), *want), "{names}");
+    }
+}
+
+const SET_AGAIN: [(&str, Given); 3] = [
+    ("github.workflow", Given::Whole(1)),
+    ("github.workflow.x", Given::Whole(2)),
+    ("github.workflow", Given::Whole(3)),
+];
+
 #[test]
-fn looks_from_the_upper_layer_down(rt: HostRuntime) -> Result<(), Fail> {
-    let alloc = rt.alloc();
-    let lower = example(alloc)?;
-    let mut upper = Properties::new(alloc);
-    set(alloc, &mut upper, "matrix.os", text_of(alloc, "linux")?)?;
-    set(alloc, &mut upper, "github.run_id", Scalar::Null)?;
+fn keeps_the_newest_value_of_a_path(rt: HostRuntime) {
+    let rows = [
+        ("github.workflow", Some(3)),
+        ("github.workflow.x", Some(2)),
+        ("github", None),
+        ("github.workflow.y", None),
+    ];
+    let none = Properties::new(rt.alloc());
+    expect_at(&rt, rt.alloc(), &none, &[("github.workflow", None)]);
+    let properties = properties(rt.alloc(), &SET_AGAIN).expect(&rt, "properties");
+    expect_at(&rt, rt.alloc(), &properties, &rows);
+}
+
+const INNER: [(&str, Given); 2] = [("a", Given::Whole(1)), ("b.c", Given::Whole(2))];
+
+const OUTER: [(&str, Given); 2] = [("inputs.old", Given::Whole(3)), ("vars.a", Given::Whole(4))];
+
+#[test]
+fn puts_a_tree_at_a_name(rt: HostRuntime) {
+    let rows = [
+        ("inputs.a", Some(1)),
+        ("inputs.b.c", Some(2)),
+        ("vars.a", Some(4)),
+        ("inputs.old", None),
+    ];
+    let inner = properties(rt.alloc(), &INNER).expect(&rt, "properties");
+    let mut outer = properties(rt.alloc(), &OUTER).expect(&rt, "properties");
+    let name = Chars::from_str(rt.alloc(), "inputs").expect(&rt, "a name");
+    outer.nest(rt.alloc(), &name, inner).expect(&rt, "a tree");
+    expect_at(&rt, rt.alloc(), &outer, &rows);
+}
+
+const UPPER: [(&str, Given); 2] = [
+    ("matrix.os", Given::Text("linux")),
+    ("github.run_id", Given::Null),
+];
+
+const OVER: [(&str, &str); 3] = [
+    ("${{ matrix.os }}-${{ github.workflow }}", "linux-ci.json"),
+    ("<${{ github.run_id }}>", "<>"),
+    ("${{ matrix.x || inputs.most }}", "9223372036854775807"),
+];
+
+#[test]
+fn looks_from_the_upper_layer_down(rt: HostRuntime) {
+    let lower = properties(rt.alloc(), &EXAMPLE).expect(&rt, "properties");
+    let upper = properties(rt.alloc(), &UPPER).expect(&rt, "properties");
     let layers = Over {
         upper: &upper,
         lower: &lower,
     };
-    for (text, want) in [
-        ("${{ matrix.os }}-${{ github.workflow }}", "linux-ci.json"),
-        ("<${{ github.run_id }}>", "<>"),
-        ("${{ matrix.x || inputs.most }}", "9223372036854775807"),
-    ] {
-        let template = Template::parse(alloc, text, Place::Job)?;
+    for (text, want) in OVER {
+        let template = Template::parse(rt.alloc(), text, Place::Job).expect(&rt, text);
         assert!(rt; template.is_text(&layers, want.as_bytes()), "{text}");
     }
-    Ok(())
+}
+
+/// A template, another text, whether that is its text, and whether it is but for letter case.
+const COMPARED: [(&str, &str, bool, bool); 13] = [
+    ("Linux", "Linux", true, true),
+    ("Linux", "linux", false, true),
+    ("Linux", "linu", false, false),
+    ("Linux", "linux2", false, false),
+    ("", "", true, true),
+    ("${{ inputs.none }}", "", true, true),
+    ("${{ inputs.none }}", "x", false, false),
+    ("${{ inputs.yes }}", "true", true, true),
+    ("${{ inputs.no }}", "FALSE", false, true),
+    ("v${{ inputs.least }}", "V-9223372036854775808", false, true),
+    ("${{ inputs.a-b_C9 }}.", "7.", true, true),
+    (
+        "${{ github.workflow }}-${{ 'A' }}",
+        "CI.json-a",
+        false,
+        true,
+    ),
+    ("é", "É", false, false),
+];
+
+/// A copy of a template.
+fn template_of(rt: &impl Abort, alloc: Global, text: &str) -> Template {
+    let template = Template::parse(alloc, text, Place::Job).expect(rt, text);
+    template.copy(alloc).expect(rt, "a copy")
 }
 
 #[test]
-fn compares_with_a_text(rt: HostRuntime) -> Result<(), Fail> {
-    let alloc = rt.alloc();
-    let context = example(alloc)?;
-    for (text, other, same, alike) in [
-        ("Linux", "Linux", true, true),
-        ("Linux", "linux", false, true),
-        ("Linux", "linu", false, false),
-        ("Linux", "linux2", false, false),
-        ("", "", true, true),
-        ("${{ inputs.none }}", "", true, true),
-        ("${{ inputs.none }}", "x", false, false),
-        ("${{ inputs.yes }}", "true", true, true),
-        ("${{ inputs.no }}", "FALSE", false, true),
-        ("v${{ inputs.least }}", "V-9223372036854775808", false, true),
-        ("${{ inputs.a-b_C9 }}.", "7.", true, true),
-        (
-            "${{ github.workflow }}-${{ 'A' }}",
-            "CI.json-a",
-            false,
-            true,
-        ),
-        ("é", "É", false, false),
-    ] {
-        let template = Template::parse(alloc, text, Place::Job)?.copy(alloc)?;
-        assert_eq!(rt;
-            template.is_text(&context, other.as_bytes()),
-            same,
-            "{text} {other}"
-        );
-        assert_eq!(rt;
-            template.is_text_ignoring_ascii_case(&context, other.as_bytes()),
-            alike,
-            "{text} {other}"
+fn compares_with_a_text(rt: HostRuntime) {
+    let context = properties(rt.alloc(), &EXAMPLE).expect(&rt, "properties");
+    for (text, other, same, alike) in COMPARED {
+        let template = template_of(&rt, rt.alloc(), text);
+        let other = other.as_bytes();
+        assert!(rt; template.is_text(&context, other) == same, "{text}");
+        assert!(rt;
+            template.is_text_ignoring_ascii_case(&context, other) == alike,
+            "{text}"
         );
     }
-    Ok(())
 }
 
+/// A template, and whether its value sets a flag.
+const FLAGS: [(&str, bool); 10] = [
+    ("${{ inputs.yes }}", true),
+    ("true", true),
+    ("${{ 'true' }}", true),
+    ("tru${{ 'e' }}", true),
+    (" ${{ inputs.yes }}", false),
+    ("${{ inputs.no }}", false),
+    ("${{ inputs.most }}", false),
+    ("${{ inputs.none }}", false),
+    ("True", false),
+    ("", false),
+];
+
 #[test]
-fn sets_flags(rt: HostRuntime) -> Result<(), Fail> {
-    let alloc = rt.alloc();
-    for (text, want) in [
-        ("${{ inputs.yes }}", true),
-        ("true", true),
-        ("${{ 'true' }}", true),
-        ("tru${{ 'e' }}", true),
-        (" ${{ inputs.yes }}", false),
-        ("${{ inputs.no }}", false),
-        ("${{ inputs.most }}", false),
-        ("${{ inputs.none }}", false),
-        ("True", false),
-        ("", false),
-    ] {
-        assert_eq!(rt; is_flag_set(&value_of(alloc, text)?), want, "{text}");
+fn sets_flags(rt: HostRuntime) {
+    for (text, want) in FLAGS {
+        let value = value_of(rt.alloc(), text).expect(&rt, text);
+        assert!(rt; is_flag_set(&value) == want, "{text}");
     }
-    Ok(())
 }
