@@ -1,7 +1,8 @@
 #!/bin/bash
 # Appends of 1, 14, 109 and 4,096 bytes with both syncs, through `gated_journal::Area`, beside a plain loop
 # in C of the same four calls of the system, in turn, on one file system; and a read with a scan of a full
-# area of 64 MiB beside one read of it in C. Prints the median of the times of both and their ratio.
+# area of 64 MiB, and a read with a loop over the records in C, each beside one read of it in C. Prints the median
+# of an append's times, the least of the others, and their ratios.
 # Usage: bench/journal/run.sh [FOLDER [COUNT [ROUNDS]]]; FOLDER lies on the file system to be measured.
 set -eu
 here=$(cd "$(dirname "$0")" && pwd)
@@ -26,9 +27,10 @@ cc -O2 -o "$scratch/plain" "$here/plain.c"
 journal=$scratch/crates/journal_bench/out/journal_bench
 
 median() { cut -d ' ' -f 1 | sort -n | awk '{ v[NR] = $1 } END { print v[int((NR + 1) / 2)] }'; }
-report() { # NAME DIVISOR
-    awk -v n="$1" -v d="$(median < "$scratch/ours")" -v c="$(median < "$scratch/c")" -v k="$2" \
-        'BEGIN { printf "%s: journal %.1f us, plain C %.1f us, ratio %.3f\n", n, d / k * 1e6, c / k * 1e6, d / c }'
+least() { cut -d ' ' -f 1 | sort -n | head -n 1; }
+report() { # NAME DIVISOR OURS WHICH
+    awk -v n="$1" -v d="$("$4" < "$scratch/$3")" -v c="$("$4" < "$scratch/c")" -v k="$2" \
+        'BEGIN { printf "%s: %.1f us, plain C %.1f us, ratio %.3f\n", n, d / k * 1e6, c / k * 1e6, d / c }'
 }
 fresh() { # SIZE: a file of zeros, written out, in which all appends fit
     head -c $((count * $1 + 16384)) /dev/zero > "$file"
@@ -46,16 +48,18 @@ for size in 1 14 109 4096; do
         fresh "$size"
         "$scratch/plain" "$file" "$size" "$count" >> "$scratch/c"
     done
-    report "an append of $size bytes" "$count"
+    report "an append of $size bytes" "$count" ours median
 done
-for body in 0 104 65536; do
+for body in 0 9 104 65536; do
     python3 "$here/full_area.py" "$file" "$body"
-    : > "$scratch/ours"; : > "$scratch/c"
+    : > "$scratch/ours"; : > "$scratch/c"; : > "$scratch/loop"
     "$scratch/plain" "$file" 0 1 > /dev/null
     for _ in $(seq "$rounds"); do
         "$journal" "$file" 0 1 >> "$scratch/ours"
         "$scratch/plain" "$file" 0 1 >> "$scratch/c"
+        "$scratch/plain" "$file" 0 2 >> "$scratch/loop"
     done
-    report "64 MiB of bodies of $body bytes" 1
+    report "64 MiB of bodies of $body bytes, read and scanned, beside a read" 1 ours least
+    report "64 MiB of bodies of $body bytes, read and gone over in C, beside a read" 1 loop least
 done
 rm -f "$file"
