@@ -1,6 +1,6 @@
 use Rattle.std.proofs.Common.{◌≡◌, ◌+◌, ◌-◌, ◌≤◌, ◌++◌, ℕ, List, length, take, replicate, sym, ◌∙◌, ap, arith}
 use Rattle.std.proofs.lemmas.List.{length-replicate, take-replicate}
-use Rattle.act_disk.proofs.ZeroLemmas.{zeros_more, not_yet, grows_on}
+use Rattle.act_disk.proofs.ZeroLemmas.{zeros_more, grows_on}
 use Rattle.act_disk.proofs.zeros.grow_to.Goals as goal
 
 pub loop-zeros-preserved : goal.loop-zeros-preserved
