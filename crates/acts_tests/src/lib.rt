@@ -12,6 +12,8 @@ mod gated_journal_tests;
 #[cfg(test)]
 mod given;
 #[cfg(test)]
+mod group_book_tests;
+#[cfg(test)]
 mod group_name_tests;
 #[cfg(test)]
 mod matrix_expand_tests;

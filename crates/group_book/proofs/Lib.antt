@@ -1,0 +1,4 @@
+pub mod Arriving
+pub mod Filtered
+pub mod Keeping
+pub mod Lines

@@ -1,0 +1,169 @@
+-- The lines of a book: the same group, and what a change of phase leaves.
+use Rattle.std.specs.Str.{bytes_eq}
+use Rattle.std.specs.Prelude.{◌≢◌}
+use Rattle.std.proofs.Common.{◌≡◌, ℕ, List, Bool, true, false, ◌&&◌, ◌||◌, not, cond, refl, ap, ap₂, sym, ◌∙◌}
+use Rattle.std.proofs.lemmas.Slice.Eq.{bytes_eq-Decides}
+use Rattle.group_name.specs.Group.{Group}
+use Rattle.group_book.specs.Changes.{start_of, stays, told_to_stop}
+use Rattle.group_book.specs.Holders.{HoldingState, same_group, is_in, is_of, is_pending_in, has_started_in, can_be_stopped_in, is_pending}
+use Rattle.group_book.specs.declared.holder.Holder.{Holder}
+use Rattle.group_book.specs.declared.holder.HolderPhase.{HolderPhase}
+use Rattle.group_book.specs.declared.holder.HolderPhase.TheVariants.{Pending, Running, Stopping}
+
+-- ---- the same group
+
+pub and_true : (a b : Bool) → (a && b) ≡ true → (a ≡ true) × (b ≡ true)
+and_true true b is = (refl, is)
+and_true false b is = absurd (cc)
+
+group_by : (g h : Group) → g.repository ≡ h.repository → g.folded ≡ h.folded → g ≡ h
+group_by g h repository folded =
+    let of : List ℕ → List ℕ → Group = λ r f. record { repository = r; folded = f } in ap₂ of repository folded
+
+pub one_group : (g h : Group) → same_group g h ≡ true → g ≡ h
+one_group g h is =
+    let both = and_true (bytes_eq g.repository h.repository) (bytes_eq g.folded h.folded) is in
+    group_by g h ((bytes_eq-Decides g.repository h.repository).0 both.0) ((bytes_eq-Decides g.folded h.folded).0 both.1)
+
+pub own_group : (g : Group) → same_group g g ≡ true
+own_group g =
+    ap₂ (λ a b. a && b) ((bytes_eq-Decides g.repository g.repository).1 refl) ((bytes_eq-Decides g.folded g.folded).1 refl)
+
+-- ---- told to stop
+
+pending_told_by : (g : Group) (b : Bool) (group : Group) (holder : Holder) (phase : HolderPhase)
+    → is_pending_in g (told_to_stop (λ _. b) (record { group = group; holder = holder; phase = phase })) ≡ is_pending_in g (record { group = group; holder = holder; phase = phase })
+pending_told_by g true group holder Pending = refl
+pending_told_by g true group holder Running = refl
+pending_told_by g true group holder Stopping = refl
+pending_told_by g false group holder Pending = refl
+pending_told_by g false group holder Running = refl
+pending_told_by g false group holder Stopping = refl
+
+started_told_by : (g : Group) (b : Bool) (group : Group) (holder : Holder) (phase : HolderPhase)
+    → has_started_in g (told_to_stop (λ _. b) (record { group = group; holder = holder; phase = phase })) ≡ has_started_in g (record { group = group; holder = holder; phase = phase })
+started_told_by g true group holder Pending = refl
+started_told_by g true group holder Running = refl
+started_told_by g true group holder Stopping = refl
+started_told_by g false group holder Pending = refl
+started_told_by g false group holder Running = refl
+started_told_by g false group holder Stopping = refl
+
+holder_told_by : (b : Bool) (group : Group) (holder : Holder) (phase : HolderPhase)
+    → (told_to_stop (λ _. b) (record { group = group; holder = holder; phase = phase })).holder ≡ holder
+holder_told_by true group holder Pending = refl
+holder_told_by true group holder Running = refl
+holder_told_by true group holder Stopping = refl
+holder_told_by false group holder Pending = refl
+holder_told_by false group holder Running = refl
+holder_told_by false group holder Stopping = refl
+
+pub pending_told : (g : Group) (test : HoldingState → Bool) (h : HoldingState) → is_pending_in g (told_to_stop test h) ≡ is_pending_in g h
+pending_told g test h = pending_told_by g (test h) h.group h.holder h.phase
+
+pub started_told : (g : Group) (test : HoldingState → Bool) (h : HoldingState) → has_started_in g (told_to_stop test h) ≡ has_started_in g h
+started_told g test h = started_told_by g (test h) h.group h.holder h.phase
+
+pub holder_told : (test : HoldingState → Bool) (h : HoldingState) → (told_to_stop test h).holder ≡ h.holder
+holder_told test h = holder_told_by (test h) h.group h.holder h.phase
+
+-- ---- started
+
+abbrev start_by : Bool → HoldingState → HoldingState
+start_by b h = cond (b && is_pending h.phase) (record h { phase = Running }) h
+
+pending_start_by : (g : Group) (b : Bool) (group : Group) (holder : Holder) (phase : HolderPhase)
+    → is_pending_in g (start_by b (record { group = group; holder = holder; phase = phase })) ≡ true → is_pending_in g (record { group = group; holder = holder; phase = phase }) ≡ true
+pending_start_by g true group holder Pending is = absurd (let none : false ≡ true = (and_true (same_group g group) false is).1 in cc)
+pending_start_by g false group holder Pending is = is
+pending_start_by g true group holder Running is = is
+pending_start_by g false group holder Running is = is
+pending_start_by g true group holder Stopping is = is
+pending_start_by g false group holder Stopping is = is
+
+by_start : (s : Bool) → (s && true) ≡ true → ((s && false) || (true && (s && true))) ≡ true
+by_start true is = refl
+by_start false is = absurd (cc)
+
+started_start_by : (g : Group) (b : Bool) (group : Group) (holder : Holder) (phase : HolderPhase)
+    → has_started_in g (start_by b (record { group = group; holder = holder; phase = phase })) ≡ true
+    → (has_started_in g (record { group = group; holder = holder; phase = phase }) || (b && is_pending_in g (record { group = group; holder = holder; phase = phase }))) ≡ true
+started_start_by g true group holder Pending is = by_start (same_group g group) is
+started_start_by g false group holder Pending is = absurd (let none : false ≡ true = (and_true (same_group g group) false is).1 in cc)
+started_start_by g true group holder Running is = ap (λ t. t || (true && (same_group g group && false))) is
+started_start_by g false group holder Running is = ap (λ t. t || (false && (same_group g group && false))) is
+started_start_by g true group holder Stopping is = ap (λ t. t || (true && (same_group g group && false))) is
+started_start_by g false group holder Stopping is = ap (λ t. t || (false && (same_group g group && false))) is
+
+pub pending_start : (g : Group) (holder : Holder) (h : HoldingState) → is_pending_in g (start_of holder h) ≡ true → is_pending_in g h ≡ true
+pending_start g holder h is = pending_start_by g (is_of holder h) h.group h.holder h.phase is
+
+-- who has started has started before, or was pending and is the one that starts
+pub started_start : (g : Group) (holder : Holder) (h : HoldingState) → has_started_in g (start_of holder h) ≡ true
+    → (has_started_in g h || (is_of holder h && is_pending_in g h)) ≡ true
+started_start g holder h is = started_start_by g (is_of holder h) h.group h.holder h.phase is
+
+-- ---- who is not pending stays at an arrival
+
+and_false : (s : Bool) → not (s && false) ≡ true
+and_false true = refl
+and_false false = refl
+
+started_stays_by : (other g group : Group) (holder : Holder) (phase : HolderPhase)
+    → has_started_in other (record { group = group; holder = holder; phase = phase }) ≡ true → stays g (record { group = group; holder = holder; phase = phase }) ≡ true
+started_stays_by other g group holder Pending is = absurd (let none : false ≡ true = (and_true (same_group other group) false is).1 in cc)
+started_stays_by other g group holder Running is = and_false (same_group g group)
+started_stays_by other g group holder Stopping is = and_false (same_group g group)
+
+pub started_stays : (other g : Group) (h : HoldingState) → has_started_in other h ≡ true → stays g h ≡ true
+started_stays other g h is = started_stays_by other g h.group h.holder h.phase is
+
+-- ---- another group
+
+other_by : (other g k : Group) (b : Bool) → other ≢ g → same_group other k ≡ true → same_group g k ≡ b → same_group g k ≡ false
+other_by other g k true apart is own = absurd (apart (one_group other k is ∙ sym (one_group g k own)))
+other_by other g k false apart is own = own
+
+-- who is in another group is not in this one
+pub apart_in : (other g : Group) (h : HoldingState) → other ≢ g → is_in other h ≡ true → is_in g h ≡ false
+apart_in other g h apart is = other_by other g h.group (is_in g h) apart is refl
+
+group_told_by : (g : Group) (b : Bool) (group : Group) (holder : Holder) (phase : HolderPhase)
+    → is_in g (told_to_stop (λ _. b) (record { group = group; holder = holder; phase = phase })) ≡ is_in g (record { group = group; holder = holder; phase = phase })
+group_told_by g true group holder Pending = refl
+group_told_by g true group holder Running = refl
+group_told_by g true group holder Stopping = refl
+group_told_by g false group holder Pending = refl
+group_told_by g false group holder Running = refl
+group_told_by g false group holder Stopping = refl
+
+pub group_told : (g : Group) (test : HoldingState → Bool) (h : HoldingState) → is_in g (told_to_stop test h) ≡ is_in g h
+group_told g test h = group_told_by g (test h) h.group h.holder h.phase
+
+-- who fails the test is told nothing
+pub told_nothing : (test : HoldingState → Bool) (h : HoldingState) → test h ≡ false → told_to_stop test h ≡ h
+told_nothing test h is = ap (λ b. told_to_stop (λ _. b) h) is
+
+never_by : (s : Bool) → (s && false) ≡ false
+never_by true = refl
+never_by false = refl
+
+told_once_by : (g : Group) (b : Bool) (group : Group) (holder : Holder) (phase : HolderPhase) → same_group g group ≡ b
+    → can_be_stopped_in g (told_to_stop (λ _. b) (record { group = group; holder = holder; phase = phase })) ≡ false
+told_once_by g true group holder Pending is = never_by (same_group g group)
+told_once_by g false group holder Pending is = never_by (same_group g group)
+told_once_by g true group holder Running is = never_by (same_group g group)
+told_once_by g false group holder Running is = ap (λ s. s && true) is
+told_once_by g true group holder Stopping is = never_by (same_group g group)
+told_once_by g false group holder Stopping is = never_by (same_group g group)
+
+-- who is told to stop cannot be stopped again
+pub told_once : (g : Group) (h : HoldingState) → can_be_stopped_in g (told_to_stop (λ k. true && is_in g k) h) ≡ false
+told_once g h = told_once_by g (is_in g h) h.group h.holder h.phase refl
+
+-- ---- a holder that keeps nobody back
+
+pub free_group : (own taken : Bool) → own ≡ true → (not own || not taken) ≡ true → taken ≡ false
+free_group true true is ok = absurd (cc)
+free_group true false is ok = refl
+free_group false taken is ok = absurd (cc)
