@@ -1,7 +1,5 @@
--- What arrives, starts, is told to stop and leaves. GitHub Docs, "Control the concurrency of workflows and jobs":
--- "any existing pending job or workflow in the same concurrency group .. will be canceled and the new queued job or
--- workflow will take its place"; "to also cancel any currently running job or workflow in the same concurrency group,
--- specify cancel-in-progress: true".
+-- What arrives, starts, is told to stop and leaves. GitHub Docs, "Control the concurrency of workflows and jobs": a newcomer
+-- takes the place of the pending holder, which is cancelled, and with `cancel-in-progress` the running one is cancelled too.
 use Rattle.std.specs.Prelude.{List, [], ◌∷◌, ◌++◌, map, filter, Bool, ◌&&◌, ◌||◌, not, if◌then◌else◌}
 use Rattle.std.specs.List.{list_all}
 use Rattle.group_name.specs.Group.{Group}

@@ -1,5 +1,5 @@
 -- The holders of concurrency groups, and who of them is pending and who is running. GitHub Docs, "Control the
--- concurrency of workflows and jobs": "there can be at most one running and one pending job in a concurrency group at any time".
+-- concurrency of workflows and jobs": a group has one running and one pending holder at most.
 use Rattle.std.specs.Prelude.{ℕ, ◌≤◌, List, length, map, filter, Bool, true, false, ◌&&◌, nat_eq}
 use Rattle.std.specs.List.{list_any}
 use Rattle.std.specs.Str.{bytes_eq}
