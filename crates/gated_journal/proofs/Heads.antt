@@ -1,9 +1,9 @@
 -- What the head of an area is read as is what stands there.
-use Rattle.std.proofs.Common.{◌≡◌, ℕ, suc, ◌<◌, ◌≤◌, ◌^◌, List, [], ◌∷◌, ◌++◌, length, take, drop, refl, sym, ◌∙◌, ap, subst}
+use Rattle.std.proofs.Common.{◌≡◌, ℕ, suc, ◌+◌, ◌<◌, ◌≤◌, ◌^◌, List, [], ◌∷◌, ◌++◌, length, take, drop, refl, sym, ◌∙◌, ap, subst}
 use Rattle.std.proofs.Common.{arith, length-append, take-append-drop}
 use Rattle.std.specs.Prelude.{slice_index_or}
 use Rattle.std.specs.Int.{from_be_bytes, to_be_bytes, w64}
-use Rattle.std.proofs.lemmas.List.{length-take, take_at, drop_at}
+use Rattle.std.proofs.lemmas.List.{length-take, length-drop, take_at, drop_at}
 use Rattle.std.proofs.lemmas.Nat.{be_bytes_8, from_be_bytes-to_be_bytes_8}
 use Rattle.gated_journal.specs.Layout.{Head}
 use Rattle.gated_journal.specs.Scanned.{HasNumber, HasText, HasHead, HasFront}
@@ -63,6 +63,10 @@ pub no_text_long : (bytes text rest : List ℕ) (n : ℕ) → n ≡ from_be_byte
 no_text_long bytes text rest n is long has =
     let read = number_read bytes (length text) (text ++ rest) (text_number bytes text rest has) in
     omega (arith, is, long, read.0, ap (λ (l : List ℕ). length l) read.1, length-append text rest)
+
+pub cut_long : (bytes : List ℕ) (n : ℕ) → n ≡ from_be_bytes w64 (take 8 bytes) → length (drop 8 bytes) < n → 8 ≤ length bytes
+    → length bytes < 8 + from_be_bytes w64 (take 8 bytes)
+cut_long bytes n is few long = omega (arith, is, few, long, length-drop 8 bytes)
 
 -- a version, a number and a text are a head
 pub has_head : (version : ℕ) (behind : List ℕ) (n : ℕ) (past text rest : List ℕ) → HasNumber behind n past → HasText past text rest

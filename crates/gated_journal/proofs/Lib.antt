@@ -2,6 +2,7 @@ mod Areas
 mod Choosing
 mod ClosedGate
 mod Composed
+mod CutOff
 mod Filled
 mod Frames
 mod Gates

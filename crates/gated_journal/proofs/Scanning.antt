@@ -43,7 +43,7 @@ frames bytes n behind body rest are long fits is behind_is within body_is rest_i
     }
 
 -- the number at the front of a frame is the body's length
-framed_number : (bytes body rest : List ℕ) → Frames bytes body rest → from_be_bytes w32 (take 4 bytes) ≡ length body
+pub framed_number : (bytes body rest : List ℕ) → Frames bytes body rest → from_be_bytes w32 (take 4 bytes) ≡ length body
 framed_number bytes body rest f =
     let parted : bytes ≡ to_be_bytes w32 (length body) ++ (body ++ rest) = f.split
     ∙ append_assoc (to_be_bytes w32 (length body)) body rest in
@@ -51,7 +51,7 @@ framed_number bytes body rest f =
     ∙ take_at (to_be_bytes w32 (length body)) (body ++ rest) 4 refl)
     ∙ from_be_bytes-to_be_bytes_4 (length body) f.short
 
-length-frame : (bytes body rest : List ℕ) → Frames bytes body rest → length bytes ≡ 4 + length body + length rest
+pub length-frame : (bytes body rest : List ℕ) → Frames bytes body rest → length bytes ≡ 4 + length body + length rest
 length-frame bytes body rest f =
     let number : length (to_be_bytes w32 (length body)) ≡ 4 = refl in
     omega (
@@ -70,3 +70,7 @@ pub no_frame_long : (bytes body rest : List ℕ) (n : ℕ) → n ≡ from_be_byt
     → Frames bytes body rest → ⊥
 no_frame_long bytes body rest n is few f = omega
     (arith, few, is, framed_number bytes body rest f, length-frame bytes body rest f, length-drop 4 bytes)
+
+pub cut_long : (bytes : List ℕ) (n : ℕ) → n ≡ from_be_bytes w32 (take 4 bytes) → length (drop 4 bytes) < n → 4 ≤ length bytes
+    → length bytes < 4 + from_be_bytes w32 (take 4 bytes)
+cut_long bytes n is few long = omega (arith, is, few, long, length-drop 4 bytes)

@@ -1,6 +1,7 @@
-ghost use Rattle.std.specs.Prelude.{◌≡◌, ◌<◌, ◌≤◌, ℕ, List, length, take, drop, IfSome, IsNone};
+ghost use Rattle.std.specs.Prelude.{◌≡◌, ◌+◌, ◌<◌, ◌≤◌, ℕ, List, length, take, drop, IfSome, IsNone};
 ghost use Rattle.std.specs.Int.{from_be_bytes, w64};
 ghost use Rattle.gated_journal.specs.Layout.{Head};
+ghost use Rattle.gated_journal.specs.CutOff.{EndsInHead};
 ghost use Rattle.gated_journal.specs.Scanned.{HasText, HasHead};
 ghost use Rattle.gated_journal.specs.ScannedHead.{head_of};
 
@@ -30,10 +31,11 @@ fn long_number_at(bytes: &[u8]) -> Option<(u64, &[u8])>
 }
 
 /// The text at the front behind its length, and what stands behind it.
-#[tactic(auto, using(crate::proofs::Heads::no_text, crate::proofs::Heads::no_text_long))]
+#[tactic(auto, using(crate::proofs::Heads::no_text, crate::proofs::Heads::no_text_long, crate::proofs::Heads::cut_long))]
 fn text_at(bytes: &[u8]) -> Option<(&[u8], &[u8])>
     ensures some { IfSome result (λ found. HasText bytes.now found.0.now found.1.now) }
     ensures none { IsNone result → (text rest : List ℕ) → HasText bytes.now text rest → ⊥ }
+    ensures cut { IsNone result → length bytes.now < 8 + from_be_bytes w64 (take 8 bytes.now) }
 {
     let (count, behind) = long_number_at(bytes)?;
     let count = count as usize;
@@ -47,6 +49,7 @@ fn text_at(bytes: &[u8]) -> Option<(&[u8], &[u8])>
 pub(crate) fn head_at(bytes: &[u8]) -> Option<(AreaHead<'_>, &[u8])>
     ensures some { IfSome result (λ found. HasHead bytes.now (head_of found.0) found.1.now) }
     ensures none { IsNone result → (head : Head) (rest : List ℕ) → HasHead bytes.now head rest → ⊥ }
+    ensures cut { IsNone result → EndsInHead bytes.now }
 {
     let [version, behind @ ..] = bytes else {
         return None;

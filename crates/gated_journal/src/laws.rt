@@ -3,7 +3,8 @@
 ghost use Rattle.std.specs.Prelude.{◌≡◌, ◌⊎◌, ◌+◌, ◌<◌, ◌≤◌, ◌^◌, ℕ, List, [], ◌∷◌, ◌++◌, length, take};
 ghost use Rattle.act_disk.specs.Images.{Torn};
 ghost use Rattle.gated_journal.specs.Appends.{record_of, Appends};
-ghost use Rattle.gated_journal.specs.Layout.{Head, IsClosed, Reads, WouldRead, opened};
+ghost use Rattle.gated_journal.specs.CutOff.{SpellsNothing};
+ghost use Rattle.gated_journal.specs.Layout.{Head, IsClosed, Reads, ReadsNothing, WouldRead, opened};
 ghost use Rattle.gated_journal.specs.TwoAreas.{start_of, other, area_on, Stands};
 ghost use Rattle.gated_journal.specs.declared.gate.Gate.{Gate};
 ghost use Rattle.gated_journal.specs.declared.gate.Gate.TheVariants.{Open, Closed};
@@ -13,6 +14,12 @@ ghost use Rattle.gated_journal.specs.declared.side.Side.{Side};
 pub fn an_area_has_one_reading()
     ensures { (area : List ℕ) (head other : Head) (bodies others : List (List ℕ))
         → Reads area head bodies → Reads area other others → (head ≡ other) × (bodies ≡ others) }
+{}
+
+/// An area reads as nothing where it has no head behind an open gate, or ends in its records. A scan that gives
+/// nothing found one of the two.
+pub fn an_area_that_is_cut_off_reads_as_nothing()
+    ensures { (area : List ℕ) → SpellsNothing area → ReadsNothing area }
 {}
 
 /// What an area reads as does not depend on the bytes behind its first closed gate.

@@ -1,6 +1,7 @@
 ghost use Rattle.std.specs.Prelude.{◌≡◌, ◌<◌, ◌≤◌, ℕ, List, length, take, drop, IfSome, IsNone};
 ghost use Rattle.std.specs.Int.{from_be_bytes, w32};
 ghost use Rattle.gated_journal.specs.Scanned.{Frames, OpensWith, Parts};
+ghost use Rattle.gated_journal.specs.CutOff.{EndsInBody, HasNoRecord, EndsInRecords};
 ghost use Rattle.gated_journal.specs.Layout.{IsClosed};
 
 use crate::append::OPEN;
@@ -21,10 +22,11 @@ fn number_at(bytes: &[u8]) -> Option<(u32, &[u8])>
 }
 
 /// The body at the front behind its length, and what stands behind it.
-#[tactic(auto, using(crate::proofs::Scanning::no_frame_short, crate::proofs::Scanning::no_frame_long))]
+#[tactic(auto, using(crate::proofs::Scanning::no_frame_short, crate::proofs::Scanning::no_frame_long, crate::proofs::Scanning::cut_long))]
 fn frame_at(bytes: &[u8]) -> Option<(&[u8], &[u8])>
     ensures some { IfSome result (λ found. Frames bytes.now found.0.now found.1.now) }
     ensures none { IsNone result → (body rest : List ℕ) → Frames bytes.now body rest → ⊥ }
+    ensures cut { IsNone result → EndsInBody bytes.now }
 {
     let (count, rest) = number_at(bytes)?;
     let count = count as usize;
@@ -38,6 +40,7 @@ fn frame_at(bytes: &[u8]) -> Option<(&[u8], &[u8])>
 pub fn record_at(bytes: &[u8]) -> Option<(&[u8], &[u8])>
     ensures some { IfSome result (λ found. OpensWith bytes.now found.0.now found.1.now) }
     ensures none { IsNone result → (body rest : List ℕ) → OpensWith bytes.now body rest → ⊥ }
+    ensures cut { IsNone result → HasNoRecord bytes.now }
 {
     match bytes {
         [OPEN, behind @ ..] => frame_at(behind),
@@ -50,6 +53,7 @@ pub fn record_at(bytes: &[u8]) -> Option<(&[u8], &[u8])>
 pub(crate) fn behind_records(bytes: &[u8]) -> Option<&[u8]>
     ensures some { IfSome result (λ rest. IsClosed rest.now × (bodies : List (List ℕ)) × Parts bytes.now bodies rest.now) }
     ensures none { IsNone result → (bodies : List (List ℕ)) (rest : List ℕ) → Parts bytes.now bodies rest → IsClosed rest → ⊥ }
+    ensures cut { IsNone result → EndsInRecords bytes.now }
 {
     let mut rest = bytes;
     while let Some((_body, behind)) = record_at(rest) {

@@ -1,5 +1,6 @@
 ghost use Rattle.std.specs.Prelude.{◌≡◌, ℕ, List, IfSome, IsNone};
 ghost use Rattle.gated_journal.specs.Layout.{Head, ReadsNothing};
+ghost use Rattle.gated_journal.specs.CutOff.{HasNoHead, SpellsNothing};
 ghost use Rattle.gated_journal.specs.Scanned.{HasFront, IsScanned};
 ghost use Rattle.gated_journal.specs.ScannedHead.{head_of};
 
@@ -24,6 +25,7 @@ pub struct ScannedArea<'a> {
 pub fn scan(area: &[u8]) -> Option<ScannedArea<'_>>
     ensures some { IfSome result (λ found. IsScanned area.now (head_of found.head) found.records.now found.gate) }
     ensures none { IsNone result → ReadsNothing area.now }
+    ensures cut { IsNone result → SpellsNothing area.now }
 {
     let (head, behind) = front_of(area)?;
     let end = behind_records(behind)?;
@@ -38,6 +40,7 @@ pub fn scan(area: &[u8]) -> Option<ScannedArea<'_>>
 fn front_of(area: &[u8]) -> Option<(AreaHead<'_>, &[u8])>
     ensures some { IfSome result (λ found. HasFront area.now (head_of found.0) found.1.now) }
     ensures none { IsNone result → (head : Head) (rest : List ℕ) → HasFront area.now head rest → ⊥ }
+    ensures cut { IsNone result → HasNoHead area.now }
 {
     match area {
         [OPEN, behind @ ..] => head_at(behind),

@@ -23,3 +23,19 @@ returns-in_default-first-clause-none c = λ _ bodies end parts ends.
       | shut w ↦ shut_first rest w.in-Some-first.gate.now closed w.in-Some-first.ensures.value w.if-gate.false
       | none_left w ↦ none_first rest closed (ap option_copied (sym w.in_default-first.is) ∙ c.first.ensures.value)
     ]
+
+pub returns-in_default-first-clause-cut : goal.returns-in_default-first-clause-cut
+returns-in_default-first-clause-cut c = λ _.
+    let rest = c.loop-body.rest.now in
+    let so_far = c.loop-body.invariant in
+    record {
+      bodies = so_far.0;
+      rest = rest;
+      parts = so_far.1;
+      no_record = c.record_at.ensures.cut (search rules);
+      no_gate = λ closed.
+          elim c.in_default-first.branch [
+            | shut w ↦ shut_first rest w.in-Some-first.gate.now closed w.in-Some-first.ensures.value w.if-gate.false
+            | none_left w ↦ none_first rest closed (ap option_copied (sym w.in_default-first.is) ∙ c.first.ensures.value)
+          ];
+    }

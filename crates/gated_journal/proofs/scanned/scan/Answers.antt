@@ -1,5 +1,6 @@
-use Rattle.std.proofs.Common.{rules}
+use Rattle.std.proofs.Common.{rules, inl, inr}
 use Rattle.gated_journal.specs.ScannedHead.{head_of}
+use Rattle.gated_journal.proofs.CutOff.{cut_off}
 use Rattle.gated_journal.proofs.Scans.{nothing_without_front, nothing_without_end}
 use Rattle.gated_journal.proofs.scanned.scan.Goals as goal
 
@@ -10,3 +11,11 @@ pub returns-in_err-end-clause-none : goal.returns-in_err-end-clause-none
 returns-in_err-end-clause-none c = λ _.
     nothing_without_end c.args.area.now (head_of c.in_ok-head.head) c.in_ok-head.behind.now c.in_ok-head.ensures.some
     (c.in_err-end.ensures.none (search rules))
+
+pub returns-in_err-head-clause-cut : goal.returns-in_err-head-clause-cut
+returns-in_err-head-clause-cut c = λ _. inl (c.in_err-head.ensures.cut (search rules))
+
+pub returns-in_err-end-clause-cut : goal.returns-in_err-end-clause-cut
+returns-in_err-end-clause-cut c = λ _.
+    inr (cut_off c.args.area.now (head_of c.in_ok-head.head) c.in_ok-head.behind.now c.in_ok-head.ensures.some
+    (c.in_err-end.ensures.cut (search rules)))
