@@ -1,3 +1,4 @@
+pub mod Checks
 pub mod CutLines
 pub mod Plays
 mod Rows

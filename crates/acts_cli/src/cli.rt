@@ -1,3 +1,4 @@
+use crate::check::run_check;
 use crate::explain::{Explanation, explanation_of, numbers};
 use crate::play::run_script;
 use clap::error::ErrorKind;
@@ -16,6 +17,7 @@ const VERSION: &str = "0.1.0";
 #[derive(Drop)]
 enum Request {
     Play,
+    Check,
     Explain(Explanation),
 }
 
@@ -23,6 +25,9 @@ enum Request {
 fn command<'a>(alloc: Global, numbers: &'a [&'a str]) -> Result<Command<'a>, AllocError> {
     let play = Command::new(alloc, "play").about(
         "Plays the script on standard input, and prints one answer for each line",
+    );
+    let check = Command::new(alloc, "check").about(
+        "Reads the JSON of a workflow on standard input, and prints a line JOB LEG COMBO for each leg",
     );
     let number = Arg::new(alloc, "NUMBER")
         .required(true)
@@ -35,6 +40,7 @@ fn command<'a>(alloc: Global, numbers: &'a [&'a str]) -> Result<Command<'a>, All
         .version(VERSION)
         .subcommand_required(true)
         .subcommand(play)?
+        .subcommand(check)?
         .subcommand(explain)
 }
 
@@ -42,6 +48,7 @@ fn command<'a>(alloc: Global, numbers: &'a [&'a str]) -> Result<Command<'a>, All
 fn request_of(matches: &ArgMatches<'_>) -> Option<Request> {
     match matches.subcommand() {
         Some(("play", _)) => Some(Request::Play),
+        Some(("check", _)) => Some(Request::Check),
         Some(("explain", matches)) => matches
             .get_str("NUMBER")
             .and_then(explanation_of)
@@ -77,6 +84,14 @@ fn play<R: Input + Print + AllocGlobal>(rt: &R) -> Result<(), Refusal> {
     }
 }
 
+/// Checks the workflow on standard input, and prints its legs to standard output.
+fn check<R: Input + Print + AllocGlobal>(rt: &R) -> Result<(), Refusal> {
+    match BufWriter::new(rt.alloc(), io::writer(rt)) {
+        Ok(mut writer) => run_check(rt.alloc(), &mut rt.reader(), &mut writer),
+        Err(_) => Err(Refusal::Numbered(Code::NoMemory)),
+    }
+}
+
 /// Prints the text of `clap`, and gives its status: 0 for a help text, and 2 for a fault.
 fn tell<R: Print + Eprint>(rt: &R, error: &Error) -> Result<u8, Refusal> {
     if error.kind() == ErrorKind::OutOfMemory {
@@ -99,6 +114,7 @@ fn obey<R: Input + Print + Eprint + Env + AllocGlobal>(rt: &R) -> Result<u8, Ref
     let words = words(rt)?;
     match parse(rt.alloc(), words.as_slice()) {
         Ok(Request::Play) => play(rt)?,
+        Ok(Request::Check) => check(rt)?,
         Ok(Request::Explain(explanation)) => print_line(rt, explanation)?,
         Err(error) => return tell(rt, &error),
     }

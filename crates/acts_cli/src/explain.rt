@@ -60,14 +60,14 @@ const EXPLANATIONS: [Explanation; 28] = [
         meaning: "a workflow has a member, or a kind of job, that is left out",
         input: "the workflow {\"jobs\":{\"a\":{\"uses\":\"./x.yml\"}}}",
         remedy: "write the job's own steps in place of \"uses\", and labels in place of a runner group; \
-            docs/FORMATS.md says which other members are not read yet",
+            docs/FORMATS.md says which other members are not read yet; a \"strategy\" is checked by acts \
+            check, and not run yet",
     },
     Explanation {
         number: "17",
         meaning: "a text holds an expression that is not read: references joined by || are, functions \
             and comparisons are not",
-        input: "the workflow {\"jobs\":{\"a\":{\"runs-on\":\"${{ secrets.x }}\"}}} \
-            (while expressions are not read yet, it is refused 16)",
+        input: "the workflow {\"jobs\":{\"a\":{\"runs-on\":\"${{ secrets.x }}\"}}}",
         remedy: "use the contexts github, inputs, vars, needs, strategy and matrix, texts in single \
             quotes, and 32 references at most, or let the sender work out the value",
     },
@@ -84,29 +84,25 @@ const EXPLANATIONS: [Explanation; 28] = [
         meaning: "a matrix holds what it can't: a variable that is no list, an include or exclude that \
             is no list of objects, or a value that is a list, an object, or a number other than a signed \
             64-bit whole number",
-        input: "the workflow {\"jobs\":{\"a\":{\"runs-on\":\"x\",\"strategy\":{\"matrix\":{\"n\":[1.5]}}}}} \
-            (while \"strategy\" is not read yet, it is refused 16)",
+        input: "the workflow {\"jobs\":{\"a\":{\"runs-on\":\"x\",\"strategy\":{\"matrix\":{\"n\":[1.5]}}}}}",
         remedy: "write such a value as a text, as \"1.5\"",
     },
     Explanation {
         number: "20",
         meaning: "a variable of a matrix has an empty list, or an object of its include or exclude is empty",
-        input: "the workflow {\"jobs\":{\"a\":{\"runs-on\":\"x\",\"strategy\":{\"matrix\":{\"n\":[]}}}}} \
-            (while \"strategy\" is not read yet, it is refused 16)",
+        input: "the workflow {\"jobs\":{\"a\":{\"runs-on\":\"x\",\"strategy\":{\"matrix\":{\"n\":[]}}}}}",
         remedy: "give the variable a value, or leave it or the object out",
     },
     Explanation {
         number: "21",
         meaning: "the lengths of the lists of a matrix multiply to over 4,096",
-        input: "a job whose matrix has 13 variables of two values each \
-            (while \"strategy\" is not read yet, it is refused 16)",
+        input: "a job whose matrix has 13 variables of two values each",
         remedy: "shorten the lists, or part the job in two; exclude does not help, since it comes later",
     },
     Explanation {
         number: "22",
         meaning: "a matrix gives no leg, or more than 256",
-        input: "the workflow {\"jobs\":{\"a\":{\"runs-on\":\"x\",\"strategy\":{\"matrix\":{}}}}} \
-            (while \"strategy\" is not read yet, it is refused 16)",
+        input: "the workflow {\"jobs\":{\"a\":{\"runs-on\":\"x\",\"strategy\":{\"matrix\":{}}}}}",
         remedy: "leave an empty matrix out; else shorten its lists, exclude combinations, or part the \
             job in two",
     },
@@ -127,8 +123,7 @@ const EXPLANATIONS: [Explanation; 28] = [
         number: "25",
         meaning: "a member of \"strategy\" is none of \"matrix\", \"fail-fast\" and \"max-parallel\", or \
             of the wrong kind or range",
-        input: "the workflow {\"jobs\":{\"a\":{\"runs-on\":\"x\",\"strategy\":{\"max-parallel\":0}}}} \
-            (while \"strategy\" is not read yet, it is refused 16)",
+        input: "the workflow {\"jobs\":{\"a\":{\"runs-on\":\"x\",\"strategy\":{\"max-parallel\":0}}}}",
         remedy: "give \"fail-fast\" true or false, \"max-parallel\" a whole number from 1 to 256, and \
             \"matrix\" an object; expressions are not read there",
     },
@@ -207,7 +202,7 @@ const EXPLANATIONS: [Explanation; 28] = [
     },
     Explanation {
         number: "76",
-        meaning: "a script is longer than 1,048,576 bytes",
+        meaning: "a script, or what acts check reads, is longer than 1,048,576 bytes",
         input: "a script of 1,048,577 bytes",
         remedy: "part the script in two; a workflow is 65,536 bytes at most (24)",
     },

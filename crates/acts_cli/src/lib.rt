@@ -1,8 +1,10 @@
 //! What the program `acts` does, by its command line. `acts play` reads a script and prints one answer
-//! for each line that is not empty. `acts explain` says what a refusal means.
+//! for each line that is not empty. `acts check` reads a workflow and prints a line for each leg.
+//! `acts explain` says what a refusal means.
 #![tactic(auto)]
 
 mod answer;
+mod check;
 mod cli;
 mod explain;
 mod fields;
@@ -12,5 +14,6 @@ mod lines;
 mod output;
 mod play;
 
+pub use check::run_check;
 pub use cli::run;
 pub use play::{MOST_BYTES, run_script};

@@ -1,5 +1,6 @@
 //! The rows of the product, read and written through `run_script`.
 
+mod checks;
 mod command_line;
 
 use crate::given::spelled;
@@ -50,13 +51,30 @@ const SECOND_ANSWERS: &str = concat!(
     "run 1 1 completed failure b:failure(failure)\n",
 );
 
+/// A label by an expression, and a failure that is passed over.
+const THIRD: &str = concat!(
+    "admit d1 push {\"repo\":\"o/r\",\"path\":\"ci.json\",\"workflow\":{\"jobs\":{\"j\":",
+    "{\"runs-on\":\"${{ vars.l || 'linux' }}\",\"continue-on-error\":true}}}}\n",
+    "claim r1 1 linux\n",
+    "done r1 2 1 failure\n",
+    "look 1\n",
+);
+
+const THIRD_ANSWERS: &str = concat!(
+    "created 1\n",
+    "lease 1 1 j 0 {}\n",
+    "ok\n",
+    "run 1 1 completed success j:success(failure)\n",
+);
+
 const BODY: &str =
     "{\"repo\":\"o/r\",\"path\":\"ci.json\",\"workflow\":{\"jobs\":{\"build\":{\"runs-on\":\"linux\"}}}}";
 
 /// Scripts, and what each prints.
-const ROWS: [(&str, &str); 11] = [
+const ROWS: [(&str, &str); 12] = [
     (FIRST, FIRST_ANSWERS),
     (SECOND, SECOND_ANSWERS),
+    (THIRD, THIRD_ANSWERS),
     ("", ""),
     ("\n\r\n\n", ""),
     // One carriage return before a line feed is dropped, and no other.

@@ -7,6 +7,7 @@ use std::alloc::Global;
 use wf_value::{Code, Outcome, Refusal};
 
 /// A command in words: the delivery and the body of a `push`, or what a runner sends, or a run.
+#[derive(Drop)]
 pub enum Words<'a> {
     Admit(&'a str, &'a str),
     Claim(&'a str, &'a str, &'a str),

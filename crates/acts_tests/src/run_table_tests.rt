@@ -1,5 +1,6 @@
 //! Steps of the table, and the views of its runs.
 
+mod contexts;
 mod steps;
 mod tables;
 mod views;
@@ -25,7 +26,7 @@ pub const THREE: &str = concat!(
 );
 
 /// A command, and the printed reply.
-pub type Row = (Words<'static>, &'static str);
+pub type Row<'a> = (Words<'a>, &'a str);
 
 /// Carries out a command, and prints the reply.
 fn reply_text(alloc: Global, table: &mut Table, words: &Words<'_>) -> Result<Chars, Refusal> {
@@ -34,7 +35,7 @@ fn reply_text(alloc: Global, table: &mut Table, words: &Words<'_>) -> Result<Cha
 }
 
 /// Carries out commands in turn, and compares each printed reply.
-pub fn play(rt: &impl Abort, alloc: Global, table: &mut Table, rows: &[Row]) {
+pub fn play(rt: &impl Abort, alloc: Global, table: &mut Table, rows: &[Row<'_>]) {
     for (words, want) in rows {
         let text = reply_text(alloc, table, words).expect(rt, "a reply");
         assert!(rt; text.as_str() == *want, "{want}");
@@ -42,7 +43,7 @@ pub fn play(rt: &impl Abort, alloc: Global, table: &mut Table, rows: &[Row]) {
 }
 
 /// A table after these commands.
-pub fn played(rt: &impl Abort, alloc: Global, rows: &[Row]) -> Table {
+pub fn played(rt: &impl Abort, alloc: Global, rows: &[Row<'_>]) -> Table {
     let mut table = Table::new(alloc);
     play(rt, alloc, &mut table, rows);
     table

@@ -1,7 +1,9 @@
 pub mod AsciiForms
 pub mod Faultless
+pub mod Jobs
 pub mod Members
 pub mod Numbers
 pub mod Parts
+pub mod Prepares
 mod Rows
 pub mod SameCommands

@@ -1,13 +1,20 @@
 -- The definitions on values from the first script.
-use Rattle.std.specs.Prelude.{◌≡◌, pos, [], ◌∷◌, Some, None, true, refl, codes}
+use Rattle.std.specs.Prelude.{◌≡◌, ℕ, pos, List, [], ◌∷◌, map, Some, None, true, false, refl, codes}
 use Rattle.std.specs.Fmt.{digits}
 use Rattle.std.specs.Str.{is_utf8, chars}
 use Rattle.serde_json.proofs.OnLiterals.{serde_json_on_literals}
-use Rattle.wf_value.specs.declared.code.Code.TheVariants.{HasLease}
+use Rattle.wf_value.specs.Matrix.{NamedValues}
+use Rattle.wf_value.specs.declared.code.Code.TheVariants.{HasLease, LegCount, MatrixTooLarge}
 use Rattle.wf_value.specs.declared.refusal.Refusal.TheVariants.{Numbered, Turn}
 use Rattle.wf_value.specs.declared.scalar.Scalar.TheVariants.{Null, Truth, Whole, Text}
+use lib.Utf8.{encode}
+use Rattle.wf_expr.specs.Reading.{run}
+use Rattle.wf_expr.specs.declared.piece.Piece.TheVariants.{Plain}
+use Rattle.wf_reader.specs.declared.flag.Flag.TheVariants.{Fixed}
+use Rattle.wf_reader.specs.declared.job.Job.{Job}
+use Rattle.wf_reader.specs.declared.workflow.Workflow.{Workflow}
 use Rattle.run_plan.specs.declared.reply.Reply.TheVariants as reply
-use Rattle.run_plan.specs.PlanOf.{plan_of, workflow_plan}
+use Rattle.run_plan.specs.PlanOf.{plan_faults, plan_of, workflow_plan}
 use Rattle.run_plan.specs.ReplyText.{combo_text, reply_text}
 use Rattle.run_plan.specs.SmallText.{delivery_id_of, event_name_of, label_list_of, number_of, runner_name_of}
 
@@ -74,11 +81,57 @@ combo = refl
 
 -- ---- plans
 
-plan_of_labels : workflow_plan (record { name = []; jobs = record { id = codes "b"; labels = codes "linux" ∷ codes "x64" ∷ [] } ∷ [] })
-    ≡ record { id = codes "b"; labels = codes "linux" ∷ codes "x64" ∷ []; legs = record { combo = [] } ∷ [] } ∷ []
-plan_of_labels = refl
+abbrev plain_job : List ℕ → Job
+plain_job id = record { id = id; labels = (Plain (codes "x") ∷ []) ∷ []; continue_on_error = Fixed false; strategy = None }
 
-plan_of_body : plan_of (codes "{\"repo\":\"o/r\",\"path\":\"ci.json\",\"workflow\":{\"jobs\":{\"build\":{\"runs-on\":\"linux\"}}}}")
-    ≡ record { id = codes "build"; labels = codes "linux" ∷ []; legs = record { combo = [] } ∷ [] } ∷ []
-unfolding serde_json_on_literals is_utf8 chars
+abbrev job_of_matrix : List ℕ → List NamedValues → Job
+job_of_matrix id variables = record {
+  id = id;
+  labels = (Plain (codes "x") ∷ []) ∷ [];
+  continue_on_error = Fixed true;
+  strategy = Some (record {
+    matrix = Some (record { variables = variables; include = []; exclude = [] });
+    fail_fast = false;
+    max_parallel = Some 2;
+  });
+}
+
+abbrev of_jobs : List Job → Workflow
+of_jobs jobs = record { name = []; jobs = jobs }
+
+plan_of_a_plain_job : workflow_plan (of_jobs (plain_job (codes "b") ∷ [])) ≡ record {
+  id = codes "b";
+  labels = (Plain (codes "x") ∷ []) ∷ [];
+  continue_on_error = Fixed false;
+  fail_fast = true;
+  max_parallel = None;
+  legs = record { combo = [] } ∷ [];
+} ∷ []
+plan_of_a_plain_job = refl
+
+plan_of_a_matrix : workflow_plan (of_jobs (job_of_matrix (codes "m") ((codes "n", Whole (pos 1) ∷ Null ∷ []) ∷ []) ∷ [])) ≡ record {
+  id = codes "m";
+  labels = (Plain (codes "x") ∷ []) ∷ [];
+  continue_on_error = Fixed true;
+  fail_fast = false;
+  max_parallel = Some 2;
+  legs = record { combo = (codes "n", Whole (pos 1)) ∷ [] } ∷ record { combo = (codes "n", Null) ∷ [] } ∷ [];
+} ∷ []
+plan_of_a_matrix = refl
+
+-- 13 variables of two values
+abbrev too_many : List NamedValues
+too_many = map (λ name. (name ∷ [], Null ∷ Truth true ∷ [])) (codes "abcdefghijklm")
+
+too_many_choices : plan_faults (of_jobs (plain_job (codes "a") ∷ job_of_matrix (codes "b") too_many ∷ [])) ≡ Numbered MatrixTooLarge ∷ []
+too_many_choices = refl
+
+-- job by job: no leg of `a` comes before the choices of `b`
+no_leg_first : plan_faults (of_jobs (job_of_matrix (codes "a") [] ∷ job_of_matrix (codes "b") too_many ∷ []))
+    ≡ Numbered LegCount ∷ Numbered MatrixTooLarge ∷ []
+no_leg_first = refl
+
+plan_of_body : plan_of (codes "{\"repo\":\"o/r\",\"path\":\"ci.json\",\"workflow\":{\"jobs\":{\"b\":{\"runs-on\":\"x\"}}}}")
+    ≡ workflow_plan (of_jobs (plain_job (codes "b") ∷ []))
+unfolding serde_json_on_literals is_utf8 chars encode run
 plan_of_body = refl

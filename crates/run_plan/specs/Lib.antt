@@ -1,5 +1,6 @@
 pub mod Admitted
 pub mod LastCommand
+pub mod Origins
 pub mod PlanOf
 pub mod ReplyText
 pub mod SmallText

@@ -1,31 +1,71 @@
--- The plan of a workflow: for each job, in order, the labels that it asks of a runner, and its legs, each
--- with its combination. GitHub Docs, "Running variations of jobs in a workflow" and "Workflow syntax for
--- GitHub Actions", jobs.<job_id>.runs-on.
-use Rattle.std.specs.Prelude.{ℕ, List, [], ◌∷◌, ◌++◌, map}
+-- The plan of a workflow: for each job, in order, what its legs ask of a runner, how they go on when one fails, and the legs
+-- themselves, each with its combination. GitHub Docs, "Running variations of jobs in a workflow" and "Workflow syntax for GitHub
+-- Actions", jobs.<job_id>.runs-on, jobs.<job_id>.continue-on-error, jobs.<job_id>.strategy.
+use Rattle.std.specs.Prelude.{ℕ, List, [], ◌∷◌, ◌++◌, map, flat_map, true, is_none, Option, Result, Ok}
+use Rattle.std.specs.List.{list_all}
+use Rattle.std.specs.Option.{option_and_then, option_map_or}
+use Rattle.std.specs.Result.{result_unwrap_or}
+use Rattle.wf_value.specs.Matrix.{MatrixLists}
+use Rattle.wf_value.specs.declared.code.Code.TheVariants.{LeftOut}
 use Rattle.wf_value.specs.declared.refusal.Refusal.{Refusal}
 use Rattle.wf_reader.specs.declared.job.Job.{Job}
 use Rattle.wf_reader.specs.declared.workflow.Workflow.{Workflow}
 use Rattle.wf_reader.specs.Event.{event_faults, event_of}
+use Rattle.wf_reader.specs.Faults.{fault_unless, outcome_faults}
+use Rattle.matrix_expand.specs.Combinations.{Combination, combinations_or_refusal}
 use Rattle.run_plan.specs.declared.planned.PlannedJob.{PlannedJob}
 use Rattle.run_plan.specs.declared.planned.PlannedLeg.{PlannedLeg}
 
--- a job without a matrix has one leg, with the empty combination
-abbrev pub legs_of_job : Job → List PlannedLeg
-legs_of_job job = record { combo = [] } ∷ []
+abbrev pub matrix_of : Job → Option MatrixLists
+matrix_of job = option_and_then (λ s. s.matrix) job.strategy
 
+-- those of the matrix; a job without one has one leg, with the empty combination
+abbrev pub combinations_where : Option MatrixLists → Result (List Combination) Refusal
+combinations_where matrix = option_map_or combinations_or_refusal matrix (Ok ([] ∷ []))
+
+-- numbered from 0
+abbrev pub legs_of : List Combination → List PlannedLeg
+legs_of combinations = map (λ c. record { combo = c }) combinations
+
+abbrev pub legs_of_job : Job → List PlannedLeg
+legs_of_job job = legs_of (result_unwrap_or (combinations_where (matrix_of job)) [])
+
+-- fail-fast is on where the strategy is missing
 abbrev pub planned_job : Job → PlannedJob
-planned_job job = record { id = job.id; labels = job.labels; legs = legs_of_job job }
+planned_job job = record {
+  id = job.id;
+  labels = job.labels;
+  continue_on_error = job.continue_on_error;
+  fail_fast = option_map_or (λ s. s.fail_fast) job.strategy true;
+  max_parallel = option_and_then (λ s. s.max_parallel) job.strategy;
+  legs = legs_of_job job;
+}
 
 abbrev pub workflow_plan : Workflow → List PlannedJob
 workflow_plan workflow = map planned_job workflow.jobs
 
--- what is wrong with the plan of a workflow: nothing, where no job has a matrix or needs
-abbrev pub plan_faults : Workflow → List Refusal
-plan_faults workflow = []
+-- a matrix of too many choices (21), or else of no leg or too many (22)
+abbrev pub job_faults : Job → List Refusal
+job_faults job = outcome_faults (combinations_where (matrix_of job))
 
--- what is wrong with the event that a body spells, and then with the plan of its workflow
+abbrev pub jobs_faults : List Job → List Refusal
+jobs_faults jobs = flat_map job_faults jobs
+
+-- what is wrong with the plan of a workflow, job by job
+abbrev pub plan_faults : Workflow → List Refusal
+plan_faults workflow = jobs_faults workflow.jobs
+
+-- a job with a strategy is left out of runs, as long as needs and fail-fast are
+abbrev pub strategy_faults : List Job → List Refusal
+strategy_faults jobs = fault_unless (list_all (λ job. is_none job.strategy) jobs) LeftOut
+
+-- what is wrong with jobs that are to be run
+abbrev pub run_faults : List Job → List Refusal
+run_faults jobs = jobs_faults jobs ++ strategy_faults jobs
+
+-- what is wrong with the event that a body spells, and then with its jobs as ones to be run
 abbrev pub faults_of : List ℕ → List Refusal
-faults_of body = event_faults body ++ plan_faults (event_of body).workflow
+faults_of body = event_faults body ++ run_faults (event_of body).workflow.jobs
 
 -- the plan of the workflow that a body spells
 abbrev pub plan_of : List ℕ → List PlannedJob

@@ -13,6 +13,7 @@ mod prepared;
 mod reply;
 mod small_text;
 
+pub use combo_text::text_of_combo;
 pub use command::{Claim, Command, Done};
 pub use form::{DeliveryForm, EventForm, Form, LabelForm, RunnerForm};
 pub use labels::Labels;

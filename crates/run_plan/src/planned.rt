@@ -1,3 +1,5 @@
+use wf_expr::Template;
+use wf_reader::Flag;
 use wf_value::{Chars, Combo, Sequence};
 
 /// A leg of a job as it is planned: one combination of its matrix.
@@ -10,9 +12,15 @@ pub struct PlannedLeg {
 #[derive(Drop)]
 pub struct PlannedJob {
     pub id: Chars,
-    /// What each of its legs asks of a runner.
-    pub labels: Sequence<Chars>,
-    /// Numbered from 0.
+    /// What each of its legs asks of a runner, once the templates have their values.
+    pub labels: Sequence<Template>,
+    /// Whether a leg that fails is passed over in the result of the job.
+    pub continue_on_error: Flag,
+    /// Whether a leg that fails ends the others: true where the workflow does not say.
+    pub fail_fast: bool,
+    /// The most legs that run at a time, 1 to 256, where there is a limit.
+    pub max_parallel: Option<u16>,
+    /// Numbered from 0: 1 to 256 of them.
     pub legs: Sequence<PlannedLeg>,
 }
 

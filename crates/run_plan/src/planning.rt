@@ -1,34 +1,121 @@
-ghost use Rattle.std.specs.Prelude.{◌≡◌, Ok};
+ghost use Rattle.std.specs.Prelude.{◌≡◌, Ok, is_none, map, true};
+ghost use Rattle.std.specs.List.{list_all};
+ghost use Rattle.std.specs.Option.{option_and_then, option_map_or};
 ghost use Rattle.wf_value.specs.Gives.{Gives};
 ghost use Rattle.wf_reader.specs.Faults.{unless_faulty};
-ghost use Rattle.run_plan.specs.PlanOf.{plan_faults, planned_job, workflow_plan};
+ghost use Rattle.run_plan.specs.PlanOf.{combinations_where, job_faults, jobs_faults, legs_of, plan_faults, planned_job};
+ghost use Rattle.run_plan.specs.PlanOf.{run_faults, workflow_plan};
 
 use crate::planned::{Plan, PlannedJob, PlannedLeg};
+use matrix_expand::expand;
 use std::alloc::Global;
-use wf_reader::{Job, Workflow};
-use wf_value::{Combo, Refusal, Sequence, TryCopy};
+use wf_reader::{Job, Jobs, Strategy, Workflow};
+use wf_value::{Code, Combo, Matrix, Refusal, Sequence};
 
-/// The plan of a workflow: one leg for each job. Want of memory is 50.
-pub fn plan(alloc: Global, workflow: &Workflow) -> Result<Plan, Refusal>
-    ensures { Gives (λ p. p) result (unless_faulty (plan_faults workflow.now) (workflow_plan workflow.now)) }
+/// The plan of a workflow, whose texts it takes over. Job by job, a matrix is refused 21 where the
+/// lengths of its lists multiply to over 4,096, else 22 where it gives no leg or more than 256. Want of
+/// memory is 50. GitHub Docs, "Running variations of jobs in a workflow".
+pub fn plan(alloc: Global, workflow: Workflow) -> Result<Plan, Refusal>
+    ensures { Gives (λ p. p) result (unless_faulty (plan_faults workflow) (workflow_plan workflow)) }
 {
-    let mut jobs = Vec::new(alloc);
-    for job in workflow.jobs.as_slice() {
-        jobs.push(planned_job(alloc, job)?)?;
-    }
-    Ok(Sequence::new(jobs))
+    let Workflow { jobs, .. } = workflow;
+    plan_jobs(alloc, jobs)
 }
 
-fn planned_job(alloc: Global, job: &Job) -> Result<PlannedJob, Refusal>
-    ensures { Gives (λ j. j) result (Ok (planned_job job.now)) }
+/// Each job as it is planned, up to the first fault.
+pub fn plan_jobs(alloc: Global, jobs: Jobs) -> Result<Plan, Refusal>
+    ensures { Gives (λ p. p) result
+        (unless_faulty (jobs_faults jobs) (map planned_job jobs)) }
+{
+    let mut planned = Vec::new(alloc);
+    for job in jobs.into_vec() {
+        planned.push(planned_job(alloc, job)?)?;
+    }
+    Ok(Sequence::new(planned))
+}
+
+/// Whether no job has a strategy.
+fn have_no_strategy(jobs: &[Job]) -> bool
+    ensures { result ≡ list_all (λ job. is_none job.strategy) jobs.now }
+{
+    jobs.iter().all(|job| job.strategy.is_none())
+}
+
+/// The plan of jobs that are to be run. After every other fault, a job with a strategy is refused 16, as
+/// long as runs have no needs and no fail-fast.
+pub fn plan_run(alloc: Global, jobs: Jobs) -> Result<Plan, Refusal>
+    ensures { Gives (λ p. p) result (unless_faulty (run_faults jobs) (map planned_job jobs)) }
+{
+    let are_read = have_no_strategy(jobs.as_slice());
+    let plan = plan_jobs(alloc, jobs)?;
+    if !are_read {
+        return Err(Refusal::Numbered(Code::LeftOut));
+    }
+    Ok(plan)
+}
+
+fn planned_job(alloc: Global, job: Job) -> Result<PlannedJob, Refusal>
+    ensures { Gives (λ j. j) result (unless_faulty (job_faults job) (planned_job job)) }
+{
+    let Job {
+        id,
+        labels,
+        continue_on_error,
+        strategy,
+    } = job;
+    let Strategy {
+        matrix,
+        fail_fast,
+        max_parallel,
+    } = strategy_or_default(strategy);
+    let combos = combinations(alloc, matrix)?;
+    Ok(PlannedJob {
+        id,
+        labels,
+        continue_on_error,
+        fail_fast,
+        max_parallel,
+        legs: legs_of(alloc, combos)?,
+    })
+}
+
+/// The strategy of a job that has none: no matrix, fail-fast, and no limit.
+fn strategy_or_default(strategy: Option<Strategy>) -> Strategy
+    ensures matrix { result.matrix ≡ option_and_then (λ s. s.matrix) strategy }
+    ensures fail_fast { result.fail_fast ≡ option_map_or (λ s. s.fail_fast) strategy true }
+    ensures max_parallel { result.max_parallel ≡ option_and_then (λ s. s.max_parallel) strategy }
+{
+    match strategy {
+        Some(strategy) => strategy,
+        None => Strategy {
+            matrix: None,
+            fail_fast: true,
+            max_parallel: None,
+        },
+    }
+}
+
+/// The combinations of a job's legs: those of its matrix, or the empty one alone.
+fn combinations(alloc: Global, matrix: Option<Matrix>) -> Result<Vec<Combo>, Refusal>
+    ensures { Gives (λ v. v.items) result (combinations_where matrix) }
+{
+    match matrix {
+        Some(matrix) => expand(alloc, &matrix),
+        None => {
+            let mut combos = Vec::new(alloc);
+            combos.push(Combo::new(alloc))?;
+            Ok(combos)
+        }
+    }
+}
+
+/// A leg for each combination, in order.
+fn legs_of(alloc: Global, combos: Vec<Combo>) -> Result<Sequence<PlannedLeg>, Refusal>
+    ensures { Gives (λ s. s) result (Ok (legs_of combos.items)) }
 {
     let mut legs = Vec::new(alloc);
-    legs.push(PlannedLeg {
-        combo: Combo::new(alloc),
-    })?;
-    Ok(PlannedJob {
-        id: job.id.copy(alloc)?,
-        labels: job.labels.copy(alloc)?,
-        legs: Sequence::new(legs),
-    })
+    for combo in combos {
+        legs.push(PlannedLeg { combo })?;
+    }
+    Ok(Sequence::new(legs))
 }

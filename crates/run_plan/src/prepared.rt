@@ -5,16 +5,26 @@ ghost use Rattle.wf_value.specs.declared.refusal.Refusal.TheVariants.{Numbered};
 ghost use Rattle.wf_value.specs.Gives.{Gives};
 ghost use Rattle.wf_reader.specs.Event.{event_of};
 ghost use Rattle.wf_reader.specs.Faults.{unless_faulty};
+ghost use Rattle.run_plan.specs.Origins.{IsOrigin};
 ghost use Rattle.run_plan.specs.PlanOf.{faults_of, plan_of};
 
 use crate::planned::Plan;
-use crate::planning::plan;
+use crate::planning::plan_run;
 use crate::small_text::{DeliveryId, EventName};
 use std::alloc::Global;
 use std::marker::Model;
 use std::sync::Arc;
-use wf_reader::{Event, read_event};
+use wf_reader::{Contexts, Event, Jobs, Workflow, read_event};
 use wf_value::{Chars, Refusal, Same};
+
+/// What an event says beside the jobs of its workflow.
+#[derive(Drop)]
+struct Origin {
+    repo: Chars,
+    path: Chars,
+    contexts: Contexts,
+    workflow_name: Chars,
+}
 
 /// An admitted event, and beside its bytes what they spell.
 #[derive(Drop)]
@@ -22,8 +32,7 @@ struct Admission {
     delivery: DeliveryId,
     event: EventName,
     body: Vec<u8>,
-    repo: Chars,
-    path: Chars,
+    origin: Origin,
     plan: Plan,
 }
 
@@ -40,6 +49,7 @@ impl Model for Prepared {
     ghost use Rattle.std.specs.Prelude.{◌≡◌, []};
     ghost use Rattle.wf_reader.specs.Event.{event_of};
     ghost use Rattle.run_plan.specs.Admitted.{Admitted, coded_admitted};
+    ghost use Rattle.run_plan.specs.Origins.{IsOrigin};
     ghost use Rattle.run_plan.specs.PlanOf.{faults_of, plan_of};
 
     ghost Value = { Admitted };
@@ -50,8 +60,8 @@ impl Model for Prepared {
         record { delivery = a.delivery; event = a.event; body = a.body.items } };
 
     ghost invariant = { λ p. let a = arc_value p.admission in
-        (faults_of a.body.items ≡ []) × (a.repo ≡ (event_of a.body.items).repo)
-        × (a.path ≡ (event_of a.body.items).path) × (a.plan ≡ plan_of a.body.items) };
+        (faults_of a.body.items ≡ []) × IsOrigin a.origin (event_of a.body.items)
+        × (a.plan ≡ plan_of a.body.items) };
 }
 
 impl Prepared {
@@ -79,14 +89,28 @@ impl Prepared {
     pub fn repo(&self) -> &Chars
         ensures { result.now ≡ (event_of self.now.body).repo }
     {
-        &self.admission.repo
+        &self.admission.origin.repo
     }
 
     /// The path of the workflow within the repository.
     pub fn path(&self) -> &Chars
         ensures { result.now ≡ (event_of self.now.body).path }
     {
-        &self.admission.path
+        &self.admission.origin.path
+    }
+
+    /// The contexts `github`, `inputs` and `vars` that the sender handed in.
+    pub fn contexts(&self) -> &Contexts
+        ensures { result.now ≡ (event_of self.now.body).contexts }
+    {
+        &self.admission.origin.contexts
+    }
+
+    /// The `name` of the workflow, and the empty text where it is missing.
+    pub fn workflow_name(&self) -> &Chars
+        ensures { result.now ≡ (event_of self.now.body).workflow.name }
+    {
+        &self.admission.origin.workflow_name
     }
 
     /// The plan of the body's workflow.
@@ -114,8 +138,30 @@ impl Same for Prepared {
     }
 }
 
+/// The jobs of an event's workflow, and what else it says.
+fn origin_and_jobs(event: Event) -> (Origin, Jobs)
+    ensures origin { IsOrigin result.0 event }
+    ensures jobs { result.1 ≡ event.workflow.jobs }
+{
+    let Event {
+        repo,
+        path,
+        contexts,
+        workflow,
+    } = event;
+    let Workflow { name, jobs } = workflow;
+    let origin = Origin {
+        repo,
+        path,
+        contexts,
+        workflow_name: name,
+    };
+    (origin, jobs)
+}
+
 /// An event made ready: its body is read and planned, and refused with the first of its faults: 10, 11,
-/// 12, 15, 16, 23, 24. Want of memory is 50. A body that is too long or no UTF-8 is refused memory or not.
+/// 12, 15 to 25; a workflow in which a job has a strategy is refused 16 where it has no other fault. Want
+/// of memory is 50. A body that is too long or no UTF-8 is refused memory or not.
 pub fn prepare(
     alloc: Global,
     event: EventName,
@@ -130,18 +176,14 @@ pub fn prepare(
     ensures no_text { length body.items ≤ 65536 → is_utf8 body.items ≡ false
         → result ≡ Err (Numbered NotJson) }
 {
-    let Event {
-        repo,
-        path,
-        workflow,
-    } = read_event(alloc, body.as_slice())?;
-    let plan = plan(alloc, &workflow)?;
+    let read = read_event(alloc, body.as_slice())?;
+    let (origin, jobs) = origin_and_jobs(read);
+    let plan = plan_run(alloc, jobs)?;
     let admission = Admission {
         delivery,
         event,
         body,
-        repo,
-        path,
+        origin,
         plan,
     };
     Ok(Prepared {

@@ -1,12 +1,12 @@
 -- A new run keeps what a table keeps.
-use Rattle.std.specs.Prelude.{◌≡◌, ℕ, ◌+◌, List, [], ◌∷◌, ◌++◌, map, length, find, nat_le, Bool, true, false, Option, Some, None}
+use Rattle.std.specs.Prelude.{◌≡◌, ℕ, ◌+◌, ◌<◌, List, [], ◌∷◌, ◌++◌, map, length, find, nat_le, Bool, true, false, Option, Some, None}
 use Rattle.std.specs.Prelude.{option_map, option_and_then, slice_get, if◌then◌else◌, refl}
 use Rattle.std.specs.List.{position}
 use Rattle.std.specs.Option.{option_or}
 use Rattle.std.proofs.Common.{arith, ap, sym, ◌∙◌, subst, inl, inr, length-append}
 use Rattle.std.proofs.lemmas.Bool.{cases_eq, leb-false, true≢false}
 use Rattle.std.proofs.lemmas.List.{length-map}
-use Rattle.std.proofs.lemmas.Option.{slice_get-map, slice_get_past}
+use Rattle.std.proofs.lemmas.Option.{slice_get-map, slice_get_past, slice_get_within}
 use Rattle.std.proofs.lemmas.Slice.Eq.{bytes_eq-Decides}
 use Rattle.wf_value.specs.declared.code.Code.TheVariants.{LastCounter}
 use Rattle.run_plan.specs.Admitted.{Admitted}
@@ -68,7 +68,10 @@ module _ (runs : List RunState) (event : Admitted) where
             subst (RunFits next r) same (new_run_fits next r event)
         | inr n ↦
             let before = before_the_end runs (new_run event) r n in
-            fits_beside runs next r x (ap (option_map (λ (v : RunState). v.admitted)) before) (fit r x (sym before ∙ e))
+            let within : r < length runs = slice_get_within runs r x (sym before ∙ e) in
+            fits_beside runs next r x
+            (λ s le. ap (option_map (λ (v : RunState). v.admitted))
+            (before_the_end runs (new_run event) s (λ m. absurd (omega (arith, le, within, m))))) (fit r x (sym before ∙ e))
       ]
     where
       some_same : (x : RunState) → Some (new_run event) ≡ Some x → new_run event ≡ x

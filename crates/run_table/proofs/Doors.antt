@@ -1,7 +1,7 @@
 -- The changes of a run's cells, as contracts see them.
-use Rattle.std.specs.Prelude.{◌≡◌, ℕ, zero, suc, ◌+◌, ◌<◌, ◌≤◌, ◌||◌, List, [], ◌∷◌, length, map, filter_map, Bool, true, false, slice_get}
-use Rattle.std.specs.Prelude.{slice_set, Option, Some, None, option_and_then, Result, Ok, refl}
-use Rattle.std.specs.List.{cons_option, enumerate_from, list_any}
+use Rattle.std.specs.Prelude.{◌≡◌, ℕ, zero, suc, ◌<◌, ◌≤◌, ◌||◌, List, [], ◌∷◌, length, map, filter_map, Bool, true, false, slice_get}
+use Rattle.std.specs.Prelude.{slice_set, Some, option_and_then, Result, Ok, refl}
+use Rattle.std.specs.List.{cons_option, list_any}
 use Rattle.std.specs.Option.{option_map_or}
 use Rattle.std.proofs.Common.{arith, ap, subst, sym, ◌∙◌, get_or}
 use Rattle.std.proofs.lemmas.List.{length-map, length-set}
@@ -10,9 +10,9 @@ use Rattle.wf_value.specs.declared.refusal.Refusal.{Refusal}
 use Rattle.run_plan.specs.Admitted.{Admitted}
 use Rattle.run_plan.specs.PlanOf.{plan_of}
 use Rattle.run_plan.specs.declared.planned.PlannedJob.{PlannedJob}
-use Rattle.run_table.specs.Cells.{JobCells, cells_of, in_state, states, rooms, legs_planned, blocked_cells, end_of, result_of}
+use Rattle.run_table.specs.Cells.{JobCells, cells_of, in_state, states, rooms, legs_planned, blocked_cells, result_of}
 use Rattle.run_table.specs.FirstOf.{changed_at}
-use Rattle.run_table.specs.Rules.{opened, settled_result, leg_end, leg_ends}
+use Rattle.run_table.specs.Rules.{opened, settled_result}
 use Rattle.run_table.specs.Settling.{legs_in_plan}
 use Rattle.run_table.specs.Step.{blocked_job}
 use Rattle.run_table.specs.TableState.{LegState, JobState, RunState}
@@ -152,15 +152,6 @@ opened_in_run items now r j x y same lt is so =
 pub results_of_cells : (xs : List JobCells) → filter_map result_of xs ≡ results_of (states xs)
 results_of_cells [] = refl
 results_of_cells (x ∷ xs) = ap (cons_option (settled_result x.state.phase)) (results_of_cells xs)
-
-ends_from : (runs : List RunState) (r j : ℕ) (xs : List LegState) (n : ℕ)
-    → filter_map (leg_end runs r j) (enumerate_from n xs) ≡ filter_map end_of xs
-ends_from runs r j [] n = refl
-ends_from runs r j (x ∷ xs) n = ap (cons_option (end_of x)) (ends_from runs r j xs (n + 1))
-
--- the ends of a job's legs, wherever it stands
-pub ends_anywhere : (runs : List RunState) (r j : ℕ) (job : JobState) → leg_ends runs r j job ≡ filter_map end_of job.legs
-ends_anywhere runs r j job = ends_from runs r j job.legs 0
 
 pub claimed_cells : (xs : List JobCells) → list_any (λ x. has_claimed_leg x.state) xs ≡ was_claimed (states xs)
 claimed_cells [] = refl

@@ -1,9 +1,9 @@
 -- The first answer in a list, found place by place, and the first place that passes a test.
-use Rattle.std.specs.Prelude.{◌≡◌, ℕ, zero, suc, ◌+◌, ◌<◌, ◌≤◌, List, [], ◌∷◌, ◌++◌, map, flat_map, find, length, Bool, true, false}
-use Rattle.std.specs.Prelude.{is_some, Option, Some, None, option_map, option_and_then, slice_get, if◌then◌else◌, refl}
+use Rattle.std.specs.Prelude.{◌≡◌, ℕ, zero, suc, ◌+◌, ◌<◌, ◌≤◌, List, [], ◌∷◌, map, flat_map, find, length, Bool, true, false}
+use Rattle.std.specs.Prelude.{is_some, Option, Some, None, option_and_then, slice_get, if◌then◌else◌, refl}
 use Rattle.std.specs.List.{enumerate_from, AllByRecursion}
 use Rattle.std.specs.Option.{option_or}
-use Rattle.std.proofs.Common.{arith, ap, subst, sym, ◌∙◌, get_or, append_assoc, length-append}
+use Rattle.std.proofs.Common.{arith, ap, subst, sym, ◌∙◌, get_or}
 use Rattle.std.proofs.lemmas.Option.{slice_get-get_or}
 use Rattle.std.proofs.lemmas.List.Folds.{find-append}
 use Rattle.run_table.specs.FirstOf.{first_some, placed}

@@ -1,6 +1,6 @@
 -- A call that gave a step, or left the table, leaves it sound.
 use Rattle.std.specs.Prelude.{◌≡◌, OnErr, Result, Ok, Err}
-use Rattle.std.proofs.Common.{ap, subst, sym, ◌∙◌}
+use Rattle.std.proofs.Common.{ap, subst, sym}
 use Rattle.wf_value.specs.Gives.{Gives}
 use Rattle.wf_value.specs.declared.refusal.Refusal.{Refusal}
 use Rattle.run_plan.specs.declared.command.Command.{Command}

@@ -1,10 +1,7 @@
 -- A change of a leg that was read, and what the rules of a leg and of a job make of the runs.
-use Rattle.std.specs.Prelude.{◌≡◌, ℕ, zero, suc, List, [], ◌∷◌, filter_map, Bool, true, false, Option, Some, None, IfSome, find, is_some}
+use Rattle.std.specs.Prelude.{◌≡◌, ℕ, zero, suc, List, [], ◌∷◌, Bool, true, false, Option, Some, None, IfSome, find, is_some}
 use Rattle.std.specs.Prelude.{option_map, option_and_then, slice_get, if◌then◌else◌, refl}
 use Rattle.std.proofs.Common.{ap, subst, sym, ◌∙◌}
-use Rattle.wf_value.specs.declared.outcome.JobResult.{JobResult}
-use Rattle.needs_graph.specs.Results.{gathered}
-use Rattle.run_table.specs.Cells.{end_of}
 use Rattle.run_table.specs.FirstOf.{changed_at}
 use Rattle.run_table.specs.Places.{LegPlace, job_at, leg_at, with_job, with_leg}
 use Rattle.run_table.specs.Rules.{is_done, next_leg_phase, leg_in_phase, settled_as, result_at, leg_rule, closing_rule, places, rule_at}
@@ -13,7 +10,6 @@ use Rattle.run_table.specs.TableState.{LegState, JobState, RunState}
 use Rattle.run_table.specs.WithinRun.{next_leg}
 use Rattle.run_table.specs.declared.phases.LegPhase.{LegPhase}
 use Rattle.run_table.specs.declared.place.Place.{Place}
-use Rattle.run_table.proofs.Doors.{ends_anywhere}
 
 some_same : {X : Type 0} (x y : X) → Some x ≡ Some y → x ≡ y
 some_same x y h = cc
@@ -94,11 +90,11 @@ closes runs new r j x true so = so
 closes runs new r j x false so = tt
 
 pub job_closed : (runs new : List RunState) (r j : ℕ) (x : JobState) → job_at runs r j ≡ Some x
-    → new ≡ with_job r j (settled_as (gathered (filter_map end_of x.legs))) runs
+    → new ≡ with_job r j (settled_as (result_at runs r j x)) runs
     → IfSome (option_and_then (closing_rule runs r j) (job_at runs r j)) (λ next. new ≡ next)
 job_closed runs new r j x at so =
     subst (λ o. IfSome (option_and_then (closing_rule runs r j) o) (λ next. new ≡ next)) (sym at)
-    (closes runs new r j x (is_done x) (so ∙ ap (λ ends. with_job r j (settled_as (gathered ends)) runs) (sym (ends_anywhere runs r j x))))
+    (closes runs new r j x (is_done x) so)
 
 -- ---- the rule at the first place
 

@@ -3,7 +3,7 @@ use Rattle.std.specs.Prelude.{◌≡◌, ℕ, ◌&&◌, List, Some, slice_get}
 use Rattle.std.specs.List.{list_all}
 use Rattle.std.proofs.Common.{ap, sym, ◌∙◌}
 use Rattle.run_table.specs.FirstOf.{changed_at}
-use Rattle.run_table.specs.Places.{LegPlace, run_at, job_at, leg_at, with_run, with_job, with_leg}
+use Rattle.run_table.specs.Places.{run_at, job_at, leg_at, with_run, with_job, with_leg}
 use Rattle.run_table.specs.Rules.{opening_rule, leg_rule, closing_rule, whole_rule, rule_at, run_of_place, decided, is_blocked, is_done}
 use Rattle.run_table.specs.Rules.{is_settled, leg_in_phase, next_leg_phase, next_run_phase, result_at, run_in_phase, settled_as}
 use Rattle.run_table.specs.TableState.{RunState}

@@ -1,5 +1,5 @@
 -- What each run of a table keeps by itself.
-use Rattle.std.specs.Prelude.{◌≡◌, ℕ, List, length, Option, Some, option_map, option_and_then, slice_get, refl}
+use Rattle.std.specs.Prelude.{◌≡◌, ℕ, List, length, Option, Some, option_map, option_and_then, slice_get}
 use Rattle.std.proofs.Common.{ap, sym, ◌∙◌}
 use Rattle.std.specs.Option.{option_map_or}
 use Rattle.wf_value.specs.declared.outcome.JobResult.{JobResult}
@@ -82,7 +82,3 @@ pub planned_legs_same : (runs next : List RunState) (r j : ℕ) → admitted_at 
 planned_legs_same runs next r j e =
     ap (λ o. option_map_or (λ (planned : PlannedJob). length planned.legs) o 0)
     (sym (plan_by_admitted next r j) ∙ ap (option_and_then (λ (a : Admitted). slice_get (plan_of a.body) j)) e ∙ plan_by_admitted runs r j)
-
--- no plain leg's failure is passed over, so a job's result depends on its legs alone
-pub result_same : (runs next : List RunState) (r j : ℕ) (y : JobState) → result_at next r j y ≡ result_at runs r j y
-result_same runs next r j y = refl

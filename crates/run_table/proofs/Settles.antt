@@ -1,15 +1,18 @@
 -- What a change of one run keeps where it keeps what the run keeps by itself, and what one such change after another keeps.
-use Rattle.std.specs.Prelude.{◌≡◌, ℕ, List, length, Option, Some, None, option_map, option_and_then, refl}
-use Rattle.std.proofs.Common.{ap, sym, ◌∙◌, subst}
+use Rattle.std.specs.Prelude.{◌≡◌, ℕ, ◌≤◌, List, length, Option, Some, None, option_map, option_and_then, refl}
+use Rattle.std.proofs.Common.{arith, ap, sym, ◌∙◌, subst}
+use Rattle.std.proofs.lemmas.Option.{slice_get-map}
 use Rattle.wf_value.specs.declared.outcome.JobResult.{JobResult}
 use Rattle.run_table.specs.FirstOf.{changed_at}
 use Rattle.run_table.specs.Places.{LegPlace, run_at}
 use Rattle.run_table.specs.Rules.{result_at}
+use Rattle.run_table.specs.RunNumber.{events}
 use Rattle.run_table.specs.TableState.{RunState}
 use Rattle.run_table.specs.Words.{planned_legs}
 use Rattle.run_table.proofs.Changed.{reads_same, holds_of_each, length-changed_at}
+use Rattle.run_table.proofs.LegFacts.{SameUpTo, result_same}
 use Rattle.run_table.proofs.LegReads.{had_in, works_in, had_at, works_at}
-use Rattle.run_table.proofs.RunFits.{JobFits, RunFits, RunsFit, admitted_at, planned_legs_same, result_same}
+use Rattle.run_table.proofs.RunFits.{JobFits, RunFits, RunsFit, admitted_at, planned_legs_same}
 
 -- a run changed into one that still fits, of the same event
 pub record StaysFit (runs : List RunState) (r : ℕ) (x y : RunState) : Type 0 where
@@ -54,15 +57,21 @@ settles_on a b c f g = record {
   same_works = (λ p. g.same_works p ∙ f.same_works p);
 }
 
+same_events : (runs next : List RunState) (r : ℕ) → ((s : ℕ) → s ≤ r → admitted_at next s ≡ admitted_at runs s)
+    → SameUpTo r (events next) (events runs)
+same_events runs next r same s le =
+    slice_get-map (λ (run : RunState). run.admitted) next s ∙ same s le ∙ sym (slice_get-map (λ (run : RunState). run.admitted) runs s)
+
 -- what fits beside runs fits beside others of the same events
-pub fits_beside : (runs next : List RunState) (r : ℕ) (x : RunState) → admitted_at next r ≡ admitted_at runs r → RunFits runs r x
-    → RunFits next r x
+pub fits_beside : (runs next : List RunState) (r : ℕ) (x : RunState) → ((s : ℕ) → s ≤ r → admitted_at next s ≡ admitted_at runs s)
+    → RunFits runs r x → RunFits next r x
 fits_beside runs next r x same fits = record {
   has_its_jobs = fits.has_its_jobs;
   phase_fits = fits.phase_fits;
   jobs_fit = (λ j y e.
-      subst (λ (n : ℕ). JobFits n (result_at next r j y) y) (sym (planned_legs_same runs next r j same))
-      (subst (λ (o : JobResult). JobFits (planned_legs runs r j) o y) (sym (result_same runs next r j y)) (fits.jobs_fit j y e)));
+      subst (λ (n : ℕ). JobFits n (result_at next r j y) y) (sym (planned_legs_same runs next r j (same r (omega arith))))
+      (subst (λ (o : JobResult). JobFits (planned_legs runs r j) o y) (sym (result_same runs next r j y (same_events runs next r same)))
+      (fits.jobs_fit j y e)));
 }
 
 admitted_again : (o : Option RunState)
@@ -84,8 +93,8 @@ module _ (runs : List RunState) (fit : RunsFit runs) (r : ℕ) (x : RunState) (g
       record {
         same_length = length-changed_at r g runs;
         same_admitted = same;
-        fit = holds_of_each r g runs x (RunFits next) was (fits_beside runs next r (g x) (same r) stays.fits)
-            (λ s y e. fits_beside runs next s y (same s) (fit s y e));
+        fit = holds_of_each r g runs x (RunFits next) was (fits_beside runs next r (g x) (λ s le. same s) stays.fits)
+            (λ s y e. fits_beside runs next s y (λ k le. same k) (fit s y e));
       }
 
   pub one_settles : Keeps runs r x (g x) → Settles runs (changed_at r g runs)

@@ -1,31 +1,40 @@
 -- The step worked through by computation, on tables written out.
-use Rattle.std.specs.Prelude.{◌≡◌, ℕ, List, [], ◌∷◌, codes, Some, None, true, false, refl}
+use Rattle.std.specs.Prelude.{◌≡◌, ℕ, List, [], ◌∷◌, codes, Bool, Some, None, true, false, slice_get, refl}
 use Rattle.std.proofs.Common.{ap}
 use Rattle.std.specs.Option.{option_map_or}
 use Rattle.wf_value.specs.declared.code.Code.TheVariants.{HasLease, LeaseNotHeld, NoRun}
+use Rattle.wf_value.specs.declared.outcome.JobResult.{JobResult}
 use Rattle.wf_value.specs.declared.outcome.JobResult.TheVariants as result
 use Rattle.wf_value.specs.declared.outcome.Outcome.TheVariants as outcome
 use Rattle.wf_value.specs.declared.refusal.Refusal.TheVariants.{Turn}
+use Rattle.needs_graph.specs.Results.{gathered}
+use Rattle.wf_reader.specs.declared.flag.Flag.TheVariants as flag
 use Rattle.run_plan.specs.PlanOf.{plan_of}
+use Rattle.run_plan.specs.declared.planned.PlannedJob.{PlannedJob}
 use Rattle.run_plan.specs.declared.command.Claim.{Claim as Claimed}
 use Rattle.run_plan.specs.declared.command.Command.TheVariants as command
 use Rattle.run_plan.specs.declared.reply.Reply.TheVariants as reply
 use Rattle.run_table.specs.Fitting.{place_of_lease}
-use Rattle.run_table.specs.Places.{LegPlace, with_leg}
+use Rattle.run_table.specs.LegContext.{context_at}
 use Rattle.run_table.specs.Rules.{new_leg, opened, rule_at}
 use Rattle.run_table.specs.Settling.{settled, first_place, first_rule, left}
-use Rattle.run_table.specs.Step.{step, empty, claiming_runner, reporting_runner, refused, leased_leg, new_run, with_ended}
+use Rattle.run_table.specs.Step.{step, empty, claiming_runner, reporting_runner, refused, leased_leg}
 use Rattle.run_table.specs.TableState.{LegState, JobState, RunState, RunnerState, TableState}
+use Rattle.run_table.specs.Words.{is_set}
 use Rattle.run_plan.specs.declared.last_command.ClaimReply.TheVariants as given
 use Rattle.run_table.specs.declared.phases.LegPhase.TheVariants as leg
 use Rattle.run_table.specs.declared.phases.JobPhase.TheVariants as job
 use Rattle.run_table.specs.declared.phases.RunPhase.{RunPhase}
 use Rattle.run_table.specs.declared.phases.RunPhase.TheVariants as run
-use Rattle.run_table.specs.declared.place.Place.TheVariants.{Opening, AtLeg, Closing, Whole}
+use Rattle.run_table.specs.declared.place.Place.TheVariants.{Opening, Whole}
+
+-- a run of the event with this body
+abbrev run_with : List ℕ → RunPhase → List JobState → RunState
+run_with body phase jobs =
+    record { admitted = record { delivery = codes "d1"; event = codes "push"; body = body }; phase = phase; stopping = false; jobs = jobs }
 
 abbrev run_of : RunPhase → List JobState → RunState
-run_of phase jobs =
-    record { admitted = record { delivery = codes "d1"; event = codes "push"; body = [] }; phase = phase; stopping = false; jobs = jobs }
+run_of phase jobs = run_with [] phase jobs
 
 abbrev open_job : List LegState → JobState
 open_job legs = record { phase = job.Open; legs = legs }
@@ -49,10 +58,43 @@ legs_by_number : first_rule (one_job (record { phase = leg.Waiting; lease = None
     ≡ Some (one_job (ready_leg ∷ new_leg ∷ []) ∷ [])
 legs_by_number = refl
 
+-- a plan of one job with one leg and this continue-on-error
+abbrev plan_with : Bool → List PlannedJob
+plan_with set = record {
+  id = codes "b";
+  labels = [];
+  continue_on_error = flag.Fixed set;
+  fail_fast = true;
+  max_parallel = None;
+  legs = record { combo = [] } ∷ [];
+} ∷ []
+
+-- a live run whose leg has failed
+abbrev failed_live : List ℕ → RunState
+failed_live body = run_with body run.Live (open_job (failed_leg ∷ []) ∷ [])
+
+-- the same once its job has settled
+abbrev failed_ended : List ℕ → JobResult → RunState
+failed_ended body r = run_with body run.Ended (record { phase = job.Settled r; legs = failed_leg ∷ [] } ∷ [])
+
+-- the result of its job, by the plan
+abbrev result_by : List ℕ → List PlannedJob → JobResult
+result_by body plan =
+    let values = context_at (failed_live body ∷ []) (record { run = 0; job = 0; leg = 0 }) in
+    gathered (record {
+      outcome = outcome.Failure;
+      continue_on_error = option_map_or (λ planned. is_set values planned.continue_on_error) (slice_get plan 0) false;
+    } ∷ [])
+
 -- a failed leg settles its job, and the job its run
-failed_leg_ends_its_run : settled (one_job (failed_leg ∷ []) ∷ [])
-    ≡ run_of run.Ended (record { phase = job.Settled result.Failure; legs = failed_leg ∷ [] } ∷ []) ∷ []
-failed_leg_ends_its_run = refl
+failed_leg_ends_its_run : (body : List ℕ) → plan_of body ≡ plan_with false
+    → settled (failed_live body ∷ []) ≡ failed_ended body result.Failure ∷ []
+failed_leg_ends_its_run body planned_so = ap (λ plan. failed_ended body (result_by body plan) ∷ []) planned_so
+
+-- a failure that is passed over does not make its job fail
+passed_over_failure_ends_its_run : (body : List ℕ) → plan_of body ≡ plan_with true
+    → settled (failed_live body ∷ []) ≡ failed_ended body result.Success ∷ []
+passed_over_failure_ends_its_run body planned_so = ap (λ plan. failed_ended body (result_by body plan) ∷ []) planned_so
 
 -- a running leg keeps its job open
 running_leg_rests : first_place (one_job (leased_leg 1 ∷ []) ∷ []) ≡ None
@@ -116,20 +158,21 @@ report_of_another_lease : step (table_with holding)
     ≡ (table_with holding, refused LeaseNotHeld)
 report_of_another_lease = refl
 
-abbrev working : TableState
-working = record { last_lease = 1; runs = one_job (leased_leg 1 ∷ []) ∷ []; runners = holding ∷ [] }
+abbrev working : List ℕ → TableState
+working body = record { last_lease = 1; runs = run_with body run.Live (open_job (leased_leg 1 ∷ []) ∷ []) ∷ []; runners = holding ∷ [] }
 
-abbrev failed : TableState
-failed = record {
+abbrev failed : List ℕ → JobResult → TableState
+failed body r = record {
   last_lease = 1;
-  runs = run_of run.Ended (record { phase = job.Settled result.Failure; legs = failed_leg ∷ [] } ∷ []) ∷ [];
+  runs = failed_ended body r ∷ [];
   runners = reporting_runner (record { runner = codes "r1"; number = 3; lease = 1; result = outcome.Failure }) ∷ [];
 }
 
 -- a report ends the leg of its lease, its job and its run
-report_of_a_failure : step working (command.Done (record { runner = codes "r1"; number = 3; lease = 1; result = outcome.Failure }))
-    ≡ (failed, reply.Ok)
-report_of_a_failure = refl
+report_of_a_failure : (body : List ℕ) → plan_of body ≡ plan_with false
+    → step (working body) (command.Done (record { runner = codes "r1"; number = 3; lease = 1; result = outcome.Failure }))
+    ≡ (failed body result.Failure, reply.Ok)
+report_of_a_failure body planned_so = ap (λ plan. (failed body (result_by body plan), reply.Ok)) planned_so
 
 -- the lease of a leg is found whatever job it is of
 lease_is_found : place_of_lease

@@ -2,21 +2,17 @@
 use Rattle.std.specs.Prelude.{◌≡◌, ℕ, ◌+◌, ◌&&◌, List, [], ◌∷◌, ◌++◌, map, flat_map, find, Bool, true, false, is_some, Option, Some, None}
 use Rattle.std.specs.Prelude.{option_map, option_and_then, slice_get, if◌then◌else◌, refl}
 use Rattle.std.specs.List.{enumerate_from, list_all, position, position_from}
-use Rattle.std.specs.Option.{option_or, option_map_or}
+use Rattle.std.specs.Option.{option_or}
 use Rattle.std.proofs.Common.{ap, sym, ◌∙◌}
 use Rattle.std.proofs.lemmas.Iterator.Adapters.{position_from-zero}
 use Rattle.std.proofs.lemmas.List.Folds.{find-append}
 use Rattle.run_table.specs.FirstOf.{first_some, placed}
-use Rattle.run_table.specs.Places.{LegPlace, run_at, job_at, leg_at}
-use Rattle.run_table.specs.Rules.{job_places, run_places, places, is_live, is_blocked, is_done, is_settled, next_leg_phase, next_run_phase}
+use Rattle.run_table.specs.Places.{LegPlace, job_at, leg_at}
+use Rattle.run_table.specs.Rules.{job_places, run_places, is_live, is_blocked, is_done, is_settled, next_leg_phase, next_run_phase}
 use Rattle.run_table.specs.Rules.{opening_rule, leg_rule, closing_rule, whole_rule}
 use Rattle.run_table.specs.Settling.{applies, first_place}
 use Rattle.run_table.specs.TableState.{LegState, JobState, RunState}
-use Rattle.run_table.specs.WithinRun.{goes_on, leg_place, first_of_open, first_in_job, first_in_jobs, first_of_whole, first_in_run}
-use Rattle.run_table.specs.declared.phases.JobPhase.{JobPhase}
-use Rattle.run_table.specs.declared.phases.LegPhase.{LegPhase}
-use Rattle.run_table.specs.declared.phases.RunPhase.{RunPhase}
-use Rattle.run_table.specs.declared.place.Place.{Place}
+use Rattle.run_table.specs.WithinRun.{goes_on, leg_place, first_in_job, first_in_jobs, first_in_run}
 use Rattle.run_table.specs.declared.place.Place.TheVariants.{Opening, AtLeg, Closing, Whole}
 use Rattle.run_table.proofs.Firsts.{find-flat_map, find-map, first_same_placed}
 

@@ -1,9 +1,8 @@
 -- A job of a run with room for all legs of its plan from the start.
-use Rattle.std.specs.Prelude.{ℕ, List, [], length, map, Bool, false, Option, option_map, if◌then◌else◌}
+use Rattle.std.specs.Prelude.{ℕ, List, [], length, map, Bool, Option, if◌then◌else◌}
 use Rattle.wf_value.specs.declared.outcome.JobResult.{JobResult}
-use Rattle.needs_graph.specs.declared.ended.LegEnd.{LegEnd}
 use Rattle.run_plan.specs.declared.planned.PlannedJob.{PlannedJob}
-use Rattle.run_table.specs.Rules.{outcome_of, settled_result}
+use Rattle.run_table.specs.Rules.{settled_result}
 use Rattle.run_table.specs.TableState.{LegState, JobState}
 use Rattle.run_table.specs.declared.phases.JobPhase.{JobPhase}
 use Rattle.run_table.specs.declared.phases.JobPhase.TheVariants as job
@@ -35,10 +34,6 @@ legs_planned plan = map (λ planned. length planned.legs) plan
 -- a blocked job, with room for the legs of its plan
 abbrev pub blocked_cells : PlannedJob → JobCells
 blocked_cells planned = record { state = record { phase = job.Blocked; legs = [] }; room = length planned.legs }
-
--- how a leg ended, where it has: no plain job passes over a failure
-abbrev pub end_of : LegState → Option LegEnd
-end_of l = option_map (λ o. record { outcome = o; continue_on_error = false }) (outcome_of l.phase)
 
 abbrev pub result_of : JobCells → Option JobResult
 result_of j = settled_result j.state.phase

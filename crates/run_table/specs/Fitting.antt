@@ -27,10 +27,13 @@ is_ready leg.Running = false
 is_ready leg.Stopping = false
 is_ready (leg.Ended r) = false
 
--- whether the leg at a place is ready and asks for no label that the runner lacks
+-- whether the leg at a place asks for no label that the runner lacks
+abbrev pub is_served : List (List ℕ) → List RunState → LegPlace → Bool
+is_served labels runs p = option_map_or (has_labels labels) (labels_at runs p) false
+
+-- and is ready
 abbrev pub fits : List (List ℕ) → List RunState → LegPlace → Bool
-fits labels runs p =
-    option_map_or (λ l. is_ready l.phase) (leg_at runs p) false && option_map_or (has_labels labels) (labels_at runs p) false
+fits labels runs p = option_map_or (λ l. is_ready l.phase) (leg_at runs p) false && is_served labels runs p
 
 abbrev pub first_fit : List (List ℕ) → List RunState → Option LegPlace
 first_fit labels runs = find (fits labels runs) (leg_places runs)

@@ -1,9 +1,11 @@
 pub mod Cells
 pub mod FirstOf
 pub mod Fitting
+pub mod LegContext
 pub mod Moves
 pub mod Places
 pub mod Rules
+pub mod RunNumber
 pub mod Settling
 pub mod Sound
 pub mod Step

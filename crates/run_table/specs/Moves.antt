@@ -1,6 +1,6 @@
 -- The moves of concurrency groups: which of their holders arrived, started, was told to stop, and ended.
 -- GitHub Docs, "Control the concurrency of workflows and jobs".
-use Rattle.std.specs.Prelude.{ℕ, List, [], ◌∷◌}
+use Rattle.std.specs.Prelude.{ℕ, List}
 use Rattle.wf_value.specs.declared.outcome.Outcome.{Outcome}
 use Rattle.run_plan.specs.declared.reply.Reply.{Reply}
 use Rattle.run_table.specs.Places.{LegPlace}

@@ -1,6 +1,6 @@
 -- Reading and changing the runs of a table at a place: a run's place in the list, a job's in its run, a leg's in
 -- its job, all from 0.
-use Rattle.std.specs.Prelude.{ℕ, List, [], ◌∷◌, ◌++◌, map, flat_map, Bool, Option, option_and_then, slice_get, if◌then◌else◌}
+use Rattle.std.specs.Prelude.{ℕ, List, map, flat_map, Option, option_and_then, slice_get}
 use Rattle.run_plan.specs.PlanOf.{plan_of}
 use Rattle.run_plan.specs.declared.planned.PlannedJob.{PlannedJob}
 use Rattle.run_table.specs.FirstOf.{placed, changed_at}

@@ -1,6 +1,6 @@
 -- The numbered commands of runners: each command of a runner has the number after its last one, or is the
 -- last one again and gets the kept reply (own).
-use Rattle.std.specs.Prelude.{ℕ, ◌+◌, ◌&&◌, List, [], ◌∷◌, ◌++◌, find, Bool, true, false, nat_eq, is_some, Option, Some, None, option_map}
+use Rattle.std.specs.Prelude.{ℕ, ◌+◌, ◌&&◌, List, [], ◌∷◌, ◌++◌, find, Bool, false, nat_eq, is_some, Option, Some, None, option_map}
 use Rattle.std.specs.Prelude.{slice_set, if◌then◌else◌}
 use Rattle.std.specs.List.{position}
 use Rattle.std.specs.Option.{option_map_or}

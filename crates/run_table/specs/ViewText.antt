@@ -1,16 +1,15 @@
 -- The view of a run, and its text.
-use Rattle.std.specs.Prelude.{ℕ, ◌-◌, ◌&&◌, List, ◌++◌, map, flat_map, filter_map, take, count_by, Bool, is_some, codes, Option, option_map}
+use Rattle.std.specs.Prelude.{ℕ, ◌-◌, List, ◌++◌, map, flat_map, filter_map, Bool, is_some, codes, Option, option_map}
 use Rattle.std.specs.Prelude.{slice_get, if◌then◌else◌}
 use Rattle.std.specs.List.{list_any, zip, join_with_byte}
 use Rattle.std.specs.Fmt.{decimal}
-use Rattle.std.specs.Str.{bytes_eq}
 use Rattle.wf_value.specs.Words.{outcome_word, result_word}
 use Rattle.wf_value.specs.declared.outcome.JobResult.{JobResult}
-use Rattle.wf_reader.specs.Event.{event_of}
 use Rattle.needs_graph.specs.Results.{conclusion_of}
 use Rattle.run_plan.specs.PlanOf.{plan_of}
 use Rattle.run_plan.specs.declared.planned.PlannedJob.{PlannedJob}
 use Rattle.run_table.specs.Rules.{settled_result}
+use Rattle.run_table.specs.RunNumber.{events, run_number}
 use Rattle.run_table.specs.TableState.{LegState, JobState, RunState}
 use Rattle.run_table.specs.declared.phases.LegPhase.{LegPhase}
 use Rattle.run_table.specs.declared.phases.LegPhase.TheVariants as leg
@@ -25,16 +24,10 @@ pub record Seen : Type 0 where
   pub number : ℕ
   pub run : RunState
 
--- runs of the same repository and path
-abbrev pub same_workflow : RunState → RunState → Bool
-same_workflow a b =
-    bytes_eq (event_of a.admitted.body).repo (event_of b.admitted.body).repo && bytes_eq (event_of a.admitted.body).path
-    (event_of b.admitted.body).path
-
--- a run's number counts the runs of its repository and path up to it
+-- ids count from 1
 abbrev pub seen_of : List RunState → ℕ → Option Seen
 seen_of runs id =
-    option_map (λ run. record { id = id; number = count_by (same_workflow run) (take id runs); run = run }) (slice_get runs (id - 1))
+    option_map (λ run. record { id = id; number = run_number (events runs) (id - 1) run.admitted; run = run }) (slice_get runs (id - 1))
 
 abbrev pub leg_text : LegPhase → List ℕ
 leg_text leg.New = codes "new"

@@ -1,14 +1,14 @@
--- The first place with a rule, and the first leg that is sought, within one run: no plain rule looks beyond it.
-use Rattle.std.specs.Prelude.{ℕ, ◌&&◌, List, [], ◌∷◌, Bool, false, is_some, nat_eq, Option, Some, None, option_map, option_and_then}
-use Rattle.std.specs.Prelude.{slice_get, if◌then◌else◌}
+-- The first place with a rule, and the first leg that is sought, within one run: no plain rule looks beyond it, and
+-- of the others a leg's labels ask for the events alone.
+use Rattle.std.specs.Prelude.{ℕ, ◌&&◌, List, Bool, false, is_some, Option, Some, None, option_map}
+use Rattle.std.specs.Prelude.{if◌then◌else◌}
 use Rattle.std.specs.List.{list_all, position}
 use Rattle.std.specs.Option.{option_or, option_map_or}
-use Rattle.run_plan.specs.PlanOf.{plan_of}
-use Rattle.run_plan.specs.declared.planned.PlannedJob.{PlannedJob}
+use Rattle.needs_graph.specs.Results.{fails_job}
 use Rattle.run_table.specs.FirstOf.{placed, first_some}
-use Rattle.run_table.specs.Fitting.{has_labels, is_ready, has_lease}
+use Rattle.run_table.specs.Fitting.{is_ready, is_served, has_lease}
 use Rattle.run_table.specs.Places.{LegPlace}
-use Rattle.run_table.specs.Rules.{is_live, is_blocked, is_done, is_settled, leg_in_phase, next_leg_phase, next_run_phase}
+use Rattle.run_table.specs.Rules.{is_live, is_blocked, is_done, is_settled, leg_end, leg_in_phase, next_leg_phase, next_run_phase}
 use Rattle.run_table.specs.TableState.{LegState, JobState, RunState}
 use Rattle.run_table.specs.declared.place.Place.{Place}
 use Rattle.run_table.specs.declared.place.Place.TheVariants.{Opening, AtLeg, Closing, Whole}
@@ -44,17 +44,19 @@ first_in_run r run = option_or (if is_live run.phase then first_in_jobs r run.jo
 
 -- ---- the first leg that fits
 
--- the first ready leg of a job for which the plan asks no label that the runner lacks
-abbrev pub fit_in_job : List (List ℕ) → PlannedJob → ℕ → ℕ → JobState → Option LegPlace
-fit_in_job labels planned r j job =
-    if has_labels labels planned.labels then option_map (leg_place r j) (position (λ l. is_ready l.phase) job.legs) else None
+abbrev pub fit_in_job : List (List ℕ) → List RunState → ℕ → ℕ → JobState → Option LegPlace
+fit_in_job labels runs r j job =
+    first_some (λ l. if is_ready l.1.phase && is_served labels runs (leg_place r j l.0) then Some (leg_place r j l.0) else None)
+    (placed job.legs)
 
-abbrev pub fit_in_jobs : List (List ℕ) → List PlannedJob → ℕ → List JobState → Option LegPlace
-fit_in_jobs labels plan r jobs =
-    first_some (λ j. option_and_then (λ planned. fit_in_job labels planned r j.0 j.1) (slice_get plan j.0)) (placed jobs)
+abbrev pub fit_in_jobs : List (List ℕ) → List RunState → ℕ → List JobState → Option LegPlace
+fit_in_jobs labels runs r jobs = first_some (λ j. fit_in_job labels runs r j.0 j.1) (placed jobs)
 
-abbrev pub fit_in_run : List (List ℕ) → ℕ → RunState → Option LegPlace
-fit_in_run labels r run = fit_in_jobs labels (plan_of run.admitted.body) r run.jobs
+-- ---- the first leg that fails its job
+
+-- its number, where the leg does
+abbrev pub failing : List RunState → ℕ → ℕ → ℕ × LegState → Option ℕ
+failing runs r j l = if option_map_or fails_job (leg_end runs r j l) false then Some l.0 else None
 
 -- ---- the leg of a lease
 

@@ -1,11 +1,19 @@
 -- What a table says of a run, of a job or of a leg beyond its state. GitHub Docs, "Workflow syntax for GitHub
 -- Actions": jobs.<job_id>.needs, jobs.<job_id>.if, jobs.<job_id>.runs-on, jobs.<job_id>.continue-on-error.
-use Rattle.std.specs.Prelude.{ℕ, List, [], length, Bool, true, false, Option, option_map, option_and_then, slice_get}
+use Rattle.std.specs.Prelude.{ℕ, List, [], length, map, Bool, true, false, Option, option_map, option_and_then, slice_get}
 use Rattle.std.specs.Option.{option_map_or}
 use Rattle.wf_value.specs.declared.condition.Condition.{Condition}
 use Rattle.wf_value.specs.declared.condition.Condition.TheVariants as condition
 use Rattle.wf_value.specs.declared.outcome.JobResult.{JobResult}
 use Rattle.wf_value.specs.declared.scalar.Scalar.{Scalar}
+use Rattle.wf_value.specs.ScalarValue.{scalar_text}
+use Rattle.wf_expr.specs.ContextValue.{Values}
+use Rattle.wf_expr.specs.FlagValue.{sets_flag}
+use Rattle.wf_expr.specs.TemplateValue.{template_value}
+use Rattle.wf_expr.specs.declared.piece.Piece.{Piece}
+use Rattle.wf_reader.specs.declared.flag.Flag.{Flag}
+use Rattle.wf_reader.specs.declared.flag.Flag.TheVariants as flag
+use Rattle.run_table.specs.LegContext.{context_at}
 use Rattle.run_table.specs.Places.{LegPlace, run_at, plan_at}
 use Rattle.run_table.specs.TableState.{RunState}
 
@@ -39,14 +47,23 @@ planned_legs runs r j = option_map_or (λ planned. length planned.legs) (plan_at
 
 -- ---- of a leg
 
--- what the leg asks of a runner, as its job says
+-- the texts of the templates' values in a context
+abbrev pub label_texts : Values → List (List Piece) → List (List ℕ)
+label_texts values labels = map (λ label. scalar_text (template_value values label)) labels
+
+-- what the leg asks of a runner: its job's labels in its context
 abbrev pub labels_at : List RunState → LegPlace → Option (List (List ℕ))
-labels_at runs p = option_map (λ planned. planned.labels) (plan_at runs p.run p.job)
+labels_at runs p = option_map (λ planned. label_texts (context_at runs p) planned.labels) (plan_at runs p.run p.job)
 
 -- the combination of the leg
 abbrev pub combo_at : List RunState → LegPlace → List (List ℕ × Scalar)
 combo_at runs p = option_map_or (λ leg. leg.combo) (option_and_then (λ planned. slice_get planned.legs p.leg) (plan_at runs p.run p.job)) []
 
--- whether a failure of the leg is passed over: no plain leg's is
+-- whether a flag is set in a context
+abbrev pub is_set : Values → Flag → Bool
+is_set values (flag.Fixed set) = set
+is_set values (flag.Template template) = sets_flag (template_value values template)
+
+-- whether a failure of the leg is passed over: whether its job's continue-on-error is set in its context
 abbrev pub passes_over : List RunState → LegPlace → Bool
-passes_over runs p = false
+passes_over runs p = option_map_or (λ planned. is_set (context_at runs p) planned.continue_on_error) (plan_at runs p.run p.job) false

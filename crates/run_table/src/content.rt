@@ -115,7 +115,7 @@ impl Content {
         ensures err { OnErr result (self.new ≡ self.old) }
         ensures answers { is_some (lease_answer self.old claim.now) ≡ true → IsOk result }
     {
-        match first_fit(claim.labels.as_slice(), self.runs.as_slice()) {
+        match first_fit(claim.labels.as_slice(), &self.runs) {
             None => self.serve_nothing(alloc, claim),
             Some(_) if self.last_lease >= LAST_NUMBER => Ok(refused(Code::LastCounter)),
             Some(place) => self.lease(alloc, claim, place),
@@ -197,7 +197,7 @@ impl Content {
     pub(crate) fn look(&self, run: Number) -> Option<RunView<'_>>
         ensures { result ≡ seen self.now run }
     {
-        look(self.runs.as_slice(), run)
+        look(&self.runs, run)
     }
 }
 

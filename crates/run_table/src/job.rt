@@ -1,15 +1,14 @@
-ghost use Rattle.std.specs.Prelude.{◌≡◌, Ok, filter_map};
+ghost use Rattle.std.specs.Prelude.{◌≡◌, Ok};
 ghost use Rattle.std.specs.List.{list_all};
 ghost use Rattle.wf_value.specs.Gives.{Gives};
-ghost use Rattle.needs_graph.specs.Results.{gathered};
-ghost use Rattle.run_table.specs.Cells.{end_of, in_state};
+ghost use Rattle.run_table.specs.Cells.{in_state};
 ghost use Rattle.run_table.specs.FirstOf.{changed_at};
 ghost use Rattle.run_table.specs.Rules.{has_ended, is_done, is_settled, opened, settled_as};
 ghost use Rattle.run_table.specs.Step.{blocked_job};
 
 use crate::leg::Leg;
 use crate::phases::JobPhase;
-use needs_graph::{HasResult, gather};
+use needs_graph::HasResult;
 use std::alloc::Global;
 use std::marker::Model;
 use wf_value::{JobResult, Refusal, TryCopy};
@@ -84,13 +83,6 @@ impl Job {
         ensures { result ≡ is_settled self.now.state }
     {
         self.phase.result().is_some()
-    }
-
-    /// The result of the job from the ends of its legs.
-    pub(crate) fn result(&self) -> JobResult
-        ensures { result ≡ gathered (filter_map end_of self.now.state.legs) }
-    {
-        gather(self.legs())
     }
 
     fn have_legs_ended(&self) -> bool

@@ -1,11 +1,12 @@
-ghost use Rattle.std.specs.Prelude.{◌≡◌, None, Some};
+ghost use Rattle.std.specs.Prelude.{◌≡◌, None, Some, false};
+ghost use Rattle.std.specs.Option.{option_map_or};
+ghost use Rattle.needs_graph.specs.Results.{is_cancelled, is_failure};
 ghost use Rattle.run_table.specs.Fitting.{has_lease, is_ready};
-ghost use Rattle.run_table.specs.Rules.{has_ended, leg_in_phase, new_leg};
+ghost use Rattle.run_table.specs.Rules.{has_ended, leg_in_phase, new_leg, outcome_of};
 ghost use Rattle.run_table.specs.Step.{leased_leg};
 ghost use Rattle.run_table.specs.WithinRun.{goes_on, next_leg};
 
 use crate::phases::LegPhase;
-use needs_graph::{HasEnd, LegEnd};
 use run_plan::Number;
 use std::marker::Model;
 use wf_value::Outcome;
@@ -83,6 +84,24 @@ impl Leg {
         self.phase.outcome().is_some()
     }
 
+    pub(crate) fn has_failed(&self) -> bool
+        ensures { result ≡ option_map_or is_failure (outcome_of self.now.phase) false }
+    {
+        match self.phase.outcome() {
+            Some(outcome) => outcome == Outcome::Failure,
+            None => false,
+        }
+    }
+
+    pub(crate) fn was_cancelled(&self) -> bool
+        ensures { result ≡ option_map_or is_cancelled (outcome_of self.now.phase) false }
+    {
+        match self.phase.outcome() {
+            Some(outcome) => outcome == Outcome::Cancelled,
+            None => false,
+        }
+    }
+
     pub(crate) fn is_ready(&self) -> bool
         ensures { result ≡ is_ready self.now.phase }
     {
@@ -96,19 +115,5 @@ impl Leg {
             Some(held) => held.get() == lease.get(),
             None => false,
         }
-    }
-}
-
-impl HasEnd for Leg {
-    ghost use Rattle.run_table.specs.Cells.{end_of};
-
-    ghost leg_end = { end_of };
-
-    /// No plain job passes over a failure.
-    fn leg_end(&self) -> Option<LegEnd> {
-        self.phase.outcome().map(|outcome| LegEnd {
-            outcome,
-            continue_on_error: false,
-        })
     }
 }

@@ -7,6 +7,8 @@ mod fit;
 mod job;
 pub mod laws;
 mod leg;
+mod leg_context;
+mod leg_view;
 mod phases;
 mod place;
 mod run;

@@ -1,26 +1,31 @@
-ghost use Rattle.std.specs.Prelude.{◌≡◌, ◌≤◌, ◌<◌, ◌∷◌, ◌++◌, [], false, if◌then◌else◌, length, Some, None, IfSome, IfOk, OnErr};
-ghost use Rattle.std.specs.Prelude.{option_map, option_and_then, option_copied, slice_get, Ok};
-ghost use Rattle.std.specs.List.{position};
+ghost use Rattle.std.specs.Prelude.{◌≡◌, ◌≤◌, ◌<◌, ◌∷◌, ◌++◌, [], false, if◌then◌else◌, length, Some, None, IfSome, IfOk, OnErr, OnOk};
+ghost use Rattle.std.specs.Prelude.{option_map, option_and_then, option_copied, slice_get, Ok, ◌^◌, count_by, filter_map};
+ghost use Rattle.std.specs.List.{list_any, position};
 ghost use Rattle.std.specs.Option.{option_map_or};
 ghost use Rattle.wf_value.specs.Gives.{Gives};
-ghost use Rattle.run_table.specs.FirstOf.{changed_at};
+ghost use Rattle.needs_graph.specs.Results.{fails_job, gathered, is_cancelled};
+ghost use Rattle.run_table.specs.FirstOf.{changed_at, first_some, placed};
+ghost use Rattle.run_table.specs.Fitting.{is_served};
+ghost use Rattle.run_table.specs.LegContext.{facts_at};
 ghost use Rattle.run_table.specs.Places.{job_at, leg_at, plan_at, run_at, with_job, with_leg, with_run};
-ghost use Rattle.run_table.specs.Rules.{closing_rule, decided, leg_in_phase, leg_rule, opened, rule_at, run_in_phase, settled_as};
-ghost use Rattle.run_table.specs.Rules.{whole_rule};
+ghost use Rattle.run_table.specs.Rules.{closing_rule, decided, leg_end, leg_in_phase, leg_rule, opened, outcome_of, rule_at, run_in_phase};
+ghost use Rattle.run_table.specs.Rules.{settled_as, whole_rule};
+ghost use Rattle.run_table.specs.RunNumber.{events, run_number, same_workflow};
 ghost use Rattle.run_table.specs.Settling.{first_place, first_rule, settled};
 ghost use Rattle.run_table.specs.Step.{is_delivered_as, with_ended};
-ghost use Rattle.run_table.specs.WithinRun.{leg_place, next_leg};
-ghost use Rattle.run_table.specs.Words.{combo_at, is_stopping, job_id, planned_legs};
+ghost use Rattle.run_table.specs.WithinRun.{failing, leg_place, next_leg};
+ghost use Rattle.run_table.specs.Words.{combo_at, is_stopping, job_id, passes_over, planned_legs};
 
 use crate::first_place::{first_place, has_settled_jobs};
 use crate::fit::place_of_lease;
 use crate::job::Job;
 use crate::leg::Leg;
+use crate::leg_view::LegView;
 use crate::phases::{LegPhase, RunPhase};
 use crate::place::{LegPlace, Place};
 use crate::run::Run;
 use needs_graph::decide;
-use run_plan::{DeliveryId, Number, PlannedJob};
+use run_plan::{DeliveryId, Label, Number, PlannedJob};
 use std::alloc::Global;
 use std::marker::Model;
 use wf_value::{Chars, Combo, Condition, JobResult, Outcome, Refusal, TryCopy, copy_items};
@@ -32,17 +37,20 @@ pub const MOST_RUNS: usize = 100_000;
 #[derive(Drop)]
 pub struct Runs {
     runs: Vec<Run>,
+    /// The number of each, among the runs of its workflow.
+    numbers: Vec<usize>,
 }
 
 impl Model for Runs {
-    ghost use Rattle.std.specs.Prelude.{List, length, ◌≤◌};
+    ghost use Rattle.std.specs.Prelude.{List};
+    ghost use Rattle.run_table.specs.RunNumber.{AreNumbered};
     ghost use Rattle.run_table.specs.TableState.{RunState};
 
     ghost Value = { List RunState };
 
     ghost view = { λ r. r.runs.items };
 
-    ghost invariant = { λ r. length r.runs.items ≤ 100000 };
+    ghost invariant = { λ r. AreNumbered r.runs.items r.numbers.items };
 }
 
 impl Runs {
@@ -51,6 +59,7 @@ impl Runs {
     {
         Runs {
             runs: Vec::new(alloc),
+            numbers: Vec::new(alloc),
         }
     }
 
@@ -94,6 +103,54 @@ impl Runs {
         }
     }
 
+    /// The number of a run among the runs of its workflow.
+    pub(crate) fn number(&self, r: usize) -> Option<usize>
+        ensures { result ≡ option_map (run_number (events self.now) r) (slice_get (events self.now) r) }
+    {
+        number_at(&self.numbers, r)
+    }
+
+    /// The leg at a place, as it is planned.
+    #[tactic(auto, unfolding(crate::specs::LegContext::facts_at))]
+    fn leg_view(&self, place: LegPlace) -> Option<LegView<'_>>
+        requires leg { place.leg < 2 ^ 63 }
+        ensures { result ≡ facts_at (events self.now) place }
+    {
+        let run = self.runs.get(place.run)?;
+        let run_number = self.number(place.run)?;
+        let event = run.prepared();
+        let job = event.plan().as_slice().get(place.job)?;
+        Some(LegView {
+            event,
+            run_id: place.run + 1,
+            run_number,
+            job,
+            leg: place.leg,
+        })
+    }
+
+    /// Whether the leg asks for no label that these lack. It takes no memory.
+    pub(crate) fn is_served(&self, labels: &[Label], place: LegPlace) -> bool
+        requires leg { place.leg < 2 ^ 63 }
+        ensures { result ≡ is_served labels.now self.now place }
+    {
+        match self.leg_view(place) {
+            Some(leg) => leg.is_served(labels),
+            None => false,
+        }
+    }
+
+    /// Whether a failure of the leg is passed over. It takes no memory.
+    fn passes_over(&self, place: LegPlace) -> bool
+        requires leg { place.leg < 2 ^ 63 }
+        ensures { result ≡ passes_over self.now place }
+    {
+        match self.leg_view(place) {
+            Some(leg) => leg.passes_over(),
+            None => false,
+        }
+    }
+
     /// The place of the run of a delivery.
     pub(crate) fn position(&self, delivery: &DeliveryId) -> Option<usize>
         ensures found { result ≡ position (is_delivered_as delivery.now) self.now }
@@ -110,8 +167,8 @@ impl Runs {
         ensures added { Gives (λ _. self.new) result (Ok (self.old ++ run ∷ [])) }
         ensures err { OnErr result (self.new ≡ self.old) }
     {
-        self.runs.push(run)?;
-        Ok(())
+        let number = count_same(&run, &self.runs) + 1;
+        push_both(&mut self.runs, &mut self.numbers, run, number)
     }
 
     pub(crate) fn set_run_phase(&mut self, r: usize, phase: RunPhase)
@@ -277,9 +334,49 @@ impl Runs {
         ensures { IfSome (option_and_then (closing_rule self.old r j) (job_at self.old r j)) (λ next. self.new ≡ next) }
     {
         if let Some(job) = self.job(r, j) {
-            let settled = job.result();
+            let settled = self.result(r, j, job.legs());
             self.settle_job(r, j, settled);
         }
+    }
+
+    /// The result of a job from its legs, as far as they have ended: a failure where a leg failed and is
+    /// not passed over, else cancelled where a leg was, else a success.
+    fn result(&self, r: usize, j: usize, legs: &[Leg]) -> JobResult
+        ensures { result ≡ gathered (filter_map (leg_end self.now r j) (placed legs.now)) }
+    {
+        if self.failing_leg(r, j, legs).is_some() {
+            JobResult::Failure
+        } else if any_was_cancelled(legs) {
+            JobResult::Cancelled
+        } else {
+            JobResult::Success
+        }
+    }
+
+    /// Whether the leg fails its job.
+    fn fails_job(&self, place: LegPlace, leg: &Leg) -> bool
+        requires leg { place.leg < 2 ^ 63 }
+        ensures { result ≡ option_map_or fails_job (leg_end self.now place.run place.job (place.leg, leg.now)) false }
+    {
+        leg.has_failed() && !self.passes_over(place)
+    }
+
+    /// The first leg that fails its job.
+    fn failing_leg(&self, r: usize, j: usize, legs: &[Leg]) -> Option<usize>
+        ensures { result ≡ first_some (failing self.now r j) (placed legs.now) }
+    {
+        for l in 0..legs.len() {
+            let place = LegPlace {
+                run: r,
+                job: j,
+                leg: l,
+            };
+            let leg = &legs[l];
+            if self.fails_job(place, leg) {
+                return Some(l);
+            }
+        }
+        None
     }
 
     /// The run goes on to its next phase, where it has one.
@@ -298,6 +395,7 @@ impl TryCopy for Runs {
     fn copy(&self, alloc: Global) -> Result<Self, Refusal> {
         Ok(Runs {
             runs: copy_items(alloc, &self.runs)?,
+            numbers: Vec::from_slice(alloc, self.numbers.as_slice())?,
         })
     }
 }
@@ -309,6 +407,61 @@ fn combo_of(alloc: Global, planned: &PlannedJob, l: usize) -> Result<Combo, Refu
         Some(leg) => leg.combo.copy(alloc),
         None => Ok(Combo::new(alloc)),
     }
+}
+
+fn any_was_cancelled(legs: &[Leg]) -> bool
+    ensures { result ≡ list_any (λ leg. option_map_or is_cancelled (outcome_of leg.phase) false) legs.now }
+{
+    legs.iter().any(|leg| leg.was_cancelled())
+}
+
+/// Adds a run and its number, or neither.
+fn push_both(
+    runs: &mut Vec<Run>,
+    numbers: &mut Vec<usize>,
+    run: Run,
+    number: usize,
+) -> Result<(), Refusal>
+    ensures run { Gives (λ _. runs.new.items) result (Ok (runs.old.items ++ run ∷ [])) }
+    ensures number { OnOk result (numbers.new.items ≡ numbers.old.items ++ number ∷ []) }
+    ensures same_runs { OnErr result (runs.new.items ≡ runs.old.items) }
+    ensures same_numbers { OnErr result (numbers.new.items ≡ numbers.old.items) }
+{
+    numbers.push(number)?;
+    match runs.push(run) {
+        Ok(()) => Ok(()),
+        Err(error) => {
+            let _ = numbers.pop();
+            Err(Refusal::from(error))
+        }
+    }
+}
+
+fn number_at(numbers: &[usize], r: usize) -> Option<usize>
+    ensures { result ≡ slice_get numbers.now r }
+{
+    match numbers.get(r) {
+        Some(number) => Some(*number),
+        None => None,
+    }
+}
+
+fn is_same_workflow(a: &Run, b: &Run) -> bool
+    ensures { result ≡ same_workflow a.now.admitted b.now.admitted }
+{
+    let one = a.prepared();
+    let other = b.prepared();
+    one.repo().as_str() == other.repo().as_str() && one.path().as_str() == other.path().as_str()
+}
+
+/// How many of the runs are of the same workflow.
+fn count_same(run: &Run, runs: &[Run]) -> usize
+    ensures count { result ≡ count_by (λ other. same_workflow run.now.admitted other.admitted) runs.now }
+    ensures most { result ≤ length runs.now }
+{
+    runs.iter()
+        .filter(|other| is_same_workflow(run, other))
+        .count()
 }
 
 fn position_of(runs: &[Run], delivery: &DeliveryId) -> Option<usize>

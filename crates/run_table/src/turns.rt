@@ -39,8 +39,8 @@ pub fn answer_to_claim(
 ) -> Result<Option<Reply>, Refusal>
     ensures gives { Gives (λ r. r) result
         (Ok (answer_of_turn (option_map (λ r. r.now) runner.entry) claim.now.number (is_last_claim claim.now))) }
-    ensures answers { needs_text (answer_of_turn (option_map (λ r. r.now) runner.entry) claim.now.number (is_last_claim claim.now)) ≡ false
-        → IsOk result }
+    ensures answers { let last = option_map (λ r. r.now) runner.entry in
+        needs_text (answer_of_turn last claim.now.number (is_last_claim claim.now)) ≡ false → IsOk result }
 {
     match runner {
         None => Ok(turn_answer(0, claim.number)),
@@ -58,8 +58,8 @@ pub fn answer_to_report(
 ) -> Result<Option<Reply>, Refusal>
     ensures gives { Gives (λ r. r) result
         (Ok (answer_of_turn (option_map (λ r. r.now) runner.entry) report.now.number (is_last_report report.now))) }
-    ensures answers { needs_text (answer_of_turn (option_map (λ r. r.now) runner.entry) report.now.number (is_last_report report.now)) ≡ false
-        → IsOk result }
+    ensures answers { let last = option_map (λ r. r.now) runner.entry in
+        needs_text (answer_of_turn last report.now.number (is_last_report report.now)) ≡ false → IsOk result }
 {
     match runner {
         None => Ok(turn_answer(0, report.number)),

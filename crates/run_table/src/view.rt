@@ -1,8 +1,9 @@
-ghost use Rattle.std.specs.Prelude.{◌≡◌, Ok, count_by};
+ghost use Rattle.std.specs.Prelude.{◌≡◌, Ok};
 ghost use Rattle.wf_value.specs.Gives.{Gives};
-ghost use Rattle.run_table.specs.ViewText.{same_workflow, seen_of, seen_text};
+ghost use Rattle.run_table.specs.ViewText.{seen_of, seen_text};
 
 use crate::run::Run;
+use crate::runs::Runs;
 use crate::view_text::{conclusion_word, push_jobs, status_word};
 use run_plan::Number;
 use std::alloc::Global;
@@ -42,31 +43,12 @@ impl<'a> RunView<'a> {
     }
 }
 
-fn is_same_workflow(a: &Run, b: &Run) -> bool
-    ensures { result ≡ same_workflow a.now b.now }
-{
-    let one = a.prepared();
-    let other = b.prepared();
-    one.repo().as_str() == other.repo().as_str() && one.path().as_str() == other.path().as_str()
-}
-
-fn count_same(run: &Run, runs: &[Run]) -> usize
-    ensures { result ≡ count_by (same_workflow run.now) runs.now }
-{
-    runs.iter()
-        .filter(|other| is_same_workflow(run, other))
-        .count()
-}
-
 /// What is seen of the run of an id. It takes no memory.
-pub fn look(runs: &[Run], id: Number) -> Option<RunView<'_>>
+pub fn look(runs: &Runs, id: Number) -> Option<RunView<'_>>
     ensures { result ≡ seen_of runs.now id }
 {
     let place = id.get() as usize - 1;
-    let run = runs.get(place)?;
-    Some(RunView {
-        id,
-        number: count_same(run, &runs[..place + 1]),
-        run,
-    })
+    let run = runs.as_slice().get(place)?;
+    let number = runs.number(place)?;
+    Some(RunView { id, number, run })
 }

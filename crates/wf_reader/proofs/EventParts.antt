@@ -4,6 +4,7 @@ use Rattle.serde_json.specs.Data.{Data}
 use Rattle.serde_json.specs.Find.{get, as_object}
 use Rattle.wf_value.specs.declared.code.Code.TheVariants.{WrongKind}
 use Rattle.wf_value.specs.declared.refusal.Refusal.{Refusal}
+use Rattle.wf_reader.specs.Contexts.{ContextObjects, contexts_in}
 use Rattle.wf_reader.specs.Event.{filled_text_faults, contexts_faults, inside_envelope, event_faults_in, event_in}
 use Rattle.wf_reader.specs.Faults.{unless_faulty, required}
 use Rattle.wf_reader.specs.Json.{text_in, member_at}
@@ -26,12 +27,14 @@ past_texts d x r p q repo path o first second later =
     skip (required WrongKind filled_text_faults (get (codes "repo") d)) _ p repo x r first (
     skip (required WrongKind filled_text_faults (get (codes "path") d)) (after_texts d) q path x r second later))
 
-abbrev event_with : List ℕ → List ℕ → Workflow → Event
-event_with repo path workflow = record { repo = repo; path = path; workflow = workflow }
+abbrev event_with : List ℕ → List ℕ → ContextObjects → Workflow → Event
+event_with repo path contexts workflow = record { repo = repo; path = path; contexts = contexts; workflow = workflow }
 
-pub event_made : (d : Data) (repo path : List ℕ) (w : Workflow) → text_in (member_at (codes "repo") d) ≡ repo
-    → text_in (member_at (codes "path") d) ≡ path → workflow_in (member_at (codes "workflow") d) ≡ w
-    → event_in d ≡ event_with repo path w
-event_made d repo path w p q r =
-    ap (λ t. event_with t (text_in (member_at (codes "path") d)) (workflow_in (member_at (codes "workflow") d))) p
-    ∙ ap (λ t. event_with repo t (workflow_in (member_at (codes "workflow") d))) q ∙ ap (event_with repo path) r
+pub event_made : (d : Data) (repo path : List ℕ) (c : ContextObjects) (w : Workflow) → text_in (member_at (codes "repo") d) ≡ repo
+    → text_in (member_at (codes "path") d) ≡ path → contexts_in d ≡ c → workflow_in (member_at (codes "workflow") d) ≡ w
+    → event_in d ≡ event_with repo path c w
+event_made d repo path c w p q r t =
+    ap (λ x. event_with x (text_in (member_at (codes "path") d)) (contexts_in d) (workflow_in (member_at (codes "workflow") d))) p
+    ∙ ap (λ x. event_with repo x (contexts_in d) (workflow_in (member_at (codes "workflow") d))) q
+    ∙ ap (λ x. event_with repo path x (workflow_in (member_at (codes "workflow") d))) r
+    ∙ ap (event_with repo path c) t

@@ -1,8 +1,13 @@
 pub mod BodyCases
+pub mod Contents
+pub mod ContextParts
+pub mod Entries
 pub mod EventParts
-pub mod Expressions
 pub mod InTurn
 pub mod JobFaults
+pub mod MatrixParts
 pub mod Members
 pub mod RunsOn
+pub mod StrategyParts
 mod Rows
+mod StrategyRows

@@ -6,6 +6,7 @@ use Rattle.serde_json.specs.Find.{get}
 use Rattle.wf_value.specs.declared.code.Code.TheVariants.{WrongKind}
 use Rattle.wf_value.specs.declared.refusal.Refusal.{Refusal}
 use Rattle.wf_reader.specs.Body.{body_value, body_faults}
+use Rattle.wf_reader.specs.Contexts.{contexts_in}
 use Rattle.wf_reader.specs.Faults.{fault_unless, in_turn, optional, required, object_faults, faults_within}
 use Rattle.wf_reader.specs.Json.{text_in, member_at}
 use Rattle.wf_reader.specs.Workflow.{workflow_faults_in, workflow_in}
@@ -31,6 +32,7 @@ abbrev pub event_in : Data → Event
 event_in d = record {
   repo = text_in (member_at (codes "repo") d);
   path = text_in (member_at (codes "path") d);
+  contexts = contexts_in d;
   workflow = workflow_in (member_at (codes "workflow") d);
 }
 

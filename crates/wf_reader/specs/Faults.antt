@@ -12,6 +12,11 @@ abbrev pub unless_faulty : {X : Type 0} → List Refusal → X → Result X Refu
 unless_faulty [] x = Ok x
 unless_faulty (f ∷ fs) x = Err f
 
+-- the refusal of what was refused
+abbrev pub outcome_faults : {X : Type 0} → Result X Refusal → List Refusal
+outcome_faults (Ok x) = []
+outcome_faults (Err e) = e ∷ []
+
 -- this one fault
 abbrev pub fault : Code → List Refusal
 fault code = Numbered code ∷ []

@@ -1,14 +1,20 @@
 -- A job of a workflow: what is wrong with it, and the job that it spells.
--- GitHub Docs, "Workflow syntax for GitHub Actions": jobs.<job_id> and jobs.<job_id>.runs-on.
-use Rattle.std.specs.Prelude.{ℕ, List, [], ◌∷◌, ◌++◌, length, Bool, false, not, ◌&&◌, ◌||◌, ◌==◌, nat_eq, nat_le, codes, map, flat_map}
+-- GitHub Docs, "Workflow syntax for GitHub Actions": jobs.<job_id>, its runs-on and its continue-on-error.
+use Rattle.std.specs.Prelude.{ℕ, List, [], ◌∷◌, ◌++◌, length, Bool, false, ◌&&◌, ◌||◌, ◌==◌, nat_le, codes, map, flat_map, option_map}
 use Rattle.std.specs.Char.{is_ascii_alphabetic, is_ascii_digit}
-use Rattle.std.specs.List.{list_all, starts_with}
+use Rattle.std.specs.List.{list_all}
 use Rattle.serde_json.specs.Data.{Data, null, boolean, number, string, array, object, no_items, item}
 use Rattle.serde_json.specs.Find.{get}
 use Rattle.wf_value.specs.declared.code.Code.TheVariants.{WrongKind, JobId, NoLabels, LeftOut}
 use Rattle.wf_value.specs.declared.refusal.Refusal.{Refusal}
-use Rattle.wf_reader.specs.Faults.{fault, fault_unless, in_turn, required, left_out, faults_within}
+use Rattle.wf_expr.specs.declared.piece.Piece.{Piece}
+use Rattle.wf_expr.specs.declared.place.Place.TheVariants as place
+use Rattle.wf_reader.specs.Faults.{fault, fault_unless, in_turn, optional, required, left_out, faults_within}
 use Rattle.wf_reader.specs.Json.{item_list, text_in, member_at}
+use Rattle.wf_reader.specs.Strategy.{strategy_faults, strategy_of}
+use Rattle.wf_reader.specs.Templates.{template_faults, template_in}
+use Rattle.wf_reader.specs.declared.flag.Flag.{Flag}
+use Rattle.wf_reader.specs.declared.flag.Flag.TheVariants.{Fixed, Template}
 use Rattle.wf_reader.specs.declared.job.Job.{Job}
 
 -- ---- jobs.<job_id>: a letter or `_` first, then these, digits and `-`; at most 100 bytes (own)
@@ -23,12 +29,7 @@ abbrev pub is_job_id : List ℕ → Bool
 is_job_id [] = false
 is_job_id (b ∷ bs) = is_id_start b && list_all is_id_part bs && nat_le (length (b ∷ bs)) 100
 
--- ---- runs-on: a text, or a list of texts, and no expression in a text
-
--- `${{` stands somewhere in the text
-abbrev pub has_expression : List ℕ → Bool
-has_expression [] = false
-has_expression (b ∷ bs) = starts_with nat_eq (b ∷ bs) (codes "${{") || has_expression bs
+-- ---- runs-on: a text, or a list of texts, and each a template
 
 -- a text alone is a list of one
 abbrev pub label_values : Data → List Data
@@ -43,7 +44,7 @@ abbrev pub label_faults : Data → List Refusal
 label_faults null = fault WrongKind
 label_faults (boolean b) = fault WrongKind
 label_faults (number n) = fault WrongKind
-label_faults (string t) = fault_unless (not (has_expression t)) LeftOut
+label_faults (string t) = template_faults place.Job t
 label_faults (array ds) = fault WrongKind
 label_faults (object ms) = fault WrongKind
 
@@ -57,24 +58,50 @@ labels_faults (array no_items) = fault NoLabels
 labels_faults (array (item d ds)) = flat_map label_faults (item_list (item d ds))
 labels_faults (object ms) = fault LeftOut
 
--- ---- the job
+abbrev pub label_in : Data → List Piece
+label_in d = template_in place.Job (text_in d)
 
--- each of these is left out, in this order
-abbrev pub members_left_out : Data → List Refusal
-members_left_out d = flat_map (λ name. left_out (get name d))
-    (codes "needs" ∷ codes "if" ∷ codes "continue-on-error" ∷ codes "concurrency" ∷ codes "strategy" ∷ [])
+abbrev pub labels_asked : Data → List (List Piece)
+labels_asked d = map label_in (label_values d)
+
+-- ---- continue-on-error: a truth value, or a text that is a template
+
+abbrev pub flag_faults : Data → List Refusal
+flag_faults null = fault WrongKind
+flag_faults (boolean b) = []
+flag_faults (number n) = fault WrongKind
+flag_faults (string t) = template_faults place.Job t
+flag_faults (array ds) = fault WrongKind
+flag_faults (object ms) = fault WrongKind
+
+-- a flag that is missing is not set
+abbrev pub flag_in : Data → Flag
+flag_in null = Fixed false
+flag_in (boolean b) = Fixed b
+flag_in (number n) = Fixed false
+flag_in (string t) = Template (template_in place.Job t)
+flag_in (array ds) = Fixed false
+flag_in (object ms) = Fixed false
+
+-- ---- the job: its members are checked in this order
 
 abbrev pub inside_job : Data → List Refusal
 inside_job d = in_turn (left_out (get (codes "uses") d)
     ∷ required NoLabels labels_faults (get (codes "runs-on") d)
-    ∷ members_left_out d ∷ [])
+    ∷ left_out (get (codes "needs") d)
+    ∷ left_out (get (codes "if") d)
+    ∷ optional flag_faults (get (codes "continue-on-error") d)
+    ∷ left_out (get (codes "concurrency") d)
+    ∷ optional strategy_faults (get (codes "strategy") d) ∷ [])
 
 -- of an id and its value
 abbrev pub job_faults : List ℕ × Data → List Refusal
 job_faults job = fault_unless (is_job_id job.0) JobId ++ faults_within inside_job job.1
 
-abbrev pub labels_asked : Data → List (List ℕ)
-labels_asked d = map text_in (label_values d)
-
 abbrev pub job_of : List ℕ × Data → Job
-job_of job = record { id = job.0; labels = labels_asked (member_at (codes "runs-on") job.1) }
+job_of job = record {
+  id = job.0;
+  labels = labels_asked (member_at (codes "runs-on") job.1);
+  continue_on_error = flag_in (member_at (codes "continue-on-error") job.1);
+  strategy = option_map strategy_of (get (codes "strategy") job.1);
+}

@@ -1,8 +1,10 @@
 -- What a value that `serde_json` reads holds, as lists. RFC 8259, sections 4, 5 and 7.
 -- An object has each name once, in the order of the names' bytes.
-use Rattle.std.specs.Prelude.{ℕ, List, [], ◌∷◌, unwrap_or}
-use Rattle.serde_json.specs.Data.{Data, null, Items, no_items, item, Members, no_members, member}
-use Rattle.serde_json.specs.Find.{get, as_str, as_object}
+use Rattle.std.specs.Prelude.{ℕ, List, [], ◌∷◌, unwrap_or, Option, Some, None, option_map}
+use Rattle.serde_json.specs.Data.{Data, null, boolean, number, string, array, object, Items, no_items, item, Members, no_members, member}
+use Rattle.serde_json.specs.Find.{get, as_i64, as_str, as_object}
+use Rattle.wf_value.specs.declared.scalar.Scalar.{Scalar}
+use Rattle.wf_value.specs.declared.scalar.Scalar.TheVariants.{Null, Truth, Whole, Text}
 
 abbrev pub item_list : Items → List Data
 item_list no_items = []
@@ -23,3 +25,12 @@ members_of d = member_list (unwrap_or (as_object d) no_members)
 -- the value of a member, and null where there is none
 abbrev pub member_at : List ℕ → Data → Data
 member_at name d = unwrap_or (get name d) null
+
+-- the scalar that a value is: null, a truth value, a signed whole number of 64 bits or a text
+abbrev pub scalar_in : Data → Option Scalar
+scalar_in null = Some Null
+scalar_in (boolean b) = Some (Truth b)
+scalar_in (number n) = option_map Whole (as_i64 n)
+scalar_in (string t) = Some (Text t)
+scalar_in (array ds) = None
+scalar_in (object ms) = None

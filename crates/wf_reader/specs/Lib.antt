@@ -1,7 +1,14 @@
 pub mod Body
+pub mod Contexts
 pub mod Event
 pub mod Faults
 pub mod Job
 pub mod JobCode
 pub mod Json
+pub mod JsonCode
+pub mod MatrixOf
+pub mod MatrixValues
+pub mod Patterns
+pub mod Strategy
+pub mod Templates
 pub mod Workflow

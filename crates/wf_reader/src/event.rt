@@ -11,6 +11,7 @@ ghost use Rattle.wf_reader.specs.Json.{member_at};
 ghost use Rattle.wf_reader.specs.Workflow.{workflow_faults_in, workflow_in};
 
 use crate::body::read_body;
+use crate::contexts::Contexts;
 use crate::fields::{check_contexts, read_filled_text, wrong_kind};
 use crate::workflow::{Workflow, workflow_in};
 use serde_json::Value;
@@ -24,6 +25,8 @@ pub struct Event {
     pub repo: Chars,
     /// Not empty. It names the workflow within the repository.
     pub path: Chars,
+    /// What the sender hands in for the contexts `github`, `inputs` and `vars`.
+    pub contexts: Contexts,
     pub workflow: Workflow,
 }
 
@@ -44,20 +47,21 @@ fn read_inner(alloc: Global, envelope: &Value) -> Result<Workflow, Refusal>
 }
 
 /// The event of a value, or the first of its faults.
-fn event_in(alloc: Global, value: &Value) -> Result<Event, Refusal>
+fn event_in(alloc: Global, value: Value) -> Result<Event, Refusal>
     ensures { Gives (λ e. e) result
-        (unless_faulty (event_faults_in (view value.now)) (event_in (view value.now))) }
+        (unless_faulty (event_faults_in (view value)) (event_in (view value))) }
 {
     if !value.is_object() {
         return Err(wrong_kind());
     }
-    let repo = read_filled_text(alloc, value, "repo")?;
-    let path = read_filled_text(alloc, value, "path")?;
-    check_contexts(value, &CONTEXTS)?;
-    let workflow = read_inner(alloc, value)?;
+    let repo = read_filled_text(alloc, &value, "repo")?;
+    let path = read_filled_text(alloc, &value, "path")?;
+    check_contexts(&value, &CONTEXTS)?;
+    let workflow = read_inner(alloc, &value)?;
     Ok(Event {
         repo,
         path,
+        contexts: Contexts::of_envelope(value),
         workflow,
     })
 }
@@ -75,5 +79,5 @@ pub fn read_event(alloc: Global, bytes: &[u8]) -> Result<Event, Refusal>
         → result ≡ Err (Numbered NotJson) }
 {
     let value = read_body(alloc, bytes)?;
-    event_in(alloc, &value)
+    event_in(alloc, value)
 }

@@ -37,16 +37,6 @@ pub fn refuse_left_out(object: &Value, name: &str) -> Result<(), Refusal>
     }
 }
 
-/// Refuses the first of the members that are left out.
-pub fn refuse_each_left_out(object: &Value, names: &[&str]) -> Result<(), Refusal>
-    ensures { result ≡ unless_faulty (flat_map (λ name. left_out (get name.now (view object.now))) names.now) tt }
-{
-    for name in names {
-        refuse_left_out(object, name)?;
-    }
-    Ok(())
-}
-
 /// Refuses a member that is there and no object (11).
 fn check_context(object: &Value, name: &str) -> Result<(), Refusal>
     ensures { result ≡ unless_faulty (optional object_faults (get name.now (view object.now))) tt }

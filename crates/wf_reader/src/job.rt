@@ -5,10 +5,13 @@ ghost use Rattle.wf_value.specs.Gives.{Gives};
 ghost use Rattle.wf_reader.specs.Faults.{unless_faulty};
 ghost use Rattle.wf_reader.specs.Job.{is_id_start, is_id_part, is_job_id, job_faults, job_of};
 
-use crate::fields::{refuse_each_left_out, refuse_left_out, wrong_kind};
+use crate::fields::{refuse_left_out, wrong_kind};
+use crate::flag::{Flag, read_flag};
 use crate::labels::read_runs_on;
+use crate::strategy::{Strategy, read_strategy};
 use serde_json::Value;
 use std::alloc::Global;
+use wf_expr::Template;
 use wf_value::{Chars, Code, Refusal, Sequence};
 
 /// A job of a workflow. GitHub Docs, "Workflow syntax for GitHub Actions", `jobs.<job_id>`.
@@ -16,20 +19,14 @@ use wf_value::{Chars, Code, Refusal, Sequence};
 pub struct Job {
     /// A letter or `_`, then letters, digits, `-` and `_`: 1 to 100 bytes.
     pub id: Chars,
-    /// What `runs-on` asks of a runner: one text at least.
-    pub labels: Sequence<Chars>,
+    /// What `runs-on` asks of a runner: one template at least.
+    pub labels: Sequence<Template>,
+    /// Whether the job may fail without failing its run. It is not set where the member is missing.
+    pub continue_on_error: Flag,
+    pub strategy: Option<Strategy>,
 }
 
 const MAX_ID: usize = 100;
-
-/// Left out, in the order of the checks; `uses` is refused before the labels are read.
-const LEFT_OUT: [&str; 5] = [
-    "needs",
-    "if",
-    "continue-on-error",
-    "concurrency",
-    "strategy",
-];
 
 fn is_start(byte: u8) -> bool
     ensures { result ≡ is_id_start byte }
@@ -73,9 +70,15 @@ pub fn read_job(alloc: Global, id: &str, value: &Value) -> Result<Job, Refusal>
     }
     refuse_left_out(value, "uses")?;
     let labels = read_runs_on(alloc, value)?;
-    refuse_each_left_out(value, &LEFT_OUT)?;
+    refuse_left_out(value, "needs")?;
+    refuse_left_out(value, "if")?;
+    let continue_on_error = read_flag(alloc, value, "continue-on-error")?;
+    refuse_left_out(value, "concurrency")?;
+    let strategy = read_strategy(alloc, value)?;
     Ok(Job {
         id: Chars::from_str(alloc, id)?,
         labels,
+        continue_on_error,
+        strategy,
     })
 }

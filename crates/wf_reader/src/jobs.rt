@@ -14,11 +14,9 @@ pub struct Jobs {
 impl Model for Jobs {
     ghost use Rattle.std.specs.Prelude.{List, IsTrue};
     ghost use Rattle.wf_reader.specs.declared.job.Job.{Job};
-    ghost use Rattle.wf_reader.specs.JobCode.{coded_jobs, ids_rise};
+    ghost use Rattle.wf_reader.specs.JobCode.{ids_rise};
 
     ghost Value = { List Job };
-
-    ghost coded = { coded_jobs };
 
     ghost view = { λ j. j.jobs.items };
 

@@ -4,39 +4,31 @@ ghost use Rattle.serde_json.specs.View.{view};
 ghost use Rattle.wf_value.specs.Gives.{Gives};
 ghost use Rattle.wf_value.specs.declared.code.Code.TheVariants.{NoLabels};
 ghost use Rattle.wf_reader.specs.Faults.{unless_faulty, required};
-ghost use Rattle.wf_reader.specs.Job.{has_expression, label_faults, labels_faults, labels_asked};
-ghost use Rattle.wf_reader.specs.Json.{text_in, member_at};
+ghost use Rattle.wf_reader.specs.Job.{label_faults, label_in, labels_faults, labels_asked};
+ghost use Rattle.wf_reader.specs.Json.{member_at};
 
 use crate::fields::wrong_kind;
+use crate::templates::read_template;
 use serde_json::Value;
 use std::alloc::Global;
-use wf_value::{Chars, Code, Refusal, Sequence};
+use wf_expr::Template;
+use wf_value::{Code, Refusal, Sequence};
 
-fn holds_expression(text: &str) -> bool
-    ensures { result ≡ has_expression text.now }
+/// One label: a text that is a template.
+fn read_label(alloc: Global, value: &Value) -> Result<Template, Refusal>
+    ensures { Gives (λ t. t) result (unless_faulty (label_faults (view value.now)) (label_in (view value.now))) }
 {
-    text.contains("${{")
-}
-
-/// One label: a text without an expression.
-fn read_label(alloc: Global, value: &Value) -> Result<Chars, Refusal>
-    ensures { Gives (λ c. c) result
-        (unless_faulty (label_faults (view value.now)) (text_in (view value.now))) }
-{
-    let Some(text) = value.as_str() else {
-        return Err(wrong_kind());
-    };
-    if holds_expression(text) {
-        return Err(Refusal::Numbered(Code::LeftOut));
+    match value.as_str() {
+        Some(text) => read_template(alloc, text),
+        None => Err(wrong_kind()),
     }
-    Chars::from_str(alloc, text)
 }
 
 /// Each label of a list, up to the first fault.
-fn read_labels(alloc: Global, values: &[Value]) -> Result<Vec<Chars>, Refusal>
+fn read_labels(alloc: Global, values: &[Value]) -> Result<Vec<Template>, Refusal>
     ensures { Gives (λ v. v.items) result
         (unless_faulty (flat_map (λ v. label_faults (view v)) values.now)
-        (map (λ v. text_in (view v)) values.now)) }
+        (map (λ v. label_in (view v)) values.now)) }
 {
     let mut labels = Vec::new(alloc);
     for value in values {
@@ -46,7 +38,7 @@ fn read_labels(alloc: Global, values: &[Value]) -> Result<Vec<Chars>, Refusal>
 }
 
 /// The labels that a value of `runs-on` asks for.
-fn labels_in(alloc: Global, value: &Value) -> Result<Vec<Chars>, Refusal>
+fn labels_in(alloc: Global, value: &Value) -> Result<Vec<Template>, Refusal>
     ensures { Gives (λ v. v.items) result
         (unless_faulty (labels_faults (view value.now)) (labels_asked (view value.now))) }
 {
@@ -64,8 +56,9 @@ fn labels_in(alloc: Global, value: &Value) -> Result<Vec<Chars>, Refusal>
     Ok(labels)
 }
 
-/// The labels of a job: `runs-on` is missing or an empty list 15, an object 16, of another kind 11.
-pub fn read_runs_on(alloc: Global, job: &Value) -> Result<Sequence<Chars>, Refusal>
+/// The labels of a job: `runs-on` is missing or an empty list 15, an object 16, of another kind 11, a text
+/// that is no template 17, and one with a context that a job may not use 18.
+pub fn read_runs_on(alloc: Global, job: &Value) -> Result<Sequence<Template>, Refusal>
     ensures { Gives (λ t. t) result
         (unless_faulty (required NoLabels labels_faults (get (codes "runs-on") (view job.now)))
         (labels_asked (member_at (codes "runs-on") (view job.now)))) }

@@ -1,17 +1,28 @@
-//! From the bytes of a body to the event or the workflow that it spells: an event's envelope, and
-//! workflows of plain jobs. What is wrong with a body is a list in a stated order, and the refusal
-//! is its first.
+//! From the bytes of a body to the event or the workflow that it spells: an event's envelope with its
+//! contexts, and workflows of plain jobs, whose labels are templates. What is wrong with a body is a list
+//! in a stated order, and the refusal is its first.
 #![tactic(auto)]
 
 mod body;
+mod contexts;
 mod event;
 mod fields;
+mod flag;
 mod job;
 mod jobs;
 mod labels;
+mod matrix;
+mod patterns;
+mod scalars;
+mod strategy;
+mod templates;
+mod values;
 mod workflow;
 
+pub use contexts::Contexts;
 pub use event::{Event, read_event};
+pub use flag::Flag;
 pub use job::Job;
 pub use jobs::Jobs;
+pub use strategy::Strategy;
 pub use workflow::{Workflow, read_workflow};

@@ -187,7 +187,7 @@ const EXPLAINED: &str = concat!(
 
 /// Words, the room on standard output, and how that ends over the first script: with 0 where all is well
 /// and after a help text, and with 2 after a fault of the words.
-const ROWS: [(&[&str], usize, Ended<'static>); 14] = [
+const ROWS: [(&[&str], usize, Ended<'static>); 15] = [
     (PLAY, 10_000, (0, Some(FIRST_ANSWERS), Some(""))),
     (HELP, 10_000, (0, None, Some(""))),
     (HELP, 0, FULL),
@@ -204,6 +204,7 @@ const ROWS: [(&[&str], usize, Ended<'static>); 14] = [
     (&["acts"], 10_000, FAULT),
     (&["acts", "serve"], 10_000, FAULT),
     (&["acts", "play", "script"], 10_000, FAULT),
+    (&["acts", "check", "workflow"], 10_000, FAULT),
     (&["acts", "--verbose", "play"], 10_000, FAULT),
     (&["acts", "explain"], 10_000, FAULT),
     (&["acts", "explain", "17", "18"], 10_000, FAULT),
@@ -222,6 +223,36 @@ const FAULT: Ended<'static> = (2, Some(""), None);
 fn ends_with_its_status(rt: HostRuntime) {
     for (words, room, ended) in ROWS {
         expect(&rt, rt.alloc(), words, FIRST, room, ended);
+    }
+}
+
+const MATRIX: &str =
+    "{\"jobs\":{\"b\":{\"runs-on\":\"linux\"},\"a\":{\"runs-on\":\"linux\",\"strategy\":{\"matrix\":{\"n\":[1,\"x\"]}}}}}";
+
+/// A workflow, the room on standard output, and how its check ends.
+const CHECKS: [(&str, usize, Ended<'static>); 4] = [
+    (
+        MATRIX,
+        10_000,
+        (
+            0,
+            Some("a 0 {\"n\":1}\na 1 {\"n\":\"x\"}\nb 0 {}\n"),
+            Some(""),
+        ),
+    ),
+    (MATRIX, 10, FULL),
+    ("[", 10_000, (1, Some(""), Some("acts: refused 10\n"))),
+    (
+        "{\"jobs\":{\"a\":{\"runs-on\":\"x\",\"strategy\":{\"matrix\":{}}}}}",
+        10_000,
+        (1, Some(""), Some("acts: refused 22\n")),
+    ),
+];
+
+#[test]
+fn ends_a_check_with_its_status(rt: HostRuntime) {
+    for (workflow, room, ended) in CHECKS {
+        expect(&rt, rt.alloc(), &["acts", "check"], workflow, room, ended);
     }
 }
 

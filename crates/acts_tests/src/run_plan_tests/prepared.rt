@@ -2,6 +2,7 @@ use crate::run_plan_tests::{BODY, body_of, delivery, event, expect_done, expect_
 use run_plan::{Plan, plan, prepare};
 use std::alloc::Global;
 use std::process::Abort;
+use wf_expr::{Piece, Template};
 use wf_reader::read_workflow;
 use wf_value::Refusal;
 
@@ -16,7 +17,15 @@ fn expect_job(rt: &impl Abort, plan: &Plan, place: usize, id: &str, labels: &[&s
     let found = job.labels.as_slice();
     assert_eq!(rt; found.len(), labels.len());
     for (label, want) in found.iter().zip(labels) {
-        assert_eq!(rt; label.as_str(), *want);
+        assert_eq!(rt; text_of(label), *want);
+    }
+}
+
+/// The text of a template without expressions.
+fn text_of(template: &Template) -> &str {
+    match template.pieces() {
+        [Piece::Plain(text)] => text.as_str(),
+        _ => "",
     }
 }
 
@@ -45,7 +54,7 @@ fn plans(rt: &impl Abort, alloc: Global) -> Result<(), Refusal> {
     let text =
         "{\"jobs\":{\"b\":{\"runs-on\":[\"linux\",\"x64\"]},\"B\":{\"runs-on\":\"gpu\"},\"a\":{\"runs-on\":\"\"}}}";
     let workflow = read_workflow(alloc, text.as_bytes())?;
-    let plan = plan(alloc, &workflow)?;
+    let plan = plan(alloc, workflow)?;
     assert_eq!(rt; plan.as_slice().len(), 3);
     expect_job(rt, &plan, 0, "B", &["gpu"]);
     expect_job(rt, &plan, 1, "a", &[""]);
@@ -75,33 +84,52 @@ fn number_of_refusal(alloc: Global, body: Vec<u8>) -> Result<u64, Refusal> {
     }
 }
 
+/// Bodies and their first faults. A job with a strategy is refused after every other fault.
+const REFUSED: [(&str, u64); 12] = [
+    (BODY, 0),
+    ("[", 10),
+    ("{}", 11),
+    (
+        "{\"repo\":\"\",\"path\":\"p\",\"workflow\":{\"jobs\":{\"a\":{\"runs-on\":\"x\"}}}}",
+        11,
+    ),
+    (
+        "{\"repo\":\"r\",\"path\":\"p\",\"workflow\":{\"jobs\":{\"1a\":{\"runs-on\":\"x\"}}}}",
+        12,
+    ),
+    (
+        "{\"repo\":\"r\",\"path\":\"p\",\"workflow\":{\"jobs\":{\"a\":{}}}}",
+        15,
+    ),
+    (
+        "{\"repo\":\"r\",\"path\":\"p\",\"workflow\":{\"jobs\":{\"a\":{\"runs-on\":\"x\",\"needs\":\"a\"}}}}",
+        16,
+    ),
+    (
+        "{\"repo\":\"r\",\"path\":\"p\",\"workflow\":{\"jobs\":{\"1a\":{},\"b\":{\"uses\":1}}}}",
+        12,
+    ),
+    (
+        "{\"repo\":\"r\",\"path\":\"p\",\"workflow\":{\"jobs\":{\"a\":{\"runs-on\":\"x\",\"strategy\":{}}}}}",
+        16,
+    ),
+    (
+        "{\"repo\":\"r\",\"path\":\"p\",\"workflow\":{\"jobs\":{\"a\":{\"runs-on\":\"x\",\"strategy\":{}},\"b\":{}}}}",
+        15,
+    ),
+    (
+        "{\"repo\":\"r\",\"path\":\"p\",\"workflow\":{\"jobs\":{\"a\":{\"runs-on\":\"x\",\"strategy\":{\"matrix\":{}}}}}}",
+        22,
+    ),
+    (
+        "{\"repo\":\"r\",\"path\":\"p\",\"workflow\":{\"jobs\":{\"a\":{\"runs-on\":\"x\",\"strategy\":{}},\
+        \"b\":{\"runs-on\":\"x\",\"strategy\":{\"matrix\":{\"include\":[]}}}}}}",
+        22,
+    ),
+];
+
 fn refuses(rt: &impl Abort, alloc: Global) -> Result<(), Refusal> {
-    let rows = [
-        (BODY, 0),
-        ("[", 10),
-        ("{}", 11),
-        (
-            "{\"repo\":\"\",\"path\":\"p\",\"workflow\":{\"jobs\":{\"a\":{\"runs-on\":\"x\"}}}}",
-            11,
-        ),
-        (
-            "{\"repo\":\"r\",\"path\":\"p\",\"workflow\":{\"jobs\":{\"1a\":{\"runs-on\":\"x\"}}}}",
-            12,
-        ),
-        (
-            "{\"repo\":\"r\",\"path\":\"p\",\"workflow\":{\"jobs\":{\"a\":{}}}}",
-            15,
-        ),
-        (
-            "{\"repo\":\"r\",\"path\":\"p\",\"workflow\":{\"jobs\":{\"a\":{\"runs-on\":\"x\",\"needs\":\"a\"}}}}",
-            16,
-        ),
-        (
-            "{\"repo\":\"r\",\"path\":\"p\",\"workflow\":{\"jobs\":{\"1a\":{},\"b\":{\"uses\":1}}}}",
-            12,
-        ),
-    ];
-    for (body, want) in rows {
+    for (body, want) in REFUSED {
         assert_eq!(rt;
             number_of_refusal(alloc, body_of(alloc, body)?)?,
             want,

@@ -1,6 +1,7 @@
-use Rattle.std.proofs.Common.{arith, ap, sym, ◌∙◌, below_more, ◌≡◌, true, false, rules}
+use Rattle.std.proofs.Common.{sym, ◌∙◌, below_more, ◌≡◌, ℕ, true, false, rules}
 use Rattle.std.specs.Prelude.{is_some}
-use Rattle.run_table.specs.WithinRun.{fit_in_run}
+use Rattle.run_table.specs.TableState.{RunState}
+use Rattle.run_table.specs.WithinRun.{fit_in_jobs}
 use Rattle.run_table.proofs.Firsts.{answer_found, answer_passed, none_found}
 use Rattle.run_table.proofs.Sought.{first_fit_by_run}
 use Rattle.run_table.proofs.fit.first_fit.Goals as goal
@@ -10,17 +11,18 @@ returns-then-is_some-clause-found c =
     let some : is_some c.fit_in_run-place.result ≡ true = search rules in
     sym (first_fit_by_run c.args.labels.now c.args.runs.now
     ∙ answer_found
-    (fit_in_run c.args.labels.now) c.args.runs.now c.loop-r.r c.index-runs-r.result c.fit_in_run-place.result c.loop-r.invariant
-    (omega arith) c.index-runs-r.is c.fit_in_run-place.ensures.found some)
+    (λ (r : ℕ) (run : RunState). fit_in_jobs c.args.labels.now c.args.runs.now r run.jobs) c.args.runs.now c.loop-r.r c.index-all-r.result
+    c.fit_in_run-place.result c.loop-r.invariant (search rules) (search rules) c.fit_in_run-place.ensures.found some)
 
 pub loop-r-preserved : goal.loop-r-preserved
 loop-r-preserved c =
     let none : is_some c.fit_in_run-place.result ≡ false = search rules in
     below_more _ _ c.loop-r.invariant
-    (answer_passed (fit_in_run c.args.labels.now) c.args.runs.now c.loop-r.r c.index-runs-r.result c.fit_in_run-place.result
-    (omega arith) c.index-runs-r.is c.fit_in_run-place.ensures.found none)
+    (answer_passed (λ (r : ℕ) (run : RunState). fit_in_jobs c.args.labels.now c.args.runs.now r run.jobs) c.args.runs.now c.loop-r.r
+    c.index-all-r.result c.fit_in_run-place.result (search rules) (search rules) c.fit_in_run-place.ensures.found none)
 
 pub returns-clause-found : goal.returns-clause-found
 returns-clause-found c =
     sym (first_fit_by_run c.args.labels.now c.args.runs.now
-    ∙ none_found (fit_in_run c.args.labels.now) c.args.runs.now c.loop-r.r c.loop-r.invariant (omega arith))
+    ∙ none_found (λ (r : ℕ) (run : RunState). fit_in_jobs c.args.labels.now c.args.runs.now r run.jobs) c.args.runs.now c.loop-r.r
+    c.loop-r.invariant (search rules))

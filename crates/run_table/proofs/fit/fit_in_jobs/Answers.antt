@@ -1,5 +1,5 @@
-use Rattle.std.proofs.Common.{arith, ap, sym, ◌∙◌, below_more, ◌≡◌, ℕ, true, false, rules}
-use Rattle.std.specs.Prelude.{is_some, option_and_then, slice_get}
+use Rattle.std.proofs.Common.{arith, sym, ◌∙◌, below_more, ◌≡◌, ℕ, true, false, rules}
+use Rattle.std.specs.Prelude.{is_some}
 use Rattle.run_table.specs.Cells.{JobCells}
 use Rattle.run_table.specs.TableState.{JobState}
 use Rattle.run_table.specs.WithinRun.{fit_in_job}
@@ -8,28 +8,24 @@ use Rattle.run_table.proofs.fit.fit_in_jobs.Goals as goal
 
 pub returns-then-is_some-clause-found : goal.returns-then-is_some-clause-found
 returns-then-is_some-clause-found c =
-    let some : is_some c.fit_as_planned-place.result ≡ true = search rules in
-    sym (first_placed-map
-    (λ (j : ℕ) (job : JobState). option_and_then (λ planned. fit_in_job c.args.labels.now planned c.args.r j job)
-    (slice_get c.args.plan.now j)) (λ (x : JobCells). x.state) c.args.jobs.now
+    let some : is_some c.fit_in_job-place.result ≡ true = search rules in
+    sym (first_placed-map (λ (j : ℕ) (job : JobState). fit_in_job c.args.labels.now c.args.runs.now c.args.r j job)
+    (λ (x : JobCells). x.state) c.args.jobs.now
     ∙ answer_found
-    (λ j job. option_and_then (λ planned. fit_in_job c.args.labels.now planned c.args.r j job.state)
-    (slice_get c.args.plan.now j)) c.args.jobs.now c.loop-j.j c.index-jobs-j.result c.fit_as_planned-place.result c.loop-j.invariant
-    (omega arith) c.index-jobs-j.is c.fit_as_planned-place.ensures.found some)
+    (λ j job. fit_in_job c.args.labels.now c.args.runs.now c.args.r j job.state) c.args.jobs.now c.loop-j.j c.index-jobs-j.result
+    c.fit_in_job-place.result c.loop-j.invariant (omega arith) c.index-jobs-j.is c.fit_in_job-place.ensures.found some)
 
 pub loop-j-preserved : goal.loop-j-preserved
 loop-j-preserved c =
-    let none : is_some c.fit_as_planned-place.result ≡ false = search rules in
+    let none : is_some c.fit_in_job-place.result ≡ false = search rules in
     below_more _ _ c.loop-j.invariant
     (answer_passed
-    (λ j job. option_and_then (λ planned. fit_in_job c.args.labels.now planned c.args.r j job.state)
-    (slice_get c.args.plan.now j)) c.args.jobs.now c.loop-j.j c.index-jobs-j.result c.fit_as_planned-place.result
-    (omega arith) c.index-jobs-j.is c.fit_as_planned-place.ensures.found none)
+    (λ j job. fit_in_job c.args.labels.now c.args.runs.now c.args.r j job.state) c.args.jobs.now c.loop-j.j c.index-jobs-j.result
+    c.fit_in_job-place.result (omega arith) c.index-jobs-j.is c.fit_in_job-place.ensures.found none)
 
 pub returns-clause-found : goal.returns-clause-found
 returns-clause-found c =
-    sym (first_placed-map
-    (λ (j : ℕ) (job : JobState). option_and_then (λ planned. fit_in_job c.args.labels.now planned c.args.r j job)
-    (slice_get c.args.plan.now j)) (λ (x : JobCells). x.state) c.args.jobs.now
-    ∙ none_found (λ j job. option_and_then (λ planned. fit_in_job c.args.labels.now planned c.args.r j job.state)
-    (slice_get c.args.plan.now j)) c.args.jobs.now c.loop-j.j c.loop-j.invariant (omega arith))
+    sym (first_placed-map (λ (j : ℕ) (job : JobState). fit_in_job c.args.labels.now c.args.runs.now c.args.r j job)
+    (λ (x : JobCells). x.state) c.args.jobs.now
+    ∙ none_found (λ j job. fit_in_job c.args.labels.now c.args.runs.now c.args.r j job.state) c.args.jobs.now c.loop-j.j
+    c.loop-j.invariant (omega arith))

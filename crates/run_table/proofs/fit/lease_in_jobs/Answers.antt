@@ -1,5 +1,5 @@
-use Rattle.std.proofs.Common.{arith, ap, sym, ◌∙◌, below_more, ◌≡◌, ℕ, true, false, rules}
-use Rattle.std.specs.Prelude.{is_some, option_and_then, slice_get}
+use Rattle.std.proofs.Common.{arith, sym, ◌∙◌, below_more, ◌≡◌, ℕ, true, false, rules}
+use Rattle.std.specs.Prelude.{is_some}
 use Rattle.run_table.specs.Cells.{JobCells}
 use Rattle.run_table.specs.TableState.{JobState}
 use Rattle.run_table.specs.WithinRun.{lease_in_job}

@@ -1,4 +1,4 @@
-use Rattle.std.proofs.Common.{arith, ap, sym, ◌∙◌, below_more, ◌≡◌, true, false, rules}
+use Rattle.std.proofs.Common.{arith, sym, ◌∙◌, below_more, ◌≡◌, true, false, rules}
 use Rattle.std.specs.Prelude.{is_some}
 use Rattle.run_table.specs.WithinRun.{lease_in_run}
 use Rattle.run_table.proofs.Firsts.{answer_found, answer_passed, none_found}

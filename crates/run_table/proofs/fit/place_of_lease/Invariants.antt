@@ -1,4 +1,3 @@
-use Rattle.std.specs.Prelude.{option_and_then, slice_get}
 use Rattle.run_table.specs.WithinRun.{lease_in_run}
 use Rattle.run_table.proofs.Firsts.{NoneBefore}
 use Rattle.run_table.proofs.fit.place_of_lease.Given as goal

@@ -11,9 +11,17 @@ use Rattle.wf_reader.proofs.JobFaults.{inside_object}
 use Rattle.wf_reader.proofs.EventParts.{past_texts, event_made}
 use Rattle.wf_reader.proofs.event.event_in.Goals as goal
 
+pub returns-in_err-repo : goal.returns-in_err-repo
+returns-in_err-repo c =
+    let d = view c.args.value in
+    passed_on _ _ _ _ c.in_err-repo.field-0.0 c.from_residual.ensures.1
+    c.in_err-repo.ensures (λ refused.
+    inside_object inside_envelope d _ _ c.if-not-is_object.ensures (
+    first_decides (required WrongKind filled_text_faults (get (codes "repo") d)) _ _ _ _ refused))
+
 pub returns-in_err-path : goal.returns-in_err-path
 returns-in_err-path c =
-    let d = view c.args.value.now in
+    let d = view c.args.value in
     passed_on _ _ _ _ c.in_err-path.field-0.0 c.from_residual-in_err-path.ensures.1
     c.in_err-path.ensures (λ refused.
     inside_object inside_envelope d _ _ c.if-not-is_object.ensures (
@@ -22,7 +30,7 @@ returns-in_err-path c =
 
 pub returns-in_err-check_contexts : goal.returns-in_err-check_contexts
 returns-in_err-check_contexts c =
-    let d = view c.args.value.now in
+    let d = view c.args.value in
     passed_on _ _ _ _ c.in_err-check_contexts.field-0.0 c.from_residual-in_err-check_contexts.ensures.1
     (inr (sym c.in_err-check_contexts.ensures)) (λ refused.
     past_texts d _ _ _ _ _ _ c.if-not-is_object.ensures c.in_ok-repo.ensures c.in_ok-path.ensures (
@@ -30,7 +38,7 @@ returns-in_err-check_contexts c =
 
 pub returns-in_err-workflow : goal.returns-in_err-workflow
 returns-in_err-workflow c =
-    let d = view c.args.value.now in
+    let d = view c.args.value in
     passed_on _ _ _ _ c.in_err-workflow.field-0.0 c.from_residual-in_err-workflow.ensures.1
     c.in_err-workflow.ensures (λ refused.
     past_texts d _ _ _ _ _ _ c.if-not-is_object.ensures c.in_ok-repo.ensures c.in_ok-path.ensures (
@@ -39,10 +47,11 @@ returns-in_err-workflow c =
 
 pub returns : goal.returns
 returns c =
-    let d = view c.args.value.now in
+    let d = view c.args.value in
     past_texts d _ _ _ _ _ _ c.if-not-is_object.ensures c.in_ok-repo.ensures c.in_ok-path.ensures (
     skip (contexts_faults d) _ _ _ _ _ (sym c.in_ok-check_contexts.ensures) (
     skip (required WrongKind workflow_faults_in (get (codes "workflow") d)) _ _ _ _ _ c.in_ok-workflow.ensures (
-    ap Ok (event_made d _ _ _ (same_value (required WrongKind filled_text_faults (get (codes "repo") d)) _ _ c.in_ok-repo.ensures)
+    ap Ok (event_made d _ _ _ _ (same_value (required WrongKind filled_text_faults (get (codes "repo") d)) _ _ c.in_ok-repo.ensures)
     (same_value (required WrongKind filled_text_faults (get (codes "path") d)) _ _ c.in_ok-path.ensures)
+    (sym c.of_envelope.ensures)
     (same_value (required WrongKind workflow_faults_in (get (codes "workflow") d)) _ _ c.in_ok-workflow.ensures)))))

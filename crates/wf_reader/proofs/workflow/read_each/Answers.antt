@@ -1,22 +1,24 @@
-use Rattle.std.proofs.Common.{IsTrue, sym, subst}
+use Rattle.std.proofs.Common.{IsTrue, refl, sym, subst}
 use Rattle.wf_reader.specs.JobCode.{ids_rise}
 use Rattle.wf_value.proofs.PassedOn.{passed_on}
-use Rattle.wf_reader.proofs.Members.{turn_fails, turn_left, turn_done, all_done, ids_rise-sorted}
+use Rattle.wf_reader.specs.Job.{job_faults, job_of}
+use Rattle.wf_reader.proofs.Entries.{turn_fails, turn_left, turn_done, all_done, rises-sorted}
 use Rattle.wf_reader.proofs.workflow.read_each.Goals as goal
 
 pub returns-in_err-read_job : goal.returns-in_err-read_job
 returns-in_err-read_job c =
     passed_on _ _ _ _ c.in_err-read_job.field-0.0 c.from_residual.ensures.1
     c.in_err-read_job.ensures (λ refused.
-    turn_fails c.args.members.now.entries c.loop-id.id-iterator c.next.new.self (c.in-Some.id.now, c.in-Some.value.now)
+    turn_fails job_faults job_of c.args.members.now.entries c.loop-id.id-iterator c.next.new.self (c.in-Some.id.now, c.in-Some.value.now)
     c.as_str.result.now _ _ c.loop-id.invariant.left c.in-Some.ensures.steps c.as_str.ensures.value refused)
 
 pub loop-id-preserved : goal.loop-id-preserved
 loop-id-preserved c =
     record {
-      left = turn_left c.args.members.now.entries c.loop-id.id-iterator c.next.new.self (c.in-Some.id.now, c.in-Some.value.now)
-          c.as_str.result.now _ c.loop-id.invariant.left c.in-Some.ensures.steps c.as_str.ensures.value c.in_ok-read_job.ensures;
-      done = turn_done c.args.members.now.entries c.loop-id.id-iterator c.next.new.self c.loop-id.jobs.items _
+      left = turn_left job_faults job_of c.args.members.now.entries c.loop-id.id-iterator c.next.new.self
+          (c.in-Some.id.now, c.in-Some.value.now) c.as_str.result.now _ c.loop-id.invariant.left
+          c.in-Some.ensures.steps c.as_str.ensures.value c.in_ok-read_job.ensures;
+      done = turn_done job_faults job_of c.args.members.now.entries c.loop-id.id-iterator c.next.new.self c.loop-id.jobs.items _
           (c.in-Some.id.now, c.in-Some.value.now) c.as_str.result.now _ c.loop-id.invariant.done c.in_ok-push.ensures.items
           c.in-Some.ensures.steps c.as_str.ensures.value c.in_ok-read_job.ensures;
     }
@@ -24,5 +26,6 @@ loop-id-preserved c =
 pub new-requires : goal.new-requires
 new-requires c =
     subst (λ js. IsTrue (ids_rise js)) (sym
-    (all_done c.args.members.now.entries c.loop-id.id-iterator c.loop-id.jobs.items c.loop-id.invariant.done
-    c.in-None.ensures.steps.0)) (ids_rise-sorted c.args.members.now.entries c.into_iter-id-iterator.ensures.into_iter_gives.5)
+    (all_done job_faults job_of c.args.members.now.entries c.loop-id.id-iterator c.loop-id.jobs.items c.loop-id.invariant.done
+    c.in-None.ensures.steps.0))
+    (rises-sorted (λ j. j.id) _ (λ e. refl) c.args.members.now.entries c.into_iter-id-iterator.ensures.into_iter_gives.5)

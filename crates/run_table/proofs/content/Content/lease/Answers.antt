@@ -1,4 +1,4 @@
-use Rattle.std.proofs.Common.{◌≡◌, ap, sym, ◌∙◌, Ok}
+use Rattle.std.proofs.Common.{ap, ◌∙◌, Ok}
 use Rattle.run_table.specs.Places.{with_leg}
 use Rattle.run_table.proofs.Doors.{given}
 use Rattle.run_table.proofs.Leased.{leased_table}

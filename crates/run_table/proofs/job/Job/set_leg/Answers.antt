@@ -1,4 +1,4 @@
-use Rattle.std.proofs.Common.{◌≡◌, ◌≤◌, length, true, arith, rules}
+use Rattle.std.proofs.Common.{◌≡◌, ◌≤◌, length, true, rules}
 use Rattle.run_table.proofs.Doors.{leg_written, no_leg_written}
 use Rattle.run_table.proofs.job.Job.set_leg.Goals.{else-self-via-then-self+else-l-len, else-self-via-else-self}
 use Rattle.run_table.proofs.job.Job.set_leg.Goals as goal

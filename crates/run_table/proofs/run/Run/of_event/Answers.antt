@@ -1,8 +1,7 @@
-use Rattle.std.proofs.Common.{◌≡◌, ap, ◌∙◌, sym, Ok}
+use Rattle.std.proofs.Common.{ap, ◌∙◌, sym, Ok}
 use Rattle.std.specs.Prelude.{map, false}
 use Rattle.run_plan.specs.PlanOf.{plan_of}
 use Rattle.run_table.specs.Cells.{blocked_cells, rooms, states, legs_planned}
-use Rattle.run_table.specs.TableState.{RunState}
 use Rattle.run_table.specs.declared.phases.RunPhase.TheVariants as run
 use Rattle.run_table.proofs.Doors.{given, blocked_rooms, blocked_states}
 use Rattle.run_table.proofs.run.Run.of_event.Goals as goal

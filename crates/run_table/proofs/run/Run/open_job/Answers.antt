@@ -1,4 +1,4 @@
-use Rattle.std.proofs.Common.{◌≡◌, ap, ◌∙◌, rules}
+use Rattle.std.proofs.Common.{ap, ◌∙◌, rules}
 use Rattle.run_plan.specs.PlanOf.{plan_of}
 use Rattle.run_table.specs.FirstOf.{changed_at}
 use Rattle.run_table.specs.Rules.{opened}

@@ -1,4 +1,4 @@
-use Rattle.std.proofs.Common.{◌≡◌, ap, ◌∙◌, rules}
+use Rattle.std.proofs.Common.{ap, ◌∙◌, rules}
 use Rattle.run_table.specs.FirstOf.{changed_at}
 use Rattle.run_table.specs.Rules.{settled_as}
 use Rattle.run_table.proofs.Doors.{rooms_kept, states_written, run_with_jobs, run_without_job}

@@ -1,6 +1,5 @@
-use Rattle.std.proofs.Common.{◌≡◌, ap, sym, ◌∙◌}
+use Rattle.std.proofs.Common.{ap, sym, ◌∙◌}
 use Rattle.std.specs.Prelude.{Some, None, if◌then◌else◌}
-use Rattle.run_table.specs.Settling.{first_rule}
 use Rattle.run_table.proofs.Lowered.{first_rule_lowers}
 use Rattle.run_table.proofs.Rests.{settled_after_rule, settled_at_rest}
 use Rattle.run_table.proofs.runs.Runs.settle.Goals as goal

@@ -1,0 +1,311 @@
+//! `acts check`, through `run_check`: workflows and the lines of their legs.
+
+use crate::acts_cli_tests::{FailingReader, FailingWriter, number_of};
+use crate::given::spelled;
+use acts_cli::{MOST_BYTES, run_check};
+use std::alloc::Global;
+use std::process::Abort;
+use std::test::Fail;
+use wf_value::Refusal;
+
+/// What is printed of a workflow.
+fn checked(alloc: Global, workflow: &[u8]) -> Result<Vec<u8>, Refusal> {
+    let mut reader = workflow;
+    let mut printed = Vec::new(alloc);
+    run_check(alloc, &mut reader, &mut printed)?;
+    Ok(printed)
+}
+
+/// The nine jobs that the documentation's exclude example gives. GitHub Docs, "Running variations of jobs
+/// in a workflow". Variables and names stand in the order of their bytes.
+const EXCLUDE: &str =
+    "{\"jobs\":{\"example_matrix\":{\"runs-on\":\"${{ matrix.os }}\",\"strategy\":{\"matrix\":{\
+    \"os\":[\"macos-latest\",\"windows-latest\"],\"version\":[12,14,16],\
+    \"environment\":[\"staging\",\"production\"],\"exclude\":[\
+    {\"os\":\"macos-latest\",\"version\":12,\"environment\":\"production\"},\
+    {\"os\":\"windows-latest\",\"version\":16}]}}}}}";
+
+const NINE: &str =
+    "example_matrix 0 {\"environment\":\"staging\",\"os\":\"macos-latest\",\"version\":12}\n\
+    example_matrix 1 {\"environment\":\"staging\",\"os\":\"macos-latest\",\"version\":14}\n\
+    example_matrix 2 {\"environment\":\"staging\",\"os\":\"macos-latest\",\"version\":16}\n\
+    example_matrix 3 {\"environment\":\"staging\",\"os\":\"windows-latest\",\"version\":12}\n\
+    example_matrix 4 {\"environment\":\"staging\",\"os\":\"windows-latest\",\"version\":14}\n\
+    example_matrix 5 {\"environment\":\"production\",\"os\":\"macos-latest\",\"version\":14}\n\
+    example_matrix 6 {\"environment\":\"production\",\"os\":\"macos-latest\",\"version\":16}\n\
+    example_matrix 7 {\"environment\":\"production\",\"os\":\"windows-latest\",\"version\":12}\n\
+    example_matrix 8 {\"environment\":\"production\",\"os\":\"windows-latest\",\"version\":14}\n";
+
+/// The documentation's include example, and its six jobs.
+const INCLUDE: &str = "{\"jobs\":{\"example_matrix\":{\"runs-on\":\"x\",\"strategy\":{\"matrix\":{\
+    \"fruit\":[\"apple\",\"pear\"],\"animal\":[\"cat\",\"dog\"],\"include\":[\
+    {\"color\":\"green\"},{\"color\":\"pink\",\"animal\":\"cat\"},\
+    {\"fruit\":\"apple\",\"shape\":\"circle\"},{\"fruit\":\"banana\"},\
+    {\"fruit\":\"banana\",\"animal\":\"cat\"}]}}}}}";
+
+const SIX: &str =
+    "example_matrix 0 {\"animal\":\"cat\",\"color\":\"pink\",\"fruit\":\"apple\",\"shape\":\"circle\"}\n\
+    example_matrix 1 {\"animal\":\"cat\",\"color\":\"pink\",\"fruit\":\"pear\"}\n\
+    example_matrix 2 {\"animal\":\"dog\",\"color\":\"green\",\"fruit\":\"apple\",\"shape\":\"circle\"}\n\
+    example_matrix 3 {\"animal\":\"dog\",\"color\":\"green\",\"fruit\":\"pear\"}\n\
+    example_matrix 4 {\"fruit\":\"banana\"}\n\
+    example_matrix 5 {\"animal\":\"cat\",\"fruit\":\"banana\"}\n";
+
+#[test]
+fn prints_the_legs(rt: HostRuntime) -> Result<(), Fail> {
+    let rows = [
+        (EXCLUDE, NINE),
+        (INCLUDE, SIX),
+        (
+            "{\"jobs\":{\"j\":{\"runs-on\":\"x\",\"strategy\":{\"matrix\":{\"include\":[{\"a\":1},{\"a\":2}]}}}}}",
+            "j 0 {\"a\":1}\nj 1 {\"a\":2}\n",
+        ),
+        // Jobs stand in the order of the bytes of their ids, and one without a matrix has one leg.
+        (
+            "{\"jobs\":{\"b\":{\"runs-on\":\"x\"},\"a\":{\"runs-on\":\"x\",\"strategy\":{}},\"B\":{\"runs-on\":[\"x\"]}}}",
+            "B 0 {}\na 0 {}\nb 0 {}\n",
+        ),
+        (
+            "{\"jobs\":{\"j\":{\"runs-on\":\"x\",\"strategy\":{\"matrix\":{\"v\":[null,true,\"1\",-7]}}}}}",
+            "j 0 {\"v\":null}\nj 1 {\"v\":true}\nj 2 {\"v\":\"1\"}\nj 3 {\"v\":-7}\n",
+        ),
+        (
+            "{\"jobs\":{\"j\":{\"runs-on\":\"x\",\"strategy\":{\"matrix\":{\"v\":[\"é\\\"\\n\"]}}}}}",
+            "j 0 {\"v\":\"é\\\"\\n\"}\n",
+        ),
+    ];
+    for (workflow, lines) in rows {
+        let printed = checked(rt.alloc(), workflow.as_bytes())?;
+        assert!(rt; printed.as_slice() == lines.as_bytes(), "{workflow}");
+    }
+    Ok(())
+}
+
+/// A job `m` whose variables `x` and `y` have the values 0 to 15, and more members of its matrix.
+fn grid(alloc: Global, more: &str) -> Result<String, Refusal> {
+    let values = "[0,1,2,3,4,5,6,7,8,9,10,11,12,13,14,15]";
+    let start = "{\"jobs\":{\"m\":{\"runs-on\":\"x\",\"strategy\":{\"matrix\":{\"x\":";
+    let (then, end) = (",\"y\":", "}}}}}");
+    Ok(format!(in alloc; "{start}{values}{then}{values}{more}{end}")?)
+}
+
+/// The lines of so many choices of `x` and `y`, from one of them on.
+fn choices(alloc: Global, first: u32, count: u32) -> Result<String, Refusal> {
+    let mut lines = String::new(alloc);
+    for leg in 0..count {
+        let choice = first.saturating_add(leg);
+        let (x, y) = (choice / 16, choice % 16);
+        let line = format!(in alloc; "m {leg} {{\"x\":{x},\"y\":{y}}}\n")?;
+        lines.push_str(line.as_str())?;
+    }
+    Ok(lines)
+}
+
+/// 256 legs are the most, also where one is excluded and another included.
+#[test]
+fn bounds_the_legs(rt: HostRuntime) -> Result<(), Fail> {
+    let alloc = rt.alloc();
+    let all = checked(alloc, grid(alloc, "")?.as_bytes())?;
+    assert!(rt; all.as_slice() == choices(alloc, 0, 256)?.as_bytes());
+    let one_more = grid(alloc, ",\"include\":[{\"x\":16}]")?;
+    expect_refused(&rt, alloc, one_more.as_str(), 22);
+    let but_one = ",\"include\":[{\"x\":16}],\"exclude\":[{\"x\":0,\"y\":0}]";
+    let left = checked(alloc, grid(alloc, but_one)?.as_bytes())?;
+    let mut lines = choices(alloc, 1, 255)?;
+    lines.push_str("m 255 {\"x\":16}\n")?;
+    assert!(rt; left.as_slice() == lines.as_bytes());
+    Ok(())
+}
+
+const TOO_MANY_CHOICES: &str =
+    "{\"jobs\":{\"a\":{\"runs-on\":\"x\",\"strategy\":{\"matrix\":{\"a\":[0,1],\"b\":[0,1],\"c\":[0,1],\
+    \"d\":[0,1],\"e\":[0,1],\"f\":[0,1],\"g\":[0,1],\"h\":[0,1],\"i\":[0,1],\"j\":[0,1],\"k\":[0,1],\
+    \"l\":[0,1],\"m\":[0,1],\"n\":[0,1],\"o\":[0,1],\"p\":[0,1],\"q\":[0,1]}}}}}";
+
+/// Job `a` has no leg, and the lists of job `b` multiply to 8,192.
+const NO_LEG_FIRST: &str =
+    "{\"jobs\":{\"b\":{\"runs-on\":\"x\",\"strategy\":{\"matrix\":{\"a\":[0,1,2,3,4,5,6,7],\
+    \"b\":[0,1,2,3,4,5,6,7],\"c\":[0,1,2,3,4,5,6,7],\"d\":[0,1,2,3,4,5,6,7],\"e\":[0,1]}}},\
+    \"a\":{\"runs-on\":\"x\",\"strategy\":{\"matrix\":{}}}}}";
+
+/// That a check of the workflow ends with this number, with nothing printed.
+fn expect_refused(rt: &impl Abort, alloc: Global, workflow: &str, number: u64) {
+    let mut reader = workflow.as_bytes();
+    let mut printed = Vec::new(alloc);
+    let ended = number_of(run_check(alloc, &mut reader, &mut printed));
+    assert!(rt; ended == number, "{workflow}");
+    assert!(rt; printed.is_empty(), "{workflow}");
+}
+
+#[test]
+fn refuses_with_the_first_fault(rt: HostRuntime) {
+    let rows = [
+        ("[", 10),
+        ("{}", 11),
+        ("{\"jobs\":{\"1a\":{\"runs-on\":\"x\"}}}", 12),
+        ("{\"jobs\":{\"a\":{}}}", 15),
+        ("{\"jobs\":{\"a\":{\"uses\":\"./x.yml\"}}}", 16),
+        ("{\"jobs\":{\"a\":{\"runs-on\":\"${{ secrets.x }}\"}}}", 17),
+        (
+            "{\"jobs\":{\"a\":{\"runs-on\":\"x\",\"strategy\":{\"matrix\":{\"n\":[1.5]}}}}}",
+            19,
+        ),
+        (
+            "{\"jobs\":{\"a\":{\"runs-on\":\"x\",\"strategy\":{\"matrix\":{\"n\":[]}}}}}",
+            20,
+        ),
+        (TOO_MANY_CHOICES, 21),
+        (
+            "{\"jobs\":{\"a\":{\"runs-on\":\"x\",\"strategy\":{\"matrix\":{}}}}}",
+            22,
+        ),
+        (
+            "{\"jobs\":{\"a\":{\"runs-on\":\"x\",\"strategy\":{\"max-parallel\":0}}}}",
+            25,
+        ),
+        (
+            "{\"jobs\":{\"a\":{\"runs-on\":\"x\",\"strategy\":{\"max-parallel\":257}}}}",
+            25,
+        ),
+    ];
+    for (workflow, number) in rows {
+        expect_refused(&rt, rt.alloc(), workflow, number);
+    }
+}
+
+/// Two faults in each, of neighbouring checks: that of the earlier check is answered, wherever it stands.
+/// The checks of a workflow and of the members of a job:
+const NEIGHBOURS: [(&str, u64); 10] = [
+    ("[] 1", 10),
+    ("{\"concurrency\":\"g\",\"name\":5}", 11),
+    ("{\"jobs\":[],\"concurrency\":\"g\"}", 16),
+    ("{\"jobs\":{\"1a\":[]}}", 12),
+    ("{\"jobs\":{\"a\":{\"runs-on\":5,\"uses\":1}}}", 16),
+    ("{\"jobs\":{\"a\":{\"needs\":\"b\"}}}", 15),
+    (
+        "{\"jobs\":{\"a\":{\"continue-on-error\":5,\"if\":true,\"runs-on\":\"x\"}}}",
+        16,
+    ),
+    (
+        "{\"jobs\":{\"a\":{\"concurrency\":\"g\",\"continue-on-error\":5,\"runs-on\":\"x\"}}}",
+        11,
+    ),
+    (
+        "{\"jobs\":{\"a\":{\"strategy\":5,\"concurrency\":\"g\",\"runs-on\":\"x\"}}}",
+        16,
+    ),
+    ("{\"jobs\":{\"b\":{\"runs-on\":5},\"a\":{}}}", 15),
+];
+
+/// The checks inside a strategy, and those of the plan that follow all others.
+const NEIGHBOURS_IN_STRATEGY: [(&str, u64); 7] = [
+    (
+        "{\"jobs\":{\"a\":{\"runs-on\":\"x\",\"strategy\":{\"matrix\":{\"n\":[]},\"max-parallel\":0}}}}",
+        25,
+    ),
+    (
+        "{\"jobs\":{\"a\":{\"runs-on\":\"x\",\"strategy\":{\"matrix\":{\"exclude\":5,\"include\":[{}]}}}}}",
+        20,
+    ),
+    (
+        "{\"jobs\":{\"a\":{\"runs-on\":\"x\",\"strategy\":{\"matrix\":{\"a\":5,\"exclude\":[{}]}}}}}",
+        20,
+    ),
+    (
+        "{\"jobs\":{\"a\":{\"runs-on\":\"x\",\"strategy\":{\"matrix\":{\"b\":5,\"a\":[]}}}}}",
+        20,
+    ),
+    (
+        "{\"jobs\":{\"b\":{},\"a\":{\"runs-on\":\"x\",\"strategy\":{\"matrix\":{\"n\":[]}}}}}",
+        20,
+    ),
+    (
+        "{\"jobs\":{\"b\":{},\"a\":{\"runs-on\":\"x\",\"strategy\":{\"matrix\":{}}}}}",
+        15,
+    ),
+    (NO_LEG_FIRST, 22),
+];
+
+#[test]
+fn answers_the_earlier_of_two_checks(rt: HostRuntime) {
+    for (workflow, number) in NEIGHBOURS {
+        expect_refused(&rt, rt.alloc(), workflow, number);
+    }
+    for (workflow, number) in NEIGHBOURS_IN_STRATEGY {
+        expect_refused(&rt, rt.alloc(), workflow, number);
+    }
+}
+
+/// A text that is too long is not read.
+#[test]
+fn answers_the_length_before_the_form(rt: HostRuntime) -> Result<(), Fail> {
+    let long = spelled(rt.alloc(), &[("[", 65_537)])?;
+    expect_refused(&rt, rt.alloc(), long.as_str(), 24);
+    let longer = spelled(rt.alloc(), &[("[", MOST_BYTES + 1)])?;
+    expect_refused(&rt, rt.alloc(), longer.as_str(), 76);
+    Ok(())
+}
+
+/// A workflow of one job, filled up with spaces.
+fn workflow_of_length(alloc: Global, length: usize) -> Result<Vec<u8>, Refusal> {
+    let mut workflow = b"{\"jobs\":{\"a\":{\"runs-on\":\"x\"}}}".to_vec(alloc)?;
+    for _ in workflow.len()..length {
+        workflow.push(b' ')?;
+    }
+    Ok(workflow)
+}
+
+#[test]
+fn bounds_a_workflow(rt: HostRuntime) -> Result<(), Fail> {
+    let rows = [
+        (65_536, 0),
+        (65_537, 24),
+        (MOST_BYTES, 24),
+        (MOST_BYTES + 9, 76),
+    ];
+    for (length, number) in rows {
+        let workflow = workflow_of_length(rt.alloc(), length)?;
+        let mut reader = workflow.as_slice();
+        let mut printed = Vec::new(rt.alloc());
+        let ended = run_check(rt.alloc(), &mut reader, &mut printed);
+        assert_eq!(rt; number_of(ended), number, "{length}");
+        let left = if length > MOST_BYTES { 8 } else { 0 };
+        assert_eq!(rt; reader.len(), left, "no more than 1,048,577 bytes are read");
+    }
+    Ok(())
+}
+
+#[test]
+fn fails_with_its_reader(rt: HostRuntime) {
+    for left in 0..=EXCLUDE.len() {
+        let mut reader = FailingReader {
+            bytes: EXCLUDE.as_bytes(),
+            left,
+        };
+        let mut printed = Vec::new(rt.alloc());
+        let number = number_of(run_check(rt.alloc(), &mut reader, &mut printed));
+        assert!(rt; number == 61 && printed.is_empty(), "at {left}");
+    }
+}
+
+/// That a check with this writer ends with 61, with these lines written.
+fn expect_61(rt: &impl Abort, alloc: Global, left: usize, holds_back: bool, lines: &[u8]) {
+    let mut reader = EXCLUDE.as_bytes();
+    let mut writer = FailingWriter {
+        bytes: Vec::new(alloc),
+        left,
+        holds_back,
+    };
+    let number = number_of(run_check(alloc, &mut reader, &mut writer));
+    assert!(rt; number == 61, "at {left}");
+    assert!(rt; writer.bytes.as_slice() == lines, "at {left}");
+}
+
+#[test]
+fn fails_with_its_writer(rt: HostRuntime) {
+    for left in 0..NINE.len() {
+        let lines = &NINE.as_bytes()[..left];
+        expect_61(&rt, rt.alloc(), left, false, lines);
+    }
+    expect_61(&rt, rt.alloc(), usize::MAX, true, NINE.as_bytes());
+}

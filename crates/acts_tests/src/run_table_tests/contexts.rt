@@ -1,0 +1,226 @@
+use crate::run_table_tests::{BUILD_ELSEWHERE, Words, play};
+use run_table::Table;
+use std::alloc::Global;
+use std::process::Abort;
+use std::test::Fail;
+use wf_value::Outcome;
+
+/// The body of an event of one job, `j`, behind the contexts that its sender hands in.
+fn body_of(alloc: Global, contexts: &str, job: &str) -> Result<String, Fail> {
+    let mut body = String::from_str(alloc, "{\"repo\":\"o/r\",\"path\":\"ci.json\",")?;
+    body.push_str(contexts)?;
+    body.push_str("\"workflow\":{\"jobs\":{\"j\":{")?;
+    body.push_str(job)?;
+    body.push_str("}}}}")?;
+    Ok(body)
+}
+
+/// Claims the leg of such an event with some labels.
+fn expect_claim(
+    rt: &impl Abort,
+    alloc: Global,
+    contexts: &str,
+    job: &str,
+    labels: &str,
+    want: &str,
+) -> Result<(), Fail> {
+    let body = body_of(alloc, contexts, job)?;
+    let rows = [
+        (Words::Admit("d1", body.as_str()), "created 1"),
+        (Words::Claim("r1", "1", labels), want),
+    ];
+    let mut table = Table::new(alloc);
+    play(rt, alloc, &mut table, &rows);
+    Ok(())
+}
+
+/// Contexts, a job, and labels that fit it.
+fn expect_fits(rt: &impl Abort, alloc: Global, rows: &[(&str, &str, &str)]) -> Result<(), Fail> {
+    for (contexts, job, labels) in rows {
+        expect_claim(rt, alloc, contexts, job, labels, "lease 1 1 j 0 {}")?;
+    }
+    Ok(())
+}
+
+/// Fails the leg of an event whose job asks for `linux`, and looks at its run.
+fn expect_failed(
+    rt: &impl Abort,
+    alloc: Global,
+    contexts: &str,
+    job: &str,
+    want: &str,
+) -> Result<(), Fail> {
+    let body = body_of(alloc, contexts, job)?;
+    let rows = [
+        (Words::Admit("d1", body.as_str()), "created 1"),
+        (Words::Claim("r1", "1", "linux"), "lease 1 1 j 0 {}"),
+        (Words::Done("r1", "2", "1", Outcome::Failure), "ok"),
+        (Words::Look("1"), want),
+    ];
+    let mut table = Table::new(alloc);
+    play(rt, alloc, &mut table, &rows);
+    Ok(())
+}
+
+/// What the service says of a run, and of a leg without a matrix.
+#[test]
+fn labels_by_the_service(rt: HostRuntime) -> Result<(), Fail> {
+    let rows = [
+        (
+            "",
+            "\"runs-on\":\"${{ github.workflow }}-${{ github.head_ref || github.run_id }}\"",
+            "ci.json-1",
+        ),
+        (
+            "",
+            "\"runs-on\":[\"${{ github.repository }}\",\"${{ github.event_name }}\"]",
+            "push,o/r",
+        ),
+        (
+            "",
+            "\"runs-on\":\"${{ github.run_number }}:${{ github.run_attempt }}\"",
+            "1:1",
+        ),
+        ("", "\"runs-on\":\"${{ strategy.job-index || 'x' }}\"", "x"),
+        (
+            "",
+            "\"runs-on\":\"${{ strategy.fail-fast }}-${{ strategy.job-index }}\"",
+            "true-0",
+        ),
+        (
+            "",
+            "\"runs-on\":\"${{ strategy.job-total }}-${{ strategy.max-parallel }}\"",
+            "1-1",
+        ),
+    ];
+    expect_fits(&rt, rt.alloc(), &rows)
+}
+
+/// Null, truth values, texts and whole numbers of the sender have values, lists and fractions none. What
+/// the service sets is the service's, and only that.
+#[test]
+fn labels_by_the_sender(rt: HostRuntime) -> Result<(), Fail> {
+    let vars = "\"vars\":{\"n\":null,\"l\":[1],\"f\":1.5,\"b\":false,\"w\":7},";
+    let github =
+        "\"github\":{\"workflow\":{\"x\":\"linux\"},\"repository\":\"p/s\",\"ref\":\"main\"},";
+    let rows = [
+        (
+            vars,
+            "\"runs-on\":\"${{ vars.n || vars.l || vars.f || vars.b || vars.w }}\"",
+            "7",
+        ),
+        (
+            vars,
+            "\"runs-on\":\"x${{ vars.n }}${{ vars.l }}${{ vars.f }}${{ vars.b }}\"",
+            "xfalse",
+        ),
+        (
+            github,
+            "\"runs-on\":\"${{ github.workflow.x || 'none' }}-${{ github.workflow }}\"",
+            "linux-ci.json",
+        ),
+        (
+            github,
+            "\"runs-on\":\"${{ github.repository }}-${{ github.ref }}\"",
+            "o/r-main",
+        ),
+        (
+            "\"github\":{\"workflow\":\"x\",\"event_name\":\"x\",\"run_id\":7,\"run_number\":7,\"run_attempt\":7},",
+            "\"runs-on\":\"${{ github.workflow }}-${{ github.event_name }}-\
+            ${{ github.run_id }}${{ github.run_number }}${{ github.run_attempt }}\"",
+            "ci.json-push-111",
+        ),
+        (
+            "\"inputs\":{\"os\":{\"name\":\"Linux\"}},",
+            "\"runs-on\":[\"x64\",\"${{ inputs.os.name }}\"]",
+            "linux,X64",
+        ),
+    ];
+    expect_fits(&rt, rt.alloc(), &rows)
+}
+
+/// The number of the first leg is no text, which would count as true, and an empty label fits no runner.
+#[test]
+fn labels_that_do_not_fit(rt: HostRuntime) -> Result<(), Fail> {
+    let index = "\"runs-on\":\"${{ strategy.job-index || 'x' }}\"";
+    expect_claim(&rt, rt.alloc(), "", index, "0", "nothing")?;
+    let none = "\"runs-on\":\"${{ vars.none }}\"";
+    expect_claim(&rt, rt.alloc(), "", none, "linux", "nothing")
+}
+
+#[test]
+fn a_workflow_goes_by_its_name(rt: HostRuntime) -> Result<(), Fail> {
+    let body =
+        "{\"repo\":\"o/r\",\"path\":\"ci.json\",\"workflow\":{\"name\":\"CI\",\"jobs\":{\"j\":{\"runs-on\":\"${{ github.workflow }}\"}}}}";
+    let rows = [
+        (Words::Admit("d1", body), "created 1"),
+        (Words::Claim("r1", "1", "ci.json"), "nothing"),
+        (Words::Claim("r1", "2", "ci"), "lease 1 1 j 0 {}"),
+    ];
+    let mut table = Table::new(rt.alloc());
+    play(&rt, rt.alloc(), &mut table, &rows);
+    Ok(())
+}
+
+/// The number of a run counts those of its repository and path.
+#[test]
+fn the_second_run_of_a_workflow(rt: HostRuntime) -> Result<(), Fail> {
+    let body = body_of(rt.alloc(), "", "\"runs-on\":\"n${{ github.run_number }}\"")?;
+    let rows = [
+        (Words::Admit("d1", body.as_str()), "created 1"),
+        (Words::Admit("d2", BUILD_ELSEWHERE), "created 2"),
+        (Words::Admit("d3", body.as_str()), "created 3"),
+        (Words::Claim("r1", "1", "n3"), "nothing"),
+        (Words::Claim("r1", "2", "n2"), "lease 1 3 j 0 {}"),
+    ];
+    let mut table = Table::new(rt.alloc());
+    play(&rt, rt.alloc(), &mut table, &rows);
+    Ok(())
+}
+
+#[test]
+fn failures_that_are_passed_over(rt: HostRuntime) -> Result<(), Fail> {
+    let rows = [
+        (
+            "",
+            "\"runs-on\":\"${{ vars.l || 'linux' }}\",\"continue-on-error\":true",
+        ),
+        (
+            "\"vars\":{\"go\":true},",
+            "\"runs-on\":\"linux\",\"continue-on-error\":\"${{ vars.go }}\"",
+        ),
+        (
+            "\"vars\":{\"go\":\"tr\"},",
+            "\"runs-on\":\"linux\",\"continue-on-error\":\"${{ vars.go }}ue\"",
+        ),
+    ];
+    let want = "run 1 1 completed success j:success(failure)";
+    for (contexts, job) in &rows {
+        expect_failed(&rt, rt.alloc(), contexts, job, want)?;
+    }
+    Ok(())
+}
+
+#[test]
+fn failures_that_are_not(rt: HostRuntime) -> Result<(), Fail> {
+    let rows = [
+        ("", "\"runs-on\":\"linux\",\"continue-on-error\":false"),
+        (
+            "\"vars\":{\"go\":true},",
+            "\"runs-on\":\"linux\",\"continue-on-error\":\" ${{ vars.go }}\"",
+        ),
+        (
+            "\"vars\":{\"go\":1},",
+            "\"runs-on\":\"linux\",\"continue-on-error\":\"${{ vars.go }}\"",
+        ),
+        (
+            "\"vars\":{\"go\":\"True\"},",
+            "\"runs-on\":\"linux\",\"continue-on-error\":\"${{ vars.go }}\"",
+        ),
+    ];
+    let want = "run 1 1 completed failure j:failure(failure)";
+    for (contexts, job) in &rows {
+        expect_failed(&rt, rt.alloc(), contexts, job, want)?;
+    }
+    Ok(())
+}

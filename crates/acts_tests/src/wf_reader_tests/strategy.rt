@@ -1,0 +1,215 @@
+use super::{ACCEPTED, number};
+use std::alloc::Global;
+use wf_reader::{Strategy, read_workflow};
+use wf_value::{Matrix, Refusal};
+
+/// What is answered to a workflow of one job with this strategy.
+fn numbered(alloc: Global, strategy: [&str; 3]) -> Result<u64, Refusal> {
+    let [start, inner, end] = strategy;
+    let body = format!(in alloc;
+        "{{\"jobs\":{{\"a\":{{\"runs-on\":\"x\",\"strategy\":{start}{inner}{end}}}}}}}"
+    )?;
+    Ok(number(read_workflow(alloc, body.as_bytes())))
+}
+
+/// A second call has the memory that the first was refused.
+fn answer(alloc: Global, strategy: [&str; 3]) -> u64 {
+    match numbered(alloc, strategy) {
+        Ok(number) if number != 50 => number,
+        _ => numbered(alloc, strategy).unwrap_or(50),
+    }
+}
+
+fn answer_to_strategy(alloc: Global, strategy: &str) -> u64 {
+    answer(alloc, ["", strategy, ""])
+}
+
+fn answer_to_matrix(alloc: Global, matrix: &str) -> u64 {
+    answer(alloc, ["{\"matrix\":", matrix, "}"])
+}
+
+const STRATEGIES: [(&str, u64); 24] = [
+    ("{}", ACCEPTED),
+    ("null", 25),
+    ("[]", 25),
+    ("\"matrix\"", 25),
+    ("{\"Matrix\":{}}", 25),
+    ("{\"matrix\":{},\"os\":[]}", 25),
+    ("{\"fail-fast\":true}", ACCEPTED),
+    ("{\"fail-fast\":false}", ACCEPTED),
+    ("{\"fail-fast\":null}", 25),
+    ("{\"fail-fast\":\"true\"}", 25),
+    ("{\"fail-fast\":1}", 25),
+    ("{\"max-parallel\":1}", ACCEPTED),
+    ("{\"max-parallel\":256}", ACCEPTED),
+    ("{\"max-parallel\":0}", 25),
+    ("{\"max-parallel\":257}", 25),
+    ("{\"max-parallel\":-1}", 25),
+    ("{\"max-parallel\":2.0}", 25),
+    ("{\"max-parallel\":1e1}", 25),
+    ("{\"max-parallel\":\"2\"}", 25),
+    ("{\"max-parallel\":null}", 25),
+    ("{\"matrix\":null}", 25),
+    ("{\"matrix\":[]}", 25),
+    ("{\"matrix\":\"n\"}", 25),
+    ("{\"matrix\":{}}", ACCEPTED),
+];
+
+#[test]
+fn reads_strategies(rt: HostRuntime) {
+    for (strategy, want) in STRATEGIES {
+        let answer = answer_to_strategy(rt.alloc(), strategy);
+        assert!(rt; answer == want, "{strategy}");
+    }
+}
+
+const MATRICES: [(&str, u64); 26] = [
+    (
+        "{\"n\":[null,true,\"\",-9223372036854775808,9223372036854775807]}",
+        ACCEPTED,
+    ),
+    ("{\"n\":[1,1]}", ACCEPTED),
+    ("{\"\":[1]}", ACCEPTED),
+    ("{\"n\":[]}", 20),
+    ("{\"n\":null}", 19),
+    ("{\"n\":{}}", 19),
+    ("{\"n\":\"a\"}", 19),
+    ("{\"n\":[1.5]}", 19),
+    ("{\"n\":[1.0]}", 19),
+    ("{\"n\":[1e1]}", 19),
+    ("{\"n\":[9223372036854775808]}", 19),
+    ("{\"n\":[-9223372036854775809]}", 19),
+    ("{\"n\":[1,[]]}", 19),
+    ("{\"n\":[1,{}]}", 19),
+    ("{\"include\":[]}", ACCEPTED),
+    ("{\"exclude\":[]}", ACCEPTED),
+    (
+        "{\"include\":[{\"n\":null}],\"exclude\":[{\"n\":1,\"m\":\"a\"}]}",
+        ACCEPTED,
+    ),
+    ("{\"include\":null}", 19),
+    ("{\"exclude\":{}}", 19),
+    ("{\"include\":[{}]}", 20),
+    ("{\"exclude\":[{}]}", 20),
+    ("{\"include\":[null]}", 19),
+    ("{\"exclude\":[[]]}", 19),
+    ("{\"include\":[{\"n\":[]}]}", 19),
+    ("{\"exclude\":[{\"n\":1.5}]}", 19),
+    ("{\"Include\":[{}]}", 19),
+];
+
+#[test]
+fn reads_matrices(rt: HostRuntime) {
+    for (matrix, want) in MATRICES {
+        let answer = answer_to_matrix(rt.alloc(), matrix);
+        assert!(rt; answer == want, "{matrix}");
+    }
+}
+
+/// Of two faults the earlier one is answered, in whatever order they stand.
+const EARLIER_IN_STRATEGY: [(&str, u64); 5] = [
+    ("{\"matrix\":{\"n\":[]},\"x\":1}", 25),
+    ("{\"matrix\":{\"n\":[]},\"fail-fast\":1}", 25),
+    ("{\"matrix\":{\"n\":[]},\"max-parallel\":0}", 25),
+    ("{\"matrix\":{\"include\":5,\"n\":[]}}", 19),
+    ("{\"max-parallel\":1,\"matrix\":{\"n\":[]}}", 20),
+];
+
+const EARLIER_IN_MATRIX: [(&str, u64); 15] = [
+    ("{\"exclude\":5,\"include\":[{}]}", 20),
+    ("{\"exclude\":[{}],\"include\":5}", 19),
+    ("{\"a\":5,\"exclude\":[{}]}", 20),
+    ("{\"a\":[],\"exclude\":5}", 19),
+    ("{\"a\":[],\"include\":[5]}", 19),
+    ("{\"a\":5,\"include\":[{}]}", 20),
+    ("{\"b\":5,\"a\":[]}", 20),
+    ("{\"b\":[],\"a\":5}", 19),
+    ("{\"a\":[],\"Z\":5}", 19),
+    ("{\"é\":[],\"z\":5}", 19),
+    ("{\"z\":[],\"f\":5}", 19),
+    ("{\"include\":[{},5]}", 20),
+    ("{\"include\":[5,{}]}", 19),
+    ("{\"include\":[{\"n\":[]},{}]}", 19),
+    ("{\"include\":[{\"n\":1},{},{\"n\":[]}]}", 20),
+];
+
+#[test]
+fn answers_the_earlier_of_two_checks(rt: HostRuntime) {
+    for (strategy, want) in EARLIER_IN_STRATEGY {
+        let answer = answer_to_strategy(rt.alloc(), strategy);
+        assert!(rt; answer == want, "{strategy}");
+    }
+}
+
+#[test]
+fn answers_the_earlier_of_two_parts_of_a_matrix(rt: HostRuntime) {
+    for (matrix, want) in EARLIER_IN_MATRIX {
+        let answer = answer_to_matrix(rt.alloc(), matrix);
+        assert!(rt; answer == want, "{matrix}");
+    }
+}
+
+fn push_matrix(alloc: Global, text: &mut String, matrix: &Matrix) -> Result<(), Refusal> {
+    for variable in matrix.variables() {
+        let (name, values) = (variable.name().as_str(), variable.values().len());
+        let shown = format!(in alloc; " {name}:{values}")?;
+        text.push_str(shown.as_str())?;
+    }
+    let (include, exclude) = (matrix.include().len(), matrix.exclude().len());
+    let shown = format!(in alloc; " +{include} -{exclude}")?;
+    text.push_str(shown.as_str())?;
+    Ok(())
+}
+
+fn shown(alloc: Global, strategy: &Strategy) -> Result<String, Refusal> {
+    let (fail_fast, limit) = (strategy.fail_fast, strategy.max_parallel.unwrap_or(0));
+    let mut text = format!(in alloc; "{fail_fast} {limit}")?;
+    if let Some(matrix) = &strategy.matrix {
+        push_matrix(alloc, &mut text, matrix)?;
+    }
+    Ok(text)
+}
+
+/// What the strategy of the one job of a workflow says.
+fn shown_of_job(alloc: Global, strategy: &str) -> Result<String, Refusal> {
+    let body = format!(in alloc; "{{\"jobs\":{{\"a\":{{\"runs-on\":\"x\"{strategy}}}}}}}")?;
+    let workflow = read_workflow(alloc, body.as_bytes())?;
+    match workflow.jobs.as_slice() {
+        [job] => match &job.strategy {
+            Some(strategy) => shown(alloc, strategy),
+            None => Ok(String::from_str(alloc, "none")?),
+        },
+        _ => Ok(String::from_str(alloc, "other jobs")?),
+    }
+}
+
+/// A second call has the memory that the first was refused.
+fn is_shown(alloc: Global, strategy: &str, want: &str) -> bool {
+    match shown_of_job(alloc, strategy) {
+        Ok(text) => text.as_str() == want,
+        Err(_) => match shown_of_job(alloc, strategy) {
+            Ok(text) => text.as_str() == want,
+            Err(_) => false,
+        },
+    }
+}
+
+#[test]
+fn gives_what_a_strategy_says(rt: HostRuntime) {
+    let rows = [
+        ("", "none"),
+        (",\"strategy\":{}", "true 0"),
+        (
+            ",\"strategy\":{\"fail-fast\":false,\"max-parallel\":2}",
+            "false 2",
+        ),
+        (
+            ",\"strategy\":{\"matrix\":{\"v\":[1,2],\"os\":[null],\"include\":[{\"n\":1}],\"exclude\":[{\"v\":1},{\"v\":2}]}}",
+            "true 0 os:1 v:2 +1 -2",
+        ),
+    ];
+    for (strategy, want) in rows {
+        let shown = is_shown(rt.alloc(), strategy, want);
+        assert!(rt; shown, "{strategy}");
+    }
+}

@@ -1,0 +1,135 @@
+ghost use Rattle.std.specs.Prelude.{◌≡◌, option_and_then, option_map};
+ghost use Rattle.std.specs.Option.{option_copied};
+ghost use Rattle.wf_expr.specs.ScalarView.{shown};
+ghost use Rattle.wf_reader.specs.Event.{event_of};
+ghost use Rattle.run_table.specs.LegContext.{contexts_of, github_of, matrix_of, name_or_path, service_value, strategy_of, under};
+
+use run_plan::{PlannedJob, Prepared};
+use std::marker::Model;
+use wf_expr::{Context, ScalarView};
+use wf_value::{Chars, Scalar};
+
+/// The context of a leg. It borrows all that it tells, so that a value takes no memory. GitHub Docs,
+/// "Contexts reference".
+#[derive(Drop)]
+pub(crate) struct LegContext<'a> {
+    pub event: &'a Prepared,
+    /// The run's id, in decimal.
+    pub run_id: &'a str,
+    /// The run's number among those of its workflow, in decimal.
+    pub run_number: &'a str,
+    pub job: &'a PlannedJob,
+    /// The leg's number in its job, from 0.
+    pub leg: usize,
+}
+
+impl<'a> Model for LegContext<'a> {
+    ghost use Rattle.std.specs.Prelude.{◌<◌, ◌^◌};
+    ghost use Rattle.run_table.specs.LegContext.{LegFacts};
+
+    ghost Value = { LegFacts };
+
+    ghost view = { λ c. record
+        { event = c.event.now; run_id = c.run_id.now; run_number = c.run_number.now; job = c.job.now; leg = c.leg } };
+
+    ghost invariant = { λ c. c.leg < 2 ^ 63 };
+}
+
+impl<'a> Context for LegContext<'a> {
+    ghost use Rattle.run_table.specs.LegContext.{context_of};
+
+    ghost values = { context_of };
+
+    fn value_of(&self, path: &[Chars]) -> Option<ScalarView<'_>> {
+        match self.service_value(path) {
+            Some(value) => Some(value),
+            None => self.event.contexts().value_of(path),
+        }
+    }
+}
+
+impl<'a> LegContext<'a> {
+    /// The service's value of a path: that of a member of one of its contexts.
+    fn service_value(&self, path: &[Chars]) -> Option<ScalarView<'_>>
+        ensures { option_map shown result ≡ service_value self.now path.now }
+    {
+        match path {
+            [context, name] => self.member(context.as_str(), name.as_str()),
+            _ => None,
+        }
+    }
+
+    fn member(&self, context: &str, name: &str) -> Option<ScalarView<'_>>
+        ensures { option_map shown result ≡ option_and_then (under name.now) (under context.now (contexts_of self.now)) }
+    {
+        match context {
+            "github" => self.github(name),
+            "strategy" => self.strategy(name),
+            "matrix" => self.matrix(name),
+            _ => None,
+        }
+    }
+
+    fn github(&self, name: &str) -> Option<ScalarView<'_>>
+        ensures { option_map shown result ≡ under name.now (github_of self.now) }
+    {
+        match name {
+            "workflow" => Some(ScalarView::Text(self.workflow_name())),
+            "repository" => Some(ScalarView::Text(self.event.repo().as_str())),
+            "event_name" => Some(ScalarView::Text(self.event.event().as_str())),
+            "run_id" => Some(ScalarView::Text(self.run_id)),
+            "run_number" => Some(ScalarView::Text(self.run_number)),
+            "run_attempt" => Some(ScalarView::Text("1")),
+            _ => None,
+        }
+    }
+
+    /// The workflow's name, or its path where it has none.
+    fn workflow_name(&self) -> &str
+        ensures { let event = event_of self.now.event.body in result.now ≡ name_or_path event.workflow.name event.path }
+    {
+        let name = self.event.workflow_name().as_str();
+        if name.is_empty() {
+            self.event.path().as_str()
+        } else {
+            name
+        }
+    }
+
+    fn strategy(&self, name: &str) -> Option<ScalarView<'_>>
+        ensures { option_map shown result ≡ under name.now (strategy_of self.now) }
+    {
+        let total = self.job.legs.as_slice().len() as i64;
+        match name {
+            "fail-fast" => Some(ScalarView::Truth(self.job.fail_fast)),
+            "job-index" => Some(ScalarView::Whole(self.leg as i64)),
+            "job-total" => Some(ScalarView::Whole(total)),
+            "max-parallel" => match self.job.max_parallel {
+                Some(most) => Some(ScalarView::Whole(i64::from(most))),
+                None => Some(ScalarView::Whole(total)),
+            },
+            _ => None,
+        }
+    }
+
+    /// A member of the leg's own combination.
+    fn matrix(&self, name: &str) -> Option<ScalarView<'_>>
+        ensures { option_map shown result ≡ under name.now (matrix_of self.now) }
+    {
+        let planned = self.job.legs.as_slice().get(self.leg)?;
+        match value_under(planned.combo.as_slice(), name) {
+            Some(value) => Some(ScalarView::of(value)),
+            None => None,
+        }
+    }
+}
+
+/// The value of a name.
+fn value_under<'c>(pairs: &'c [(Chars, Scalar)], name: &str) -> Option<&'c Scalar>
+    ensures { option_copied result ≡ under name.now pairs.now }
+{
+    match pairs.iter().find(|pair| pair.0.as_str() == name) {
+        Some(pair) => Some(&pair.1),
+        None => None,
+    }
+}

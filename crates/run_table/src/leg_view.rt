@@ -1,0 +1,109 @@
+ghost use Rattle.std.specs.Prelude.{◌≡◌};
+ghost use Rattle.std.specs.List.{list_all, list_any};
+ghost use Rattle.std.specs.Str.{str_eq_ignore_ascii_case};
+ghost use Rattle.wf_value.specs.ScalarValue.{scalar_text};
+ghost use Rattle.wf_expr.specs.TemplateValue.{template_value};
+ghost use Rattle.run_table.specs.Fitting.{has_label, has_labels};
+ghost use Rattle.run_table.specs.LegContext.{context_of};
+ghost use Rattle.run_table.specs.Words.{is_set, label_texts};
+
+use crate::leg_context::LegContext;
+use itoa::Buffer;
+use run_plan::{Label, PlannedJob, Prepared};
+use std::marker::Model;
+use wf_expr::Template;
+use wf_reader::Flag;
+
+/// A leg as it is planned, with what its context tells of its run.
+#[derive(Drop)]
+pub(crate) struct LegView<'a> {
+    pub event: &'a Prepared,
+    pub run_id: usize,
+    /// Counts the runs of the workflow up to the leg's.
+    pub run_number: usize,
+    pub job: &'a PlannedJob,
+    /// The leg's number in its job, from 0.
+    pub leg: usize,
+}
+
+impl<'a> Model for LegView<'a> {
+    ghost use Rattle.std.specs.Fmt.{decimal};
+    ghost use Rattle.std.specs.Prelude.{◌<◌, ◌^◌};
+    ghost use Rattle.run_table.specs.LegContext.{LegFacts};
+
+    ghost Value = { LegFacts };
+
+    ghost view = { λ v. record
+        { event = v.event.now; run_id = decimal v.run_id; run_number = decimal v.run_number; job = v.job.now; leg = v.leg } };
+
+    ghost invariant = { λ v. v.leg < 2 ^ 63 };
+}
+
+impl<'a> LegView<'a> {
+    /// Whether the leg asks for no label that these lack. It takes no memory.
+    pub(crate) fn is_served(&self, labels: &[Label]) -> bool
+        ensures { result ≡ has_labels labels.now (label_texts (context_of self.now) self.now.job.labels) }
+    {
+        let mut run_id = Buffer::new();
+        let mut run_number = Buffer::new();
+        let context = LegContext {
+            event: self.event,
+            run_id: run_id.format(self.run_id),
+            run_number: run_number.format(self.run_number),
+            job: self.job,
+            leg: self.leg,
+        };
+        has_labels(labels, self.job.labels.as_slice(), &context)
+    }
+
+    /// Whether a failure of the leg is passed over. It takes no memory.
+    pub(crate) fn passes_over(&self) -> bool
+        ensures { result ≡ is_set (context_of self.now) self.now.job.continue_on_error }
+    {
+        let mut run_id = Buffer::new();
+        let mut run_number = Buffer::new();
+        let context = LegContext {
+            event: self.event,
+            run_id: run_id.format(self.run_id),
+            run_number: run_number.format(self.run_number),
+            job: self.job,
+            leg: self.leg,
+        };
+        is_set(&self.job.continue_on_error, &context)
+    }
+}
+
+fn is_set(flag: &Flag, context: &LegContext<'_>) -> bool
+    ensures { result ≡ is_set (context_of context.now) flag.now }
+{
+    match flag {
+        Flag::Fixed(set) => *set,
+        Flag::Template(template) => template.sets_flag(context),
+    }
+}
+
+/// Whether the label is the text of a template's value, whatever the case of ASCII letters.
+fn is_label(label: &Label, wanted: &Template, context: &LegContext<'_>) -> bool
+    ensures { result ≡ str_eq_ignore_ascii_case label.now (scalar_text (template_value (context_of context.now) wanted.now)) }
+{
+    wanted.is_text_ignoring_ascii_case(context, label.as_str().as_bytes())
+}
+
+fn has_label(labels: &[Label], wanted: &Template, context: &LegContext<'_>) -> bool
+    ensures { result ≡ has_label labels.now (scalar_text (template_value (context_of context.now) wanted.now)) }
+{
+    labels.iter().any(|label| is_label(label, wanted, context))
+}
+
+fn has_each(labels: &[Label], wanted: &[Template], context: &LegContext<'_>) -> bool
+    ensures { result ≡ list_all (λ t. has_label labels.now (scalar_text (template_value (context_of context.now) t))) wanted.now }
+{
+    wanted.iter().all(|label| has_label(labels, label, context))
+}
+
+/// Whether each label that the templates ask for is among these.
+fn has_labels(labels: &[Label], wanted: &[Template], context: &LegContext<'_>) -> bool
+    ensures { result ≡ has_labels labels.now (label_texts (context_of context.now) wanted.now) }
+{
+    has_each(labels, wanted, context)
+}

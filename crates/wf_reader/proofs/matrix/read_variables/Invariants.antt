@@ -1,0 +1,16 @@
+use Rattle.std.proofs.Common.{◌≡◌, ◌++◌, map, flat_map, string_bytes}
+use Rattle.std.specs.List.{filter}
+use Rattle.serde_json.specs.View.{view}
+use Rattle.wf_reader.specs.MatrixOf.{is_variable_name, variable_faults, variable_of}
+use Rattle.wf_reader.proofs.matrix.read_variables.Given as goal
+
+-- the variables among the members so far have no fault and have given their values
+abbrev pub invariant-loop-name : goal.invariant-loop-name
+invariant-loop-name l = record {
+  left : flat_map (λ e. variable_faults (string_bytes e.0, view e.1))
+      (filter (λ e. is_variable_name (string_bytes e.0)) l.members.entries) ≡ flat_map
+      (λ e. variable_faults (string_bytes e.0, view e.1)) (filter (λ e. is_variable_name (string_bytes e.0)) l.name-iterator);
+  done : l.variables.items ++ map (λ e. variable_of (string_bytes e.0, view e.1))
+      (filter (λ e. is_variable_name (string_bytes e.0)) l.name-iterator) ≡ map
+      (λ e. variable_of (string_bytes e.0, view e.1)) (filter (λ e. is_variable_name (string_bytes e.0)) l.members.entries);
+}

@@ -1,0 +1,82 @@
+ghost use Rattle.std.specs.Prelude.{◌≡◌, IsTrue, IfOk, map, flat_map, string_bytes};
+ghost use Rattle.std.specs.List.{filter};
+ghost use Rattle.serde_json.specs.Find.{get};
+ghost use Rattle.serde_json.specs.View.{view};
+ghost use Rattle.wf_value.specs.Gives.{Gives};
+ghost use Rattle.wf_value.specs.Names.{names_rise};
+ghost use Rattle.wf_value.specs.declared.code.Code.TheVariants.{MatrixValue, EmptyList, StrategyMember};
+ghost use Rattle.wf_value.specs.declared.refusal.Refusal.TheVariants.{Numbered};
+ghost use Rattle.wf_reader.specs.Faults.{unless_faulty, optional};
+ghost use Rattle.wf_reader.specs.Json.{member_at};
+ghost use Rattle.wf_reader.specs.MatrixOf.{is_variable_name, variable_faults, variable_of, matrix_faults, matrix_of};
+ghost use Rattle.wf_reader.specs.Patterns.{patterns_faults, patterns_of};
+
+use crate::patterns::read_patterns;
+use crate::values::{empty_list, matrix_value, read_values};
+use serde_json::{Map, Value};
+use std::alloc::Global;
+use wf_value::{Chars, Code, Matrix, Refusal, Variable};
+
+/// 25: a member of `strategy` is not of its kind.
+pub fn strategy_member() -> Refusal
+    ensures { result ≡ Numbered StrategyMember }
+{
+    Refusal::Numbered(Code::StrategyMember)
+}
+
+/// A variable: no list, or one with another value, is 19, and an empty one 20.
+fn read_variable(alloc: Global, name: &str, value: &Value) -> Result<Variable, Refusal>
+    ensures { Gives (λ v. v) result
+        (unless_faulty (variable_faults (name.now, view value.now)) (variable_of (name.now, view value.now))) }
+{
+    let Some(values) = value.as_array() else {
+        return Err(matrix_value());
+    };
+    if values.is_empty() {
+        return Err(empty_list());
+    }
+    let scalars = read_values(alloc, values.as_slice())?;
+    Ok(Variable::new(Chars::from_str(alloc, name)?, scalars))
+}
+
+/// Whether a member of a matrix is a variable.
+fn is_variable(name: &str) -> bool
+    ensures { result ≡ is_variable_name name.now }
+{
+    name != "include" && name != "exclude"
+}
+
+/// Each variable among the members of a matrix, up to the first fault.
+fn read_variables(alloc: Global, members: &Map<String, Value>) -> Result<Vec<Variable>, Refusal>
+    ensures gives { Gives (λ v. v.items) result
+        (unless_faulty
+        (flat_map (λ e. variable_faults (string_bytes e.0, view e.1))
+        (filter (λ e. is_variable_name (string_bytes e.0)) members.now.entries))
+        (map (λ e. variable_of (string_bytes e.0, view e.1))
+        (filter (λ e. is_variable_name (string_bytes e.0)) members.now.entries))) }
+    ensures rising { IfOk result (λ v. IsTrue (names_rise v.items)) }
+{
+    let mut variables = Vec::new(alloc);
+    for (name, value) in members {
+        let text = name.as_str();
+        if !is_variable(text) {
+            continue;
+        }
+        variables.push(read_variable(alloc, text, value)?)?;
+    }
+    Ok(variables)
+}
+
+/// A matrix: no object is 25; what is wrong inside it is 19 or 20.
+pub fn read_matrix(alloc: Global, value: &Value) -> Result<Matrix, Refusal>
+    ensures { Gives (λ m. m) result
+        (unless_faulty (matrix_faults (view value.now)) (matrix_of (view value.now))) }
+{
+    let Some(members) = value.as_object() else {
+        return Err(strategy_member());
+    };
+    let include = read_patterns(alloc, value, "include")?;
+    let exclude = read_patterns(alloc, value, "exclude")?;
+    let variables = read_variables(alloc, members)?;
+    Ok(Matrix::new(variables, include, exclude))
+}
