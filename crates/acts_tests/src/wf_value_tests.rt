@@ -1,77 +1,79 @@
+//! Scalars, texts, lists and refusals.
+
+use crate::values::{Given, expect_apart, pairs, scalar, scalars, texts};
 use std::alloc::Global;
-use std::test::Fail;
+use std::process::Abort;
 use wf_value::{
     Chars, Code, Combo, JobResult, Matrix, Outcome, Refusal, Same, Scalar, Sequence, TryCopy,
     Variable, copy_items, same_items,
 };
 
-fn text(alloc: Global, text: &str) -> Result<Scalar, Fail> {
-    Ok(Scalar::Text(Chars::from_str(alloc, text)?))
+const ALIKE: [Given; 6] = [
+    Given::Null,
+    Given::Truth(true),
+    Given::Whole(1),
+    Given::Text("1"),
+    Given::Text("true"),
+    Given::Text(""),
+];
+
+#[test]
+fn scalars_that_look_alike_differ(rt: HostRuntime) {
+    let scalars = scalars(rt.alloc(), &ALIKE).expect(&rt, "scalars");
+    expect_apart(&rt, rt.alloc(), scalars.as_slice()).expect(&rt, "copies");
+}
+
+/// A scalar, whether it is true, and its text.
+const PRINTED: [(Given, bool, &str); 9] = [
+    (Given::Null, false, ""),
+    (Given::Truth(false), false, "false"),
+    (Given::Truth(true), true, "true"),
+    (Given::Whole(0), false, "0"),
+    (Given::Whole(i64::MIN), true, "-9223372036854775808"),
+    (Given::Whole(i64::MAX), true, "9223372036854775807"),
+    (Given::Text(""), false, ""),
+    (Given::Text("0"), true, "0"),
+    (Given::Text("false"), true, "false"),
+];
+
+#[test]
+fn truth_and_text(rt: HostRuntime) {
+    for (given, truthy, printed) in &PRINTED {
+        let scalar = scalar(rt.alloc(), given).expect(&rt, "a scalar");
+        assert!(rt; scalar.truthy() == *truthy, "{printed}");
+        let text = scalar.text(rt.alloc()).expect(&rt, "a text");
+        assert!(rt; text.as_str() == *printed, "{printed}");
+    }
+}
+
+fn cycle(alloc: Global, ids: &[&str]) -> Result<Refusal, Refusal> {
+    Ok(Refusal::Cycle(Sequence::new(texts(alloc, ids)?)))
+}
+
+fn expect_printed(rt: &impl Abort, alloc: Global, refusal: &Refusal, number: u64, printed: &str) {
+    assert!(rt; refusal.number() == number, "{printed}");
+    let text = refusal.text(alloc).expect(rt, "a text");
+    assert!(rt; text.as_str() == printed, "{printed}");
+    let shown = format!(in alloc; "{refusal}").expect(rt, "a text");
+    assert!(rt; shown.as_str() == printed, "{printed}");
 }
 
 #[test]
-fn scalars_that_look_alike_differ(rt: HostRuntime) -> Result<(), Fail> {
+fn refusals_print_what_they_carry(rt: HostRuntime) {
     let alloc = rt.alloc();
-    let scalars = [
-        Scalar::Null,
-        Scalar::Truth(true),
-        Scalar::Whole(1),
-        text(alloc, "1")?,
-        text(alloc, "true")?,
-        text(alloc, "")?,
-    ];
-    for (i, a) in scalars.iter().enumerate() {
-        for (j, b) in scalars.iter().enumerate() {
-            assert_eq!(rt; a.same(b), i == j);
-        }
-        assert!(rt; a.copy(alloc)?.same(a));
+    let cycle = cycle(alloc, &["a", "b"]).expect(&rt, "a cycle");
+    expect_printed(&rt, alloc, &cycle, 14, "refused 14 a b");
+    expect_printed(&rt, alloc, &Refusal::Turn(0), 43, "refused 43 0");
+    for (code, number, printed) in [
+        (Code::NotJson, 10, "refused 10"),
+        (Code::InputTooLong, 76, "refused 76"),
+    ] {
+        expect_printed(&rt, alloc, &Refusal::Numbered(code), number, printed);
     }
-    Ok(())
-}
-
-#[test]
-fn truth_and_text(rt: HostRuntime) -> Result<(), Fail> {
-    let alloc = rt.alloc();
-    let rows = [
-        (Scalar::Null, false, ""),
-        (Scalar::Truth(false), false, "false"),
-        (Scalar::Truth(true), true, "true"),
-        (Scalar::Whole(0), false, "0"),
-        (Scalar::Whole(i64::MIN), true, "-9223372036854775808"),
-        (Scalar::Whole(i64::MAX), true, "9223372036854775807"),
-        (text(alloc, "")?, false, ""),
-        (text(alloc, "0")?, true, "0"),
-        (text(alloc, "false")?, true, "false"),
-    ];
-    for (scalar, truthy, printed) in rows.iter() {
-        assert_eq!(rt; scalar.truthy(), *truthy);
-        assert_eq!(rt; scalar.text(alloc)?.as_str(), *printed);
-    }
-    Ok(())
-}
-
-#[test]
-fn refusals_print_what_they_carry(rt: HostRuntime) -> Result<(), Fail> {
-    let alloc = rt.alloc();
-    let mut ids = Vec::new(alloc);
-    ids.push(Chars::from_str(alloc, "a")?)?;
-    ids.push(Chars::from_str(alloc, "b")?)?;
-    let rows = [
-        (Refusal::Numbered(Code::NotJson), 10, "refused 10"),
-        (Refusal::Numbered(Code::InputTooLong), 76, "refused 76"),
-        (Refusal::Cycle(Sequence::new(ids)), 14, "refused 14 a b"),
-        (Refusal::Turn(0), 43, "refused 43 0"),
-    ];
-    for (refusal, number, printed) in rows.iter() {
-        assert_eq!(rt; refusal.number(), *number);
-        assert_eq!(rt; refusal.text(alloc)?.as_str(), *printed);
-        assert_eq!(rt; format!(in alloc; "{refusal}")?.as_str(), *printed);
-    }
-    Ok(())
 }
 
 /// Variables of those names, without values.
-fn variables(alloc: Global, names: &[&str]) -> Result<Vec<Variable>, Fail> {
+fn variables(alloc: Global, names: &[&str]) -> Result<Vec<Variable>, Refusal> {
     let mut variables = Vec::new(alloc);
     for name in names {
         let name = Chars::from_str(alloc, name)?;
@@ -80,143 +82,155 @@ fn variables(alloc: Global, names: &[&str]) -> Result<Vec<Variable>, Fail> {
     Ok(variables)
 }
 
-/// Pairs of those names.
-fn pairs(alloc: Global, names: &[&str]) -> Result<Vec<(Chars, Scalar)>, Fail> {
+/// Whether the names rise, as those of pairs.
+fn rise_in_pairs(alloc: Global, names: &[&str]) -> Result<bool, Refusal> {
     let mut pairs = Vec::new(alloc);
     for name in names {
         pairs.push((Chars::from_str(alloc, name)?, Scalar::Null))?;
     }
-    Ok(pairs)
+    Ok(Combo::names_rise(pairs.as_slice()))
 }
+
+/// Names, and whether they rise.
+const NAMES: [(&[&str], bool); 5] = [
+    (&[], true),
+    (&["b"], true),
+    (&["B", "a", "ab"], true),
+    (&["a", "a"], false),
+    (&["a", "c", "b"], false),
+];
 
 #[test]
-fn tells_the_order_of_names(rt: HostRuntime) -> Result<(), Fail> {
-    let rows: [(&[&str], bool); 5] = [
-        (&[], true),
-        (&["b"], true),
-        (&["B", "a", "ab"], true),
-        (&["a", "a"], false),
-        (&["a", "c", "b"], false),
-    ];
-    for (names, expected) in rows {
-        let variables = variables(rt.alloc(), names)?;
-        assert_eq!(rt; Matrix::names_rise(variables.as_slice()), expected);
-        let pairs = pairs(rt.alloc(), names)?;
-        assert_eq!(rt; Combo::names_rise(pairs.as_slice()), expected);
-    }
-    Ok(())
-}
-
-/// Those texts.
-fn texts(alloc: Global, texts: &[&str]) -> Result<Vec<Chars>, Fail> {
-    let mut all = Vec::new(alloc);
-    for text in texts {
-        all.push(Chars::from_str(alloc, text)?)?;
-    }
-    Ok(all)
-}
-
-#[test]
-fn texts_and_lists_come_back(rt: HostRuntime) -> Result<(), Fail> {
-    let alloc = rt.alloc();
-    let chars = Chars::new(String::from_str(alloc, "build")?);
-    let copy = chars.copy(alloc)?;
-    assert!(rt; chars.same(&copy));
-    assert_eq!(rt; chars.into_string().as_str(), "build");
-    let ids = Sequence::new(texts(alloc, &["build", ""])?);
-    assert_eq!(rt; ids.len(), 2);
-    assert!(rt; !ids.is_empty());
-    assert_eq!(rt; ids.as_slice().len(), 2);
-    assert_eq!(rt; ids.into_vec().len(), 2);
-    assert!(rt; Combo::new(alloc).is_empty());
-    Ok(())
-}
-
-#[test]
-fn lists_are_copied_and_compared(rt: HostRuntime) -> Result<(), Fail> {
-    let alloc = rt.alloc();
-    let rows: [&[&str]; 5] = [&[], &["a"], &["a", "b"], &["b", "a"], &["a", "b", ""]];
-    for (i, one) in rows.iter().enumerate() {
-        let one = Sequence::new(texts(alloc, one)?);
-        for (j, other) in rows.iter().enumerate() {
-            let other = texts(alloc, other)?;
-            assert_eq!(rt; same_items(one.as_slice(), other.as_slice()), i == j);
-            assert_eq!(rt; one.same(&Sequence::new(other)), i == j);
-        }
-        assert!(rt; one.copy(alloc)?.same(&one));
+fn tells_the_order_of_names(rt: HostRuntime) {
+    for (row, (names, expected)) in NAMES.iter().enumerate() {
+        let variables = variables(rt.alloc(), names).expect(&rt, "variables");
         assert!(rt;
-            same_items(
-                copy_items(alloc, one.as_slice())?.as_slice(),
-                one.as_slice()
-            )
+            Matrix::names_rise(variables.as_slice()) == *expected,
+            "row {row}"
+        );
+        let rises = rise_in_pairs(rt.alloc(), names).expect(&rt, "pairs");
+        assert!(rt; rises == *expected, "row {row}");
+    }
+}
+
+#[test]
+fn texts_come_back(rt: HostRuntime) {
+    let alloc = rt.alloc();
+    let chars = Chars::new(String::from_str(alloc, "build").expect(&rt, "a text"));
+    let copy = chars.copy(alloc).expect(&rt, "a copy");
+    assert!(rt; chars.same(&copy));
+    assert!(rt; chars.into_string().as_str() == "build");
+}
+
+#[test]
+fn lists_come_back(rt: HostRuntime) {
+    let ids = Sequence::new(texts(rt.alloc(), &["build", ""]).expect(&rt, "texts"));
+    assert!(rt; ids.len() == 2 && !ids.is_empty() && ids.as_slice().len() == 2);
+    assert!(rt; ids.into_vec().len() == 2);
+    assert!(rt; Combo::new(rt.alloc()).is_empty());
+}
+
+/// Lists, of which no two are the same.
+const LISTS: [&[&str]; 5] = [&[], &["a"], &["a", "b"], &["b", "a"], &["a", "b", ""]];
+
+fn lists(alloc: Global) -> Result<Vec<Sequence<Chars>>, Refusal> {
+    let mut lists = Vec::new(alloc);
+    for list in LISTS {
+        lists.push(Sequence::new(texts(alloc, list)?))?;
+    }
+    Ok(lists)
+}
+
+/// That the items are those of the list at this place, and of no other.
+fn expect_items(rt: &impl Abort, lists: &[Sequence<Chars>], items: &[Chars], place: usize) {
+    for (other, list) in lists.iter().enumerate() {
+        assert!(rt;
+            same_items(items, list.as_slice()) == (other == place),
+            "{place} {other}"
         );
     }
-    Ok(())
 }
 
 #[test]
-fn pairs_numbers_and_lists_of_lists_are_copied(rt: HostRuntime) -> Result<(), Fail> {
-    let alloc = rt.alloc();
-    let pairs = pairs(alloc, &["a", "b"])?;
+fn lists_are_copied_and_compared(rt: HostRuntime) {
+    let lists = lists(rt.alloc()).expect(&rt, "lists");
+    expect_apart(&rt, rt.alloc(), lists.as_slice()).expect(&rt, "copies");
+    for (place, list) in lists.iter().enumerate() {
+        let items = copy_items(rt.alloc(), list.as_slice()).expect(&rt, "a copy");
+        expect_items(&rt, lists.as_slice(), items.as_slice(), place);
+    }
+}
+
+const PAIRS: [(&str, Given); 2] = [("a", Given::Null), ("b", Given::Null)];
+
+#[test]
+fn pairs_are_copied(rt: HostRuntime) {
+    let pairs = pairs(rt.alloc(), &PAIRS).expect(&rt, "pairs");
     assert!(rt; Combo::names_rise(pairs.as_slice()));
     let pairs = Combo::from_pairs(pairs);
-    assert!(rt; pairs.copy(alloc)?.same(&pairs));
-    assert!(rt; !pairs.same(&Combo::new(alloc)));
+    assert!(rt; pairs.copy(rt.alloc()).expect(&rt, "a copy").same(&pairs));
+    assert!(rt; !pairs.same(&Combo::new(rt.alloc())));
+}
+
+/// The lists `[n, n + 1]` for 0, 1 and 2.
+fn lists_of_two(alloc: Global) -> Result<Sequence<Sequence<usize>>, Refusal> {
     let mut rows = Vec::new(alloc);
     for n in 0..3usize {
-        let mut row = Vec::new(alloc);
-        row.push(n)?;
-        row.push(n + 1)?;
-        rows.push(Sequence::new(row))?;
+        rows.push(Sequence::new([n, n + 1].to_vec(alloc)?))?;
     }
-    let rows = Sequence::new(rows);
-    let copy = rows.copy(alloc)?;
+    Ok(Sequence::new(rows))
+}
+
+#[test]
+fn numbers_and_lists_of_lists_are_copied(rt: HostRuntime) {
+    let rows = lists_of_two(rt.alloc()).expect(&rt, "lists");
+    let copy = rows.copy(rt.alloc()).expect(&rt, "a copy");
     assert!(rt; copy.same(&rows));
-    let rows = copy.as_slice();
-    assert_eq!(rt; rows.len(), 3);
-    assert_eq!(rt; rows[2].as_slice(), [2, 3].as_slice());
-    assert!(rt; 7u64.copy(alloc)?.same(&7));
-    Ok(())
+    assert!(rt; copy.as_slice().len() == 3);
+    assert!(rt; copy.as_slice()[2].as_slice() == [2, 3].as_slice());
+    assert!(rt; 7u64.copy(rt.alloc()).expect(&rt, "a copy").same(&7));
+}
+
+/// Refusals, of which no two are the same.
+fn refusals(alloc: Global) -> Result<Vec<Refusal>, Refusal> {
+    let mut refusals = Vec::new(alloc);
+    for code in [Code::Line, Code::NoRun] {
+        refusals.push(Refusal::Numbered(code))?;
+    }
+    for ids in [["a"].as_slice(), ["a", "b"].as_slice()] {
+        refusals.push(cycle(alloc, ids)?)?;
+    }
+    for last in 0..2 {
+        refusals.push(Refusal::Turn(last))?;
+    }
+    Ok(refusals)
 }
 
 #[test]
-fn refusals_are_copied_and_compared(rt: HostRuntime) -> Result<(), Fail> {
-    let alloc = rt.alloc();
-    let refusals = [
-        Refusal::Numbered(Code::Line),
-        Refusal::Numbered(Code::NoRun),
-        Refusal::Cycle(Sequence::new(texts(alloc, &["a"])?)),
-        Refusal::Cycle(Sequence::new(texts(alloc, &["a", "b"])?)),
-        Refusal::Turn(0),
-        Refusal::Turn(1),
-    ];
-    for (i, one) in refusals.iter().enumerate() {
-        for (j, other) in refusals.iter().enumerate() {
-            assert_eq!(rt; one.same(other), i == j);
-        }
-        assert!(rt; one.copy(alloc)?.same(one));
-    }
-    Ok(())
+fn refusals_are_copied_and_compared(rt: HostRuntime) {
+    let refusals = refusals(rt.alloc()).expect(&rt, "refusals");
+    expect_apart(&rt, rt.alloc(), refusals.as_slice()).expect(&rt, "copies");
 }
 
+const OUTCOMES: [(Outcome, &str); 3] = [
+    (Outcome::Success, "success"),
+    (Outcome::Failure, "failure"),
+    (Outcome::Cancelled, "cancelled"),
+];
+
+const RESULTS: [(JobResult, &str); 4] = [
+    (JobResult::Success, "success"),
+    (JobResult::Failure, "failure"),
+    (JobResult::Cancelled, "cancelled"),
+    (JobResult::Skipped, "skipped"),
+];
+
 #[test]
-fn words_of_results(rt: HostRuntime) -> Result<(), Fail> {
-    let outcomes = [
-        (Outcome::Success, "success"),
-        (Outcome::Failure, "failure"),
-        (Outcome::Cancelled, "cancelled"),
-    ];
-    for (outcome, word) in outcomes {
-        assert_eq!(rt; outcome.word(), word);
+fn words_of_results(rt: HostRuntime) {
+    for (outcome, word) in OUTCOMES {
+        assert!(rt; outcome.word() == word, "{word}");
     }
-    let results = [
-        (JobResult::Success, "success"),
-        (JobResult::Failure, "failure"),
-        (JobResult::Cancelled, "cancelled"),
-        (JobResult::Skipped, "skipped"),
-    ];
-    for (result, word) in results {
-        assert_eq!(rt; result.word(), word);
+    for (result, word) in RESULTS {
+        assert!(rt; result.word() == word, "{word}");
     }
-    Ok(())
 }
