@@ -4,7 +4,12 @@ use std::alloc::Global;
 use std::process::Abort;
 use wf_expr::Template;
 use wf_reader::{Contexts, Event, Job, read_event};
-use wf_value::Refusal;
+use wf_value::{Chars, Refusal};
+
+fn label_text(alloc: Global, label: &Template, contexts: &Contexts) -> Result<Chars, Refusal> {
+    let value = label.eval(alloc, contexts)?;
+    value.text(alloc)
+}
 
 fn push_labels(
     alloc: Global,
@@ -13,9 +18,8 @@ fn push_labels(
     contexts: &Contexts,
 ) -> Result<(), Refusal> {
     for label in labels {
-        let label = label.eval(alloc, contexts)?.text(alloc)?;
         text.push_str(":")?;
-        text.push_str(label.as_str())?;
+        text.push_str(label_text(alloc, label, contexts)?.as_str())?;
     }
     Ok(())
 }
@@ -35,12 +39,16 @@ fn labels_shown(alloc: Global, event: &Event) -> Result<String, Refusal> {
     jobs_shown(alloc, event.workflow.jobs.as_slice(), &event.contexts)
 }
 
-fn shown(alloc: Global, body: &str) -> Result<String, Refusal> {
-    let event = read_event(alloc, body.as_bytes())?;
-    let labels = labels_shown(alloc, &event)?;
+fn event_shown(alloc: Global, event: &Event) -> Result<String, Refusal> {
+    let labels = labels_shown(alloc, event)?;
     let (repo, path) = (event.repo.as_str(), event.path.as_str());
     let name = event.workflow.name.as_str();
     Ok(format!(in alloc; "{repo} {path} [{name}]{labels}")?)
+}
+
+fn shown(alloc: Global, body: &str) -> Result<String, Refusal> {
+    let event = read_event(alloc, body.as_bytes())?;
+    event_shown(alloc, &event)
 }
 
 /// A body, and what it shows.
