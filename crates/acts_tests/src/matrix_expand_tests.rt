@@ -1,62 +1,54 @@
+//! The combinations of matrices.
+
+use crate::values::{Given, combo, scalars};
 use matrix_expand::expand;
 use std::alloc::Global;
 use std::process::Abort;
-use std::test::Fail;
-use wf_value::{Chars, Combo, Matrix, Refusal, Scalar, Variable};
+use wf_value::{Chars, Code, Combo, Matrix, Refusal, Scalar, Variable};
 
-fn text(alloc: Global, text: &str) -> Result<Scalar, Refusal> {
-    Ok(Scalar::Text(Chars::from_str(alloc, text)?))
-}
+/// The names and values of an object.
+type Object = &'static [(&'static str, Given)];
 
-fn one(alloc: Global, name: &str, value: Scalar) -> Result<Combo, Refusal> {
-    let mut pairs = Vec::new(alloc);
-    pairs.push((Chars::from_str(alloc, name)?, value))?;
-    Ok(Combo::from_pairs(pairs))
-}
+/// Variables with their values, included objects and excluded objects.
+type Listed = (
+    &'static [(&'static str, &'static [Given])],
+    &'static [Object],
+    &'static [Object],
+);
 
-/// An object of two texts, whose names are given in order.
-fn two(
-    rt: &impl Abort,
-    alloc: Global,
-    first: (&str, &str),
-    second: (&str, &str),
-) -> Result<Combo, Refusal> {
-    let (first_name, first_value) = first;
-    let (second_name, second_value) = second;
-    assert!(rt; first_name < second_name);
-    let mut pairs = Vec::new(alloc);
-    pairs.push((
-        Chars::from_str(alloc, first_name)?,
-        text(alloc, first_value)?,
-    ))?;
-    pairs.push((
-        Chars::from_str(alloc, second_name)?,
-        text(alloc, second_value)?,
-    ))?;
-    Ok(Combo::from_pairs(pairs))
-}
-
-fn numbers(alloc: Global, name: &str, count: i64) -> Result<Variable, Refusal> {
-    let mut values = Vec::new(alloc);
-    for n in 0..count {
-        values.push(Scalar::Whole(n))?;
-    }
+fn variable(alloc: Global, name: &str, values: &[Given]) -> Result<Variable, Refusal> {
+    let values = scalars(alloc, values)?;
     Ok(Variable::new(Chars::from_str(alloc, name)?, values))
 }
 
-/// Two variables, whose names are given in order.
-fn pair(
-    rt: &impl Abort,
-    alloc: Global,
-    first: Variable,
-    second: Variable,
-    include: Vec<Combo>,
-    exclude: Vec<Combo>,
-) -> Result<Matrix, Refusal> {
-    assert!(rt; first.name().as_str() < second.name().as_str());
+fn variables(alloc: Global, listed: &[(&str, &[Given])]) -> Result<Vec<Variable>, Refusal> {
     let mut variables = Vec::new(alloc);
-    variables.push(first)?;
-    variables.push(second)?;
+    for (name, values) in listed {
+        variables.push(variable(alloc, name, values)?)?;
+    }
+    Ok(variables)
+}
+
+fn combos(alloc: Global, objects: &[Object]) -> Result<Vec<Combo>, Refusal> {
+    let mut combos = Vec::new(alloc);
+    for object in objects {
+        combos.push(combo(alloc, object)?)?;
+    }
+    Ok(combos)
+}
+
+/// Variables whose names do not rise are refused 75.
+fn matrix(
+    alloc: Global,
+    variables: Vec<Variable>,
+    include: &[Object],
+    exclude: &[Object],
+) -> Result<Matrix, Refusal> {
+    if !Matrix::names_rise(variables.as_slice()) {
+        return Err(Refusal::Numbered(Code::Line));
+    }
+    let include = combos(alloc, include)?;
+    let exclude = combos(alloc, exclude)?;
     Ok(Matrix::new(variables, include, exclude))
 }
 
@@ -87,119 +79,134 @@ fn show(alloc: Global, shown: &mut String, pairs: &[(Chars, Scalar)]) -> Result<
     Ok(())
 }
 
+/// The combinations of a matrix as they are shown.
+fn shown_combinations(rt: &impl Abort, alloc: Global, listed: &Listed) -> String {
+    let (listed, include, exclude) = listed;
+    let variables = variables(alloc, listed).expect(rt, "variables");
+    let matrix = matrix(alloc, variables, include, exclude).expect(rt, "a matrix");
+    let combos = expand(alloc, &matrix).expect(rt, "combinations");
+    shown(alloc, combos.as_slice()).expect(rt, "a text")
+}
+
 /// The matrix of fruits and animals of the documentation.
-fn documented(rt: &impl Abort, alloc: Global) -> Result<Matrix, Refusal> {
-    let mut fruits = Vec::new(alloc);
-    fruits.push(text(alloc, "apple")?)?;
-    fruits.push(text(alloc, "pear")?)?;
-    let mut animals = Vec::new(alloc);
-    animals.push(text(alloc, "cat")?)?;
-    animals.push(text(alloc, "dog")?)?;
-    let mut include = Vec::new(alloc);
-    include.push(one(alloc, "color", text(alloc, "green")?)?)?;
-    include.push(two(rt, alloc, ("animal", "cat"), ("color", "pink"))?)?;
-    include.push(two(rt, alloc, ("fruit", "apple"), ("shape", "circle"))?)?;
-    include.push(one(alloc, "fruit", text(alloc, "banana")?)?)?;
-    include.push(two(rt, alloc, ("animal", "cat"), ("fruit", "banana"))?)?;
-    pair(
-        rt,
-        alloc,
-        Variable::new(Chars::from_str(alloc, "animal")?, animals),
-        Variable::new(Chars::from_str(alloc, "fruit")?, fruits),
-        include,
-        Vec::new(alloc),
-    )
-}
+const DOCUMENTED: Listed = (
+    &[
+        ("animal", &[Given::Text("cat"), Given::Text("dog")]),
+        ("fruit", &[Given::Text("apple"), Given::Text("pear")]),
+    ],
+    &[
+        &[("color", Given::Text("green"))],
+        &[
+            ("animal", Given::Text("cat")),
+            ("color", Given::Text("pink")),
+        ],
+        &[
+            ("fruit", Given::Text("apple")),
+            ("shape", Given::Text("circle")),
+        ],
+        &[("fruit", Given::Text("banana"))],
+        &[
+            ("animal", Given::Text("cat")),
+            ("fruit", Given::Text("banana")),
+        ],
+    ],
+    &[],
+);
+
+const DOCUMENTED_COMBINATIONS: &str = concat!(
+    "{ animal':cat color':pink fruit':apple shape':circle}",
+    "{ animal':cat color':pink fruit':pear}",
+    "{ animal':dog color':green fruit':apple shape':circle}",
+    "{ animal':dog color':green fruit':pear}",
+    "{ fruit':banana}{ animal':cat fruit':banana}",
+);
 
 #[test]
-fn gives_the_combinations_of_the_documentation(rt: HostRuntime) -> Result<(), Fail> {
-    let matrix = documented(&rt, rt.alloc())?;
-    let combos = expand(rt.alloc(), &matrix)?;
-    let mut want = String::new(rt.alloc());
-    want.push_str("{ animal':cat color':pink fruit':apple shape':circle}")?;
-    want.push_str("{ animal':cat color':pink fruit':pear}")?;
-    want.push_str("{ animal':dog color':green fruit':apple shape':circle}")?;
-    want.push_str("{ animal':dog color':green fruit':pear}")?;
-    want.push_str("{ fruit':banana}{ animal':cat fruit':banana}")?;
-    assert_eq!(rt;
-        shown(rt.alloc(), combos.as_slice())?.as_str(),
-        want.as_str()
-    );
-    Ok(())
+fn gives_the_combinations_of_the_documentation(rt: HostRuntime) {
+    let shown = shown_combinations(&rt, rt.alloc(), &DOCUMENTED);
+    assert!(rt; shown.as_str() == DOCUMENTED_COMBINATIONS);
 }
 
-#[test]
-fn gives_a_leg_for_each_include_object_alone(rt: HostRuntime) -> Result<(), Fail> {
-    let mut include = Vec::new(rt.alloc());
-    include.push(one(rt.alloc(), "a", Scalar::Whole(1))?)?;
-    include.push(one(rt.alloc(), "a", Scalar::Whole(2))?)?;
-    let matrix = Matrix::new(Vec::new(rt.alloc()), include, Vec::new(rt.alloc()));
-    let combos = expand(rt.alloc(), &matrix)?;
-    assert_eq!(rt;
-        shown(rt.alloc(), combos.as_slice())?.as_str(),
-        "{ a:1}{ a:2}"
-    );
-    Ok(())
-}
+const INCLUDED_ALONE: Listed = (
+    &[],
+    &[&[("a", Given::Whole(1))], &[("a", Given::Whole(2))]],
+    &[],
+);
 
 #[test]
-fn keeps_kinds_apart(rt: HostRuntime) -> Result<(), Fail> {
-    let alloc = rt.alloc();
+fn gives_a_leg_for_each_include_object_alone(rt: HostRuntime) {
+    let shown = shown_combinations(&rt, rt.alloc(), &INCLUDED_ALONE);
+    assert!(rt; shown.as_str() == "{ a:1}{ a:2}");
+}
+
+const OF_EACH_KIND: Listed = (
+    &[(
+        "a",
+        &[
+            Given::Whole(1),
+            Given::Text("1"),
+            Given::Truth(true),
+            Given::Null,
+        ],
+    )],
+    &[],
+    &[
+        &[("a", Given::Text("1"))],
+        &[("a", Given::Text("true"))],
+        &[("a", Given::Text(""))],
+    ],
+);
+
+#[test]
+fn keeps_kinds_apart(rt: HostRuntime) {
+    let shown = shown_combinations(&rt, rt.alloc(), &OF_EACH_KIND);
+    assert!(rt; shown.as_str() == "{ a:1}{ a:true}{ anull:}");
+}
+
+/// A variable of the numbers from 0 on.
+fn numbers(alloc: Global, name: &str, count: i64) -> Result<Variable, Refusal> {
     let mut values = Vec::new(alloc);
-    values.push(Scalar::Whole(1))?;
-    values.push(text(alloc, "1")?)?;
-    values.push(Scalar::Truth(true))?;
-    values.push(Scalar::Null)?;
+    for n in 0..count {
+        values.push(Scalar::Whole(n))?;
+    }
+    Ok(Variable::new(Chars::from_str(alloc, name)?, values))
+}
+
+/// Variables of the numbers from 0 on.
+fn numbered(alloc: Global, counts: &[(&str, i64)]) -> Result<Vec<Variable>, Refusal> {
     let mut variables = Vec::new(alloc);
-    variables.push(Variable::new(Chars::from_str(alloc, "a")?, values))?;
-    let mut exclude = Vec::new(alloc);
-    exclude.push(one(alloc, "a", text(alloc, "1")?)?)?;
-    exclude.push(one(alloc, "a", text(alloc, "true")?)?)?;
-    exclude.push(one(alloc, "a", text(alloc, "")?)?)?;
-    let matrix = Matrix::new(variables, Vec::new(alloc), exclude);
-    let combos = expand(alloc, &matrix)?;
-    assert_eq!(rt;
-        shown(alloc, combos.as_slice())?.as_str(),
-        "{ a:1}{ a:true}{ anull:}"
-    );
-    Ok(())
+    for (name, count) in counts {
+        variables.push(numbers(alloc, name, *count)?)?;
+    }
+    Ok(variables)
 }
 
-/// The object `{"x":0,"y":0}`.
-fn origin(rt: &impl Abort, alloc: Global) -> Result<Combo, Refusal> {
-    assert!(rt; "x" < "y");
-    let mut pairs = Vec::new(alloc);
-    pairs.push((Chars::from_str(alloc, "x")?, Scalar::Whole(0)))?;
-    pairs.push((Chars::from_str(alloc, "y")?, Scalar::Whole(0)))?;
-    Ok(Combo::from_pairs(pairs))
-}
+const SIXTEEN: &[Object] = &[&[("x", Given::Whole(16))]];
 
-/// The variables `x` and `y` with so many values, with `{"x":16}` included and the origin excluded
-/// where that is asked.
+const ORIGIN: &[Object] = &[&[("x", Given::Whole(0)), ("y", Given::Whole(0))]];
+
+/// How many values `x` and `y` have, what is included and excluded, and 1,000 more than the number of
+/// combinations, or the number of the refusal.
+const GRIDS: [(i64, i64, &[Object], &[Object], u64); 6] = [
+    (16, 16, &[], &[], 1256),
+    (16, 16, SIXTEEN, &[], 22),
+    (16, 16, SIXTEEN, ORIGIN, 1256),
+    (64, 64, &[], &[], 22),
+    (65, 64, &[], &[], 21),
+    (1, 1, &[], ORIGIN, 22),
+];
+
+/// The variables `x` and `y` with so many values.
 fn grid(
     rt: &impl Abort,
     alloc: Global,
-    lengths: (i64, i64),
-    included: bool,
-    excluded: bool,
-) -> Result<Matrix, Refusal> {
-    let (x, y) = lengths;
-    let mut include = Vec::new(alloc);
-    if included {
-        include.push(one(alloc, "x", Scalar::Whole(16))?)?;
-    }
-    let mut exclude = Vec::new(alloc);
-    if excluded {
-        exclude.push(origin(rt, alloc)?)?;
-    }
-    pair(
-        rt,
-        alloc,
-        numbers(alloc, "x", x)?,
-        numbers(alloc, "y", y)?,
-        include,
-        exclude,
-    )
+    counts: (i64, i64),
+    include: &[Object],
+    exclude: &[Object],
+) -> Matrix {
+    let (x, y) = counts;
+    let variables = numbered(alloc, &[("x", x), ("y", y)]).expect(rt, "variables");
+    matrix(alloc, variables, include, exclude).expect(rt, "a matrix")
 }
 
 /// 1,000 more than the number of combinations, or the number of the refusal.
@@ -211,62 +218,57 @@ fn counted(alloc: Global, matrix: &Matrix) -> u64 {
 }
 
 #[test]
-fn counts_legs_after_exclude(rt: HostRuntime) -> Result<(), Fail> {
-    let rows = [
-        ((16, 16), false, false, 1256),
-        ((16, 16), true, false, 22),
-        ((16, 16), true, true, 1256),
-        ((64, 64), false, false, 22),
-        ((65, 64), false, false, 21),
-        ((1, 1), false, true, 22),
-    ];
-    for (lengths, included, excluded, want) in rows {
-        let matrix = grid(&rt, rt.alloc(), lengths, included, excluded)?;
-        assert_eq!(rt; counted(rt.alloc(), &matrix), want);
+fn counts_legs_after_exclude(rt: HostRuntime) {
+    for (row, (x, y, include, exclude, want)) in GRIDS.iter().enumerate() {
+        let matrix = grid(&rt, rt.alloc(), (*x, *y), include, exclude);
+        assert!(rt; counted(rt.alloc(), &matrix) == *want, "row {row}");
     }
-    Ok(())
-}
-
-/// Seventeen variables, `a` to `q`, of two values each: 131,072 choices.
-fn seventeen_of_two(rt: &impl Abort, alloc: Global) -> Result<Matrix, Refusal> {
-    let mut variables = Vec::new(alloc);
-    for letter in b'a'..b'r' {
-        let letter = letter as char;
-        let name = format!(in alloc; "{letter}")?;
-        variables.push(numbers(alloc, name.as_str(), 2)?)?;
-    }
-    assert!(rt; Matrix::names_rise(variables.as_slice()));
-    Ok(Matrix::new(variables, Vec::new(alloc), Vec::new(alloc)))
 }
 
 #[test]
-fn refuses_seventeen_variables_of_two_values(rt: HostRuntime) -> Result<(), Fail> {
-    let matrix = seventeen_of_two(&rt, rt.alloc())?;
-    assert_eq!(rt; matrix.variables().len(), 17);
-    match expand(rt.alloc(), &matrix) {
-        Ok(_) => assert!(rt; false),
-        Err(refusal) => assert_eq!(rt; refusal.number(), 21),
-    }
-    Ok(())
-}
-
-#[test]
-fn puts_the_new_combination_last(rt: HostRuntime) -> Result<(), Fail> {
-    let matrix = grid(&rt, rt.alloc(), (16, 16), true, true)?;
-    let combos = expand(rt.alloc(), &matrix)?;
-    let shown = shown(rt.alloc(), combos.as_slice())?;
+fn puts_the_new_combination_last(rt: HostRuntime) {
+    let matrix = grid(&rt, rt.alloc(), (16, 16), SIXTEEN, ORIGIN);
+    let combos = expand(rt.alloc(), &matrix).expect(&rt, "combinations");
+    let shown = shown(rt.alloc(), combos.as_slice()).expect(&rt, "a text");
     assert!(rt; shown.as_str().starts_with("{ x:0 y:1}{ x:0 y:2}"));
     assert!(rt; shown.as_str().ends_with("{ x:15 y:15}{ x:16}"));
-    Ok(())
+}
+
+/// Seventeen variables of two values each: 131,072 choices.
+const SEVENTEEN_OF_TWO: [(&str, i64); 17] = [
+    ("a", 2),
+    ("b", 2),
+    ("c", 2),
+    ("d", 2),
+    ("e", 2),
+    ("f", 2),
+    ("g", 2),
+    ("h", 2),
+    ("i", 2),
+    ("j", 2),
+    ("k", 2),
+    ("l", 2),
+    ("m", 2),
+    ("n", 2),
+    ("o", 2),
+    ("p", 2),
+    ("q", 2),
+];
+
+/// Variables, and the number with which their matrix is refused.
+fn expect_refused(rt: &impl Abort, alloc: Global, counts: &[(&str, i64)], number: u64) {
+    let variables = numbered(alloc, counts).expect(rt, "variables");
+    let matrix = matrix(alloc, variables, &[], &[]).expect(rt, "a matrix");
+    assert!(rt; matrix.variables().len() == counts.len());
+    assert!(rt; counted(alloc, &matrix) == number);
 }
 
 #[test]
-fn refuses_an_empty_matrix(rt: HostRuntime) -> Result<(), Fail> {
-    let alloc = rt.alloc();
-    let matrix = Matrix::new(Vec::new(alloc), Vec::new(alloc), Vec::new(alloc));
-    match expand(alloc, &matrix) {
-        Ok(_) => assert!(rt; false),
-        Err(refusal) => assert_eq!(rt; refusal.number(), 22),
-    }
-    Ok(())
+fn refuses_seventeen_variables_of_two_values(rt: HostRuntime) {
+    expect_refused(&rt, rt.alloc(), &SEVENTEEN_OF_TWO, 21);
+}
+
+#[test]
+fn refuses_an_empty_matrix(rt: HostRuntime) {
+    expect_refused(&rt, rt.alloc(), &[], 22);
 }

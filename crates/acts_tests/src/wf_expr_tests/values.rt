@@ -3,7 +3,7 @@ use crate::wf_expr_tests::{EXAMPLE, path_of, properties, value_of};
 use std::alloc::Global;
 use std::process::Abort;
 use wf_expr::{Over, Place, Properties, Template, is_flag_set};
-use wf_value::{Chars, Same, Scalar, TryCopy};
+use wf_value::{Chars, Refusal, Same, Scalar, TryCopy};
 
 /// Templates, and their values.
 fn expect_values(rt: &impl Abort, alloc: Global, rows: &[(&str, Given)]) {
@@ -149,18 +149,19 @@ const OVER: [(&str, &str); 3] = [
     ("${{ matrix.x || inputs.most }}", "9223372036854775807"),
 ];
 
+fn expect_over(rt: &impl Abort, alloc: Global, upper: &Properties, lower: &Properties) {
+    let layers = Over { upper, lower };
+    for (text, want) in OVER {
+        let template = Template::parse(alloc, text, Place::Job).expect(rt, text);
+        assert!(rt; template.is_text(&layers, want.as_bytes()), "{text}");
+    }
+}
+
 #[test]
 fn looks_from_the_upper_layer_down(rt: HostRuntime) {
     let lower = properties(rt.alloc(), &EXAMPLE).expect(&rt, "properties");
     let upper = properties(rt.alloc(), &UPPER).expect(&rt, "properties");
-    let layers = Over {
-        upper: &upper,
-        lower: &lower,
-    };
-    for (text, want) in OVER {
-        let template = Template::parse(rt.alloc(), text, Place::Job).expect(&rt, text);
-        assert!(rt; template.is_text(&layers, want.as_bytes()), "{text}");
-    }
+    expect_over(&rt, rt.alloc(), &upper, &lower);
 }
 
 /// A template, another text, whether that is its text, and whether it is but for letter case.
@@ -186,16 +187,16 @@ const COMPARED: [(&str, &str, bool, bool); 13] = [
 ];
 
 /// A copy of a template.
-fn template_of(rt: &impl Abort, alloc: Global, text: &str) -> Template {
-    let template = Template::parse(alloc, text, Place::Job).expect(rt, text);
-    template.copy(alloc).expect(rt, "a copy")
+fn copied(alloc: Global, text: &str) -> Result<Template, Refusal> {
+    let template = Template::parse(alloc, text, Place::Job)?;
+    template.copy(alloc)
 }
 
 #[test]
 fn compares_with_a_text(rt: HostRuntime) {
     let context = properties(rt.alloc(), &EXAMPLE).expect(&rt, "properties");
     for (text, other, same, alike) in COMPARED {
-        let template = template_of(&rt, rt.alloc(), text);
+        let template = copied(rt.alloc(), text).expect(&rt, text);
         let other = other.as_bytes();
         assert!(rt; template.is_text(&context, other) == same, "{text}");
         assert!(rt;
