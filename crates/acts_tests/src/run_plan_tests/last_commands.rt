@@ -1,49 +1,91 @@
-use crate::run_plan_tests::alike::{claim, done};
-use crate::run_plan_tests::replies::lease;
-use crate::run_plan_tests::{expect_done, expect_memory};
-use run_plan::{Claim, ClaimReply, Done, LastCommand};
+use crate::commands::{claim, done};
+use crate::run_plan_tests::expect_twice;
+use crate::run_plan_tests::replies::first_lease;
+use run_plan::{ClaimReply, LastCommand};
 use std::alloc::Global;
 use std::process::Abort;
-use wf_value::{Outcome, Refusal, TryCopy};
+use wf_value::{Chars, Outcome, Refusal, TryCopy};
 
-/// That the kept reply prints so, and that the last command is this claim and no other.
+/// The printed text of the kept reply.
+fn kept_text(alloc: Global, last: &LastCommand) -> Result<Chars, Refusal> {
+    last.reply(alloc)?.text(alloc)
+}
+
+fn expect_reply(
+    rt: &impl Abort,
+    alloc: Global,
+    last: &LastCommand,
+    printed: &str,
+) -> Result<(), Refusal> {
+    let text = kept_text(alloc, last)?;
+    assert!(rt; text.as_str() == printed, "{printed}");
+    Ok(())
+}
+
+/// Whether the last command is this claim of `r1`.
+fn is_claim(alloc: Global, last: &LastCommand, count: &str, labels: &str) -> Result<bool, Refusal> {
+    Ok(last.is_claim(&claim(alloc, "r1", count, labels)?))
+}
+
+/// Whether the last command is the report 2 of `r1` with this outcome.
+fn is_report(alloc: Global, last: &LastCommand, outcome: Outcome) -> Result<bool, Refusal> {
+    Ok(last.is_report(&done(alloc, "r1", "2", "1", outcome)?))
+}
+
 fn expect_claim(
     rt: &impl Abort,
     alloc: Global,
-    reply: ClaimReply,
+    last: &LastCommand,
     printed: &str,
 ) -> Result<(), Refusal> {
-    let last = LastCommand::Claim(claim(alloc, "r1", "1", "linux")?, reply).copy(alloc)?;
-    let text = last.reply(alloc)?.text(alloc)?;
-    assert_eq!(rt; text.as_str(), printed);
-    let same: Claim = claim(alloc, "r1", "1", "linux")?;
-    assert!(rt; last.is_claim(&same));
-    let other: Claim = claim(alloc, "r1", "1", "Linux")?;
-    assert!(rt; !last.is_claim(&other));
+    expect_reply(rt, alloc, last, printed)?;
+    assert!(rt; is_claim(alloc, last, "1", "linux")?, "{printed}");
+    assert!(rt; !is_claim(alloc, last, "1", "Linux")?, "{printed}");
     Ok(())
 }
 
-fn expect_report(rt: &impl Abort, alloc: Global) -> Result<(), Refusal> {
-    let last = LastCommand::Done(done(alloc, "r1", "2", "1", Outcome::Success)?).copy(alloc)?;
-    let text = last.reply(alloc)?.text(alloc)?;
-    assert_eq!(rt; text.as_str(), "ok");
-    let same: Done = done(alloc, "r1", "2", "1", Outcome::Success)?;
-    assert!(rt; last.is_report(&same));
-    let other: Done = done(alloc, "r1", "2", "1", Outcome::Failure)?;
-    assert!(rt; !last.is_report(&other));
-    assert!(rt; !last.is_claim(&claim(alloc, "r1", "2", "linux")?));
+fn keeps_nothing(rt: &impl Abort, alloc: Global) -> Result<(), Refusal> {
+    let claim = claim(alloc, "r1", "1", "linux")?;
+    let last = LastCommand::Claim(claim, ClaimReply::Nothing);
+    expect_claim(rt, alloc, &last.copy(alloc)?, "nothing")
+}
+
+fn claim_with_lease(alloc: Global) -> Result<LastCommand, Refusal> {
+    let lease = first_lease(alloc)?;
+    let claim = claim(alloc, "r1", "1", "linux")?;
+    Ok(LastCommand::Claim(claim, ClaimReply::Lease(lease)))
+}
+
+fn keeps_a_lease(rt: &impl Abort, alloc: Global) -> Result<(), Refusal> {
+    let copy = claim_with_lease(alloc)?.copy(alloc)?;
+    expect_claim(rt, alloc, &copy, "lease 1 2 b 0 {}")
+}
+
+fn expect_report(rt: &impl Abort, alloc: Global, last: &LastCommand) -> Result<(), Refusal> {
+    expect_reply(rt, alloc, last, "ok")?;
+    assert!(rt; is_report(alloc, last, Outcome::Success)?);
+    assert!(rt; !is_report(alloc, last, Outcome::Failure)?);
+    assert!(rt; !is_claim(alloc, last, "2", "linux")?);
     Ok(())
+}
+
+fn keeps_a_report(rt: &impl Abort, alloc: Global) -> Result<(), Refusal> {
+    let done = done(alloc, "r1", "2", "1", Outcome::Success)?;
+    let copy = LastCommand::Done(done).copy(alloc)?;
+    expect_report(rt, alloc, &copy)
 }
 
 fn keeps_replies(rt: &impl Abort, alloc: Global) -> Result<(), Refusal> {
-    expect_claim(rt, alloc, ClaimReply::Nothing, "nothing")?;
-    let given = ClaimReply::Lease(lease(alloc, 2)?);
-    expect_claim(rt, alloc, given, "lease 1 2 b 0 {}")?;
-    expect_report(rt, alloc)
+    keeps_nothing(rt, alloc)?;
+    keeps_a_lease(rt, alloc)?;
+    keeps_a_report(rt, alloc)
 }
 
 #[test]
 fn keeps_the_reply_to_the_last_command(rt: HostRuntime) {
-    expect_memory(&rt, &keeps_replies(&rt, rt.alloc()));
-    expect_done(&rt, &keeps_replies(&rt, rt.alloc()));
+    expect_twice(
+        &rt,
+        keeps_replies(&rt, rt.alloc()),
+        keeps_replies(&rt, rt.alloc()),
+    );
 }

@@ -1,25 +1,12 @@
-use crate::run_plan_tests::{BODY, body_of, delivery, event, expect_done, expect_memory, ready};
-use run_plan::{Plan, plan, prepare};
+use crate::commands::prepared;
+use crate::given::spelled;
+use crate::run_plan_tests::{BODY, expect_twice};
+use run_plan::{Plan, PlannedJob, PlannedLeg, Prepared, plan};
 use std::alloc::Global;
 use std::process::Abort;
 use wf_expr::{Piece, Template};
 use wf_reader::read_workflow;
 use wf_value::Refusal;
-
-fn expect_job(rt: &impl Abort, plan: &Plan, place: usize, id: &str, labels: &[&str]) {
-    let jobs = plan.as_slice();
-    assert!(rt; place < jobs.len());
-    let job = &jobs[place];
-    assert_eq!(rt; job.id.as_str(), id);
-    let legs = job.legs.as_slice();
-    assert_eq!(rt; legs.len(), 1);
-    assert_eq!(rt; legs[0].combo.len(), 0);
-    let found = job.labels.as_slice();
-    assert_eq!(rt; found.len(), labels.len());
-    for (label, want) in found.iter().zip(labels) {
-        assert_eq!(rt; text_of(label), *want);
-    }
-}
 
 /// The text of a template without expressions.
 fn text_of(template: &Template) -> &str {
@@ -29,49 +16,94 @@ fn text_of(template: &Template) -> &str {
     }
 }
 
-fn prepares(rt: &impl Abort, alloc: Global) -> Result<(), Refusal> {
-    let first = ready(alloc, "d1", "push", BODY)?;
-    let copy = first.share()?;
-    for event in [&first, &copy] {
-        assert_eq!(rt; event.delivery().as_str(), "d1");
-        assert_eq!(rt; event.event().as_str(), "push");
-        assert_eq!(rt; event.body(), BODY.as_bytes());
-        assert_eq!(rt; event.repo().as_str(), "o/r");
-        assert_eq!(rt; event.path().as_str(), "ci.json");
-        assert_eq!(rt; event.plan().as_slice().len(), 1);
-        expect_job(rt, event.plan(), 0, "build", &["linux"]);
+fn expect_labels(rt: &impl Abort, found: &[Template], want: &[&str]) {
+    assert!(rt; found.len() == want.len());
+    for (label, text) in found.iter().zip(want) {
+        assert!(rt; text_of(label) == *text, "{text}");
     }
+}
+
+/// One leg without a combination.
+fn expect_one_leg(rt: &impl Abort, legs: &[PlannedLeg]) {
+    assert!(rt; legs.len() == 1);
+    assert!(rt; legs[0].combo.len() == 0);
+}
+
+fn expect_job(rt: &impl Abort, job: &PlannedJob, id: &str, labels: &[&str]) {
+    assert!(rt; job.id.as_str() == id);
+    expect_one_leg(rt, job.legs.as_slice());
+    expect_labels(rt, job.labels.as_slice(), labels);
+}
+
+/// The only job of a plan.
+fn expect_only_job(rt: &impl Abort, jobs: &[PlannedJob], id: &str, labels: &[&str]) {
+    assert!(rt; jobs.len() == 1);
+    expect_job(rt, &jobs[0], id, labels);
+}
+
+fn expect_names(rt: &impl Abort, event: &Prepared) {
+    assert!(rt; event.delivery().as_str() == "d1");
+    assert!(rt; event.event().as_str() == "push");
+}
+
+fn expect_workflow(rt: &impl Abort, event: &Prepared) {
+    assert!(rt; event.repo().as_str() == "o/r");
+    assert!(rt; event.path().as_str() == "ci.json");
+}
+
+/// That the event is that of `BODY`.
+fn expect_first(rt: &impl Abort, event: &Prepared) {
+    expect_names(rt, event);
+    expect_workflow(rt, event);
+    assert!(rt; event.body() == BODY.as_bytes());
+    expect_only_job(rt, event.plan().as_slice(), "build", &["linux"]);
+}
+
+fn shares(rt: &impl Abort, event: &Prepared) -> Result<(), Refusal> {
+    let share = event.share()?;
+    expect_first(rt, &share);
     Ok(())
+}
+
+fn prepares(rt: &impl Abort, alloc: Global) -> Result<(), Refusal> {
+    let first = prepared(alloc, "d1", "push", BODY)?;
+    expect_first(rt, &first);
+    shares(rt, &first)
 }
 
 #[test]
 fn prepares_the_first_body(rt: HostRuntime) {
-    expect_memory(&rt, &prepares(&rt, rt.alloc()));
-    expect_done(&rt, &prepares(&rt, rt.alloc()));
+    expect_twice(&rt, prepares(&rt, rt.alloc()), prepares(&rt, rt.alloc()));
+}
+
+const THREE_JOBS: &str =
+    "{\"jobs\":{\"b\":{\"runs-on\":[\"linux\",\"x64\"]},\"B\":{\"runs-on\":\"gpu\"},\"a\":{\"runs-on\":\"\"}}}";
+
+fn expect_three(rt: &impl Abort, jobs: &[PlannedJob]) {
+    assert!(rt; jobs.len() == 3);
+    expect_job(rt, &jobs[0], "B", &["gpu"]);
+    expect_job(rt, &jobs[1], "a", &[""]);
+    expect_job(rt, &jobs[2], "b", &["linux", "x64"]);
+}
+
+fn three_jobs(alloc: Global) -> Result<Plan, Refusal> {
+    let workflow = read_workflow(alloc, THREE_JOBS.as_bytes())?;
+    plan(alloc, workflow)
 }
 
 fn plans(rt: &impl Abort, alloc: Global) -> Result<(), Refusal> {
-    let text =
-        "{\"jobs\":{\"b\":{\"runs-on\":[\"linux\",\"x64\"]},\"B\":{\"runs-on\":\"gpu\"},\"a\":{\"runs-on\":\"\"}}}";
-    let workflow = read_workflow(alloc, text.as_bytes())?;
-    let plan = plan(alloc, workflow)?;
-    assert_eq!(rt; plan.as_slice().len(), 3);
-    expect_job(rt, &plan, 0, "B", &["gpu"]);
-    expect_job(rt, &plan, 1, "a", &[""]);
-    expect_job(rt, &plan, 2, "b", &["linux", "x64"]);
+    expect_three(rt, three_jobs(alloc)?.as_slice());
     Ok(())
 }
 
 #[test]
 fn plans_jobs_in_the_order_of_their_ids(rt: HostRuntime) {
-    expect_memory(&rt, &plans(&rt, rt.alloc()));
-    expect_done(&rt, &plans(&rt, rt.alloc()));
+    expect_twice(&rt, plans(&rt, rt.alloc()), plans(&rt, rt.alloc()));
 }
 
-fn number_of_refusal(alloc: Global, body: Vec<u8>) -> Result<u64, Refusal> {
-    let event = event(alloc, "push")?;
-    let delivery = delivery(alloc, "d1")?;
-    match prepare(alloc, event, delivery, body) {
+/// The number of a body's refusal, and 0 where it is prepared. Want of memory is an error.
+fn number_of_refusal(alloc: Global, body: &str) -> Result<u64, Refusal> {
+    match prepared(alloc, "d1", "push", body) {
         Ok(_) => Ok(0),
         Err(refusal) => {
             let number = refusal.number();
@@ -85,7 +117,7 @@ fn number_of_refusal(alloc: Global, body: Vec<u8>) -> Result<u64, Refusal> {
 }
 
 /// Bodies and their first faults. A job with a strategy is refused after every other fault.
-const REFUSED: [(&str, u64); 12] = [
+const BODIES: [(&str, u64); 12] = [
     (BODY, 0),
     ("[", 10),
     ("{}", 11),
@@ -128,26 +160,28 @@ const REFUSED: [(&str, u64); 12] = [
     ),
 ];
 
+/// How many spaces stand after `BODY`, and the number with which that is refused.
+const SPACES: [(usize, u64); 2] = [(65_536 - BODY.len(), 0), (65_537 - BODY.len(), 24)];
+
+fn expect_spaces(rt: &impl Abort, alloc: Global, spaces: usize, want: u64) -> Result<(), Refusal> {
+    let body = spelled(alloc, &[(BODY, 1), (" ", spaces)])?;
+    let number = number_of_refusal(alloc, body.as_str())?;
+    assert!(rt; number == want, "{spaces}");
+    Ok(())
+}
+
 fn refuses(rt: &impl Abort, alloc: Global) -> Result<(), Refusal> {
-    for (body, want) in REFUSED {
-        assert_eq!(rt;
-            number_of_refusal(alloc, body_of(alloc, body)?)?,
-            want,
-            "{body}"
-        );
+    for (body, want) in BODIES {
+        let number = number_of_refusal(alloc, body)?;
+        assert!(rt; number == want, "{body}");
     }
-    for (spaces, want) in [(65_536 - BODY.len(), 0), (65_537 - BODY.len(), 24)] {
-        let mut long = body_of(alloc, BODY)?;
-        for _ in 0..spaces {
-            long.push(b' ')?;
-        }
-        assert_eq!(rt; number_of_refusal(alloc, long)?, want);
+    for (spaces, want) in SPACES {
+        expect_spaces(rt, alloc, spaces, want)?;
     }
     Ok(())
 }
 
 #[test]
 fn refuses_with_the_first_fault(rt: HostRuntime) {
-    expect_memory(&rt, &refuses(&rt, rt.alloc()));
-    expect_done(&rt, &refuses(&rt, rt.alloc()));
+    expect_twice(&rt, refuses(&rt, rt.alloc()), refuses(&rt, rt.alloc()));
 }

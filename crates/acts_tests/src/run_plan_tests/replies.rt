@@ -1,112 +1,181 @@
-ghost use Rattle.std.specs.Prelude.{◌≡◌, Ok};
-ghost use Rattle.wf_value.specs.Gives.{Gives};
-
-use crate::run_plan_tests::number;
+use crate::commands::number;
+use crate::run_plan_tests::expect_twice;
+use crate::values::{Given, combo, expect_apart, texts};
 use run_plan::{Lease, Reply};
 use std::alloc::Global;
-use wf_value::{Chars, Code, Combo, Refusal, Scalar, Sequence};
+use std::process::Abort;
+use wf_value::{Chars, Code, Refusal, Sequence};
 
-/// How many replies there are, of which no two are the same.
-pub const REPLIES: usize = 22;
+/// A lease, its run, job and leg, and its combination.
+type Leased = (&'static str, &'static str, &'static str, usize, Pairs);
 
-/// The printed text of each.
-pub fn printed(place: usize) -> &'static str {
-    match place {
-        0 => "created 1",
-        1 => "created 999999999",
-        2 => "lease 1 2 b 0 {}",
-        3 => "lease 2 2 b 0 {}",
-        4 => "lease 1 1 b 0 {}",
-        5 => "lease 1 2 build 0 {}",
-        6 => "lease 1 2 b 255 {}",
-        7 => "lease 1 2 b 0 {\"n\":null}",
-        8 => "lease 1 2 b 0 {\"n\":true}",
-        9 => "lease 1 2 b 0 {\"n\":-9223372036854775808}",
-        10 => "lease 1 2 b 0 {\"n\":\"x\\\\é\\n\\\"\"}",
-        11 => "lease 1 2 b 0 {\"Z\":false,\"a\":16}",
-        12 => "nothing",
-        13 => "ok",
-        14 => "run 1 1 queued - build:open(ready)",
-        15 => "run 1 1 completed success build:success(success)",
-        16 => "refused 40",
-        17 => "refused 42",
-        18 => "refused 43 0",
-        19 => "refused 43 999999999",
-        20 => "refused 14 a b",
-        _ => "refused 14 a c",
+type Pairs = &'static [(&'static str, Given)];
+
+const FIRST: Leased = ("1", "2", "b", 0, &[]);
+
+/// The printed text of each reply, of which no two are the same.
+const PRINTED: [&str; 22] = [
+    "created 1",
+    "created 999999999",
+    "lease 1 2 b 0 {}",
+    "lease 2 2 b 0 {}",
+    "lease 1 1 b 0 {}",
+    "lease 1 2 build 0 {}",
+    "lease 1 2 b 255 {}",
+    "lease 1 2 b 0 {\"n\":null}",
+    "lease 1 2 b 0 {\"n\":true}",
+    "lease 1 2 b 0 {\"n\":-9223372036854775808}",
+    "lease 1 2 b 0 {\"n\":\"x\\\\é\\n\\\"\"}",
+    "lease 1 2 b 0 {\"Z\":false,\"a\":16}",
+    "run 1 1 queued - build:open(ready)",
+    "run 1 1 completed success build:success(success)",
+    "nothing",
+    "ok",
+    "refused 40",
+    "refused 42",
+    "refused 43 0",
+    "refused 43 999999999",
+    "refused 14 a b",
+    "refused 14 a c",
+];
+
+const CREATED: [&str; 2] = ["1", "999999999"];
+
+const LEASES: [Leased; 10] = [
+    FIRST,
+    ("2", "2", "b", 0, &[]),
+    ("1", "1", "b", 0, &[]),
+    ("1", "2", "build", 0, &[]),
+    ("1", "2", "b", 255, &[]),
+    ("1", "2", "b", 0, &[("n", Given::Null)]),
+    ("1", "2", "b", 0, &[("n", Given::Truth(true))]),
+    ("1", "2", "b", 0, &[("n", Given::Whole(i64::MIN))]),
+    ("1", "2", "b", 0, &[("n", Given::Text("x\\é\n\""))]),
+    (
+        "1",
+        "2",
+        "b",
+        0,
+        &[("Z", Given::Truth(false)), ("a", Given::Whole(16))],
+    ),
+];
+
+const VIEWS: [&str; 2] = [
+    "run 1 1 queued - build:open(ready)",
+    "run 1 1 completed success build:success(success)",
+];
+
+const CYCLES: [[&str; 2]; 2] = [["a", "b"], ["a", "c"]];
+
+fn push_created(replies: &mut Vec<Reply>) -> Result<(), Refusal> {
+    for run in CREATED {
+        replies.push(Reply::Created(number(run)?))?;
     }
+    Ok(())
 }
 
-/// The reply at each place, from 0.
-pub fn reply(alloc: Global, place: usize) -> Result<Reply, Refusal> {
-    match place {
-        0 => Ok(Reply::Created(number("1")?)),
-        1 => Ok(Reply::Created(number("999999999")?)),
-        2..=11 => Ok(Reply::Lease(lease(alloc, place)?)),
-        12 => Ok(Reply::Nothing),
-        13 => Ok(Reply::Ok),
-        14..=15 => Ok(Reply::Run(chars(alloc, printed(place))?)),
-        _ => Ok(Reply::Refused(refusal(alloc, place)?)),
-    }
-}
-
-pub fn lease(alloc: Global, place: usize) -> Result<Lease, Refusal> {
-    let lease = if place == 3 { "2" } else { "1" };
-    let run = if place == 4 { "1" } else { "2" };
-    let job = if place == 5 { "build" } else { "b" };
+fn lease(alloc: Global, row: &Leased) -> Result<Lease, Refusal> {
+    let (lease, run, job, leg, pairs) = row;
+    let lease = number(lease)?;
+    let run = number(run)?;
+    let job = Chars::from_str(alloc, job)?;
+    let combo = combo(alloc, pairs)?;
     Ok(Lease {
-        lease: number(lease)?,
-        run: number(run)?,
-        job: chars(alloc, job)?,
-        leg: if place == 6 { 255 } else { 0 },
-        combo: combo(alloc, place)?,
+        lease,
+        run,
+        job,
+        leg: *leg,
+        combo,
     })
 }
 
-fn combo(alloc: Global, place: usize) -> Result<Combo, Refusal> {
-    match place {
-        7 => one_name(alloc, Scalar::Null),
-        8 => one_name(alloc, Scalar::Truth(true)),
-        9 => one_name(alloc, Scalar::Whole(-9_223_372_036_854_775_808)),
-        10 => one_name(alloc, Scalar::Text(chars(alloc, "x\\é\n\"")?)),
-        11 => two_names(alloc),
-        _ => Ok(Combo::new(alloc)),
+/// The lease that is printed as `lease 1 2 b 0 {}`.
+pub fn first_lease(alloc: Global) -> Result<Lease, Refusal> {
+    lease(alloc, &FIRST)
+}
+
+fn push_leases(alloc: Global, replies: &mut Vec<Reply>) -> Result<(), Refusal> {
+    for row in &LEASES {
+        replies.push(Reply::Lease(lease(alloc, row)?))?;
     }
+    Ok(())
 }
 
-fn one_name(alloc: Global, value: Scalar) -> Result<Combo, Refusal> {
-    let mut pairs = Vec::new(alloc);
-    pairs.push((chars(alloc, "n")?, value))?;
-    Ok(Combo::from_pairs(pairs))
-}
-
-fn two_names(alloc: Global) -> Result<Combo, Refusal> {
-    let mut pairs = Vec::new(alloc);
-    pairs.push((chars(alloc, "Z")?, Scalar::Truth(false)))?;
-    pairs.push((chars(alloc, "a")?, Scalar::Whole(16)))?;
-    Ok(Combo::from_pairs(pairs))
-}
-
-fn refusal(alloc: Global, place: usize) -> Result<Refusal, Refusal> {
-    match place {
-        16 => Ok(Refusal::Numbered(Code::NoRun)),
-        17 => Ok(Refusal::Numbered(Code::HasLease)),
-        18 => Ok(Refusal::Turn(0)),
-        19 => Ok(Refusal::Turn(999_999_999)),
-        20 => Ok(Refusal::Cycle(two_ids(alloc, "b")?)),
-        _ => Ok(Refusal::Cycle(two_ids(alloc, "c")?)),
+fn push_views(alloc: Global, replies: &mut Vec<Reply>) -> Result<(), Refusal> {
+    for view in VIEWS {
+        replies.push(Reply::Run(Chars::from_str(alloc, view)?))?;
     }
+    Ok(())
 }
 
-fn two_ids(alloc: Global, second: &str) -> Result<Sequence<Chars>, Refusal> {
-    let mut ids = Vec::new(alloc);
-    ids.push(chars(alloc, "a")?)?;
-    ids.push(chars(alloc, second)?)?;
-    Ok(Sequence::new(ids))
+fn push_refused(replies: &mut Vec<Reply>) -> Result<(), Refusal> {
+    for code in [Code::NoRun, Code::HasLease] {
+        replies.push(Reply::Refused(Refusal::Numbered(code)))?;
+    }
+    for last in [0, 999_999_999] {
+        replies.push(Reply::Refused(Refusal::Turn(last)))?;
+    }
+    Ok(())
 }
 
-fn chars(alloc: Global, text: &str) -> Result<Chars, Refusal>
-    ensures { Gives (λ c. c) result (Ok text.now) }
-{
-    Chars::from_str(alloc, text)
+fn push_cycles(alloc: Global, replies: &mut Vec<Reply>) -> Result<(), Refusal> {
+    for ids in CYCLES {
+        let ids = Sequence::new(texts(alloc, &ids)?);
+        replies.push(Reply::Refused(Refusal::Cycle(ids)))?;
+    }
+    Ok(())
+}
+
+fn replies(alloc: Global) -> Result<Vec<Reply>, Refusal> {
+    let mut replies = Vec::new(alloc);
+    push_created(&mut replies)?;
+    push_leases(alloc, &mut replies)?;
+    push_views(alloc, &mut replies)?;
+    replies.push(Reply::Nothing)?;
+    replies.push(Reply::Ok)?;
+    push_refused(&mut replies)?;
+    push_cycles(alloc, &mut replies)?;
+    Ok(replies)
+}
+
+fn expect_printed(
+    rt: &impl Abort,
+    alloc: Global,
+    replies: &[Reply],
+    printed: &[&str],
+) -> Result<(), Refusal> {
+    assert!(rt; replies.len() == printed.len());
+    for (reply, want) in replies.iter().zip(printed) {
+        let text = reply.text(alloc)?;
+        assert!(rt; text.as_str() == *want, "{want}");
+    }
+    Ok(())
+}
+
+fn prints_replies(rt: &impl Abort, alloc: Global) -> Result<(), Refusal> {
+    let replies = replies(alloc)?;
+    expect_printed(rt, alloc, replies.as_slice(), &PRINTED)
+}
+
+#[test]
+fn prints_each_reply(rt: HostRuntime) {
+    expect_twice(
+        &rt,
+        prints_replies(&rt, rt.alloc()),
+        prints_replies(&rt, rt.alloc()),
+    );
+}
+
+fn tells_replies_apart(rt: &impl Abort, alloc: Global) -> Result<(), Refusal> {
+    let replies = replies(alloc)?;
+    expect_apart(rt, alloc, replies.as_slice())
+}
+
+#[test]
+fn copies_replies_and_tells_them_apart(rt: HostRuntime) {
+    expect_twice(
+        &rt,
+        tells_replies_apart(&rt, rt.alloc()),
+        tells_replies_apart(&rt, rt.alloc()),
+    );
 }

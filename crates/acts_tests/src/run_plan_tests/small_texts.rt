@@ -1,4 +1,5 @@
-use crate::run_plan_tests::{expect_done, expect_memory, labels};
+use crate::commands::labels;
+use crate::run_plan_tests::expect_twice;
 use run_plan::{DeliveryId, EventName, Labels, Number, RunnerName};
 use std::alloc::Global;
 use std::process::Abort;
@@ -33,39 +34,49 @@ fn reads_runner(alloc: Global, text: &str) -> Result<bool, Refusal> {
     }
 }
 
+/// A text, and whether it is a delivery id, an event name, a runner name.
+const NAMES: [(&str, bool, bool, bool); 21] = [
+    ("", false, false, false),
+    ("d1", true, true, true),
+    ("push", true, true, true),
+    ("pull_request", false, true, true),
+    ("Push", true, false, true),
+    ("d_1", false, true, true),
+    ("d-1", true, false, true),
+    ("r.1", false, false, true),
+    ("az09-", true, false, true),
+    ("AZ09", true, false, true),
+    ("a b", false, false, false),
+    ("a/b", false, false, false),
+    ("a:b", false, false, false),
+    ("a@b", false, false, false),
+    ("a[b", false, false, false),
+    ("a`b", false, false, false),
+    ("a{b", false, false, false),
+    ("a,b", false, false, false),
+    ("é", false, false, false),
+    (MOST, true, true, true),
+    (OVER, false, false, false),
+];
+
+fn expect_name(
+    rt: &impl Abort,
+    alloc: Global,
+    row: &(&str, bool, bool, bool),
+) -> Result<(), Refusal> {
+    let (text, is_delivery, is_event, is_runner) = row;
+    assert!(rt;
+        reads_delivery(alloc, text)? == *is_delivery,
+        "delivery {text}"
+    );
+    assert!(rt; reads_event(alloc, text)? == *is_event, "event {text}");
+    assert!(rt; reads_runner(alloc, text)? == *is_runner, "runner {text}");
+    Ok(())
+}
+
 fn reads_names(rt: &impl Abort, alloc: Global) -> Result<(), Refusal> {
-    // the text, and whether it is a delivery id, an event name, a runner name
-    let rows = [
-        ("", false, false, false),
-        ("d1", true, true, true),
-        ("push", true, true, true),
-        ("pull_request", false, true, true),
-        ("Push", true, false, true),
-        ("d_1", false, true, true),
-        ("d-1", true, false, true),
-        ("r.1", false, false, true),
-        ("az09-", true, false, true),
-        ("AZ09", true, false, true),
-        ("a b", false, false, false),
-        ("a/b", false, false, false),
-        ("a:b", false, false, false),
-        ("a@b", false, false, false),
-        ("a[b", false, false, false),
-        ("a`b", false, false, false),
-        ("a{b", false, false, false),
-        ("a,b", false, false, false),
-        ("é", false, false, false),
-        (MOST, true, true, true),
-        (OVER, false, false, false),
-    ];
-    for (text, is_delivery, is_event, is_runner) in rows {
-        assert_eq!(rt;
-            reads_delivery(alloc, text)?,
-            is_delivery,
-            "delivery {text}"
-        );
-        assert_eq!(rt; reads_event(alloc, text)?, is_event, "event {text}");
-        assert_eq!(rt; reads_runner(alloc, text)?, is_runner, "runner {text}");
+    for row in &NAMES {
+        expect_name(rt, alloc, row)?;
     }
     assert!(rt; RunnerName::of(alloc, b"r\xff")?.is_none());
     Ok(())
@@ -73,81 +84,90 @@ fn reads_names(rt: &impl Abort, alloc: Global) -> Result<(), Refusal> {
 
 #[test]
 fn reads_each_name_at_its_bounds(rt: HostRuntime) {
-    expect_memory(&rt, &reads_names(&rt, rt.alloc()));
-    expect_done(&rt, &reads_names(&rt, rt.alloc()));
+    expect_twice(
+        &rt,
+        reads_names(&rt, rt.alloc()),
+        reads_names(&rt, rt.alloc()),
+    );
+}
+
+/// A text, and how many labels it has, or 0 where it is none.
+const LABELS: [(&str, usize); 18] = [
+    ("linux", 1),
+    ("X64,linux", 2),
+    ("!,~,$%&'()*+-./:;<=>?@[\\]^_`{|}", 3),
+    ("a,a", 2),
+    ("a,b,c,d,e,f,g,h,i,j,k,l,m,n,o,p", 16),
+    ("a,b,c,d,e,f,g,h,i,j,k,l,m,n,o,p,q", 0),
+    ("", 0),
+    (",", 0),
+    ("a,", 0),
+    (",a", 0),
+    ("a,,b", 0),
+    ("a b", 0),
+    ("a, b", 0),
+    ("a\tb", 0),
+    ("a\u{7f}", 0),
+    ("é", 0),
+    (MOST, 1),
+    (OVER, 0),
+];
+
+fn count_of_labels(alloc: Global, text: &str) -> Result<usize, Refusal> {
+    match Labels::of(alloc, text.as_bytes())? {
+        Some(labels) => Ok(labels.as_slice().len()),
+        None => Ok(0),
+    }
 }
 
 fn reads_labels(rt: &impl Abort, alloc: Global) -> Result<(), Refusal> {
-    // the text, and how many labels it has, or 0 where it is none
-    let rows = [
-        ("linux", 1),
-        ("X64,linux", 2),
-        ("!,~,$%&'()*+-./:;<=>?@[\\]^_`{|}", 3),
-        ("a,a", 2),
-        ("a,b,c,d,e,f,g,h,i,j,k,l,m,n,o,p", 16),
-        ("a,b,c,d,e,f,g,h,i,j,k,l,m,n,o,p,q", 0),
-        ("", 0),
-        (",", 0),
-        ("a,", 0),
-        (",a", 0),
-        ("a,,b", 0),
-        ("a b", 0),
-        ("a, b", 0),
-        ("a\tb", 0),
-        ("a\u{7f}", 0),
-        ("é", 0),
-        (MOST, 1),
-        (OVER, 0),
-    ];
-    for (text, want) in rows {
-        let count = match Labels::of(alloc, text.as_bytes())? {
-            Some(labels) => labels.as_slice().len(),
-            None => 0,
-        };
-        assert_eq!(rt; count, want, "{text}");
+    for (text, want) in LABELS {
+        assert!(rt; count_of_labels(alloc, text)? == want, "{text}");
     }
     let two = labels(alloc, "X64,linux")?;
-    let two = two.as_slice();
-    assert_eq!(rt; two.len(), 2);
-    assert_eq!(rt; two[0].as_str(), "X64");
-    assert_eq!(rt; two[1].as_str(), "linux");
+    assert!(rt; two.as_slice().len() == 2);
+    assert!(rt; two.as_slice()[0].as_str() == "X64" && two.as_slice()[1].as_str() == "linux");
     Ok(())
 }
 
 #[test]
 fn reads_labels_at_their_bounds(rt: HostRuntime) {
-    expect_memory(&rt, &reads_labels(&rt, rt.alloc()));
-    expect_done(&rt, &reads_labels(&rt, rt.alloc()));
+    expect_twice(
+        &rt,
+        reads_labels(&rt, rt.alloc()),
+        reads_labels(&rt, rt.alloc()),
+    );
 }
+
+/// A text, and its number, or 0 where it is none.
+const NUMBERS: [(&str, u32); 17] = [
+    ("1", 1),
+    ("9", 9),
+    ("10", 10),
+    ("305", 305),
+    ("999999999", 999_999_999),
+    ("1000000000", 0),
+    ("9999999999", 0),
+    ("", 0),
+    ("0", 0),
+    ("00", 0),
+    ("01", 0),
+    ("+1", 0),
+    ("-1", 0),
+    ("1 ", 0),
+    ("1x", 0),
+    ("1/", 0),
+    ("1:", 0),
+];
 
 #[test]
 fn reads_numbers(rt: HostRuntime) {
-    // the text, and its number, or 0 where it is none
-    let rows = [
-        ("1", 1),
-        ("9", 9),
-        ("10", 10),
-        ("305", 305),
-        ("999999999", 999_999_999),
-        ("1000000000", 0),
-        ("9999999999", 0),
-        ("", 0),
-        ("0", 0),
-        ("00", 0),
-        ("01", 0),
-        ("+1", 0),
-        ("-1", 0),
-        ("1 ", 0),
-        ("1x", 0),
-        ("1/", 0),
-        ("1:", 0),
-    ];
-    for (text, want) in rows {
+    for (text, want) in NUMBERS {
         let value = match Number::of(text.as_bytes()) {
             Some(number) => number.get(),
             None => 0,
         };
-        assert_eq!(rt; value, want, "{text}");
+        assert!(rt; value == want, "{text}");
     }
-    assert_eq!(rt; Number::new(7).get(), 7);
+    assert!(rt; Number::new(7).get() == 7);
 }
