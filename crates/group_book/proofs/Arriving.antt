@@ -6,7 +6,8 @@ use Rattle.std.proofs.lemmas.List.{append-nil, map-append}
 use Rattle.std.proofs.lemmas.List.Elements.{filter-append}
 use Rattle.group_name.specs.Group.{Group}
 use Rattle.group_book.specs.Changes.{arrived, newcomer_in, stays, told_to_stop}
-use Rattle.group_book.specs.Holders.{HoldingState, HasOneEach, same_group, is_in, is_pending, is_pending_in, has_started_in, can_be_stopped_in}
+use Rattle.group_book.specs.Holders.{HoldingState, HasOneEach, same_group, is_in, is_pending, is_pending_in, has_started_in}
+use Rattle.group_book.specs.Holders.{can_be_stopped_in}
 use Rattle.group_book.specs.Holders.{group_in, holders, pending_in, running_in, unstopped_in}
 use Rattle.group_book.specs.declared.holder.Holder.{Holder}
 use Rattle.group_book.proofs.Filtered.{count_after, filter_after, filter_apart, filter_of_never, filter_of_unchanged}
@@ -19,7 +20,8 @@ staying g cancels held = map (told_to_stop (λ h. cancels && is_in g h)) (filter
 
 parted : (q : HoldingState → Bool) (before : List HoldingState) (newcomer : HoldingState)
     → holders (filter q (before ++ newcomer ∷ [])) ≡ holders (filter q before) ++ holders (filter q (newcomer ∷ []))
-parted q before newcomer = ap holders (filter-append q before (newcomer ∷ [])) ∙ map-append (λ h. h.holder) (filter q before) (filter q (newcomer ∷ []))
+parted q before newcomer = ap holders (filter-append q before (newcomer ∷ [])) ∙ map-append (λ h. h.holder) (filter q before)
+    (filter q (newcomer ∷ []))
 
 newcomer_pending : (b : Bool) (newcomer : HoldingState)
     → holders (cond (b && true) (newcomer ∷ []) []) ≡ cond b (newcomer.holder ∷ []) []

@@ -26,7 +26,8 @@ found_one true x y f ys is le next = let same : x ≡ y = cc in ap (λ zs. x ∷
 found_one false x y f ys is le next = next is le
 
 -- where one is found and a filter keeps at most one, it keeps that one
-pub filter_of_some : {X : Type 0} (p : X → Bool) (xs : List X) (y : X) → find p xs ≡ Some y → length (filter p xs) ≤ 1 → filter p xs ≡ y ∷ []
+pub filter_of_some : {X : Type 0} (p : X → Bool) (xs : List X) (y : X) → find p xs ≡ Some y → length (filter p xs) ≤ 1 → filter p xs
+    ≡ y ∷ []
 filter_of_some p [] y is le = absurd (cc)
 filter_of_some p (x ∷ xs) y is le = found_one (p x) x y (find p xs) (filter p xs) is le (filter_of_some p xs y)
 
@@ -166,10 +167,12 @@ filter_of_never q f never (x ∷ xs) =
 
 names_by : {X Y : Type 0} (name : X → Y) (p : Y → Bool) (q : X → Bool) (a b : Bool) (x : X) (xs : List X) → p (name x) ≡ a → q x ≡ b
     → map name (filter q (filter (λ y. p (name y)) xs)) ≡ filter p (map name (filter q xs))
-    → map name (filter q (cond a (x ∷ filter (λ y. p (name y)) xs) (filter (λ y. p (name y)) xs))) ≡ filter p (map name (cond b (x ∷ filter q xs) (filter q xs)))
+    → map name (filter q (cond a (x ∷ filter (λ y. p (name y)) xs) (filter (λ y. p (name y)) xs)))
+    ≡ filter p (map name (cond b (x ∷ filter q xs) (filter q xs)))
 names_by name p q true true x xs named is same =
     ap (λ t. map name (cond t (x ∷ filter q (filter (λ y. p (name y)) xs)) (filter q (filter (λ y. p (name y)) xs)))) is
-    ∙ ap (λ zs. name x ∷ zs) same ∙ sym (ap (λ t. cond t (name x ∷ filter p (map name (filter q xs))) (filter p (map name (filter q xs)))) named)
+    ∙ ap (λ zs. name x ∷ zs) same
+    ∙ sym (ap (λ t. cond t (name x ∷ filter p (map name (filter q xs))) (filter p (map name (filter q xs)))) named)
 names_by name p q true false x xs named is same =
     ap (λ t. map name (cond t (x ∷ filter q (filter (λ y. p (name y)) xs)) (filter q (filter (λ y. p (name y)) xs)))) is ∙ same
 names_by name p q false true x xs named is same =

@@ -1,16 +1,19 @@
 -- Stops, starts and leaving keep at most one pending and one running holder in each group.
 use Rattle.std.specs.Prelude.{find, option_map, option_to_list, Option, Result, Ok}
-use Rattle.std.proofs.Common.{◌≡◌, ◌+◌, ◌≤◌, List, [], ◌∷◌, Some, None, length, map, filter, Bool, true, false, ◌&&◌, ◌||◌, not, refl, ap, sym, subst, ◌∙◌, arith, inl, inr}
+use Rattle.std.proofs.Common.{◌≡◌, ◌+◌, ◌≤◌, List, [], ◌∷◌, Some, None, length, map, filter, Bool, true, false, ◌&&◌, ◌||◌, not}
+use Rattle.std.proofs.Common.{refl, ap, sym, subst, ◌∙◌, arith, inl, inr}
 use Rattle.std.proofs.lemmas.List.{length-map}
 use Rattle.wf_value.specs.declared.refusal.Refusal.{Refusal}
 use Rattle.group_name.specs.Group.{Group}
 use Rattle.group_book.specs.Changes.{may_start, start_of, started, stopped, told_to_stop, without}
-use Rattle.group_book.specs.Holders.{HoldingState, HasOneEach, same_group, same_holder, is_in, is_of, is_pending, has_started, can_be_stopped, is_pending_in}
+use Rattle.group_book.specs.Holders.{HoldingState, HasOneEach, same_group, same_holder, is_in, is_of, is_pending, has_started}
+use Rattle.group_book.specs.Holders.{can_be_stopped, is_pending_in}
 use Rattle.group_book.specs.Holders.{has_started_in, can_be_stopped_in, holders, is_taken, pending_in, running_in, unstopped_in}
 use Rattle.group_book.specs.declared.holder.Holder.{Holder}
 use Rattle.group_book.specs.declared.holder.HolderPhase.{HolderPhase}
 use Rattle.group_book.specs.declared.holder.HolderPhase.TheVariants.{Pending, Running, Stopping}
-use Rattle.group_book.proofs.Filtered.{count_after, count_of_changed, count_of_either, count_within, filter_of_no, filter_of_none, filter_of_some, names_of_changed, names_without, witness}
+use Rattle.group_book.proofs.Filtered.{count_after, count_of_changed, count_of_either, count_within, filter_of_no, filter_of_none}
+use Rattle.group_book.proofs.Filtered.{filter_of_some, names_of_changed, names_without, witness}
 use Rattle.group_book.proofs.Lines.{and_true, free_group, holder_told, one_group, pending_start, pending_told, started_start, started_told}
 
 pub count_of_holders : (held : List HoldingState) → length (holders held) ≡ length held

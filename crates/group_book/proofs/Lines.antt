@@ -32,7 +32,8 @@ own_group g =
 -- ---- told to stop
 
 pending_told_by : (g : Group) (b : Bool) (group : Group) (holder : Holder) (phase : HolderPhase)
-    → is_pending_in g (told_to_stop (λ _. b) (record { group = group; holder = holder; phase = phase })) ≡ is_pending_in g (record { group = group; holder = holder; phase = phase })
+    → is_pending_in g (told_to_stop (λ _. b) (record { group = group; holder = holder; phase = phase }))
+    ≡ is_pending_in g (record { group = group; holder = holder; phase = phase })
 pending_told_by g true group holder Pending = refl
 pending_told_by g true group holder Running = refl
 pending_told_by g true group holder Stopping = refl
@@ -41,7 +42,8 @@ pending_told_by g false group holder Running = refl
 pending_told_by g false group holder Stopping = refl
 
 started_told_by : (g : Group) (b : Bool) (group : Group) (holder : Holder) (phase : HolderPhase)
-    → has_started_in g (told_to_stop (λ _. b) (record { group = group; holder = holder; phase = phase })) ≡ has_started_in g (record { group = group; holder = holder; phase = phase })
+    → has_started_in g (told_to_stop (λ _. b) (record { group = group; holder = holder; phase = phase }))
+    ≡ has_started_in g (record { group = group; holder = holder; phase = phase })
 started_told_by g true group holder Pending = refl
 started_told_by g true group holder Running = refl
 started_told_by g true group holder Stopping = refl
@@ -73,7 +75,8 @@ abbrev start_by : Bool → HoldingState → HoldingState
 start_by b h = cond (b && is_pending h.phase) (record h { phase = Running }) h
 
 pending_start_by : (g : Group) (b : Bool) (group : Group) (holder : Holder) (phase : HolderPhase)
-    → is_pending_in g (start_by b (record { group = group; holder = holder; phase = phase })) ≡ true → is_pending_in g (record { group = group; holder = holder; phase = phase }) ≡ true
+    → is_pending_in g (start_by b (record { group = group; holder = holder; phase = phase })) ≡ true
+    → is_pending_in g (record { group = group; holder = holder; phase = phase }) ≡ true
 pending_start_by g true group holder Pending is = absurd (let none : false ≡ true = (and_true (same_group g group) false is).1 in cc)
 pending_start_by g false group holder Pending is = is
 pending_start_by g true group holder Running is = is
@@ -87,7 +90,8 @@ by_start false is = absurd (cc)
 
 started_start_by : (g : Group) (b : Bool) (group : Group) (holder : Holder) (phase : HolderPhase)
     → has_started_in g (start_by b (record { group = group; holder = holder; phase = phase })) ≡ true
-    → (has_started_in g (record { group = group; holder = holder; phase = phase }) || (b && is_pending_in g (record { group = group; holder = holder; phase = phase }))) ≡ true
+    → (has_started_in g (record { group = group; holder = holder; phase = phase })
+    || (b && is_pending_in g (record { group = group; holder = holder; phase = phase }))) ≡ true
 started_start_by g true group holder Pending is = by_start (same_group g group) is
 started_start_by g false group holder Pending is = absurd (let none : false ≡ true = (and_true (same_group g group) false is).1 in cc)
 started_start_by g true group holder Running is = ap (λ t. t || (true && (same_group g group && false))) is
@@ -110,7 +114,8 @@ and_false true = refl
 and_false false = refl
 
 started_stays_by : (other g group : Group) (holder : Holder) (phase : HolderPhase)
-    → has_started_in other (record { group = group; holder = holder; phase = phase }) ≡ true → stays g (record { group = group; holder = holder; phase = phase }) ≡ true
+    → has_started_in other (record { group = group; holder = holder; phase = phase }) ≡ true
+    → stays g (record { group = group; holder = holder; phase = phase }) ≡ true
 started_stays_by other g group holder Pending is = absurd (let none : false ≡ true = (and_true (same_group other group) false is).1 in cc)
 started_stays_by other g group holder Running is = and_false (same_group g group)
 started_stays_by other g group holder Stopping is = and_false (same_group g group)
@@ -129,7 +134,8 @@ pub apart_in : (other g : Group) (h : HoldingState) → other ≢ g → is_in ot
 apart_in other g h apart is = other_by other g h.group (is_in g h) apart is refl
 
 group_told_by : (g : Group) (b : Bool) (group : Group) (holder : Holder) (phase : HolderPhase)
-    → is_in g (told_to_stop (λ _. b) (record { group = group; holder = holder; phase = phase })) ≡ is_in g (record { group = group; holder = holder; phase = phase })
+    → is_in g (told_to_stop (λ _. b) (record { group = group; holder = holder; phase = phase }))
+    ≡ is_in g (record { group = group; holder = holder; phase = phase })
 group_told_by g true group holder Pending = refl
 group_told_by g true group holder Running = refl
 group_told_by g true group holder Stopping = refl
