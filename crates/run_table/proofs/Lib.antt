@@ -1,6 +1,7 @@
 pub mod AdmitKeeps
 pub mod Changed
 pub mod ClaimKeeps
+mod ContextRows
 pub mod Digits
 pub mod Doors
 pub mod Firsts

@@ -1,0 +1,56 @@
+-- The context of a leg worked through by computation, on a job of two legs.
+use Rattle.std.specs.Prelude.{◌≡◌, ℕ, List, [], ◌∷◌, codes, Some, None, false, pos, refl}
+use Rattle.wf_value.specs.declared.scalar.Scalar.TheVariants.{Truth, Whole, Text}
+use Rattle.wf_reader.specs.declared.flag.Flag.TheVariants.{Fixed}
+use Rattle.run_plan.specs.Admitted.{Admitted}
+use Rattle.run_plan.specs.declared.planned.PlannedJob.{PlannedJob}
+use Rattle.run_table.specs.LegContext.{LegFacts, context_of}
+
+abbrev event : Admitted
+event = record { delivery = codes "d1"; event = codes "push"; body = [] }
+
+-- its second leg has a member that the first has not
+abbrev job : PlannedJob
+job = record {
+  id = codes "m";
+  labels = [];
+  continue_on_error = Fixed false;
+  fail_fast = false;
+  max_parallel = None;
+  legs =
+      record { combo = (codes "os", Text (codes "linux")) ∷ [] }
+      ∷ record { combo = (codes "gpu", Truth false) ∷ (codes "os", Text (codes "mac")) ∷ [] }
+      ∷ [];
+}
+
+abbrev leg_at : ℕ → LegFacts
+leg_at number = record { event = event; run_id = codes "7"; run_number = codes "3"; job = job; leg = number }
+
+own_member : context_of (leg_at 1) (codes "matrix" ∷ codes "gpu" ∷ []) ≡ Some (Truth false)
+own_member = refl
+
+members_of_another_leg : context_of (leg_at 0) (codes "matrix" ∷ codes "gpu" ∷ []) ≡ None
+members_of_another_leg = refl
+
+first_os : context_of (leg_at 0) (codes "matrix" ∷ codes "os" ∷ []) ≡ Some (Text (codes "linux"))
+first_os = refl
+
+second_os : context_of (leg_at 1) (codes "matrix" ∷ codes "os" ∷ []) ≡ Some (Text (codes "mac"))
+second_os = refl
+
+index : context_of (leg_at 1) (codes "strategy" ∷ codes "job-index" ∷ []) ≡ Some (Whole (pos 1))
+index = refl
+
+-- as many as there are legs, where no bound is set
+bound : context_of (leg_at 0) (codes "strategy" ∷ codes "max-parallel" ∷ []) ≡ Some (Whole (pos 2))
+bound = refl
+
+run_id : context_of (leg_at 0) (codes "github" ∷ codes "run_id" ∷ []) ≡ Some (Text (codes "7"))
+run_id = refl
+
+event_name : context_of (leg_at 0) (codes "github" ∷ codes "event_name" ∷ []) ≡ Some (Text (codes "push"))
+event_name = refl
+
+-- the needs of a job have no value yet
+needs : context_of (leg_at 0) (codes "needs" ∷ codes "a" ∷ codes "result" ∷ []) ≡ None
+needs = refl
