@@ -7,7 +7,9 @@ pub mod InTurn
 pub mod JobFaults
 pub mod MatrixParts
 pub mod Members
+pub mod NeedsListed
 pub mod RunsOn
 pub mod StrategyParts
+mod ConditionRows
 mod Rows
 mod StrategyRows
