@@ -1,5 +1,6 @@
 pub mod BodyCases
 pub mod Contents
+pub mod ConditionTexts
 pub mod ContextParts
 pub mod Entries
 pub mod EventParts

@@ -1,5 +1,6 @@
 pub mod Body
 pub mod Condition
+pub mod ConditionTexts
 pub mod Contexts
 pub mod Event
 pub mod Faults

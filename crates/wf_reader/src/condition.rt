@@ -1,9 +1,12 @@
-ghost use Rattle.std.specs.Prelude.{◌≡◌, codes, option_map};
+ghost use Rattle.std.specs.Prelude.{◌≡◌, ◌↔◌, ℕ, List, Some, codes, option_map};
+ghost use Rattle.serde_json.specs.Data.{string};
 ghost use Rattle.serde_json.specs.Find.{get};
 ghost use Rattle.serde_json.specs.View.{view};
 ghost use Rattle.wf_reader.specs.Condition.{condition_in, condition_faults, condition_of_word, condition_where};
 ghost use Rattle.wf_reader.specs.Condition.{inside_braces, past_spaces, trimmed, up_to_spaces, word_in};
+ghost use Rattle.wf_reader.specs.ConditionTexts.{SpellsCondition};
 ghost use Rattle.wf_reader.specs.Faults.{unless_faulty, optional};
+ghost use Rattle.wf_value.specs.declared.condition.Condition.{Condition};
 
 use serde_json::Value;
 use wf_value::{Code, Condition, Refusal};
@@ -98,3 +101,10 @@ pub fn read_condition(job: &Value) -> Result<Condition, Refusal>
         None => Err(Refusal::Numbered(Code::Condition)),
     }
 }
+
+/// The text of an `if` is read exactly as it is spelled: it has a condition where it is a word, bare or in
+/// braces, with spaces around the word and around the braces, and then the word's.
+pub fn conditions_are_their_spellings()
+    ensures { (text : List ℕ) (condition : Condition) →
+        SpellsCondition text condition ↔ (condition_in (string text) ≡ Some condition) }
+{}

@@ -21,6 +21,7 @@ mod templates;
 mod values;
 mod workflow;
 
+pub use condition::conditions_are_their_spellings;
 pub use contexts::Contexts;
 pub use event::{Event, read_event};
 pub use flag::Flag;
