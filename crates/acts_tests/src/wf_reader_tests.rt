@@ -1,3 +1,4 @@
+mod needs;
 mod strategy;
 
 use std::alloc::Global;
@@ -5,7 +6,7 @@ use std::process::Abort;
 use std::test::Fail;
 use wf_expr::{Place, Template};
 use wf_reader::{Event, Flag, Job, Jobs, Workflow, read_event, read_workflow};
-use wf_value::{Chars, Refusal, Sequence, TryCopy};
+use wf_value::{Chars, Condition, Refusal, Sequence, TryCopy};
 
 const ACCEPTED: u64 = 0;
 
@@ -64,8 +65,13 @@ fn refuses_workflows(rt: HostRuntime) -> Result<(), Fail> {
         ("{\"jobs\":{\"a\":{\"runs-on\":null}}}", 11),
         ("{\"jobs\":{\"a\":{\"runs-on\":[\"x\",{}]}}}", 11),
         ("{\"concurrency\":null,\"jobs\":5}", 16),
-        ("{\"jobs\":{\"a\":{\"runs-on\":\"x\",\"needs\":\"b\"}}}", 16),
-        ("{\"jobs\":{\"a\":{\"runs-on\":\"x\",\"if\":true}}}", 16),
+        ("{\"jobs\":{\"a\":{\"runs-on\":\"x\",\"needs\":null}}}", 11),
+        ("{\"jobs\":{\"a\":{\"runs-on\":\"x\",\"if\":null}}}", 26),
+        // Whether a job is there is asked of the plan.
+        (
+            "{\"jobs\":{\"a\":{\"runs-on\":\"x\",\"needs\":\"b\"}}}",
+            ACCEPTED,
+        ),
         (
             "{\"jobs\":{\"a\":{\"runs-on\":\"x\",\"concurrency\":\"g\"}}}",
             16,
@@ -185,7 +191,8 @@ fn answers_the_earlier_of_two_members(rt: HostRuntime) -> Result<(), Fail> {
     let rows = [
         ("\"runs-on\":5,\"uses\":\"./x.yml\"", 16),
         ("\"needs\":5,\"runs-on\":\"${{ x }}\"", 17),
-        ("\"continue-on-error\":5,\"if\":5,\"runs-on\":\"x\"", 16),
+        ("\"if\":\"b\",\"needs\":5,\"runs-on\":\"x\"", 11),
+        ("\"continue-on-error\":5,\"if\":5,\"runs-on\":\"x\"", 26),
         (
             "\"concurrency\":5,\"continue-on-error\":\"${{ x }}\",\"runs-on\":\"x\"",
             17,
@@ -417,6 +424,8 @@ fn one_job(alloc: Global) -> Result<Jobs, Refusal> {
     jobs.push(Job {
         id: Chars::from_str(alloc, "a")?,
         labels: some_labels(alloc)?,
+        needs: Sequence::new(Vec::new(alloc)),
+        condition: Condition::Success,
         continue_on_error: Flag::Fixed(false),
         strategy: None,
     })?;

@@ -103,7 +103,20 @@ fn refuses(rt: &impl Abort, alloc: Global) -> Result<(), Refusal> {
         ),
         (
             "{\"repo\":\"r\",\"path\":\"p\",\"workflow\":{\"jobs\":{\"a\":{\"runs-on\":\"x\",\"needs\":\"a\"}}}}",
+            14,
+        ),
+        // Runs do not follow these yet.
+        (
+            "{\"repo\":\"r\",\"path\":\"p\",\"workflow\":{\"jobs\":{\"a\":{\"runs-on\":\"x\"},\"b\":{\"runs-on\":\"x\",\"needs\":\"a\"}}}}",
             16,
+        ),
+        (
+            "{\"repo\":\"r\",\"path\":\"p\",\"workflow\":{\"jobs\":{\"a\":{\"runs-on\":\"x\",\"if\":\"always()\"}}}}",
+            16,
+        ),
+        (
+            "{\"repo\":\"r\",\"path\":\"p\",\"workflow\":{\"jobs\":{\"a\":{\"runs-on\":\"x\",\"needs\":[],\"if\":true}}}}",
+            0,
         ),
         (
             "{\"repo\":\"r\",\"path\":\"p\",\"workflow\":{\"jobs\":{\"1a\":{},\"b\":{\"uses\":1}}}}",
