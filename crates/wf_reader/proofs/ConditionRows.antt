@@ -1,5 +1,5 @@
 -- Needs and conditions of jobs, worked through.
-use Rattle.std.proofs.Common.{◌≡◌, ℕ, List, [], ◌∷◌, ◌++◌, true, false, codes, Option, Some, None, refl}
+use Rattle.std.proofs.Common.{◌≡◌, ℕ, List, [], ◌∷◌, ◌++◌, false, codes, Option, Some, None, refl}
 use Rattle.std.specs.Str.{is_utf8, chars}
 use Rattle.serde_json.specs.Data.{null, boolean, string}
 use Rattle.serde_json.proofs.OnLiterals.{serde_json_on_literals}

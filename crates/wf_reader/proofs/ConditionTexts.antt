@@ -1,9 +1,9 @@
 -- What is read of a condition's text is what the text spells.
-use Rattle.std.specs.Prelude.{◌≡◌, ◌⊎◌, ◌↔◌, ℕ, ◌-◌, ◌+◌, ◌==◌, List, [], ◌∷◌, ◌++◌, length, take, drop, reverse, find, codes}
+use Rattle.std.specs.Prelude.{◌≡◌, ◌⊎◌, ◌↔◌, ℕ, ◌-◌, List, [], ◌∷◌, ◌++◌, length, take, drop, reverse, find, codes}
 use Rattle.std.specs.Prelude.{Bool, true, false, if◌then◌else◌, Option, Some, None, option_map, option_and_then, unwrap_or, refl}
 use Rattle.std.specs.List.{AllByRecursion}
 use Rattle.std.specs.Str.{bytes_eq}
-use Rattle.std.proofs.Common.{inl, inr, sym, ap, ◌∙◌, subst, arith, append_assoc}
+use Rattle.std.proofs.Common.{inl, inr, sym, ap, ◌∙◌, subst, arith}
 use Rattle.std.proofs.Math.Seq.{drop-append_seam, take-append_seam}
 use Rattle.std.proofs.lemmas.Bool.Decides.{nat_tests}
 use Rattle.std.proofs.lemmas.Grind.{reverse_onto}
@@ -129,8 +129,8 @@ braces_are_tight : (inner : List ℕ) → IsTight (in_braces inner)
 braces_are_tight inner = record {
   first = λ rest. refl;
   last = let turned : reverse (in_braces inner) ≡ codes "}}" ++ (reverse inner ++ codes "{{$") =
-  reverse-append (codes "${{") (inner ++ codes "}}") ∙ ap (λ r. r ++ codes "{{$") (reverse-append inner (codes "}}")) in
-  ap past_spaces turned ∙ sym turned;
+      reverse-append (codes "${{") (inner ++ codes "}}") ∙ ap (λ r. r ++ codes "{{$") (reverse-append inner (codes "}}")) in
+      ap past_spaces turned ∙ sym turned;
 }
 
 -- ---- words
@@ -157,14 +157,25 @@ one_word : (word : List ℕ) → ((rest : List ℕ) → past_spaces (word ++ res
 one_word word first last bare = record { tight = record { first = first; last = last }; bare = bare }
 
 are_words : AllByRecursion (λ w. IsWord w.0) condition_words
-are_words =
-    (one_word (codes "success()") (λ rest. refl) refl refl,
-    (one_word (codes "true") (λ rest. refl) refl refl,
-    (one_word (codes "failure()") (λ rest. refl) refl refl,
-    (one_word (codes "always()") (λ rest. refl) refl refl,
-    (one_word (codes "cancelled()") (λ rest. refl) refl refl,
-    (one_word (codes "!cancelled()") (λ rest. refl) refl refl,
-    (one_word (codes "false") (λ rest. refl) refl refl, tt)))))))
+are_words = (
+  one_word (codes "success()") (λ rest. refl) refl refl,
+  (
+    one_word (codes "true") (λ rest. refl) refl refl,
+    (
+      one_word (codes "failure()") (λ rest. refl) refl refl,
+      (
+        one_word (codes "always()") (λ rest. refl) refl refl,
+        (
+          one_word (codes "cancelled()") (λ rest. refl) refl refl,
+          (
+            one_word (codes "!cancelled()") (λ rest. refl) refl refl,
+            (one_word (codes "false") (λ rest. refl) refl refl, tt),
+          ),
+        ),
+      ),
+    ),
+  ),
+)
 
 is_word : (word : List ℕ) (condition : Condition) → condition_of_word word ≡ Some condition → IsWord word
 is_word word condition says = listed_word word condition condition_words are_words says
@@ -198,7 +209,8 @@ read_by text (Some inner) is =
     })
 
 pub spelled : (text : List ℕ) (condition : Condition) → SpellsCondition text condition ↔ (condition_in (string text) ≡ Some condition)
-spelled text condition =
-    (λ spells. ap condition_of_word (word_of text spells.word (is_word spells.word condition spells.says) spells.bare_or_braced)
-    ∙ spells.says,
-    λ says. record { word = word_in text; says = says; bare_or_braced = read_by text (inside_braces (trimmed text)) refl })
+spelled text condition = (
+  λ spells. ap condition_of_word (word_of text spells.word (is_word spells.word condition spells.says) spells.bare_or_braced)
+      ∙ spells.says,
+  λ says. record { word = word_in text; says = says; bare_or_braced = read_by text (inside_braces (trimmed text)) refl },
+)

@@ -56,10 +56,7 @@ const REFUSED: [(&str, &str); 12] = [
         "{\"jobs\":{\"a\":{\"runs-on\":\"x\",\"needs\":\"a\",\"strategy\":{\"matrix\":{}}}}}",
         "refused 22",
     ),
-    (
-        "{\"jobs\":{\"a\":{\"runs-on\":\"x\",\"needs\":[]}}}",
-        "",
-    ),
+    ("{\"jobs\":{\"a\":{\"runs-on\":\"x\",\"needs\":[]}}}", ""),
     (
         "{\"jobs\":{\"a\":{\"runs-on\":\"x\"},\"b\":{\"runs-on\":\"x\",\"needs\":[\"a\",\"a\"]}}}",
         "",
@@ -85,7 +82,8 @@ fn refuses_ids_of_no_job_and_cycles(rt: HostRuntime) {
 }
 
 /// A diamond: `b` and `c` need `a`, and `d` needs both.
-const DIAMOND: &str = "{\"jobs\":{\"d\":{\"runs-on\":\"x\",\"needs\":[\"c\",\"b\",\"c\"],\"if\":\"${{ always() }}\"},\"c\":{\"runs-on\":\"x\",\"needs\":\"a\"},\"b\":{\"runs-on\":\"x\",\"needs\":[\"a\"],\"if\":\"failure()\"},\"a\":{\"runs-on\":\"x\"}}}";
+const DIAMOND: &str =
+    "{\"jobs\":{\"d\":{\"runs-on\":\"x\",\"needs\":[\"c\",\"b\",\"c\"],\"if\":\"${{ always() }}\"},\"c\":{\"runs-on\":\"x\",\"needs\":\"a\"},\"b\":{\"runs-on\":\"x\",\"needs\":[\"a\"],\"if\":\"failure()\"},\"a\":{\"runs-on\":\"x\"}}}";
 
 fn plans(rt: &impl Abort, alloc: Global) -> Result<(), Refusal> {
     let plan = plan(alloc, read_workflow(alloc, DIAMOND.as_bytes())?)?;
