@@ -89,8 +89,8 @@ fn write_checked<W: Write>(alloc: Global, text: &[u8], writer: &mut W) -> Result
 /// Checks a workflow, whose text is read without an envelope: writes a line `JOB LEG COMBO` for each leg
 /// of each job, in order, with the combination as compact JSON. A text over 1,048,576 bytes is refused 76,
 /// and no more than 1,048,577 bytes are read; one over 65,536 is refused 24, and else a workflow is
-/// refused with its first fault: 10 to 12, 15 to 17, 19 to 23 or 25. After a refusal nothing has been
-/// written. A failed read or write is 61, and want of memory 50.
+/// refused with its first fault: 10 to 23, 25 or 26. After a refusal nothing has been written. A
+/// failed read or write is 61, and want of memory 50.
 pub fn run_check<R: Read, W: Write>(
     alloc: Global,
     reader: &mut R,

@@ -38,15 +38,13 @@ const EXPLANATIONS: [Explanation; 28] = [
     Explanation {
         number: "13",
         meaning: "\"needs\" names a job that the workflow does not have",
-        input: "the workflow {\"jobs\":{\"a\":{\"runs-on\":\"x\",\"needs\":\"b\"}}} (while \"needs\" is \
-            not read yet, it is refused 16)",
+        input: "the workflow {\"jobs\":{\"a\":{\"runs-on\":\"x\",\"needs\":\"b\"}}}",
         remedy: "name the ids of jobs of the same workflow, letter by letter",
     },
     Explanation {
         number: "14",
         meaning: "jobs need one another in a circle; the ids of all jobs of such circles follow the number",
-        input: "the workflow {\"jobs\":{\"a\":{\"runs-on\":\"x\",\"needs\":\"a\"}}} (while \"needs\" is \
-            not read yet, it is refused 16)",
+        input: "the workflow {\"jobs\":{\"a\":{\"runs-on\":\"x\",\"needs\":\"a\"}}}",
         remedy: "take a job out of the \"needs\" of one that it waits for",
     },
     Explanation {
@@ -130,8 +128,7 @@ const EXPLANATIONS: [Explanation; 28] = [
     Explanation {
         number: "26",
         meaning: "the \"if\" of a job is a condition that is not read",
-        input: "the workflow {\"jobs\":{\"a\":{\"runs-on\":\"x\",\"if\":\"github.ref == 'x'\"}}} (while \
-            \"if\" is not read yet, it is refused 16)",
+        input: "the workflow {\"jobs\":{\"a\":{\"runs-on\":\"x\",\"if\":\"github.ref == 'x'\"}}}",
         remedy: "use success(), failure(), always(), cancelled(), !cancelled(), true or false, or let a \
             step decide",
     },

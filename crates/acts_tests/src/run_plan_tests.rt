@@ -3,6 +3,7 @@
 
 mod alike;
 mod last_commands;
+mod needs;
 mod prepared;
 mod replies;
 mod small_texts;

@@ -1,6 +1,7 @@
 //! Bodies of events and workflows. A call that was refused memory is made again, and has it then.
 
 mod contexts;
+mod needs;
 mod strategy;
 
 use crate::given::spelled;
@@ -9,7 +10,7 @@ use std::fmt::Write;
 use std::process::Abort;
 use wf_expr::{Place, Template};
 use wf_reader::{Flag, Job, Jobs, read_event, read_workflow};
-use wf_value::{Chars, Refusal, Sequence, TryCopy};
+use wf_value::{Chars, Condition, Refusal, Sequence, TryCopy};
 
 const ACCEPTED: u64 = 0;
 
@@ -41,7 +42,7 @@ fn expect_workflows(rt: &impl Abort, alloc: Global, rows: &[(&str, u64)]) {
     }
 }
 
-const WORKFLOWS: [(&str, u64); 23] = [
+const WORKFLOWS: [(&str, u64); 24] = [
     ("[", 10),
     ("{\"jobs\":{\"a\":{\"runs-on\":\"x\"}}} 1", 10),
     ("{}", 11),
@@ -60,8 +61,13 @@ const WORKFLOWS: [(&str, u64); 23] = [
     ("{\"jobs\":{\"a\":{\"runs-on\":null}}}", 11),
     ("{\"jobs\":{\"a\":{\"runs-on\":[\"x\",{}]}}}", 11),
     ("{\"concurrency\":null,\"jobs\":5}", 16),
-    ("{\"jobs\":{\"a\":{\"runs-on\":\"x\",\"needs\":\"b\"}}}", 16),
-    ("{\"jobs\":{\"a\":{\"runs-on\":\"x\",\"if\":true}}}", 16),
+    ("{\"jobs\":{\"a\":{\"runs-on\":\"x\",\"needs\":null}}}", 11),
+    ("{\"jobs\":{\"a\":{\"runs-on\":\"x\",\"if\":null}}}", 26),
+    // Whether a job is there is asked of the plan.
+    (
+        "{\"jobs\":{\"a\":{\"runs-on\":\"x\",\"needs\":\"b\"}}}",
+        ACCEPTED,
+    ),
     (
         "{\"jobs\":{\"a\":{\"runs-on\":\"x\",\"concurrency\":\"g\"}}}",
         16,
@@ -189,10 +195,11 @@ fn reads_continue_on_error(rt: HostRuntime) {
 }
 
 /// Of two faults in neighbouring members the earlier one is answered, in whatever order they stand.
-const EARLIER_MEMBERS: [(&str, u64); 7] = [
+const EARLIER_MEMBERS: [(&str, u64); 8] = [
     ("\"runs-on\":5,\"uses\":\"./x.yml\"", 16),
     ("\"needs\":5,\"runs-on\":\"${{ x }}\"", 17),
-    ("\"continue-on-error\":5,\"if\":5,\"runs-on\":\"x\"", 16),
+    ("\"if\":\"b\",\"needs\":5,\"runs-on\":\"x\"", 11),
+    ("\"continue-on-error\":5,\"if\":5,\"runs-on\":\"x\"", 26),
     (
         "\"concurrency\":5,\"continue-on-error\":\"${{ x }}\",\"runs-on\":\"x\"",
         17,
@@ -344,6 +351,8 @@ fn one_job(alloc: Global) -> Result<Jobs, Refusal> {
     let job = Job {
         id: Chars::from_str(alloc, "a")?,
         labels,
+        needs: Sequence::new(Vec::new(alloc)),
+        condition: Condition::Success,
         continue_on_error: Flag::Fixed(false),
         strategy: None,
     };

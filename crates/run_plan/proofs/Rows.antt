@@ -4,8 +4,9 @@ use Rattle.std.specs.Fmt.{digits}
 use Rattle.std.specs.Str.{is_utf8, chars}
 use Rattle.serde_json.proofs.OnLiterals.{serde_json_on_literals}
 use Rattle.wf_value.specs.Matrix.{NamedValues}
-use Rattle.wf_value.specs.declared.code.Code.TheVariants.{HasLease, LegCount, MatrixTooLarge}
-use Rattle.wf_value.specs.declared.refusal.Refusal.TheVariants.{Numbered, Turn}
+use Rattle.wf_value.specs.declared.code.Code.TheVariants.{HasLease, LeftOut, LegCount, MatrixTooLarge, UnknownNeed}
+use Rattle.wf_value.specs.declared.condition.Condition.TheVariants.{Success, Always}
+use Rattle.wf_value.specs.declared.refusal.Refusal.TheVariants.{Numbered, Cycle, Turn}
 use Rattle.wf_value.specs.declared.scalar.Scalar.TheVariants.{Null, Truth, Whole, Text}
 use lib.Utf8.{encode}
 use Rattle.wf_expr.specs.Reading.{run}
@@ -14,7 +15,7 @@ use Rattle.wf_reader.specs.declared.flag.Flag.TheVariants.{Fixed}
 use Rattle.wf_reader.specs.declared.job.Job.{Job}
 use Rattle.wf_reader.specs.declared.workflow.Workflow.{Workflow}
 use Rattle.run_plan.specs.declared.reply.Reply.TheVariants as reply
-use Rattle.run_plan.specs.PlanOf.{plan_faults, plan_of, workflow_plan}
+use Rattle.run_plan.specs.PlanOf.{plan_faults, plan_graph, plan_of, run_faults, workflow_plan}
 use Rattle.run_plan.specs.ReplyText.{combo_text, reply_text}
 use Rattle.run_plan.specs.SmallText.{delivery_id_of, event_name_of, label_list_of, number_of, runner_name_of}
 
@@ -81,13 +82,25 @@ combo = refl
 
 -- ---- plans
 
+abbrev job_needing : List ℕ → List (List ℕ) → Job
+job_needing id needs = record {
+  id = id;
+  labels = (Plain (codes "x") ∷ []) ∷ [];
+  needs = needs;
+  condition = Success;
+  continue_on_error = Fixed false;
+  strategy = None;
+}
+
 abbrev plain_job : List ℕ → Job
-plain_job id = record { id = id; labels = (Plain (codes "x") ∷ []) ∷ []; continue_on_error = Fixed false; strategy = None }
+plain_job id = job_needing id []
 
 abbrev job_of_matrix : List ℕ → List NamedValues → Job
 job_of_matrix id variables = record {
   id = id;
   labels = (Plain (codes "x") ∷ []) ∷ [];
+  needs = codes "a" ∷ [];
+  condition = Always;
   continue_on_error = Fixed true;
   strategy = Some (record {
     matrix = Some (record { variables = variables; include = []; exclude = [] });
@@ -102,6 +115,8 @@ of_jobs jobs = record { name = []; jobs = jobs }
 plan_of_a_plain_job : workflow_plan (of_jobs (plain_job (codes "b") ∷ [])) ≡ record {
   id = codes "b";
   labels = (Plain (codes "x") ∷ []) ∷ [];
+  needs = [];
+  condition = Success;
   continue_on_error = Fixed false;
   fail_fast = true;
   max_parallel = None;
@@ -112,6 +127,8 @@ plan_of_a_plain_job = refl
 plan_of_a_matrix : workflow_plan (of_jobs (job_of_matrix (codes "m") ((codes "n", Whole (pos 1) ∷ Null ∷ []) ∷ []) ∷ [])) ≡ record {
   id = codes "m";
   labels = (Plain (codes "x") ∷ []) ∷ [];
+  needs = codes "a" ∷ [];
+  condition = Always;
   continue_on_error = Fixed true;
   fail_fast = false;
   max_parallel = Some 2;
@@ -126,10 +143,35 @@ too_many = map (λ name. (name ∷ [], Null ∷ Truth true ∷ [])) (codes "abcd
 too_many_choices : plan_faults (of_jobs (plain_job (codes "a") ∷ job_of_matrix (codes "b") too_many ∷ [])) ≡ Numbered MatrixTooLarge ∷ []
 too_many_choices = refl
 
--- job by job: no leg of `a` comes before the choices of `b`
+-- job by job: no leg of `a` comes before the choices of `b`, and what they need comes after
 no_leg_first : plan_faults (of_jobs (job_of_matrix (codes "a") [] ∷ job_of_matrix (codes "b") too_many ∷ []))
-    ≡ Numbered LegCount ∷ Numbered MatrixTooLarge ∷ []
+    ≡ Numbered LegCount ∷ Numbered MatrixTooLarge ∷ Cycle (codes "a" ∷ []) ∷ []
 no_leg_first = refl
+
+-- `b` needs what is no job, and `a` itself
+no_such_job : plan_faults (of_jobs (job_needing (codes "a") (codes "a" ∷ []) ∷ job_needing (codes "b") (codes "c" ∷ []) ∷ []))
+    ≡ Numbered UnknownNeed ∷ []
+no_such_job = refl
+
+-- in the order of the ids, and not of what each lists; `c` needs a cycle and is on none
+cycle : plan_faults (of_jobs (job_needing (codes "a") (codes "b" ∷ []) ∷ job_needing (codes "b") (codes "b" ∷ codes "a" ∷ [])
+    ∷ job_needing (codes "c") (codes "b" ∷ []) ∷ [])) ≡ Cycle (codes "a" ∷ codes "b" ∷ []) ∷ []
+cycle = refl
+
+graph : plan_graph (workflow_plan (of_jobs (plain_job (codes "a") ∷ job_needing (codes "b") (codes "c" ∷ codes "a" ∷ codes "a" ∷ [])
+    ∷ plain_job (codes "c") ∷ []))) ≡ [] ∷ (0 ∷ 2 ∷ []) ∷ [] ∷ []
+graph = refl
+
+-- ---- what runs leave out
+
+needs_left_out : run_faults (plain_job (codes "a") ∷ job_needing (codes "b") (codes "a" ∷ []) ∷ []) ≡ Numbered LeftOut ∷ []
+needs_left_out = refl
+
+needs_of_none : run_faults (job_needing (codes "b") [] ∷ []) ≡ []
+needs_of_none = refl
+
+unknown_need_first : run_faults (job_needing (codes "b") (codes "a" ∷ []) ∷ []) ≡ Numbered UnknownNeed ∷ Numbered LeftOut ∷ []
+unknown_need_first = refl
 
 plan_of_body : plan_of (codes "{\"repo\":\"o/r\",\"path\":\"ci.json\",\"workflow\":{\"jobs\":{\"b\":{\"runs-on\":\"x\"}}}}")
     ≡ workflow_plan (of_jobs (plain_job (codes "b") ∷ []))

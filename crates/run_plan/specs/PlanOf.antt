@@ -1,18 +1,23 @@
 -- The plan of a workflow: for each job, in order, what its legs ask of a runner, how they go on when one fails, and the legs
--- themselves, each with its combination. GitHub Docs, "Running variations of jobs in a workflow" and "Workflow syntax for GitHub
--- Actions", jobs.<job_id>.runs-on, jobs.<job_id>.continue-on-error, jobs.<job_id>.strategy.
-use Rattle.std.specs.Prelude.{ℕ, List, [], ◌∷◌, ◌++◌, map, flat_map, true, is_none, Option, Result, Ok}
+-- themselves, each with its combination, and which jobs each one needs. GitHub Docs, "Running variations of jobs in a workflow" and
+-- "Workflow syntax for GitHub Actions", jobs.<job_id>.runs-on, jobs.<job_id>.needs, jobs.<job_id>.if,
+-- jobs.<job_id>.continue-on-error, jobs.<job_id>.strategy.
+use Rattle.std.specs.Prelude.{ℕ, List, [], ◌∷◌, ◌++◌, ◌&&◌, length, map, flat_map, nat_eq, Bool, true, false, is_none, Option, Result, Ok}
 use Rattle.std.specs.List.{list_all}
 use Rattle.std.specs.Option.{option_and_then, option_map_or}
 use Rattle.std.specs.Result.{result_unwrap_or}
 use Rattle.wf_value.specs.Matrix.{MatrixLists}
 use Rattle.wf_value.specs.declared.code.Code.TheVariants.{LeftOut}
+use Rattle.wf_value.specs.declared.condition.Condition.{Condition}
+use Rattle.wf_value.specs.declared.condition.Condition.TheVariants.{Success, Failure, Always, Cancelled, NotCancelled, Never}
 use Rattle.wf_value.specs.declared.refusal.Refusal.{Refusal}
 use Rattle.wf_reader.specs.declared.job.Job.{Job}
 use Rattle.wf_reader.specs.declared.workflow.Workflow.{Workflow}
 use Rattle.wf_reader.specs.Event.{event_faults, event_of}
 use Rattle.wf_reader.specs.Faults.{fault_unless, outcome_faults}
 use Rattle.matrix_expand.specs.Combinations.{Combination, combinations_or_refusal}
+use Rattle.needs_graph.specs.JobNeeds.{JobNeeds}
+use Rattle.needs_graph.specs.Needs.{graph_of, needs_of}
 use Rattle.run_plan.specs.declared.planned.PlannedJob.{PlannedJob}
 use Rattle.run_plan.specs.declared.planned.PlannedLeg.{PlannedLeg}
 
@@ -35,6 +40,8 @@ abbrev pub planned_job : Job → PlannedJob
 planned_job job = record {
   id = job.id;
   labels = job.labels;
+  needs = job.needs;
+  condition = job.condition;
   continue_on_error = job.continue_on_error;
   fail_fast = option_map_or (λ s. s.fail_fast) job.strategy true;
   max_parallel = option_and_then (λ s. s.max_parallel) job.strategy;
@@ -44,24 +51,64 @@ planned_job job = record {
 abbrev pub workflow_plan : Workflow → List PlannedJob
 workflow_plan workflow = map planned_job workflow.jobs
 
+-- ---- the graph of the jobs' needs
+
+abbrev pub needs_of_job : Job → JobNeeds
+needs_of_job job = record { id = job.id; needs = job.needs }
+
+abbrev pub needs_of_planned : PlannedJob → JobNeeds
+needs_of_planned job = record { id = job.id; needs = job.needs }
+
+-- what each job of a plan lists
+abbrev pub needs_listed : List PlannedJob → List JobNeeds
+needs_listed plan = map needs_of_planned plan
+
+-- for each job of a plan the places of the jobs that it needs
+abbrev pub plan_graph : List PlannedJob → List (List ℕ)
+plan_graph plan = needs_of (needs_listed plan)
+
+-- ---- what is wrong
+
 -- a matrix of too many choices (21), or else of no leg or too many (22)
 abbrev pub job_faults : Job → List Refusal
 job_faults job = outcome_faults (combinations_where (matrix_of job))
 
-abbrev pub jobs_faults : List Job → List Refusal
-jobs_faults jobs = flat_map job_faults jobs
+abbrev pub legs_faults : List Job → List Refusal
+legs_faults jobs = flat_map job_faults jobs
 
--- what is wrong with the plan of a workflow, job by job
+-- an id that is no job's (13), or else a cycle (14)
+abbrev pub needs_faults : List Job → List Refusal
+needs_faults jobs = outcome_faults (graph_of (map needs_of_job jobs))
+
+-- the legs of all jobs come before their needs
+abbrev pub jobs_faults : List Job → List Refusal
+jobs_faults jobs = legs_faults jobs ++ needs_faults jobs
+
+-- what is wrong with the plan of a workflow
 abbrev pub plan_faults : Workflow → List Refusal
 plan_faults workflow = jobs_faults workflow.jobs
 
--- a job with a strategy is left out of runs, as long as needs and fail-fast are
-abbrev pub strategy_faults : List Job → List Refusal
-strategy_faults jobs = fault_unless (list_all (λ job. is_none job.strategy) jobs) LeftOut
+-- ---- what runs leave out
+
+abbrev pub is_of_success : Condition → Bool
+is_of_success Success = true
+is_of_success Failure = false
+is_of_success Always = false
+is_of_success Cancelled = false
+is_of_success NotCancelled = false
+is_of_success Never = false
+
+-- without strategy and needs, and with the condition of a job that has no `if`
+abbrev pub is_plain : Job → Bool
+is_plain job = is_none job.strategy && nat_eq (length job.needs) 0 && is_of_success job.condition
+
+-- other jobs are left out of runs, as long as these follow no needs
+abbrev pub left_out_of_runs : List Job → List Refusal
+left_out_of_runs jobs = fault_unless (list_all is_plain jobs) LeftOut
 
 -- what is wrong with jobs that are to be run
 abbrev pub run_faults : List Job → List Refusal
-run_faults jobs = jobs_faults jobs ++ strategy_faults jobs
+run_faults jobs = jobs_faults jobs ++ left_out_of_runs jobs
 
 -- what is wrong with the event that a body spells, and then with its jobs as ones to be run
 abbrev pub faults_of : List ℕ → List Refusal

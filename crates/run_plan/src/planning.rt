@@ -1,20 +1,23 @@
-ghost use Rattle.std.specs.Prelude.{◌≡◌, Ok, is_none, map, true};
-ghost use Rattle.std.specs.List.{list_all};
+ghost use Rattle.std.specs.Prelude.{◌≡◌, IsTrue, IfOk, Ok, map, true};
 ghost use Rattle.std.specs.Option.{option_and_then, option_map_or};
+ghost use Rattle.std.specs.List.{list_all};
 ghost use Rattle.wf_value.specs.Gives.{Gives};
 ghost use Rattle.wf_reader.specs.Faults.{unless_faulty};
-ghost use Rattle.run_plan.specs.PlanOf.{combinations_where, job_faults, jobs_faults, legs_of, plan_faults, planned_job};
-ghost use Rattle.run_plan.specs.PlanOf.{run_faults, workflow_plan};
+ghost use Rattle.needs_graph.specs.Needs.{ids_rise};
+ghost use Rattle.run_plan.specs.PlanOf.{combinations_where, is_of_success, is_plain, job_faults, jobs_faults, legs_faults, legs_of};
+ghost use Rattle.run_plan.specs.PlanOf.{needs_listed, plan_faults, planned_job, run_faults, workflow_plan};
 
 use crate::planned::{Plan, PlannedJob, PlannedLeg};
 use matrix_expand::expand;
 use std::alloc::Global;
 use wf_reader::{Job, Jobs, Strategy, Workflow};
-use wf_value::{Code, Combo, Matrix, Refusal, Sequence};
+use wf_value::{Code, Combo, Condition, Matrix, Refusal, Sequence};
 
 /// The plan of a workflow, whose texts it takes over. Job by job, a matrix is refused 21 where the
-/// lengths of its lists multiply to over 4,096, else 22 where it gives no leg or more than 256. Want of
-/// memory is 50. GitHub Docs, "Running variations of jobs in a workflow".
+/// lengths of its lists multiply to over 4,096, else 22 where it gives no leg or more than 256. Then 13 is
+/// refused where a job needs what is no job, else 14 where one is its own ancestor, with the ids of all
+/// that are. Want of memory is 50. GitHub Docs, "Running variations of jobs in a workflow" and "Workflow
+/// syntax for GitHub Actions", `jobs.<job_id>.needs`.
 pub fn plan(alloc: Global, workflow: Workflow) -> Result<Plan, Refusal>
     ensures { Gives (λ p. p) result (unless_faulty (plan_faults workflow) (workflow_plan workflow)) }
 {
@@ -22,10 +25,18 @@ pub fn plan(alloc: Global, workflow: Workflow) -> Result<Plan, Refusal>
     plan_jobs(alloc, jobs)
 }
 
-/// Each job as it is planned, up to the first fault.
+/// The plan of jobs, or the first of its faults.
 pub fn plan_jobs(alloc: Global, jobs: Jobs) -> Result<Plan, Refusal>
-    ensures { Gives (λ p. p) result
-        (unless_faulty (jobs_faults jobs) (map planned_job jobs)) }
+    ensures { Gives (λ p. p) result (unless_faulty (jobs_faults jobs) (map planned_job jobs)) }
+{
+    let planned = planned_jobs(alloc, jobs)?;
+    Plan::of_jobs(alloc, planned)
+}
+
+/// Each job as it is planned, up to the first fault of a matrix.
+fn planned_jobs(alloc: Global, jobs: Jobs) -> Result<Sequence<PlannedJob>, Refusal>
+    ensures gives { Gives (λ p. p) result (unless_faulty (legs_faults jobs) (map planned_job jobs)) }
+    ensures rising { IfOk result (λ p. IsTrue (ids_rise (needs_listed p))) }
 {
     let mut planned = Vec::new(alloc);
     for job in jobs.into_vec() {
@@ -34,21 +45,34 @@ pub fn plan_jobs(alloc: Global, jobs: Jobs) -> Result<Plan, Refusal>
     Ok(Sequence::new(planned))
 }
 
-/// Whether no job has a strategy.
-fn have_no_strategy(jobs: &[Job]) -> bool
-    ensures { result ≡ list_all (λ job. is_none job.strategy) jobs.now }
+/// Whether the condition is that of a job without `if`.
+fn is_of_success(condition: Condition) -> bool
+    ensures { result ≡ is_of_success condition }
 {
-    jobs.iter().all(|job| job.strategy.is_none())
+    condition == Condition::Success
 }
 
-/// The plan of jobs that are to be run. After every other fault, a job with a strategy is refused 16, as
-/// long as runs have no needs and no fail-fast.
+/// Whether a job has no strategy, no needs and no condition of its own.
+fn is_plain(job: &Job) -> bool
+    ensures { result ≡ is_plain job.now }
+{
+    job.strategy.is_none() && job.needs.len() == 0 && is_of_success(job.condition)
+}
+
+fn are_plain(jobs: &[Job]) -> bool
+    ensures { result ≡ list_all is_plain jobs.now }
+{
+    jobs.iter().all(is_plain)
+}
+
+/// The plan of jobs that are to be run. After every other fault, a job with a strategy, with needs or with
+/// a condition of its own is refused 16, as long as runs follow none of these.
 pub fn plan_run(alloc: Global, jobs: Jobs) -> Result<Plan, Refusal>
     ensures { Gives (λ p. p) result (unless_faulty (run_faults jobs) (map planned_job jobs)) }
 {
-    let are_read = have_no_strategy(jobs.as_slice());
+    let are_run = are_plain(jobs.as_slice());
     let plan = plan_jobs(alloc, jobs)?;
-    if !are_read {
+    if !are_run {
         return Err(Refusal::Numbered(Code::LeftOut));
     }
     Ok(plan)
@@ -60,6 +84,8 @@ fn planned_job(alloc: Global, job: Job) -> Result<PlannedJob, Refusal>
     let Job {
         id,
         labels,
+        needs,
+        condition,
         continue_on_error,
         strategy,
     } = job;
@@ -72,6 +98,8 @@ fn planned_job(alloc: Global, job: Job) -> Result<PlannedJob, Refusal>
     Ok(PlannedJob {
         id,
         labels,
+        needs,
+        condition,
         continue_on_error,
         fail_fast,
         max_parallel,

@@ -159,9 +159,9 @@ fn origin_and_jobs(event: Event) -> (Origin, Jobs)
     (origin, jobs)
 }
 
-/// An event made ready: its body is read and planned, and refused with the first of its faults: 10, 11,
-/// 12, 15 to 25; a workflow in which a job has a strategy is refused 16 where it has no other fault. Want
-/// of memory is 50. A body that is too long or no UTF-8 is refused memory or not.
+/// An event made ready: its body is read and planned, and refused with the first of its faults, 10 to 26; a
+/// workflow in which a job has a strategy, needs or a condition of its own is refused 16 where it has no
+/// other fault. Want of memory is 50. A body that is too long or no UTF-8 is refused memory or not.
 pub fn prepare(
     alloc: Global,
     event: EventName,

@@ -1,6 +1,7 @@
 -- Views of runs at literal records, and their texts.
 use Rattle.std.proofs.Common.{◌≡◌, ℕ, List, [], ◌∷◌, ◌++◌, true, false, Some, None, codes, refl, ap}
 use Rattle.std.specs.Fmt.{digits}
+use Rattle.wf_value.specs.declared.condition.Condition.TheVariants as condition
 use Rattle.wf_value.specs.declared.outcome.Outcome.TheVariants as outcome
 use Rattle.wf_value.specs.declared.outcome.JobResult.TheVariants as result
 use Rattle.wf_reader.specs.Event.{event_of}
@@ -19,8 +20,16 @@ use Rattle.run_table.specs.declared.phases.RunPhase.TheVariants as phase
 -- ---- a run's text, for a plan of literal ids
 
 abbrev planned : List ℕ → PlannedJob
-planned id =
-    record { id = id; labels = []; continue_on_error = flag.Fixed false; fail_fast = true; max_parallel = None; legs = [] }
+planned id = record {
+  id = id;
+  labels = [];
+  needs = [];
+  condition = condition.Success;
+  continue_on_error = flag.Fixed false;
+  fail_fast = true;
+  max_parallel = None;
+  legs = [];
+}
 
 abbrev job : JobPhase → List LegState → JobState
 job s legs = record { phase = s; legs = legs }

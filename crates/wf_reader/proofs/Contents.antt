@@ -32,7 +32,7 @@ object-of (string t) ms h = absurd cc
 object-of (array ds) ms h = absurd cc
 object-of (object ns) ms h = cc
 
-item_list-view : (vs : List Value) → item_list (items_view vs) ≡ map view vs
+pub item_list-view : (vs : List Value) → item_list (items_view vs) ≡ map view vs
 item_list-view [] = refl
 item_list-view (v ∷ vs) = rw (item_list-view vs)
 

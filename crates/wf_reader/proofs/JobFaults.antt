@@ -5,9 +5,12 @@ use Rattle.serde_json.specs.Data.{Data}
 use Rattle.serde_json.specs.Find.{get, as_object}
 use Rattle.wf_value.specs.declared.code.Code.TheVariants.{WrongKind, JobId, NoLabels}
 use Rattle.wf_value.specs.declared.refusal.Refusal.{Refusal}
+use Rattle.wf_value.specs.declared.condition.Condition.{Condition}
 use Rattle.wf_expr.specs.declared.piece.Piece.{Piece}
+use Rattle.wf_reader.specs.Condition.{condition_faults}
 use Rattle.wf_reader.specs.Faults.{unless_faulty, fault, fault_unless, faults_within, optional, required, left_out}
 use Rattle.wf_reader.specs.Job.{is_job_id, inside_job, job_faults, labels_faults, flag_faults}
+use Rattle.wf_reader.specs.Needs.{needs_faults}
 use Rattle.wf_reader.specs.Strategy.{strategy_faults}
 use Rattle.wf_reader.specs.declared.flag.Flag.{Flag}
 use Rattle.wf_reader.specs.declared.job.Job.{Job}
@@ -28,8 +31,8 @@ after_flag d = left_out (get (codes "concurrency") d) ++ (optional strategy_faul
 
 abbrev after_runs_on : Data → List Refusal
 after_runs_on d =
-    left_out (get (codes "needs") d)
-    ++ (left_out (get (codes "if") d) ++ (optional flag_faults (get (codes "continue-on-error") d) ++ after_flag d))
+    optional needs_faults (get (codes "needs") d)
+    ++ (optional condition_faults (get (codes "if") d) ++ (optional flag_faults (get (codes "continue-on-error") d) ++ after_flag d))
 
 pub past_runs_on : {X U : Type 0} (id : List ℕ) (d : Data) (x : X) (r : Result X Refusal) (u v : U) (asked labels : List (List Piece))
     → true ≡ is_job_id id → true ≡ is_some (as_object d) → unless_faulty (left_out (get (codes "uses") d)) u ≡ Ok v
@@ -40,23 +43,41 @@ past_runs_on id d x r u v asked labels i o uses runs_on later =
     skip (left_out (get (codes "uses") d)) _ u v x r uses (
     skip (required NoLabels labels_faults (get (codes "runs-on") d)) (after_runs_on d) asked labels x r runs_on later))
 
-pub past_flag : {X U : Type 0} (d : Data) (x : X) (r : Result X Refusal) (u v w z : U) (asked flag : Flag)
-    → unless_faulty (left_out (get (codes "needs") d)) u ≡ Ok v → unless_faulty (left_out (get (codes "if") d)) w ≡ Ok z
+pub past_condition : {X : Type 0} (d : Data) (x : X) (r : Result X Refusal) (listed needs : List (List ℕ)) (told condition : Condition)
+    → unless_faulty (optional needs_faults (get (codes "needs") d)) listed ≡ Ok needs
+    → unless_faulty (optional condition_faults (get (codes "if") d)) told ≡ Ok condition
+    → unless_faulty (optional flag_faults (get (codes "continue-on-error") d) ++ after_flag d) x ≡ r
+    → unless_faulty (after_runs_on d) x ≡ r
+past_condition d x r listed needs told condition first second later =
+    skip (optional needs_faults (get (codes "needs") d)) _ listed needs x r first (
+    skip (optional condition_faults (get (codes "if") d)) _ told condition x r second later)
+
+pub past_flag : {X : Type 0} (d : Data) (x : X) (r : Result X Refusal) (listed needs : List (List ℕ)) (told condition : Condition)
+    (asked flag : Flag) → unless_faulty (optional needs_faults (get (codes "needs") d)) listed ≡ Ok needs
+    → unless_faulty (optional condition_faults (get (codes "if") d)) told ≡ Ok condition
     → unless_faulty (optional flag_faults (get (codes "continue-on-error") d)) asked ≡ Ok flag
     → unless_faulty (after_flag d) x ≡ r → unless_faulty (after_runs_on d) x ≡ r
-past_flag d x r u v w z asked flag needs condition is later =
-    skip (left_out (get (codes "needs") d)) _ u v x r needs (
-    skip (left_out (get (codes "if") d)) _ w z x r condition (
-    skip (optional flag_faults (get (codes "continue-on-error") d)) (after_flag d) asked flag x r is later))
+past_flag d x r listed needs told condition asked flag first second is later =
+    past_condition d x r listed needs told condition first second (
+    skip (optional flag_faults (get (codes "continue-on-error") d)) (after_flag d) asked flag x r is later)
 
 -- ---- the job from its parts
 
-abbrev job_with : List ℕ → List (List Piece) → Flag → Option Strategy → Job
-job_with id labels flag strategy = record { id = id; labels = labels; continue_on_error = flag; strategy = strategy }
+abbrev job_with : List ℕ → List (List Piece) → List (List ℕ) → Condition → Flag → Option Strategy → Job
+job_with id labels needs condition flag strategy = record {
+  id = id;
+  labels = labels;
+  needs = needs;
+  condition = condition;
+  continue_on_error = flag;
+  strategy = strategy;
+}
 
-pub job_made : (id text : List ℕ) (asked labels : List (List Piece)) (told flag : Flag) (said strategy : Option Strategy)
-    → id ≡ text → asked ≡ labels → told ≡ flag → said ≡ strategy
-    → job_with id asked told said ≡ job_with text labels flag strategy
-job_made id text asked labels told flag said strategy p q r t =
-    ap (λ x. job_with x asked told said) p ∙ ap (λ x. job_with text x told said) q ∙ ap (λ x. job_with text labels x said) r
-    ∙ ap (job_with text labels flag) t
+pub job_made : (id text : List ℕ) (asked labels : List (List Piece)) (listed needs : List (List ℕ)) (told condition : Condition)
+    (set flag : Flag) (said strategy : Option Strategy)
+    → id ≡ text → asked ≡ labels → listed ≡ needs → told ≡ condition → set ≡ flag → said ≡ strategy
+    → job_with id asked listed told set said ≡ job_with text labels needs condition flag strategy
+job_made id text asked labels listed needs told condition set flag said strategy p q n w r t =
+    ap (λ x. job_with x asked listed told set said) p ∙ ap (λ x. job_with text x listed told set said) q
+    ∙ ap (λ x. job_with text labels x told set said) n ∙ ap (λ x. job_with text labels needs x set said) w
+    ∙ ap (λ x. job_with text labels needs condition x said) r ∙ ap (job_with text labels needs condition flag) t

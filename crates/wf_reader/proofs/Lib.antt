@@ -1,5 +1,6 @@
 pub mod BodyCases
 pub mod Contents
+pub mod ConditionTexts
 pub mod ContextParts
 pub mod Entries
 pub mod EventParts
@@ -7,7 +8,9 @@ pub mod InTurn
 pub mod JobFaults
 pub mod MatrixParts
 pub mod Members
+pub mod NeedsListed
 pub mod RunsOn
 pub mod StrategyParts
+mod ConditionRows
 mod Rows
 mod StrategyRows

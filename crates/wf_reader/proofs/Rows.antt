@@ -5,6 +5,8 @@ use Rattle.std.specs.Str.{is_utf8, chars}
 use Rattle.serde_json.specs.Data.{unsigned, null, number, array, object, no_items, no_members, member}
 use Rattle.serde_json.proofs.OnLiterals.{serde_json_on_literals}
 use Rattle.wf_value.specs.declared.code.Code.TheVariants.{NotJson, WrongKind, JobId, NoLabels, LeftOut, Expression, StrategyMember}
+use Rattle.wf_value.specs.declared.code.Code.TheVariants.{Condition}
+use Rattle.wf_value.specs.declared.condition.Condition.TheVariants.{Success}
 use Rattle.wf_value.specs.declared.refusal.Refusal.TheVariants.{Numbered}
 use Rattle.wf_value.specs.declared.scalar.Scalar.TheVariants.{Null, Whole}
 use lib.Utf8.{encode}
@@ -100,14 +102,14 @@ flag_expression : workflow_faults (codes "{\"jobs\":{\"a\":{\"continue-on-error\
 unfolding on_bodies
 flag_expression = refl
 
-job_by_job : workflow_faults (codes "{\"jobs\":{\"b\":{\"runs-on\":5},\"a\":{\"runs-on\":\"x\",\"needs\":\"b\"}}}")
-    ≡ Numbered LeftOut ∷ Numbered WrongKind ∷ []
+job_by_job : workflow_faults (codes "{\"jobs\":{\"b\":{\"runs-on\":5},\"a\":{\"runs-on\":\"x\",\"needs\":5}}}")
+    ≡ Numbered WrongKind ∷ Numbered WrongKind ∷ []
 unfolding on_bodies
 job_by_job = refl
 
 members_in_turn : workflow_faults (codes "{\"jobs\":{\"a\":{\"runs-on\":\"x\",\"strategy\":null,\"concurrency\":\"g\"," ++ codes
-    "\"continue-on-error\":5,\"if\":true,\"needs\":[]}}}")
-    ≡ Numbered LeftOut ∷ Numbered LeftOut ∷ Numbered WrongKind ∷ Numbered LeftOut ∷ Numbered StrategyMember ∷ []
+    "\"continue-on-error\":5,\"if\":\"b\",\"needs\":[{}]}}}")
+    ≡ Numbered WrongKind ∷ Numbered Condition ∷ Numbered WrongKind ∷ Numbered LeftOut ∷ Numbered StrategyMember ∷ []
 unfolding on_bodies
 members_in_turn = refl
 
@@ -146,10 +148,12 @@ in_order : workflow_of (codes "{\"name\":\"n\",\"jobs\":{\"b\":{\"runs-on\":[\"l
     ≡ record {
       name = codes "n";
       jobs =
-          record { id = codes "a"; labels = (Plain (codes "y") ∷ []) ∷ []; continue_on_error = Fixed false; strategy = None }
+          record { id = codes "a"; labels = (Plain (codes "y") ∷ []) ∷ []; needs = []; condition = Success; continue_on_error = Fixed false; strategy = None }
           ∷ record {
             id = codes "b";
             labels = (Plain (codes "linux") ∷ []) ∷ (Plain (codes "x64") ∷ []) ∷ [];
+            needs = [];
+            condition = Success;
             continue_on_error = Fixed false;
             strategy = None;
           }
@@ -165,6 +169,8 @@ templates : workflow_of (codes "{\"jobs\":{\"a\":{\"runs-on\":\"${{ vars.os }}-x
           record {
             id = codes "a";
             labels = (Braced (Reference (codes "vars" ∷ codes "os" ∷ []) ∷ []) ∷ Plain (codes "-x") ∷ []) ∷ [];
+            needs = [];
+            condition = Success;
             continue_on_error = Template (Braced (Reference (codes "matrix" ∷ codes "soft" ∷ []) ∷ []) ∷ []);
             strategy = None;
           }
@@ -182,7 +188,14 @@ envelope : event_of (codes "{\"repo\":\"o/r\",\"path\":\"ci.json\",\"vars\":{\"l
       workflow = record {
         name = [];
         jobs =
-            record { id = codes "build"; labels = (Plain (codes "linux") ∷ []) ∷ []; continue_on_error = Fixed false; strategy = None }
+            record {
+              id = codes "build";
+              labels = (Plain (codes "linux") ∷ []) ∷ [];
+              needs = [];
+              condition = Success;
+              continue_on_error = Fixed false;
+              strategy = None;
+            }
             ∷ [];
       };
     }

@@ -1,5 +1,6 @@
 -- A job of a workflow: what is wrong with it, and the job that it spells.
 -- GitHub Docs, "Workflow syntax for GitHub Actions": jobs.<job_id>, its runs-on and its continue-on-error.
+-- `Needs`, `Condition` and `Strategy` have its needs, its if and its strategy.
 use Rattle.std.specs.Prelude.{ℕ, List, [], ◌∷◌, ◌++◌, length, Bool, false, ◌&&◌, ◌||◌, ◌==◌, nat_le, codes, map, flat_map, option_map}
 use Rattle.std.specs.Char.{is_ascii_alphabetic, is_ascii_digit}
 use Rattle.std.specs.List.{list_all}
@@ -9,8 +10,10 @@ use Rattle.wf_value.specs.declared.code.Code.TheVariants.{WrongKind, JobId, NoLa
 use Rattle.wf_value.specs.declared.refusal.Refusal.{Refusal}
 use Rattle.wf_expr.specs.declared.piece.Piece.{Piece}
 use Rattle.wf_expr.specs.declared.place.Place.TheVariants as place
+use Rattle.wf_reader.specs.Condition.{condition_faults, condition_where}
 use Rattle.wf_reader.specs.Faults.{fault, fault_unless, in_turn, optional, required, left_out, faults_within}
-use Rattle.wf_reader.specs.Json.{item_list, text_in, member_at}
+use Rattle.wf_reader.specs.Json.{item_list, listed, text_in, member_at}
+use Rattle.wf_reader.specs.Needs.{needs_faults, needs_in}
 use Rattle.wf_reader.specs.Strategy.{strategy_faults, strategy_of}
 use Rattle.wf_reader.specs.Templates.{template_faults, template_in}
 use Rattle.wf_reader.specs.declared.flag.Flag.{Flag}
@@ -30,15 +33,6 @@ is_job_id [] = false
 is_job_id (b ∷ bs) = is_id_start b && list_all is_id_part bs && nat_le (length (b ∷ bs)) 100
 
 -- ---- runs-on: a text, or a list of texts, and each a template
-
--- a text alone is a list of one
-abbrev pub label_values : Data → List Data
-label_values null = []
-label_values (boolean b) = []
-label_values (number n) = []
-label_values (string t) = string t ∷ []
-label_values (array ds) = item_list ds
-label_values (object ms) = []
 
 abbrev pub label_faults : Data → List Refusal
 label_faults null = fault WrongKind
@@ -62,7 +56,7 @@ abbrev pub label_in : Data → List Piece
 label_in d = template_in place.Job (text_in d)
 
 abbrev pub labels_asked : Data → List (List Piece)
-labels_asked d = map label_in (label_values d)
+labels_asked d = map label_in (listed d)
 
 -- ---- continue-on-error: a truth value, or a text that is a template
 
@@ -88,8 +82,8 @@ flag_in (object ms) = Fixed false
 abbrev pub inside_job : Data → List Refusal
 inside_job d = in_turn (left_out (get (codes "uses") d)
     ∷ required NoLabels labels_faults (get (codes "runs-on") d)
-    ∷ left_out (get (codes "needs") d)
-    ∷ left_out (get (codes "if") d)
+    ∷ optional needs_faults (get (codes "needs") d)
+    ∷ optional condition_faults (get (codes "if") d)
     ∷ optional flag_faults (get (codes "continue-on-error") d)
     ∷ left_out (get (codes "concurrency") d)
     ∷ optional strategy_faults (get (codes "strategy") d) ∷ [])
@@ -102,6 +96,8 @@ abbrev pub job_of : List ℕ × Data → Job
 job_of job = record {
   id = job.0;
   labels = labels_asked (member_at (codes "runs-on") job.1);
+  needs = needs_in (member_at (codes "needs") job.1);
+  condition = condition_where (get (codes "if") job.1);
   continue_on_error = flag_in (member_at (codes "continue-on-error") job.1);
   strategy = option_map strategy_of (get (codes "strategy") job.1);
 }

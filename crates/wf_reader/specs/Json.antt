@@ -34,3 +34,12 @@ scalar_in (number n) = option_map Whole (as_i64 n)
 scalar_in (string t) = Some (Text t)
 scalar_in (array ds) = None
 scalar_in (object ms) = None
+
+-- the values of a list, and a text alone as a list of one
+abbrev pub listed : Data → List Data
+listed null = []
+listed (boolean b) = []
+listed (number n) = []
+listed (string t) = string t ∷ []
+listed (array ds) = item_list ds
+listed (object ms) = []

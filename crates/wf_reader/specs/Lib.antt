@@ -1,4 +1,6 @@
 pub mod Body
+pub mod Condition
+pub mod ConditionTexts
 pub mod Contexts
 pub mod Event
 pub mod Faults
@@ -8,6 +10,7 @@ pub mod Json
 pub mod JsonCode
 pub mod MatrixOf
 pub mod MatrixValues
+pub mod Needs
 pub mod Patterns
 pub mod Strategy
 pub mod Templates

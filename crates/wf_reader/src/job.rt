@@ -5,14 +5,16 @@ ghost use Rattle.wf_value.specs.Gives.{Gives};
 ghost use Rattle.wf_reader.specs.Faults.{unless_faulty};
 ghost use Rattle.wf_reader.specs.Job.{is_id_start, is_id_part, is_job_id, job_faults, job_of};
 
+use crate::condition::read_condition;
 use crate::fields::{refuse_left_out, wrong_kind};
 use crate::flag::{Flag, read_flag};
 use crate::labels::read_runs_on;
+use crate::needs::read_needs;
 use crate::strategy::{Strategy, read_strategy};
 use serde_json::Value;
 use std::alloc::Global;
 use wf_expr::Template;
-use wf_value::{Chars, Code, Refusal, Sequence};
+use wf_value::{Chars, Code, Condition, Refusal, Sequence};
 
 /// A job of a workflow. GitHub Docs, "Workflow syntax for GitHub Actions", `jobs.<job_id>`.
 #[derive(Drop)]
@@ -21,6 +23,10 @@ pub struct Job {
     pub id: Chars,
     /// What `runs-on` asks of a runner: one template at least.
     pub labels: Sequence<Template>,
+    /// The ids of the jobs that it needs, as it lists them: one may repeat, and one may be no job's.
+    pub needs: Sequence<Chars>,
+    /// When it is to run: `success()` where the job has no `if`.
+    pub condition: Condition,
     /// Whether the job may fail without failing its run. It is not set where the member is missing.
     pub continue_on_error: Flag,
     pub strategy: Option<Strategy>,
@@ -70,14 +76,16 @@ pub fn read_job(alloc: Global, id: &str, value: &Value) -> Result<Job, Refusal>
     }
     refuse_left_out(value, "uses")?;
     let labels = read_runs_on(alloc, value)?;
-    refuse_left_out(value, "needs")?;
-    refuse_left_out(value, "if")?;
+    let needs = read_needs(alloc, value)?;
+    let condition = read_condition(value)?;
     let continue_on_error = read_flag(alloc, value, "continue-on-error")?;
     refuse_left_out(value, "concurrency")?;
     let strategy = read_strategy(alloc, value)?;
     Ok(Job {
         id: Chars::from_str(alloc, id)?,
         labels,
+        needs,
+        condition,
         continue_on_error,
         strategy,
     })

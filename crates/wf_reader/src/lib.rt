@@ -4,6 +4,7 @@
 #![tactic(auto)]
 
 mod body;
+mod condition;
 mod contexts;
 mod event;
 mod fields;
@@ -12,6 +13,7 @@ mod job;
 mod jobs;
 mod labels;
 mod matrix;
+mod needs;
 mod patterns;
 mod scalars;
 mod strategy;
@@ -19,6 +21,7 @@ mod templates;
 mod values;
 mod workflow;
 
+pub use condition::conditions_are_their_spellings;
 pub use contexts::Contexts;
 pub use event::{Event, read_event};
 pub use flag::Flag;

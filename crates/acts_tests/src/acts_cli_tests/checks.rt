@@ -66,6 +66,10 @@ fn prints_the_legs(rt: HostRuntime) -> Result<(), Fail> {
             "B 0 {}\na 0 {}\nb 0 {}\n",
         ),
         (
+            "{\"jobs\":{\"a\":{\"runs-on\":\"x\",\"needs\":\"b\",\"if\":\"always()\"},\"b\":{\"runs-on\":\"x\"}}}",
+            "a 0 {}\nb 0 {}\n",
+        ),
+        (
             "{\"jobs\":{\"j\":{\"runs-on\":\"x\",\"strategy\":{\"matrix\":{\"v\":[null,true,\"1\",-7]}}}}}",
             "j 0 {\"v\":null}\nj 1 {\"v\":true}\nj 2 {\"v\":\"1\"}\nj 3 {\"v\":-7}\n",
         ),
@@ -143,6 +147,11 @@ fn refuses_with_the_first_fault(rt: HostRuntime) {
         ("[", 10),
         ("{}", 11),
         ("{\"jobs\":{\"1a\":{\"runs-on\":\"x\"}}}", 12),
+        ("{\"jobs\":{\"a\":{\"runs-on\":\"x\",\"needs\":\"b\"}}}", 13),
+        (
+            "{\"jobs\":{\"a\":{\"runs-on\":\"x\",\"needs\":\"b\"},\"b\":{\"runs-on\":\"x\",\"needs\":\"a\"}}}",
+            14,
+        ),
         ("{\"jobs\":{\"a\":{}}}", 15),
         ("{\"jobs\":{\"a\":{\"uses\":\"./x.yml\"}}}", 16),
         ("{\"jobs\":{\"a\":{\"runs-on\":\"${{ secrets.x }}\"}}}", 17),
@@ -158,6 +167,10 @@ fn refuses_with_the_first_fault(rt: HostRuntime) {
         (
             "{\"jobs\":{\"a\":{\"runs-on\":\"x\",\"strategy\":{\"matrix\":{}}}}}",
             22,
+        ),
+        (
+            "{\"jobs\":{\"a\":{\"runs-on\":\"x\",\"if\":\"github.ref == 'x'\"}}}",
+            26,
         ),
         (
             "{\"jobs\":{\"a\":{\"runs-on\":\"x\",\"strategy\":{\"max-parallel\":0}}}}",

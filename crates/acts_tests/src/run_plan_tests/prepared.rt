@@ -117,7 +117,7 @@ fn number_of_refusal(alloc: Global, body: &str) -> Result<u64, Refusal> {
 }
 
 /// Bodies and their first faults. A job with a strategy is refused after every other fault.
-const BODIES: [(&str, u64); 12] = [
+const BODIES: [(&str, u64); 15] = [
     (BODY, 0),
     ("[", 10),
     ("{}", 11),
@@ -135,7 +135,20 @@ const BODIES: [(&str, u64); 12] = [
     ),
     (
         "{\"repo\":\"r\",\"path\":\"p\",\"workflow\":{\"jobs\":{\"a\":{\"runs-on\":\"x\",\"needs\":\"a\"}}}}",
+        14,
+    ),
+    // Runs do not follow these yet.
+    (
+        "{\"repo\":\"r\",\"path\":\"p\",\"workflow\":{\"jobs\":{\"a\":{\"runs-on\":\"x\"},\"b\":{\"runs-on\":\"x\",\"needs\":\"a\"}}}}",
         16,
+    ),
+    (
+        "{\"repo\":\"r\",\"path\":\"p\",\"workflow\":{\"jobs\":{\"a\":{\"runs-on\":\"x\",\"if\":\"always()\"}}}}",
+        16,
+    ),
+    (
+        "{\"repo\":\"r\",\"path\":\"p\",\"workflow\":{\"jobs\":{\"a\":{\"runs-on\":\"x\",\"needs\":[],\"if\":true}}}}",
+        0,
     ),
     (
         "{\"repo\":\"r\",\"path\":\"p\",\"workflow\":{\"jobs\":{\"1a\":{},\"b\":{\"uses\":1}}}}",

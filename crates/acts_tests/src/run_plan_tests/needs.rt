@@ -1,0 +1,113 @@
+//! What a workflow's jobs need, as it is planned.
+
+use crate::run_plan_tests::{expect_done, expect_memory};
+use run_plan::plan;
+use std::alloc::Global;
+use std::process::Abort;
+use wf_reader::read_workflow;
+use wf_value::{Condition, Refusal};
+
+/// What is printed of a refused plan, and nothing of one that is made.
+fn refused(alloc: Global, workflow: &str) -> Result<String, Refusal> {
+    let workflow = read_workflow(alloc, workflow.as_bytes())?;
+    match plan(alloc, workflow) {
+        Ok(_) => Ok(String::new(alloc)),
+        Err(refusal) if refusal.number() == 50 => Err(refusal),
+        Err(refusal) => Ok(refusal.text(alloc)?.into_string()),
+    }
+}
+
+/// Where two checks fail the earlier one is answered: the matrices of all jobs, then ids of no job, then
+/// cycles. The ids of a cycle stand in the order of their bytes.
+const REFUSED: [(&str, &str); 12] = [
+    (
+        "{\"jobs\":{\"a\":{\"runs-on\":\"x\",\"needs\":\"b\"}}}",
+        "refused 13",
+    ),
+    (
+        "{\"jobs\":{\"a\":{\"runs-on\":\"x\",\"needs\":\"b\"},\"b\":{\"runs-on\":\"x\",\"needs\":\"a\"}}}",
+        "refused 14 a b",
+    ),
+    (
+        "{\"jobs\":{\"a\":{\"runs-on\":\"x\",\"needs\":\"a\"}}}",
+        "refused 14 a",
+    ),
+    (
+        "{\"jobs\":{\"c\":{\"runs-on\":\"x\",\"needs\":\"B\"},\"a\":{\"runs-on\":\"x\",\"needs\":[\"c\"]},\"B\":{\"runs-on\":\"x\",\"needs\":\"a\"}}}",
+        "refused 14 B a c",
+    ),
+    (
+        "{\"jobs\":{\"a\":{\"runs-on\":\"x\",\"needs\":[\"d\",\"b\"]},\"b\":{\"runs-on\":\"x\",\"needs\":\"b\"},\"c\":{\"runs-on\":\"x\",\"needs\":\"d\"},\"d\":{\"runs-on\":\"x\",\"needs\":\"c\"}}}",
+        "refused 14 b c d",
+    ),
+    (
+        "{\"jobs\":{\"a\":{\"runs-on\":\"x\",\"needs\":\"a\"},\"b\":{\"runs-on\":\"x\",\"needs\":\"A\"}}}",
+        "refused 13",
+    ),
+    (
+        "{\"jobs\":{\"a\":{\"runs-on\":\"x\",\"needs\":[\"b\",\"\"]},\"b\":{\"runs-on\":\"x\"}}}",
+        "refused 13",
+    ),
+    (
+        "{\"jobs\":{\"a\":{\"runs-on\":\"x\",\"needs\":\"c\"},\"b\":{\"runs-on\":\"x\",\"strategy\":{\"matrix\":{}}}}}",
+        "refused 22",
+    ),
+    (
+        "{\"jobs\":{\"a\":{\"runs-on\":\"x\",\"needs\":\"a\",\"strategy\":{\"matrix\":{}}}}}",
+        "refused 22",
+    ),
+    ("{\"jobs\":{\"a\":{\"runs-on\":\"x\",\"needs\":[]}}}", ""),
+    (
+        "{\"jobs\":{\"a\":{\"runs-on\":\"x\"},\"b\":{\"runs-on\":\"x\",\"needs\":[\"a\",\"a\"]}}}",
+        "",
+    ),
+    (
+        "{\"jobs\":{\"a\":{\"runs-on\":\"x\",\"if\":false},\"b\":{\"runs-on\":\"x\",\"needs\":\"a\",\"if\":\"failure()\"}}}",
+        "",
+    ),
+];
+
+fn refuses(rt: &impl Abort, alloc: Global) -> Result<(), Refusal> {
+    for (workflow, want) in REFUSED {
+        let text = refused(alloc, workflow)?;
+        assert_eq!(rt; text.as_str(), want, "{workflow}");
+    }
+    Ok(())
+}
+
+#[test]
+fn refuses_ids_of_no_job_and_cycles(rt: HostRuntime) {
+    expect_memory(&rt, &refuses(&rt, rt.alloc()));
+    expect_done(&rt, &refuses(&rt, rt.alloc()));
+}
+
+/// A diamond: `b` and `c` need `a`, and `d` needs both.
+const DIAMOND: &str =
+    "{\"jobs\":{\"d\":{\"runs-on\":\"x\",\"needs\":[\"c\",\"b\",\"c\"],\"if\":\"${{ always() }}\"},\"c\":{\"runs-on\":\"x\",\"needs\":\"a\"},\"b\":{\"runs-on\":\"x\",\"needs\":[\"a\"],\"if\":\"failure()\"},\"a\":{\"runs-on\":\"x\"}}}";
+
+fn plans(rt: &impl Abort, alloc: Global) -> Result<(), Refusal> {
+    let plan = plan(alloc, read_workflow(alloc, DIAMOND.as_bytes())?)?;
+    assert_eq!(rt; plan.as_slice().len(), 4);
+    let graph = plan.graph();
+    assert_eq!(rt; graph.job_count(), 4);
+    let none: [usize; 0] = [];
+    assert!(rt; graph.needs(0) == none.as_slice());
+    assert!(rt; graph.needs(1) == [0].as_slice());
+    assert!(rt; graph.needs(2) == [0].as_slice());
+    assert!(rt; graph.needs(3) == [1, 2].as_slice());
+    assert!(rt; graph.has_ancestor(3, 0));
+    assert!(rt; !graph.has_ancestor(2, 1));
+    let jobs = plan.as_slice();
+    assert!(rt; jobs[0].condition == Condition::Success);
+    assert!(rt; jobs[1].condition == Condition::Failure);
+    assert!(rt; jobs[2].condition == Condition::Success);
+    assert!(rt; jobs[3].condition == Condition::Always);
+    assert_eq!(rt; jobs[3].needs.len(), 3);
+    Ok(())
+}
+
+#[test]
+fn plans_what_jobs_need(rt: HostRuntime) {
+    expect_memory(&rt, &plans(&rt, rt.alloc()));
+    expect_done(&rt, &plans(&rt, rt.alloc()));
+}

@@ -1,0 +1,46 @@
+-- The graph of a plan is that of the jobs that are planned.
+use Rattle.std.specs.Prelude.{◌≡◌, ℕ, List, [], ◌∷◌, ◌++◌, ◌&&◌, map, Bool, true, false, IsTrue, if◌then◌else◌, Ok, Err, refl}
+use Rattle.std.specs.Cmp.Lexicographic.{slice_cmp}
+use Rattle.std.specs.List.{list_all}
+use Rattle.std.specs.Ordering.{is_lt, nat_cmp}
+use Rattle.std.proofs.Common.{sym, ap, ◌∙◌}
+use Rattle.std.proofs.lemmas.Simd.{map-map}
+use Rattle.wf_value.specs.Names.{rises_by}
+use Rattle.wf_reader.specs.Faults.{unless_faulty, outcome_faults}
+use Rattle.wf_reader.specs.JobCode as read
+use Rattle.wf_reader.specs.declared.job.Job.{Job}
+use Rattle.wf_reader.proofs.InTurn.{no_fault, same_value}
+use Rattle.needs_graph.specs.JobNeeds.{JobNeeds}
+use Rattle.needs_graph.specs.Needs.{graph_of, ids_rise, is_job, needs_of, own_ancestors, unknown_need, unless_cycle}
+use Rattle.run_plan.specs.PlanOf.{jobs_faults, legs_faults, needs_faults, needs_listed, needs_of_job, needs_of_planned, planned_job}
+use Rattle.run_plan.specs.declared.planned.PlannedJob.{PlannedJob}
+
+rises_over : {X Y : Type 0} (name : Y → List ℕ) (f : X → Y) (xs : List X) → rises_by name (map f xs) ≡ rises_by (λ x. name (f x)) xs
+rises_over name f [] = refl
+rises_over name f (x ∷ []) = refl
+rises_over name f (x ∷ y ∷ ys) = ap (λ b. is_lt (slice_cmp nat_cmp (name (f x)) (name (f y))) && b) (rises_over name f (y ∷ ys))
+
+-- planned jobs keep their ids
+pub ids_still_rise : (jobs : List Job) → IsTrue (read.ids_rise jobs) → IsTrue (ids_rise (needs_listed (map planned_job jobs)))
+ids_still_rise jobs rise =
+    rises_over (λ n. n.id) needs_of_planned (map planned_job jobs) ∙ rises_over (λ p. p.id) planned_job jobs ∙ rise
+
+-- where no matrix has a fault, the needs decide
+pub plan_with_needs : (jobs : List Job) (planned : List PlannedJob) → unless_faulty (legs_faults jobs) (map planned_job jobs) ≡ Ok planned
+    → unless_faulty (outcome_faults (graph_of (needs_listed planned))) planned ≡ unless_faulty (jobs_faults jobs) (map planned_job jobs)
+plan_with_needs jobs planned told =
+    let listed : needs_listed (map planned_job jobs) ≡ map needs_of_job jobs = map-map needs_of_planned planned_job jobs in
+    ap (λ p. unless_faulty (outcome_faults (graph_of (needs_listed p))) p)
+    (sym (same_value (legs_faults jobs) (map planned_job jobs) planned told))
+    ∙ ap (λ ns. unless_faulty (outcome_faults (graph_of ns)) (map planned_job jobs)) listed
+    ∙ ap (λ fs. unless_faulty (fs ++ needs_faults jobs) (map planned_job jobs))
+    (sym (no_fault (legs_faults jobs) (map planned_job jobs) planned told))
+
+-- a graph that is there is that of the needs
+of_parts : (known : Bool) (ids needs g : List (List ℕ)) → (if known then unless_cycle ids needs else Err unknown_need) ≡ Ok g → g ≡ needs
+of_parts true [] needs g h = cc
+of_parts true (id ∷ ids) needs g h = absurd cc
+of_parts false ids needs g h = absurd cc
+
+pub graph_is : (jobs : List JobNeeds) (g : List (List ℕ)) → graph_of jobs ≡ Ok g → g ≡ needs_of jobs
+graph_is jobs g h = of_parts (list_all (λ job. list_all (is_job jobs) job.needs) jobs) (own_ancestors jobs) (needs_of jobs) g h

@@ -1,0 +1,34 @@
+-- The texts of conditions as a set: a word, bare or between `${{` and `}}`, with spaces around the word and around the braces.
+-- GitHub Docs, "Workflow syntax for GitHub Actions": jobs.<job_id>.if; "Evaluate expressions in workflows and actions": Status
+-- check functions. That spaces are U+0020 alone, and free nowhere else, is own.
+use Rattle.std.specs.Prelude.{◌≡◌, ◌⊎◌, ℕ, List, ◌++◌, codes, Some}
+use Rattle.std.specs.List.{AllByRecursion}
+use Rattle.wf_value.specs.declared.condition.Condition.{Condition}
+use Rattle.wf_reader.specs.Condition.{condition_of_word}
+
+-- any number of U+0020
+abbrev pub AreSpaces : List ℕ → Type 0
+AreSpaces = AllByRecursion (λ b. b ≡ 32)
+
+-- a text with spaces around it
+pub record IsSpaced (text inner : List ℕ) : Type 0 where
+  pub front : List ℕ
+  pub end : List ℕ
+  pub spaces_first : AreSpaces front
+  pub spaces_last : AreSpaces end
+  pub whole : text ≡ front ++ (inner ++ end)
+
+abbrev pub in_braces : List ℕ → List ℕ
+in_braces inner = codes "${{" ++ (inner ++ codes "}}")
+
+-- a word in braces, with spaces around both
+pub record IsBraced (text word : List ℕ) : Type 0 where
+  pub inner : List ℕ
+  pub around_word : IsSpaced inner word
+  pub around_braces : IsSpaced text (in_braces inner)
+
+-- the text of a condition
+pub record SpellsCondition (text : List ℕ) (condition : Condition) : Type 0 where
+  pub word : List ℕ
+  pub says : condition_of_word word ≡ Some condition
+  pub bare_or_braced : IsSpaced text word ⊎ IsBraced text word
