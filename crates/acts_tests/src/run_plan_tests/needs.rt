@@ -33,11 +33,14 @@ const REFUSED: [(&str, &str); 12] = [
         "refused 14 a",
     ),
     (
-        "{\"jobs\":{\"c\":{\"runs-on\":\"x\",\"needs\":\"B\"},\"a\":{\"runs-on\":\"x\",\"needs\":[\"c\"]},\"B\":{\"runs-on\":\"x\",\"needs\":\"a\"}}}",
+        "{\"jobs\":{\"c\":{\"runs-on\":\"x\",\"needs\":\"B\"},\
+        \"a\":{\"runs-on\":\"x\",\"needs\":[\"c\"]},\"B\":{\"runs-on\":\"x\",\"needs\":\"a\"}}}",
         "refused 14 B a c",
     ),
     (
-        "{\"jobs\":{\"a\":{\"runs-on\":\"x\",\"needs\":[\"d\",\"b\"]},\"b\":{\"runs-on\":\"x\",\"needs\":\"b\"},\"c\":{\"runs-on\":\"x\",\"needs\":\"d\"},\"d\":{\"runs-on\":\"x\",\"needs\":\"c\"}}}",
+        "{\"jobs\":{\"a\":{\"runs-on\":\"x\",\"needs\":[\"d\",\"b\"]},\
+        \"b\":{\"runs-on\":\"x\",\"needs\":\"b\"},\
+        \"c\":{\"runs-on\":\"x\",\"needs\":\"d\"},\"d\":{\"runs-on\":\"x\",\"needs\":\"c\"}}}",
         "refused 14 b c d",
     ),
     (
@@ -83,7 +86,9 @@ fn refuses_ids_of_no_job_and_cycles(rt: HostRuntime) {
 
 /// A diamond: `b` and `c` need `a`, and `d` needs both.
 const DIAMOND: &str =
-    "{\"jobs\":{\"d\":{\"runs-on\":\"x\",\"needs\":[\"c\",\"b\",\"c\"],\"if\":\"${{ always() }}\"},\"c\":{\"runs-on\":\"x\",\"needs\":\"a\"},\"b\":{\"runs-on\":\"x\",\"needs\":[\"a\"],\"if\":\"failure()\"},\"a\":{\"runs-on\":\"x\"}}}";
+    "{\"jobs\":{\"d\":{\"runs-on\":\"x\",\"needs\":[\"c\",\"b\",\"c\"],\"if\":\"${{ always() }}\"},\
+    \"c\":{\"runs-on\":\"x\",\"needs\":\"a\"},\
+    \"b\":{\"runs-on\":\"x\",\"needs\":[\"a\"],\"if\":\"failure()\"},\"a\":{\"runs-on\":\"x\"}}}";
 
 fn plans(rt: &impl Abort, alloc: Global) -> Result<(), Refusal> {
     let plan = plan(alloc, read_workflow(alloc, DIAMOND.as_bytes())?)?;
