@@ -261,6 +261,13 @@ braced-assoc : (before inner more after x : List ℕ)
     → (before ++ (inner ++ (more ++ (after ++ 125 ∷ 125 ∷ [])))) ++ x ≡ before ++ (inner ++ (more ++ (after ++ (125 ∷ (125 ∷ x)))))
 braced-assoc before inner more after x = simp append_assoc
 
+-- behind a `${{` an operand is due
+pub opening-read : (ps : List Piece) (w x : List ℕ) → run (InText ps w) (36 ∷ (123 ∷ (123 ∷ x))) ≡ run (OperandDue (ps ++ plain_piece w) []) x
+opening-read ps w x =
+    run-some (InText ps w) (AfterDollar ps w) 36 (123 ∷ (123 ∷ x)) refl
+    ∙ (run-some (AfterDollar ps w) (AfterBrace ps w) 123 (123 ∷ x) refl
+    ∙ run-some (AfterBrace ps w) (OperandDue (ps ++ plain_piece w) []) 123 x refl)
+
 braced-read : (ps : List Piece) (w text x : List ℕ) (o : Operand) (os : List Operand) → SpellsBraced text o os
     → run (InText ps w) (text ++ x) ≡ run (InText ((ps ++ plain_piece w) ++ Braced (o ∷ os) ∷ []) []) x
 braced-read ps w text x o os h =
@@ -272,18 +279,16 @@ braced-read ps w text x o os h =
     let whole : text ++ x ≡ 36 ∷ (123 ∷ (123 ∷ inside)) =
     ap (λ t. t ++ x) h.whole ∙ ap (λ t. 36 ∷ (123 ∷ (123 ∷ t))) (braced-assoc h.before h.inner h.more h.after x) in
     ap (run (InText ps w)) whole
-    ∙ (run-some (InText ps w) (AfterDollar ps w) 36 (123 ∷ (123 ∷ inside)) refl
-    ∙ (run-some (AfterDollar ps w) (AfterBrace ps w) 123 (123 ∷ inside) refl
-    ∙ (run-some (AfterBrace ps w) (OperandDue qs []) 123 inside refl
+    ∙ (opening-read ps w inside
     ∙ (spaces-read (OperandDue qs []) h.before (h.inner ++ (h.more ++ close)) refl h.spaces_before
     ∙ (operand-read qs [] h.inner (h.more ++ close) o h.is_operand (more-stop h.more close os h.are_more stop)
     ∙ (more-read qs (o ∷ []) h.more close os h.are_more stop
     ∙ (spaces-read (AfterOperand qs (o ∷ os)) h.after (125 ∷ (125 ∷ x)) refl h.spaces_after
     ∙ (run-some (AfterOperand qs (o ∷ os)) (AfterClose qs (o ∷ os)) 125 (125 ∷ x) refl
-    ∙ run-some (AfterClose qs (o ∷ os)) (InText (qs ++ Braced (o ∷ os) ∷ []) []) 125 x refl))))))))
+    ∙ run-some (AfterClose qs (o ∷ os)) (InText (qs ++ Braced (o ∷ os) ∷ []) []) 125 x refl))))))
 
 -- the end, or the `$` of a piece
-abbrev MayEndText : List ℕ → Type 0
+abbrev pub MayEndText : List ℕ → Type 0
 MayEndText [] = Unit {0}
 MayEndText (c ∷ cs) = c ≡ 36
 
@@ -311,7 +316,7 @@ no_opening-tail : (c : ℕ) (cs : List ℕ) → HoldsNoOpening (c ∷ cs) → Ho
 no_opening-tail c cs h before after e = h (c ∷ before) after (ap (λ t. c ∷ t) e)
 
 -- the text goes on from a word that holds what came before
-abbrev ReadsPlain : List ℕ → List ℕ → Type 0
+abbrev pub ReadsPlain : List ℕ → List ℕ → Type 0
 ReadsPlain cs x = (ps : List Piece) (w : List ℕ) → run (InText ps w) (cs ++ x) ≡ run (InText ps (w ++ encode_utf8_all cs)) x
 
 dollar-word : (w cs : List ℕ) (c : ℕ) → c ≡ 36 → (w ++ codes "$") ++ encode_utf8_all cs ≡ w ++ encode_utf8_all (c ∷ cs)
@@ -368,7 +373,7 @@ plain-two c d cs x true true e f h end more rest =
 plain-none : (x : List ℕ) → ReadsPlain [] x
 plain-none x ps w = ap (λ v. run (InText ps v) x) (sym (append-nil w))
 
-plain-read : (cs x : List ℕ) → HoldsNoOpening cs → MayEndText x → ReadsPlain cs x
+pub plain-read : (cs x : List ℕ) → HoldsNoOpening cs → MayEndText x → ReadsPlain cs x
 plain-read [] x h end = plain-none x
 plain-read (c ∷ []) x h end = plain-one c x (eqb c 36) refl end (plain-none x)
 plain-read (c ∷ d ∷ cs) x h end =

@@ -1,6 +1,7 @@
 pub mod ComparisonLemmas
 pub mod Complete
 pub mod NameLemmas
+pub mod OpeningLemmas
 pub mod OutcomeLemmas
 pub mod ProfileLemmas
 pub mod PropertyLemmas

@@ -1,8 +1,9 @@
 ghost use Rattle.std.specs.Prelude.{◌≡◌, ◌++◌, [], ◌∷◌, if◌then◌else◌};
 ghost use Rattle.std.specs.Char.{encode_utf8};
+ghost use Rattle.std.specs.Str.{chars};
 ghost use Rattle.wf_value.specs.Gives.{Gives};
 ghost use Rattle.wf_expr.specs.Letters.{begins_name};
-ghost use Rattle.wf_expr.specs.Reading.{needed, taken, ended, plain_piece, in_text, after_name, after_operand, pieces_of};
+ghost use Rattle.wf_expr.specs.Reading.{needed, taken, ended, plain_piece, in_text, after_name, after_operand, run, pieces_of};
 
 use crate::letters::{begins_name, continues_name};
 use crate::piece::{Operand, Piece};
@@ -51,11 +52,14 @@ fn with_text(word: Chars, more: &str) -> Result<Chars, Refusal>
     Ok(Chars::new(text))
 }
 
-/// The list with one more at its end.
+/// The list with one more at its end. A list of one takes memory for one alone.
 fn with<T: Drop>(list: Sequence<T>, item: T) -> Result<Sequence<T>, Refusal>
     ensures { Gives (λ l. l) result (Ok (list ++ item ∷ [])) }
 {
     let mut items = list.into_vec();
+    if items.is_empty() {
+        items.reserve_exact(1)?;
+    }
     items.push(item)?;
     Ok(Sequence::new(items))
 }
@@ -305,13 +309,34 @@ fn after_close(
     }
 }
 
-/// The pieces of a text; 17 where no template is spelled so.
-pub(crate) fn read(alloc: Global, text: &str) -> Result<Sequence<Piece>, Refusal>
-    ensures { Gives (λ t. t) result (needed (pieces_of text.now)) }
+/// The template of text as it stands: one piece if there is some.
+fn plain(alloc: Global, text: &str) -> Result<Sequence<Piece>, Refusal>
+    ensures { Gives (λ t. t) result (Ok (plain_piece text.now)) }
 {
-    let mut reader = Reader::new(alloc);
-    for c in text.chars() {
+    with_plain(none(alloc), Chars::from_str(alloc, text)?)
+}
+
+/// What a reader makes of the rest of the text; 17 where no template goes on so.
+fn read_on(alloc: Global, start: Reader, rest: &str) -> Result<Sequence<Piece>, Refusal>
+    ensures { Gives (λ t. t) result (needed (run start (chars rest.now))) }
+{
+    let mut reader = start;
+    for c in rest.chars() {
         reader = reader.take(alloc, c)?;
     }
     reader.end()
+}
+
+/// The pieces of a text; 17 where no template is spelled so. The text before the first `${{` is copied
+/// whole.
+pub(crate) fn read(alloc: Global, text: &str) -> Result<Sequence<Piece>, Refusal>
+    ensures { Gives (λ t. t) result (needed (pieces_of text.now)) }
+{
+    match text.split_once("${{") {
+        None => plain(alloc, text),
+        Some((front, rest)) => {
+            let pieces = plain(alloc, front)?;
+            read_on(alloc, Reader::OperandDue(pieces, none(alloc)), rest)
+        }
+    }
 }

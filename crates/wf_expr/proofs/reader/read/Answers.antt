@@ -1,29 +1,17 @@
-use Rattle.std.proofs.lemmas.Iterator.{YieldsList-from_chars}
-use Rattle.std.proofs.lemmas.Iterator.Consumers.{YieldsList-turn, YieldsList-end}
-use Rattle.wf_value.proofs.PassedOn.{passed_on}
-use Rattle.wf_expr.proofs.RunLemmas.{run-ok, run-err, run-end}
+use Rattle.std.proofs.Common.{◌≡◌, ap₂, sym, ◌∙◌}
+use Rattle.std.specs.Prelude.{Some, None}
+use Rattle.std.specs.Str.{chars}
+use Rattle.wf_expr.specs.Reading.{run, plain_piece}
+use Rattle.wf_expr.specs.declared.reader.Reader.TheVariants.{OperandDue}
+use Rattle.wf_expr.proofs.OpeningLemmas.{split-pieces}
 use Rattle.wf_expr.proofs.reader.read.Goals as goal
 
-pub loop-c-init : goal.loop-c-init
-loop-c-init c = rw c.new-reader.ensures
+pub returns-in-None : goal.returns-in-None
+returns-in-None c = rw (split-pieces c.args.text.now None c.utf8.text c.in-None.ensures.cases) c.plain.ensures
 
-pub loop-c-preserved : goal.loop-c-preserved
-loop-c-preserved c =
-    let t = YieldsList-turn
-    (YieldsList-from_chars c.args.text.now c.utf8.text cc) c.loop-c.yielded _ c.loop-c.yielded_by _ _ c.in-Some.c c.in-Some.is
-    c.next.ensures.steps in
-    run-ok _ _ _ _ _ _ t c.loop-c.invariant c.in_ok-reader.ensures
-
-pub returns : goal.returns
-returns c =
-    let t = YieldsList-end
-    (YieldsList-from_chars c.args.text.now c.utf8.text cc) c.loop-c.yielded _ c.loop-c.yielded_by _ _ c.in-None.is c.next.ensures.steps
-    in
-    rw (← run-end _ _ _ _ t.1 c.loop-c.invariant) c.end.ensures
-
-pub returns-in_err-reader : goal.returns-in_err-reader
-returns-in_err-reader c =
-    let t = YieldsList-turn
-    (YieldsList-from_chars c.args.text.now c.utf8.text cc) c.loop-c.yielded _ c.loop-c.yielded_by _ _ c.in-Some.c c.in-Some.is
-    c.next.ensures.steps in
-    passed_on _ _ _ _ c.in_err-reader.field-0.0 c.from_residual.ensures.1 c.in_err-reader.ensures (run-err _ _ _ _ _ _ t c.loop-c.invariant)
+pub returns-in_ok-pieces-in-Some : goal.returns-in_ok-pieces-in-Some
+returns-in_ok-pieces-in-Some c =
+    let ok = c.in_ok-pieces-in-Some.ensures in
+    let front : plain_piece c.in-Some.front.now ≡ c.in_ok-pieces-in-Some.pieces = cc in
+    rw (split-pieces c.args.text.now (Some (c.in-Some.front, c.in-Some.rest)) c.utf8.text c.in-Some.ensures.cases
+    ∙ ap₂ (λ ps os. run (OperandDue ps os) (chars c.in-Some.rest.now)) front (sym c.none.ensures)) c.read_on.ensures
