@@ -1,5 +1,6 @@
 -- The context of a leg worked through by computation, on a job of two legs.
 use Rattle.std.specs.Prelude.{◌≡◌, ℕ, List, [], ◌∷◌, codes, Some, None, false, pos, refl}
+use Rattle.wf_value.specs.declared.condition.Condition.TheVariants as condition
 use Rattle.wf_value.specs.declared.scalar.Scalar.TheVariants.{Truth, Whole, Text}
 use Rattle.wf_reader.specs.declared.flag.Flag.TheVariants.{Fixed}
 use Rattle.run_plan.specs.Admitted.{Admitted}
@@ -14,6 +15,8 @@ abbrev job : PlannedJob
 job = record {
   id = codes "m";
   labels = [];
+  needs = [];
+  condition = condition.Success;
   continue_on_error = Fixed false;
   fail_fast = false;
   max_parallel = None;
