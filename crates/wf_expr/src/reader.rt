@@ -84,12 +84,6 @@ fn fault<T>() -> Result<T, Refusal>
 }
 
 impl Reader {
-    pub(crate) fn new(alloc: Global) -> Reader
-        ensures { result ≡ Reader.InText [] [] }
-    {
-        Reader::InText(none(alloc), empty(alloc))
-    }
-
     /// Takes one more character; 17 where no template goes on so.
     pub(crate) fn take(self, alloc: Global, c: char) -> Result<Reader, Refusal>
         ensures { Gives (λ r. r) result (needed (taken self c)) }
