@@ -15,6 +15,7 @@ pub fn text_of_combo(alloc: Global, combo: &Combo) -> Result<Chars, Refusal>
     Ok(Chars::new(printed(alloc, combo)?))
 }
 
+/// The text, which the writer keeps as UTF-8.
 fn printed(alloc: Global, combo: &Combo) -> Result<String, AllocError>
     ensures { IfOk result (λ s. string_bytes s ≡ combo_text combo.now) }
 {
@@ -28,6 +29,7 @@ fn printed(alloc: Global, combo: &Combo) -> Result<String, AllocError>
     Ok(String::from_utf8(writer.into_inner()).unwrap())
 }
 
+/// Writes a value behind what the writer has.
 fn write_scalar(writer: &mut Writer, scalar: &Scalar) -> Result<(), AllocError>
     ensures tokens { OnOk result (writer.new.tokens
         ≡ writer.old.tokens ++ json_tokens (outline (scalar_json scalar.now))) }
