@@ -1,7 +1,7 @@
 pub mod AsciiForms
+pub mod ComboTokens
 pub mod Faultless
 pub mod Jobs
-pub mod Members
 pub mod NeedsOfPlans
 pub mod Numbers
 pub mod Parts

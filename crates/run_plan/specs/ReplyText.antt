@@ -12,7 +12,7 @@ use Rattle.run_plan.specs.declared.reply.Lease.{Lease as Leased}
 use Rattle.run_plan.specs.declared.reply.Reply.{Reply}
 use Rattle.run_plan.specs.declared.reply.Reply.TheVariants as reply
 
--- a scalar as a JSON value
+-- a scalar as a JSON value: RFC 8259, section 3
 abbrev pub scalar_json : Scalar → Data
 scalar_json Null = null
 scalar_json (Truth b) = boolean b
@@ -23,7 +23,7 @@ abbrev pub pairs_json : List (List ℕ × Scalar) → Members
 pairs_json [] = no_members
 pairs_json (p ∷ ps) = member p.0 (scalar_json p.1) (pairs_json ps)
 
--- a combination as compact JSON, its members in the order of the names' bytes
+-- a combination as compact JSON, an object of RFC 8259, section 4, its members in the order of the names' bytes
 abbrev pub combo_text : List (List ℕ × Scalar) → List ℕ
 combo_text combo = compact_text (object (pairs_json combo))
 

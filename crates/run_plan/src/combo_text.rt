@@ -1,9 +1,10 @@
-ghost use Rattle.std.specs.Prelude.{◌≡◌, IfOk, Ok, string_bytes};
-ghost use Rattle.serde_json.specs.View.{view, members_view};
+ghost use Rattle.std.specs.Prelude.{◌≡◌, ◌++◌, IfOk, Ok, OnOk, string_bytes};
+ghost use Rattle.json.specs.Tree.{json_tokens};
+ghost use Rattle.serde_json.specs.Written.{outline};
 ghost use Rattle.wf_value.specs.Gives.{Gives};
-ghost use Rattle.run_plan.specs.ReplyText.{combo_text, pairs_json, scalar_json};
+ghost use Rattle.run_plan.specs.ReplyText.{combo_text, scalar_json};
 
-use serde_json::{Map, Value};
+use json::Writer;
 use std::alloc::{AllocError, Global};
 use wf_value::{Chars, Combo, Refusal, Scalar};
 
@@ -11,30 +12,33 @@ use wf_value::{Chars, Combo, Refusal, Scalar};
 pub fn text_of_combo(alloc: Global, combo: &Combo) -> Result<Chars, Refusal>
     ensures { Gives (λ t. t) result (Ok (combo_text combo.now)) }
 {
-    let object = Value::Object(members_of(alloc, combo)?);
-    Ok(Chars::new(object.to_string(alloc)?))
+    Ok(Chars::new(printed(alloc, combo)?))
 }
 
-fn members_of(alloc: Global, combo: &Combo) -> Result<Map<String, Value>, AllocError>
-    ensures { IfOk result (λ m. members_view m.entries ≡ pairs_json combo.now) }
+/// The text, which the writer keeps as UTF-8.
+fn printed(alloc: Global, combo: &Combo) -> Result<String, AllocError>
+    ensures { IfOk result (λ s. string_bytes s ≡ combo_text combo.now) }
 {
-    let mut members = Map::new(alloc);
+    let mut writer = Writer::new(Vec::new(alloc));
+    writer.begin_object()?;
     for (name, scalar) in combo.as_slice() {
-        members.insert(
-            String::from_str(alloc, name.as_str())?,
-            value_of(alloc, scalar)?,
-        )?;
+        writer.key(name.as_str())?;
+        write_scalar(&mut writer, scalar)?;
     }
-    Ok(members)
+    writer.end_object()?;
+    Ok(String::from_utf8(writer.into_inner()).unwrap())
 }
 
-fn value_of(alloc: Global, scalar: &Scalar) -> Result<Value, AllocError>
-    ensures { IfOk result (λ v. view v ≡ scalar_json scalar.now) }
+/// Writes a value behind what the writer has.
+fn write_scalar(writer: &mut Writer, scalar: &Scalar) -> Result<(), AllocError>
+    ensures tokens { OnOk result (writer.new.tokens
+        ≡ writer.old.tokens ++ json_tokens (outline (scalar_json scalar.now))) }
+    ensures before { writer.new.before ≡ writer.old.before }
 {
     match scalar {
-        Scalar::Null => Ok(Value::Null),
-        Scalar::Truth(truth) => Ok(Value::Bool(*truth)),
-        Scalar::Whole(whole) => Ok(Value::from(*whole)),
-        Scalar::Text(text) => Ok(Value::String(String::from_str(alloc, text.as_str())?)),
+        Scalar::Null => writer.null(),
+        Scalar::Truth(truth) => writer.boolean(*truth),
+        Scalar::Whole(whole) => writer.i64(*whole),
+        Scalar::Text(text) => writer.string(text.as_str()),
     }
 }
