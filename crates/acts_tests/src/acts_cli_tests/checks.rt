@@ -196,8 +196,8 @@ const NEIGHBOURS: [(&str, u64); 10] = [
     ("{\"jobs\":{\"a\":{\"runs-on\":5,\"uses\":1}}}", 16),
     ("{\"jobs\":{\"a\":{\"needs\":\"b\"}}}", 15),
     (
-        "{\"jobs\":{\"a\":{\"continue-on-error\":5,\"if\":true,\"runs-on\":\"x\"}}}",
-        16,
+        "{\"jobs\":{\"a\":{\"continue-on-error\":5,\"if\":5,\"runs-on\":\"x\"}}}",
+        26,
     ),
     (
         "{\"jobs\":{\"a\":{\"concurrency\":\"g\",\"continue-on-error\":5,\"runs-on\":\"x\"}}}",

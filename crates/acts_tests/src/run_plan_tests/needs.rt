@@ -1,19 +1,26 @@
 //! What a workflow's jobs need, as it is planned.
 
-use crate::run_plan_tests::{expect_done, expect_memory};
+use crate::run_plan_tests::expect_twice;
 use run_plan::plan;
 use std::alloc::Global;
 use std::process::Abort;
 use wf_reader::read_workflow;
 use wf_value::{Condition, Refusal};
 
+/// What a refusal prints. Want of memory is handed on.
+fn printed(alloc: Global, refusal: Refusal) -> Result<String, Refusal> {
+    if refusal.number() == 50 {
+        return Err(refusal);
+    }
+    Ok(refusal.text(alloc)?.into_string())
+}
+
 /// What is printed of a refused plan, and nothing of one that is made.
 fn refused(alloc: Global, workflow: &str) -> Result<String, Refusal> {
     let workflow = read_workflow(alloc, workflow.as_bytes())?;
     match plan(alloc, workflow) {
         Ok(_) => Ok(String::new(alloc)),
-        Err(refusal) if refusal.number() == 50 => Err(refusal),
-        Err(refusal) => Ok(refusal.text(alloc)?.into_string()),
+        Err(refusal) => printed(alloc, refusal),
     }
 }
 
@@ -80,8 +87,7 @@ fn refuses(rt: &impl Abort, alloc: Global) -> Result<(), Refusal> {
 
 #[test]
 fn refuses_ids_of_no_job_and_cycles(rt: HostRuntime) {
-    expect_memory(&rt, &refuses(&rt, rt.alloc()));
-    expect_done(&rt, &refuses(&rt, rt.alloc()));
+    expect_twice(&rt, refuses(&rt, rt.alloc()), refuses(&rt, rt.alloc()));
 }
 
 /// A diamond: `b` and `c` need `a`, and `d` needs both.
@@ -113,6 +119,5 @@ fn plans(rt: &impl Abort, alloc: Global) -> Result<(), Refusal> {
 
 #[test]
 fn plans_what_jobs_need(rt: HostRuntime) {
-    expect_memory(&rt, &plans(&rt, rt.alloc()));
-    expect_done(&rt, &plans(&rt, rt.alloc()));
+    expect_twice(&rt, plans(&rt, rt.alloc()), plans(&rt, rt.alloc()));
 }
