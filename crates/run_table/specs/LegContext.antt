@@ -1,11 +1,13 @@
 -- The context of a leg: the values of the paths that a template in its job may use. GitHub Docs, "Contexts reference":
--- github context, inputs context, vars context, strategy context, matrix context. That a run goes by the service's own
--- repository, event and numbers, whatever its sender says, is own.
-use Rattle.std.specs.Prelude.{ℕ, ◌+◌, pos, List, [], ◌∷◌, length, find, codes, Option, None, option_map, option_and_then, slice_get}
-use Rattle.std.specs.Prelude.{unwrap_or}
+-- github context, inputs context, vars context, needs context, strategy context, matrix context. That a run goes by the
+-- service's own repository, event and numbers, whatever its sender says, is own.
+use Rattle.std.specs.Prelude.{ℕ, ◌+◌, ◌&&◌, pos, List, [], ◌∷◌, length, find, codes, Option, None, option_map, option_and_then, slice_get}
+use Rattle.std.specs.Prelude.{unwrap_or, if◌then◌else◌}
 use Rattle.std.specs.Fmt.{decimal}
 use Rattle.std.specs.Option.{option_map_or}
 use Rattle.std.specs.Str.{bytes_eq}
+use Rattle.wf_value.specs.Words.{result_word}
+use Rattle.wf_value.specs.declared.outcome.JobResult.{JobResult}
 use Rattle.wf_value.specs.declared.scalar.Scalar.{Scalar}
 use Rattle.wf_value.specs.declared.scalar.Scalar.TheVariants.{Truth, Whole, Text}
 use Rattle.wf_expr.specs.ContextValue.{Values, over}
@@ -14,18 +16,20 @@ use Rattle.wf_reader.specs.Event.{event_of}
 use Rattle.run_plan.specs.Admitted.{Admitted}
 use Rattle.run_plan.specs.PlanOf.{plan_of}
 use Rattle.run_plan.specs.declared.planned.PlannedJob.{PlannedJob}
-use Rattle.run_table.specs.Places.{LegPlace}
+use Rattle.run_table.specs.JobResults.{direct_needs}
+use Rattle.run_table.specs.Places.{LegPlace, run_at}
 use Rattle.run_table.specs.RunNumber.{events, run_number}
 use Rattle.run_table.specs.TableState.{RunState}
 
--- what is told of a leg: the event of its run, the id and the number of the run in decimal, the job as it is planned,
--- and the leg's number in it
+-- what is told of a leg: the event of its run, the id and the number of the run in decimal, the job as it is planned, the
+-- leg's number in it, and the jobs that the job needs directly, each by its id with the result that it has so far
 pub record LegFacts : Type 0 where
   pub event : Admitted
   pub run_id : List ℕ
   pub run_number : List ℕ
   pub job : PlannedJob
   pub leg : ℕ
+  pub needs : List (List ℕ × Option JobResult)
 
 -- ---- what the service says
 
@@ -66,12 +70,24 @@ contexts_of leg = (codes "github", github_of leg) ∷ (codes "strategy", strateg
 abbrev pub under : {X : Type 0} → List ℕ → List (List ℕ × X) → Option X
 under name pairs = option_map (λ p. p.1) (find (λ p. bytes_eq p.0 name) pairs)
 
--- the service's value of a path: that of a member of one of its contexts
+-- the result of a job that the leg's job needs directly
+abbrev pub result_of_need : LegFacts → List ℕ → Option JobResult
+result_of_need leg id = option_and_then (λ result. result) (under id leg.needs)
+
+-- `needs`, whose members are jobs, each with its `result`
+abbrev pub inner_value : LegFacts → List ℕ → List ℕ → List ℕ → Option Scalar
+inner_value leg context id name =
+    if bytes_eq context (codes "needs") && bytes_eq name (codes "result")
+    then option_map (λ result. Text (result_word result)) (result_of_need leg id)
+    else None
+
+-- the service's value of a path: that of a member of one of its contexts, or of a member's member
 abbrev pub service_value : LegFacts → Values
 service_value leg [] = None
 service_value leg (context ∷ []) = None
 service_value leg (context ∷ name ∷ []) = option_and_then (under name) (under context (contexts_of leg))
-service_value leg (context ∷ name ∷ inner ∷ names) = None
+service_value leg (context ∷ id ∷ name ∷ []) = inner_value leg context id name
+service_value leg (context ∷ id ∷ name ∷ inner ∷ names) = None
 
 -- ---- the context
 
@@ -80,16 +96,17 @@ service_value leg (context ∷ name ∷ inner ∷ names) = None
 abbrev pub context_of : LegFacts → Values
 context_of leg = over (service_value leg) (sent_value (event_of leg.event.body).contexts)
 
--- what is told of the leg at a place, where the events of the runs plan one
-unfoldable pub facts_at : List Admitted → LegPlace → Option LegFacts
-facts_at all p =
-    option_and_then (λ event. option_map (λ job. record {
-      event = event;
+-- what is told of the leg at a place, where the plan of its run has one
+unfoldable pub facts_at : List RunState → LegPlace → Option LegFacts
+facts_at runs p =
+    option_and_then (λ run. option_map (λ job. record {
+      event = run.admitted;
       run_id = decimal (p.run + 1);
-      run_number = decimal (run_number all p.run event);
+      run_number = decimal (run_number (events runs) p.run run.admitted);
       job = job;
       leg = p.leg;
-    }) (slice_get (plan_of event.body) p.job)) (slice_get all p.run)
+      needs = direct_needs run p.job;
+    }) (slice_get (plan_of run.admitted.body) p.job)) (run_at runs p.run)
 
 -- no path has a value
 abbrev pub nothing : Values
@@ -97,4 +114,4 @@ nothing path = None
 
 -- the context of the leg at a place of a table
 unfoldable pub context_at : List RunState → LegPlace → Values
-context_at runs p = option_map_or context_of (facts_at (events runs) p) nothing
+context_at runs p = option_map_or context_of (facts_at runs p) nothing

@@ -1,9 +1,14 @@
 ghost use Rattle.std.specs.Prelude.{◌≡◌, option_and_then, option_map};
 ghost use Rattle.std.specs.Option.{option_copied};
+ghost use Rattle.wf_value.specs.Words.{result_word};
+ghost use Rattle.wf_value.specs.declared.scalar.Scalar.TheVariants.{Text};
 ghost use Rattle.wf_expr.specs.ScalarView.{shown};
 ghost use Rattle.wf_reader.specs.Event.{event_of};
-ghost use Rattle.run_table.specs.LegContext.{contexts_of, github_of, matrix_of, name_or_path, service_value, strategy_of, under};
+ghost use Rattle.run_table.specs.LegContext.{contexts_of, github_of, inner_value, matrix_of, name_or_path, service_value, strategy_of};
+ghost use Rattle.run_table.specs.LegContext.{result_of_need, under};
 
+use crate::direct_needs::result_of_need;
+use crate::run::Run;
 use run_plan::{PlannedJob, Prepared};
 use std::marker::Model;
 use wf_expr::{Context, ScalarView};
@@ -13,24 +18,33 @@ use wf_value::{Chars, Scalar};
 /// "Contexts reference".
 #[derive(Drop)]
 pub(crate) struct LegContext<'a> {
-    pub event: &'a Prepared,
+    pub run: &'a Run,
     /// The run's id, in decimal.
     pub run_id: &'a str,
     /// The run's number among those of its workflow, in decimal.
     pub run_number: &'a str,
     pub job: &'a PlannedJob,
+    /// The job's place in its run.
+    pub place: usize,
     /// The leg's number in its job, from 0.
     pub leg: usize,
 }
 
 impl<'a> Model for LegContext<'a> {
     ghost use Rattle.std.specs.Prelude.{◌<◌, ◌^◌};
+    ghost use Rattle.run_table.specs.JobResults.{direct_needs};
     ghost use Rattle.run_table.specs.LegContext.{LegFacts};
 
     ghost Value = { LegFacts };
 
-    ghost view = { λ c. record
-        { event = c.event.now; run_id = c.run_id.now; run_number = c.run_number.now; job = c.job.now; leg = c.leg } };
+    ghost view = { λ c. record {
+      event = c.run.now.admitted;
+      run_id = c.run_id.now;
+      run_number = c.run_number.now;
+      job = c.job.now;
+      leg = c.leg;
+      needs = direct_needs c.run.now c.place;
+    } };
 
     ghost invariant = { λ c. c.leg < 2 ^ 63 };
 }
@@ -43,18 +57,25 @@ impl<'a> Context for LegContext<'a> {
     fn value_of(&self, path: &[Chars]) -> Option<ScalarView<'_>> {
         match self.service_value(path) {
             Some(value) => Some(value),
-            None => self.event.contexts().value_of(path),
+            None => self.event().contexts().value_of(path),
         }
     }
 }
 
 impl<'a> LegContext<'a> {
-    /// The service's value of a path: that of a member of one of its contexts.
+    fn event(&self) -> &Prepared
+        ensures { result.now ≡ self.now.event }
+    {
+        self.run.prepared()
+    }
+
+    /// The service's value of a path: that of a member of one of its contexts, or of a member's member.
     fn service_value(&self, path: &[Chars]) -> Option<ScalarView<'_>>
         ensures { option_map shown result ≡ service_value self.now path.now }
     {
         match path {
             [context, name] => self.member(context.as_str(), name.as_str()),
+            [context, id, name] => self.inner(context.as_str(), id.as_str(), name.as_str()),
             _ => None,
         }
     }
@@ -70,13 +91,34 @@ impl<'a> LegContext<'a> {
         }
     }
 
+    /// A member of a member of a context: a result of `needs`.
+    fn inner(&self, context: &str, id: &str, name: &str) -> Option<ScalarView<'_>>
+        ensures { option_map shown result ≡ inner_value self.now context.now id.now name.now }
+    {
+        if context == "needs" && name == "result" {
+            self.result_of_need(id)
+        } else {
+            None
+        }
+    }
+
+    /// The word of the result of a job that the leg's job needs directly.
+    fn result_of_need(&self, id: &str) -> Option<ScalarView<'_>>
+        ensures { option_map shown result ≡ option_map (λ r. Text (result_word r)) (result_of_need self.now id.now) }
+    {
+        match result_of_need(self.run, self.place, id) {
+            Some(result) => Some(ScalarView::Text(result.word())),
+            None => None,
+        }
+    }
+
     fn github(&self, name: &str) -> Option<ScalarView<'_>>
         ensures { option_map shown result ≡ under name.now (github_of self.now) }
     {
         match name {
             "workflow" => Some(ScalarView::Text(self.workflow_name())),
-            "repository" => Some(ScalarView::Text(self.event.repo().as_str())),
-            "event_name" => Some(ScalarView::Text(self.event.event().as_str())),
+            "repository" => Some(ScalarView::Text(self.event().repo().as_str())),
+            "event_name" => Some(ScalarView::Text(self.event().event().as_str())),
             "run_id" => Some(ScalarView::Text(self.run_id)),
             "run_number" => Some(ScalarView::Text(self.run_number)),
             "run_attempt" => Some(ScalarView::Text("1")),
@@ -88,9 +130,9 @@ impl<'a> LegContext<'a> {
     fn workflow_name(&self) -> &str
         ensures { let event = event_of self.now.event.body in result.now ≡ name_or_path event.workflow.name event.path }
     {
-        let name = self.event.workflow_name().as_str();
+        let name = self.event().workflow_name().as_str();
         if name.is_empty() {
-            self.event.path().as_str()
+            self.event().path().as_str()
         } else {
             name
         }

@@ -8,8 +8,9 @@ ghost use Rattle.run_table.specs.LegContext.{context_of};
 ghost use Rattle.run_table.specs.Words.{is_set, label_texts};
 
 use crate::leg_context::LegContext;
+use crate::run::Run;
 use itoa::Buffer;
-use run_plan::{Label, PlannedJob, Prepared};
+use run_plan::{Label, PlannedJob};
 use std::marker::Model;
 use wf_expr::Template;
 use wf_reader::Flag;
@@ -17,11 +18,13 @@ use wf_reader::Flag;
 /// A leg as it is planned, with what its context tells of its run.
 #[derive(Drop)]
 pub(crate) struct LegView<'a> {
-    pub event: &'a Prepared,
+    pub run: &'a Run,
     pub run_id: usize,
     /// Counts the runs of the workflow up to the leg's.
     pub run_number: usize,
     pub job: &'a PlannedJob,
+    /// The job's place in its run.
+    pub place: usize,
     /// The leg's number in its job, from 0.
     pub leg: usize,
 }
@@ -29,30 +32,60 @@ pub(crate) struct LegView<'a> {
 impl<'a> Model for LegView<'a> {
     ghost use Rattle.std.specs.Fmt.{decimal};
     ghost use Rattle.std.specs.Prelude.{◌<◌, ◌^◌};
+    ghost use Rattle.run_table.specs.JobResults.{direct_needs};
     ghost use Rattle.run_table.specs.LegContext.{LegFacts};
 
     ghost Value = { LegFacts };
 
-    ghost view = { λ v. record
-        { event = v.event.now; run_id = decimal v.run_id; run_number = decimal v.run_number; job = v.job.now; leg = v.leg } };
+    ghost view = { λ v. record {
+      event = v.run.now.admitted;
+      run_id = decimal v.run_id;
+      run_number = decimal v.run_number;
+      job = v.job.now;
+      leg = v.leg;
+      needs = direct_needs v.run.now v.place;
+    } };
 
     ghost invariant = { λ v. v.leg < 2 ^ 63 };
 }
 
+/// Room for the digits of a run's id and number.
+#[derive(Drop)]
+struct Digits {
+    run_id: Buffer,
+    run_number: Buffer,
+}
+
+impl Digits {
+    fn new() -> Self {
+        Digits {
+            run_id: Buffer::new(),
+            run_number: Buffer::new(),
+        }
+    }
+}
+
 impl<'a> LegView<'a> {
+    /// The leg's context, in which the run's id and number stand as these digits.
+    fn context<'d>(&'d self, digits: &'d mut Digits) -> LegContext<'d>
+        ensures { result ≡ self.now }
+    {
+        LegContext {
+            run: self.run,
+            run_id: digits.run_id.format(self.run_id),
+            run_number: digits.run_number.format(self.run_number),
+            job: self.job,
+            place: self.place,
+            leg: self.leg,
+        }
+    }
+
     /// Whether the leg asks for no label that these lack. It takes no memory.
     pub(crate) fn is_served(&self, labels: &[Label]) -> bool
         ensures { result ≡ has_labels labels.now (label_texts (context_of self.now) self.now.job.labels) }
     {
-        let mut run_id = Buffer::new();
-        let mut run_number = Buffer::new();
-        let context = LegContext {
-            event: self.event,
-            run_id: run_id.format(self.run_id),
-            run_number: run_number.format(self.run_number),
-            job: self.job,
-            leg: self.leg,
-        };
+        let mut digits = Digits::new();
+        let context = self.context(&mut digits);
         has_labels(labels, self.job.labels.as_slice(), &context)
     }
 
@@ -60,15 +93,8 @@ impl<'a> LegView<'a> {
     pub(crate) fn passes_over(&self) -> bool
         ensures { result ≡ is_set (context_of self.now) self.now.job.continue_on_error }
     {
-        let mut run_id = Buffer::new();
-        let mut run_number = Buffer::new();
-        let context = LegContext {
-            event: self.event,
-            run_id: run_id.format(self.run_id),
-            run_number: run_number.format(self.run_number),
-            job: self.job,
-            leg: self.leg,
-        };
+        let mut digits = Digits::new();
+        let context = self.context(&mut digits);
         is_set(&self.job.continue_on_error, &context)
     }
 }

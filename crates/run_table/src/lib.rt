@@ -2,6 +2,7 @@
 #![tactic(auto)]
 
 mod content;
+mod direct_needs;
 mod first_place;
 mod fit;
 mod job;

@@ -114,17 +114,17 @@ impl Runs {
     #[tactic(auto, unfolding(crate::specs::LegContext::facts_at))]
     fn leg_view(&self, place: LegPlace) -> Option<LegView<'_>>
         requires leg { place.leg < 2 ^ 63 }
-        ensures { result ≡ facts_at (events self.now) place }
+        ensures { result ≡ facts_at self.now place }
     {
         let run = self.runs.get(place.run)?;
         let run_number = self.number(place.run)?;
-        let event = run.prepared();
-        let job = event.plan().as_slice().get(place.job)?;
+        let job = run.prepared().plan().as_slice().get(place.job)?;
         Some(LegView {
-            event,
+            run,
             run_id: place.run + 1,
             run_number,
             job,
+            place: place.job,
             leg: place.leg,
         })
     }
