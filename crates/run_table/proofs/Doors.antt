@@ -12,7 +12,8 @@ use Rattle.run_plan.specs.PlanOf.{plan_of}
 use Rattle.run_plan.specs.declared.planned.PlannedJob.{PlannedJob}
 use Rattle.run_table.specs.Cells.{JobCells, cells_of, in_state, states, rooms, legs_planned, blocked_cells, result_of}
 use Rattle.run_table.specs.FirstOf.{changed_at}
-use Rattle.run_table.specs.Rules.{opened, settled_result}
+use Rattle.run_table.specs.Rules.{opened}
+use Rattle.run_table.specs.Words.{settled_result}
 use Rattle.run_table.specs.Settling.{legs_in_plan}
 use Rattle.run_table.specs.Step.{blocked_job}
 use Rattle.run_table.specs.TableState.{LegState, JobState, RunState}

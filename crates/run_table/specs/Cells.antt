@@ -2,7 +2,7 @@
 use Rattle.std.specs.Prelude.{ℕ, List, [], length, map, Bool, Option, if◌then◌else◌}
 use Rattle.wf_value.specs.declared.outcome.JobResult.{JobResult}
 use Rattle.run_plan.specs.declared.planned.PlannedJob.{PlannedJob}
-use Rattle.run_table.specs.Rules.{settled_result}
+use Rattle.run_table.specs.Words.{settled_result}
 use Rattle.run_table.specs.TableState.{LegState, JobState}
 use Rattle.run_table.specs.declared.phases.JobPhase.{JobPhase}
 use Rattle.run_table.specs.declared.phases.JobPhase.TheVariants as job

@@ -14,6 +14,7 @@ use Rattle.run_table.specs.FirstOf.{placed}
 use Rattle.run_table.specs.Places.{LegPlace, run_at, job_at, leg_at, with_run, with_job, with_leg}
 use Rattle.run_table.specs.TableState.{LegState, JobState, RunState}
 use Rattle.run_table.specs.Words.{condition_of, ancestor_results, needs_have_settled, is_stopping, planned_legs, passes_over}
+use Rattle.run_table.specs.Words.{settled_result}
 use Rattle.run_table.specs.declared.place.Place.{Place}
 use Rattle.run_table.specs.declared.place.Place.TheVariants.{Opening, AtLeg, Closing, Whole}
 use Rattle.run_table.specs.declared.phases.LegPhase.{LegPhase}
@@ -123,11 +124,6 @@ abbrev pub result_at : List RunState → ℕ → ℕ → JobState → JobResult
 result_at runs r j job = gathered (leg_ends runs r j job)
 
 -- ---- a run goes on
-
-abbrev pub settled_result : JobPhase → Option JobResult
-settled_result job.Blocked = None
-settled_result job.Open = None
-settled_result (job.Settled r) = Some r
 
 abbrev pub is_settled : JobState → Bool
 is_settled j = is_some (settled_result j.phase)

@@ -71,7 +71,8 @@ impl LegPhase {
 }
 
 impl JobPhase {
-    ghost use Rattle.run_table.specs.Rules.{is_blocked, is_open, settled_result};
+    ghost use Rattle.run_table.specs.Rules.{is_blocked, is_open};
+    ghost use Rattle.run_table.specs.Words.{settled_result};
 
     pub(crate) fn is_blocked(self) -> bool
         ensures { result ≡ is_blocked self }
