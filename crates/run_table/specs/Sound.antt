@@ -12,7 +12,7 @@ use Rattle.run_table.specs.Rules.{has_ended, is_settled, result_at}
 use Rattle.run_table.specs.Settling.{first_place}
 use Rattle.run_table.specs.Step.{last_number}
 use Rattle.run_table.specs.TableState.{LegState, JobState, RunState, RunnerState, TableState}
-use Rattle.run_table.specs.Words.{planned_legs}
+use Rattle.run_table.specs.Words.{needs_have_settled, planned_legs}
 use Rattle.run_plan.specs.declared.last_command.LastCommand.{LastCommand}
 use Rattle.run_plan.specs.declared.last_command.LastCommand.TheVariants as last
 use Rattle.run_plan.specs.declared.last_command.ClaimReply.TheVariants as given
@@ -62,6 +62,10 @@ LegsFit planned gathered (job.Settled r) legs =
 
 abbrev pub JobsFit : List RunState → Type 0
 JobsFit runs = (r j : ℕ) (x : JobState) → job_at runs r j ≡ Some x → LegsFit (planned_legs runs r j) (result_at runs r j x) x.phase x.legs
+
+-- a job that has legs has all its needs settled
+abbrev pub NeedsComeFirst : List RunState → Type 0
+NeedsComeFirst runs = (r j : ℕ) (x : JobState) → job_at runs r j ≡ Some x → (x.legs ≡ [] → ⊥) → needs_have_settled runs r j ≡ true
 
 -- ---- leases of legs
 
@@ -155,6 +159,7 @@ pub record IsSound (t : TableState) : Type 0 where
   pub jobs_are_the_plans : JobsAreThePlans t.runs
   pub run_phases_fit : RunPhasesFit t.runs
   pub jobs_fit : JobsFit t.runs
+  pub needs_settled_first : NeedsComeFirst t.runs
   pub leases_fit : LeasesFit t.runs
   pub leases_are_given : LeasesAreGiven t.last_lease t.runs
   pub leases_differ : LeasesDiffer t.runs

@@ -1,10 +1,15 @@
 -- The first place with a rule, and the first leg that is sought, within one run: no plain rule looks beyond it, and
 -- of the others a leg's labels ask for the events alone.
-use Rattle.std.specs.Prelude.{ℕ, ◌&&◌, List, Bool, false, is_some, Option, Some, None, option_map}
+use Rattle.std.specs.Prelude.{ℕ, ◌&&◌, List, Bool, false, is_some, Option, Some, None, option_map, slice_get}
 use Rattle.std.specs.Prelude.{if◌then◌else◌}
 use Rattle.std.specs.List.{list_all, position}
 use Rattle.std.specs.Option.{option_or, option_map_or}
+use Rattle.needs_graph.specs.Ancestors.{needs_at}
+use Rattle.needs_graph.specs.Conditions.{condition_value, ancestor_results as results_of_ancestors}
 use Rattle.needs_graph.specs.Results.{fails_job}
+use Rattle.run_plan.specs.PlanOf.{plan_of}
+use Rattle.wf_value.specs.declared.condition.Condition.{Condition}
+use Rattle.wf_value.specs.declared.condition.Condition.TheVariants as condition
 use Rattle.run_table.specs.FirstOf.{placed, first_some}
 use Rattle.run_table.specs.Fitting.{is_ready, is_served, has_lease}
 use Rattle.run_table.specs.Places.{LegPlace}
@@ -12,6 +17,23 @@ use Rattle.run_table.specs.Rules.{is_live, is_blocked, is_done, is_settled, leg_
 use Rattle.run_table.specs.TableState.{LegState, JobState, RunState}
 use Rattle.run_table.specs.declared.place.Place.{Place}
 use Rattle.run_table.specs.declared.place.Place.TheVariants.{Opening, AtLeg, Closing, Whole}
+use Rattle.run_table.specs.JobResults.{needs_in, results_so_far}
+use Rattle.run_table.specs.Words.{all_have_results}
+
+-- ---- a job that is blocked
+
+-- whether the jobs that it needs directly have all settled
+abbrev pub needs_settled_in : RunState → ℕ → Bool
+needs_settled_in run j = all_have_results (results_so_far run.jobs) (needs_at (needs_in run) j)
+
+-- the condition that the run's plan gives it
+abbrev pub condition_in : RunState → ℕ → Condition
+condition_in run j = option_map_or (λ planned. planned.condition) (slice_get (plan_of run.admitted.body) j) condition.Never
+
+-- the value of that condition
+abbrev pub may_run_in : RunState → ℕ → Bool
+may_run_in run j =
+    condition_value (condition_in run j) (results_of_ancestors (needs_in run) (results_so_far run.jobs) j) run.stopping
 
 -- ---- the first place with a rule
 
@@ -25,22 +47,22 @@ next_leg l = option_map (λ next. leg_in_phase next l) (next_leg_phase l.phase)
 abbrev pub leg_place : ℕ → ℕ → ℕ → LegPlace
 leg_place r j l = record { run = r; job = j; leg = l }
 
--- of a job that is not blocked: its first leg with a rule, else where it settles
+-- of a job that does not open: its first leg with a rule, else where it settles
 abbrev pub first_of_open : ℕ → ℕ → JobState → Option Place
 first_of_open r j job =
     option_or (option_map (λ l. AtLeg (leg_place r j l)) (position goes_on job.legs)) (if is_done job then Some (Closing r j) else None)
 
-abbrev pub first_in_job : ℕ → ℕ → JobState → Option Place
-first_in_job r j job = if is_blocked job.phase then Some (Opening r j) else first_of_open r j job
+abbrev pub first_in_job : ℕ → RunState → ℕ → JobState → Option Place
+first_in_job r run j job = if is_blocked job.phase && needs_settled_in run j then Some (Opening r j) else first_of_open r j job
 
-abbrev pub first_in_jobs : ℕ → List JobState → Option Place
-first_in_jobs r jobs = first_some (λ j. first_in_job r j.0 j.1) (placed jobs)
+abbrev pub first_in_jobs : ℕ → RunState → Option Place
+first_in_jobs r run = first_some (λ j. first_in_job r run j.0 j.1) (placed run.jobs)
 
 abbrev pub first_of_whole : ℕ → RunState → Option Place
 first_of_whole r run = if is_some (next_run_phase run.phase (list_all is_settled run.jobs)) then Some (Whole r) else None
 
 abbrev pub first_in_run : ℕ → RunState → Option Place
-first_in_run r run = option_or (if is_live run.phase then first_in_jobs r run.jobs else None) (first_of_whole r run)
+first_in_run r run = option_or (if is_live run.phase then first_in_jobs r run else None) (first_of_whole r run)
 
 -- ---- the first leg that fits
 

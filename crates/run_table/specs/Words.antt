@@ -1,6 +1,7 @@
 -- What a table says of a run, of a job or of a leg beyond its state. GitHub Docs, "Workflow syntax for GitHub
 -- Actions": jobs.<job_id>.needs, jobs.<job_id>.if, jobs.<job_id>.runs-on, jobs.<job_id>.continue-on-error.
-use Rattle.std.specs.Prelude.{ℕ, List, [], length, map, Bool, true, false, Option, option_map, option_and_then, slice_get}
+use Rattle.std.specs.Prelude.{ℕ, List, [], length, map, Bool, true, false, is_some, Option, Some, None, option_map, option_and_then, slice_get}
+use Rattle.std.specs.List.{list_all, slice_index_or}
 use Rattle.std.specs.Option.{option_map_or}
 use Rattle.wf_value.specs.declared.condition.Condition.{Condition}
 use Rattle.wf_value.specs.declared.condition.Condition.TheVariants as condition
@@ -13,6 +14,9 @@ use Rattle.wf_expr.specs.TemplateValue.{template_value}
 use Rattle.wf_expr.specs.declared.piece.Piece.{Piece}
 use Rattle.wf_reader.specs.declared.flag.Flag.{Flag}
 use Rattle.wf_reader.specs.declared.flag.Flag.TheVariants as flag
+use Rattle.needs_graph.specs.Ancestors.{needs_at}
+use Rattle.needs_graph.specs.Conditions.{ancestor_results as results_of_ancestors}
+pub use Rattle.run_table.specs.JobResults.{job_results, needs_graph_at, needs_in, results_so_far, settled_result}
 use Rattle.run_table.specs.LegContext.{context_at}
 use Rattle.run_table.specs.Places.{LegPlace, run_at, plan_at}
 use Rattle.run_table.specs.TableState.{RunState}
@@ -25,17 +29,21 @@ is_stopping runs r = option_map_or (λ run. run.stopping) (run_at runs r) false
 
 -- ---- of a job
 
--- a job without `if` runs where all went well before it
+-- the condition that its plan gives it: one that is not planned never runs
 abbrev pub condition_of : List RunState → ℕ → ℕ → Condition
-condition_of runs r j = condition.Success
+condition_of runs r j = option_map_or (λ planned. planned.condition) (plan_at runs r j) condition.Never
 
--- the results of the ancestors of a job: a plain job needs no other
+-- the results of all jobs that the job needs, directly or through others
 abbrev pub ancestor_results : List RunState → ℕ → ℕ → List (Option JobResult)
-ancestor_results runs r j = []
+ancestor_results runs r j = results_of_ancestors (needs_graph_at runs r) (job_results runs r) j
 
--- whether all jobs that the job needs have settled: a plain job needs none
+-- whether the jobs at these places all have a result
+abbrev pub all_have_results : List (Option JobResult) → List ℕ → Bool
+all_have_results results places = list_all (λ place. is_some (slice_index_or results place None)) places
+
+-- whether all jobs that the job needs directly have settled
 abbrev pub needs_have_settled : List RunState → ℕ → ℕ → Bool
-needs_have_settled runs r j = true
+needs_have_settled runs r j = all_have_results (job_results runs r) (needs_at (needs_graph_at runs r) j)
 
 -- the id of the job
 abbrev pub job_id : List RunState → ℕ → ℕ → List ℕ

@@ -9,6 +9,7 @@ ghost use Rattle.run_table.specs.WithinRun.{first_in_job, first_in_jobs, first_i
 
 use crate::job::Job;
 use crate::leg::Leg;
+use crate::phases::RunPhase;
 use crate::place::{LegPlace, Place};
 use crate::run::Run;
 
@@ -18,7 +19,7 @@ fn leg_that_goes_on(legs: &[Leg]) -> Option<usize>
     legs.iter().position(|leg| leg.goes_on())
 }
 
-/// Of a job that is not blocked: its first leg with a rule, else where it settles.
+/// Of a job that does not open: its first leg with a rule, else where it settles.
 fn first_of_open(r: usize, j: usize, job: &Job) -> Option<Place>
     ensures { result ≡ first_of_open r j job.now.state }
 {
@@ -33,22 +34,23 @@ fn first_of_open(r: usize, j: usize, job: &Job) -> Option<Place>
     }
 }
 
-/// A job needs no other, so a blocked one may open.
-fn first_in_job(r: usize, j: usize, job: &Job) -> Option<Place>
-    ensures { result ≡ first_in_job r j job.now.state }
+/// A blocked job opens, or settles, where the jobs that it needs have settled.
+fn first_in_job(r: usize, run: &Run, j: usize, job: &Job) -> Option<Place>
+    ensures { result ≡ first_in_job r run.now j job.now.state }
 {
-    if job.phase().is_blocked() {
+    if job.phase().is_blocked() && run.needs_have_settled(j) {
         return Some(Place::Opening(r, j));
     }
     first_of_open(r, j, job)
 }
 
-fn first_in_jobs(r: usize, jobs: &[Job]) -> Option<Place>
-    ensures { result ≡ first_in_jobs r (states jobs.now) }
+fn first_in_jobs(r: usize, run: &Run) -> Option<Place>
+    ensures { result ≡ first_in_jobs r run.now }
 {
+    let jobs = run.jobs();
     for j in 0..jobs.len() {
         let job = &jobs[j];
-        let place = first_in_job(r, j, job);
+        let place = first_in_job(r, run, j, job);
         if place.is_some() {
             return place;
         }
@@ -68,12 +70,14 @@ pub(crate) fn has_settled_jobs(run: &Run) -> bool
     are_settled(run.jobs())
 }
 
+/// The jobs of an ended run are not looked at.
 fn first_of_whole(r: usize, run: &Run) -> Option<Place>
     ensures { result ≡ first_of_whole r run.now }
 {
-    match run.phase().next(has_settled_jobs(run)) {
-        Some(_) => Some(Place::Whole(r)),
-        None => None,
+    match run.phase() {
+        RunPhase::Waiting => Some(Place::Whole(r)),
+        RunPhase::Live if has_settled_jobs(run) => Some(Place::Whole(r)),
+        RunPhase::Live | RunPhase::Ended => None,
     }
 }
 
@@ -81,7 +85,7 @@ fn first_in_run(r: usize, run: &Run) -> Option<Place>
     ensures { result ≡ first_in_run r run.now }
 {
     if run.phase().is_live() {
-        let place = first_in_jobs(r, run.jobs());
+        let place = first_in_jobs(r, run);
         if place.is_some() {
             return place;
         }

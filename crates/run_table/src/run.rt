@@ -1,4 +1,5 @@
-ghost use Rattle.std.specs.Prelude.{◌≡◌, Ok, map, option_map, slice_get};
+ghost use Rattle.std.specs.Prelude.{◌≡◌, None, Ok, is_some, map, option_map, slice_get};
+ghost use Rattle.std.specs.List.{slice_index_or};
 ghost use Rattle.std.specs.Option.{option_map_or};
 ghost use Rattle.wf_value.specs.Gives.{Gives};
 ghost use Rattle.run_plan.specs.PlanOf.{plan_of};
@@ -6,6 +7,9 @@ ghost use Rattle.run_table.specs.FirstOf.{changed_at};
 ghost use Rattle.run_table.specs.Rules.{opened, settled_as, run_in_phase};
 ghost use Rattle.run_table.specs.Settling.{legs_in_plan};
 ghost use Rattle.run_table.specs.Step.{is_delivered_as, new_run};
+ghost use Rattle.run_table.specs.WithinRun.{may_run_in, needs_settled_in};
+ghost use Rattle.run_table.specs.JobResults.{results_so_far};
+ghost use Rattle.run_table.specs.Words.{all_have_results};
 
 use crate::job::Job;
 use crate::leg::Leg;
@@ -90,6 +94,27 @@ impl Run {
         self.jobs.get(j)
     }
 
+    /// Whether all jobs that the job at a place needs directly have settled.
+    pub(crate) fn needs_have_settled(&self, j: usize) -> bool
+        ensures { result ≡ needs_settled_in self.now j }
+    {
+        let graph = self.prepared.plan().graph();
+        j >= graph.job_count() || have_settled(self.jobs(), graph.needs(j))
+    }
+
+    /// Whether the condition of the job at a place holds, from the results of all jobs before it.
+    pub(crate) fn may_run(&self, j: usize) -> bool
+        ensures { result ≡ may_run_in self.now j }
+    {
+        let plan = self.prepared.plan();
+        match plan.as_slice().get(j) {
+            Some(job) => plan
+                .graph()
+                .decide(j, job.condition, self.jobs(), self.stopping),
+            None => false,
+        }
+    }
+
     // ---- the changes of a run
 
     pub(crate) fn set_phase(&mut self, phase: RunPhase)
@@ -156,4 +181,23 @@ fn blocked_jobs(alloc: Global, plan: &[PlannedJob]) -> Result<Vec<Job>, Refusal>
         jobs.push(Job::blocked(alloc, planned.legs.as_slice().len())?)?;
     }
     Ok(jobs)
+}
+
+ghost use Rattle.run_table.specs.Cells.{states};
+
+/// Whether the jobs at these places have all settled.
+fn have_settled(jobs: &[Job], places: &[usize]) -> bool
+    ensures { result ≡ all_have_results (results_so_far (states jobs.now)) places.now }
+{
+    places.iter().all(|place| is_settled_at(jobs, *place))
+}
+
+/// Whether the job at a place has settled.
+fn is_settled_at(jobs: &[Job], place: usize) -> bool
+    ensures { result ≡ is_some (slice_index_or (results_so_far (states jobs.now)) place None) }
+{
+    match jobs.get(place) {
+        Some(job) => job.is_settled(),
+        None => false,
+    }
 }

@@ -9,7 +9,7 @@ ghost use Rattle.run_table.specs.Fitting.{is_served};
 ghost use Rattle.run_table.specs.LegContext.{facts_at};
 ghost use Rattle.run_table.specs.Places.{job_at, leg_at, plan_at, run_at, with_job, with_leg, with_run};
 ghost use Rattle.run_table.specs.Rules.{closing_rule, decided, leg_end, leg_in_phase, leg_rule, opened, outcome_of, rule_at, run_in_phase};
-ghost use Rattle.run_table.specs.Rules.{settled_as, whole_rule};
+ghost use Rattle.run_table.specs.Rules.{may_run, settled_as, whole_rule};
 ghost use Rattle.run_table.specs.RunNumber.{events, run_number, same_workflow};
 ghost use Rattle.run_table.specs.Settling.{first_place, first_rule, settled};
 ghost use Rattle.run_table.specs.Step.{is_delivered_as, with_ended};
@@ -24,11 +24,10 @@ use crate::leg_view::LegView;
 use crate::phases::{LegPhase, RunPhase};
 use crate::place::{LegPlace, Place};
 use crate::run::Run;
-use needs_graph::decide;
 use run_plan::{DeliveryId, Label, Number, PlannedJob};
 use std::alloc::Global;
 use std::marker::Model;
-use wf_value::{Chars, Combo, Condition, JobResult, Outcome, Refusal, TryCopy, copy_items};
+use wf_value::{Chars, Combo, JobResult, Outcome, Refusal, TryCopy, copy_items};
 
 /// The most runs of a table.
 pub const MOST_RUNS: usize = 100_000;
@@ -280,12 +279,22 @@ impl Runs {
         ensures { self.new ≡ with_job r j (decided self.old r j) self.old }
     {
         let stopping = self.is_stopping(r);
-        if decide(Condition::Success, &[], stopping) {
+        if self.may_run(r, j) {
             self.open_job(r, j);
         } else if stopping {
             self.settle_job(r, j, JobResult::Cancelled);
         } else {
             self.settle_job(r, j, JobResult::Skipped);
+        }
+    }
+
+    /// Whether the condition of the job holds.
+    fn may_run(&self, r: usize, j: usize) -> bool
+        ensures { result ≡ may_run self.now r j }
+    {
+        match self.runs.get(r) {
+            Some(run) => run.may_run(j),
+            None => false,
         }
     }
 
