@@ -1,6 +1,8 @@
--- The context of a leg worked through by computation, on a job of two legs.
-use Rattle.std.specs.Prelude.{◌≡◌, ℕ, List, [], ◌∷◌, codes, Some, None, false, pos, refl}
+-- The context of a leg worked through by computation, on a job of two legs that needs two jobs.
+use Rattle.std.specs.Prelude.{◌≡◌, ℕ, List, [], ◌∷◌, codes, Option, Some, None, false, pos, refl}
 use Rattle.wf_value.specs.declared.condition.Condition.TheVariants as condition
+use Rattle.wf_value.specs.declared.outcome.JobResult.{JobResult}
+use Rattle.wf_value.specs.declared.outcome.JobResult.TheVariants as result
 use Rattle.wf_value.specs.declared.scalar.Scalar.TheVariants.{Truth, Whole, Text}
 use Rattle.wf_reader.specs.declared.flag.Flag.TheVariants.{Fixed}
 use Rattle.run_plan.specs.Admitted.{Admitted}
@@ -26,8 +28,12 @@ job = record {
       ∷ [];
 }
 
+-- one of the jobs that it needs has failed, and the other has no result
+abbrev needs : List (List ℕ × Option JobResult)
+needs = (codes "a", Some result.Failure) ∷ (codes "b", None) ∷ []
+
 abbrev leg_at : ℕ → LegFacts
-leg_at number = record { event = event; run_id = codes "7"; run_number = codes "3"; job = job; leg = number }
+leg_at number = record { event = event; run_id = codes "7"; run_number = codes "3"; job = job; leg = number; needs = needs }
 
 own_member : context_of (leg_at 1) (codes "matrix" ∷ codes "gpu" ∷ []) ≡ Some (Truth false)
 own_member = refl
@@ -54,6 +60,18 @@ run_id = refl
 event_name : context_of (leg_at 0) (codes "github" ∷ codes "event_name" ∷ []) ≡ Some (Text (codes "push"))
 event_name = refl
 
--- the needs of a job have no value yet
-needs : context_of (leg_at 0) (codes "needs" ∷ codes "a" ∷ codes "result" ∷ []) ≡ None
-needs = refl
+need_with_result : context_of (leg_at 0) (codes "needs" ∷ codes "a" ∷ codes "result" ∷ []) ≡ Some (Text (codes "failure"))
+need_with_result = refl
+
+need_without_result : context_of (leg_at 0) (codes "needs" ∷ codes "b" ∷ codes "result" ∷ []) ≡ None
+need_without_result = refl
+
+not_needed : context_of (leg_at 0) (codes "needs" ∷ codes "c" ∷ codes "result" ∷ []) ≡ None
+not_needed = refl
+
+-- a job that is needed has no other member, and is no scalar itself
+other_member : context_of (leg_at 0) (codes "needs" ∷ codes "a" ∷ codes "outputs" ∷ []) ≡ None
+other_member = refl
+
+need_itself : context_of (leg_at 0) (codes "needs" ∷ codes "a" ∷ []) ≡ None
+need_itself = refl

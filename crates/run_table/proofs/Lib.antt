@@ -3,6 +3,7 @@ pub mod Changed
 pub mod ClaimKeeps
 mod ContextRows
 pub mod Digits
+pub mod DirectNeeds
 pub mod Doors
 pub mod Firsts
 pub mod Found

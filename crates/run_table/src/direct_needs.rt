@@ -1,6 +1,6 @@
 //! The results of the jobs that a job needs directly, by their ids.
 
-ghost use Rattle.std.specs.Prelude.{◌≡◌, None, find, option_and_then, slice_get};
+ghost use Rattle.std.specs.Prelude.{◌≡◌, None, false, find, option_and_then, slice_get};
 ghost use Rattle.std.specs.List.{slice_index_or};
 ghost use Rattle.std.specs.Option.{option_copied, option_map_or};
 ghost use Rattle.std.specs.Str.{bytes_eq};
@@ -54,6 +54,7 @@ fn result_at(jobs: &[Job], place: usize) -> Option<JobResult>
 }
 
 /// The result of the job of an id, where the job at a place needs it directly. It takes no memory.
+#[tactic(auto, unfolding(crate::specs::JobResults::direct_needs), using(crate::proofs::DirectNeeds::result_by_id))]
 pub(crate) fn result_of_need(run: &Run, j: usize, id: &str) -> Option<JobResult>
     ensures { result ≡ option_and_then (λ o. o) (under id.now (direct_needs run.now j)) }
 {

@@ -1,0 +1,38 @@
+-- The result of a job that is needed directly, found by its id.
+use Rattle.std.specs.Prelude.{◌≡◌, ℕ, List, [], ◌∷◌, filter_map, find, Bool, true, false, Option, Some, None, option_map, option_and_then}
+use Rattle.std.specs.Prelude.{slice_get, if◌then◌else◌, refl}
+use Rattle.std.specs.List.{cons_option, slice_index_or}
+use Rattle.std.specs.Option.{option_map_or}
+use Rattle.std.specs.Str.{bytes_eq}
+use Rattle.wf_value.specs.declared.outcome.JobResult.{JobResult}
+use Rattle.run_plan.specs.declared.planned.PlannedJob.{PlannedJob}
+use Rattle.run_table.specs.JobResults.{with_result}
+use Rattle.run_table.specs.LegContext.{under}
+
+-- whether a planned job has the id
+abbrev pub has_id : List PlannedJob → List ℕ → ℕ → Bool
+has_id plan id place = option_map_or (λ planned. bytes_eq planned.id id) (slice_get plan place) false
+
+one_need : (id : List ℕ) (results : List (Option JobResult)) (k : ℕ) (o : Option PlannedJob) (more : List (List ℕ × Option JobResult))
+    (found : Option ℕ)
+    → option_and_then (λ r. r) (under id more) ≡ option_and_then (λ place. slice_index_or results place None) found
+    → option_and_then (λ r. r) (under id (cons_option (option_map (λ planned. (planned.id, slice_index_or results k None)) o) more))
+    ≡ option_and_then (λ place. slice_index_or results place None)
+    (if option_map_or (λ planned. bytes_eq planned.id id) o false then Some k else found)
+one_need id results k None more found rest = rest
+one_need id results k (Some planned) more found rest =
+    elim (bytes_eq planned.id id) as
+    (λ b. option_and_then (λ r. r) (option_map (λ (p : List ℕ × Option JobResult). p.1)
+    (if b then Some (planned.id, slice_index_or results k None) else find (λ p. bytes_eq p.0 id) more))
+    ≡ option_and_then (λ place. slice_index_or results place None) (if b then Some k else found)) [
+      | true ↦ refl
+      | false ↦ rest
+    ]
+
+pub result_by_id : (id : List ℕ) (plan : List PlannedJob) (results : List (Option JobResult)) (places : List ℕ)
+    → option_and_then (λ r. r) (under id (filter_map (with_result plan results) places))
+    ≡ option_and_then (λ place. slice_index_or results place None) (find (has_id plan id) places)
+result_by_id id plan results [] = refl
+result_by_id id plan results (k ∷ places) =
+    one_need id results k (slice_get plan k) (filter_map (with_result plan results) places) (find (has_id plan id) places)
+    (result_by_id id plan results places)
