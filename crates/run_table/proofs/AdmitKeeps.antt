@@ -23,6 +23,7 @@ use Rattle.run_table.proofs.Found.{none_found, found_nowhere, each_at, at_the_en
 use Rattle.run_table.proofs.Kept.{IsKept, kept_still_had}
 use Rattle.run_table.proofs.LeaseReads.{leases_same}
 use Rattle.run_table.proofs.LegReads.{work_of, had_at, works_at}
+use Rattle.run_table.proofs.NeedsSettled.{result_in}
 use Rattle.run_table.proofs.Optional.{from_map}
 use Rattle.run_table.proofs.RunFits.{JobFits, RunFits, RunsFit}
 use Rattle.run_table.proofs.RunnerPut.{holds_at}
@@ -42,6 +43,7 @@ new_run_fits runs r event = record {
   phase_fits = (refl, (λ j y e. sym (ap (λ (v : JobState). v.phase) (job_is_blocked (plan_of event.body) j y e))));
   jobs_fit = (λ j y e. subst (λ (v : JobState). JobFits (planned_legs runs r j) (result_at runs r j v) v)
       (job_is_blocked (plan_of event.body) j y e) (blocked_fits (planned_legs runs r j) runs r j));
+  needs_first = (λ j y e some. absurd (some (sym (ap (λ (v : JobState). v.legs) (job_is_blocked (plan_of event.body) j y e)))));
 }
 
 -- no leg of it is there
@@ -71,7 +73,8 @@ module _ (runs : List RunState) (event : Admitted) where
             let within : r < length runs = slice_get_within runs r x (sym before ∙ e) in
             fits_beside runs next r x
             (λ s le. ap (option_map (λ (v : RunState). v.admitted))
-            (before_the_end runs (new_run event) s (λ m. absurd (omega (arith, le, within, m))))) (fit r x (sym before ∙ e))
+            (before_the_end runs (new_run event) s (λ m. absurd (omega (arith, le, within, m)))))
+            (λ j a had. ap (option_and_then (λ (v : RunState). result_in v j)) before ∙ had) (fit r x (sym before ∙ e))
       ]
     where
       some_same : (x : RunState) → Some (new_run event) ≡ Some x → new_run event ≡ x

@@ -55,6 +55,19 @@ reads_same i f xs x g was same k =
       | inr n ↦ ap (option_and_then g) (at_another i f xs k n)
     ]
 
+-- what was read of each element is still read, if it is of the one that changed
+pub reads_stay : {X Y : Type 0} (i : ℕ) (f : X → X) (xs : List X) (x : X) (g : X → Option Y) (a : Y) → slice_get xs i ≡ Some x
+    → (g x ≡ Some a → g (f x) ≡ Some a) → (k : ℕ) → option_and_then g (slice_get xs k) ≡ Some a
+    → option_and_then g (slice_get (changed_at i f xs) k) ≡ Some a
+reads_stay i f xs x g a was keeps k e =
+    elim (cases_eq k i) [
+      | inl s ↦
+          ap (λ n. option_and_then g (slice_get (changed_at i f xs) n)) s
+          ∙ ap (option_and_then g) (at_changed i f xs ∙ ap (option_map f) was)
+          ∙ keeps (sym (ap (option_and_then g) (ap (slice_get xs) s ∙ was)) ∙ e)
+      | inr n ↦ ap (option_and_then g) (at_another i f xs k n) ∙ e
+    ]
+
 -- what holds of each element, if it does of the one that changed
 pub holds_of_each : {X : Type 0} (i : ℕ) (f : X → X) (xs : List X) (x : X) (P : ℕ → X → Type 0) → slice_get xs i ≡ Some x → P i (f x)
     → ((k : ℕ) (y : X) → slice_get xs k ≡ Some y → P k y) → (k : ℕ) (y : X) → slice_get (changed_at i f xs) k ≡ Some y → P k y

@@ -8,12 +8,12 @@ use Rattle.run_table.specs.Places.{LegPlace, run_at, job_at, leg_at, with_leg}
 use Rattle.run_table.specs.Rules.{has_ended, is_settled, result_at}
 use Rattle.run_table.specs.Sound.{PhaseFits, LegsFit, LeaseFits}
 use Rattle.run_table.specs.TableState.{LegState, JobState, RunState}
-use Rattle.run_table.specs.Words.{planned_legs}
+use Rattle.run_table.specs.Words.{needs_have_settled, planned_legs, settled_result}
 use Rattle.run_table.specs.declared.phases.JobPhase.{JobPhase}
 use Rattle.run_table.specs.declared.phases.JobPhase.TheVariants as job
 use Rattle.run_table.specs.declared.phases.RunPhase.{RunPhase}
 use Rattle.run_table.specs.declared.phases.RunPhase.TheVariants as run
-use Rattle.run_table.proofs.Changed.{at_changed, at_another, reads_same, holds_of_each, length-changed_at}
+use Rattle.run_table.proofs.Changed.{at_changed, at_another, reads_same, reads_stay, holds_of_each, length-changed_at}
 use Rattle.run_table.proofs.LeaseReads.{same_place}
 use Rattle.run_table.proofs.LegReads.{work_of, had_in_job, works_in_job}
 use Rattle.run_table.proofs.Optional.{from_and_then, each_passes}
@@ -80,24 +80,32 @@ unended_is_open planned result (job.Settled r) legs l z fits e un =
 
 -- ---- one job of a run
 
+-- a job changed into one that keeps its result, and has legs only where its needs have settled
+pub record NeedsStay (runs : List RunState) (r j : ℕ) (y z : JobState) : Type 0 where
+  pub keeps_result : (a : JobResult) → settled_result y.phase ≡ Some a → settled_result z.phase ≡ Some a
+  pub needs_first : (z.legs ≡ [] → ⊥) → needs_have_settled runs r j ≡ true
+
 module _ (runs : List RunState) (r : ℕ) (x : RunState) (fit : RunFits runs r x) (j : ℕ) (y : JobState) (f : JobState → JobState)
     (was : slice_get x.jobs j ≡ Some y) where
   pub job_stays : PhaseFits x.phase x.stopping (changed_at j f x.jobs) → JobFits (planned_legs runs r j) (result_at runs r j (f y)) (f y)
-      → StaysFit runs r x (record x { jobs = changed_at j f x.jobs })
-  job_stays phase fits = record {
+      → NeedsStay runs r j y (f y) → StaysFit runs r x (record x { jobs = changed_at j f x.jobs })
+  job_stays phase fits needs = record {
     same_admitted = refl;
+    keeps_results = (λ k a e. reads_stay j f x.jobs y (λ z. settled_result z.phase) a was (needs.keeps_result a) k e);
     fits = record {
       has_its_jobs = length-changed_at j f x.jobs ∙ fit.has_its_jobs;
       phase_fits = phase;
       jobs_fit = holds_of_each j f x.jobs y (λ k z. JobFits (planned_legs runs r k) (result_at runs r k z) z) was fits fit.jobs_fit;
+      needs_first = holds_of_each j f x.jobs y (λ k z. (z.legs ≡ [] → ⊥) → needs_have_settled runs r k ≡ true) was needs.needs_first
+          fit.needs_first;
     };
   }
 
   pub job_keeps : PhaseFits x.phase x.stopping (changed_at j f x.jobs) → JobFits (planned_legs runs r j) (result_at runs r j (f y)) (f y)
-      → ((l : ℕ) → had_in_job (f y) l ≡ had_in_job y l) → ((l : ℕ) → works_in_job (f y) l ≡ works_in_job y l)
-      → Keeps runs r x (record x { jobs = changed_at j f x.jobs })
-  job_keeps phase fits had works = record {
-    stays = job_stays phase fits;
+      → NeedsStay runs r j y (f y) → ((l : ℕ) → had_in_job (f y) l ≡ had_in_job y l)
+      → ((l : ℕ) → works_in_job (f y) l ≡ works_in_job y l) → Keeps runs r x (record x { jobs = changed_at j f x.jobs })
+  job_keeps phase fits needs had works = record {
+    stays = job_stays phase fits needs;
     same_had = (λ k l. reads_same j f x.jobs y (λ z. had_in_job z l) was (had l) k);
     same_works = (λ k l. reads_same j f x.jobs y (λ z. works_in_job z l) was (works l) k);
   }
@@ -147,19 +155,25 @@ module _ (runs : List RunState) (fit : RunsFit runs) (p : LegPlace) (z : LegStat
       leg_fits (planned_legs runs p.run p.job) (result_at runs p.run p.job is_in.job)
       (result_at runs p.run p.job (with_leg_of p.leg f is_in.job)) is_in.job p.leg z f this_job_fits is_in.leg_is un lease
 
+  needs_stay : NeedsStay runs p.run p.job is_in.job (with_leg_of p.leg f is_in.job)
+  needs_stay = record {
+    keeps_result = (λ a e. e);
+    needs_first = (λ some. run_fits.needs_first p.job is_in.job is_in.place.job_is (λ none. some (ap (changed_at p.leg f) none)));
+  }
+
   -- a leg that has not ended changes
   pub leg_stays : StayFit runs (with_leg p f runs)
   leg_stays =
       one_stays runs fit p.run is_in.place.run (with_job_of p.job (with_leg_of p.leg f)) is_in.place.run_is
       (job_stays runs p.run is_in.place.run run_fits p.job is_in.job
-      (with_leg_of p.leg f) is_in.place.job_is phase_still_fits job_still_fits)
+      (with_leg_of p.leg f) is_in.place.job_is phase_still_fits job_still_fits needs_stay)
 
   -- and keeps its lease
   pub leg_settles : (f z).lease ≡ z.lease → work_of (f z) ≡ work_of z → Settles runs (with_leg p f runs)
   leg_settles had works =
       one_settles runs fit p.run is_in.place.run (with_job_of p.job (with_leg_of p.leg f)) is_in.place.run_is
       (job_keeps runs p.run is_in.place.run run_fits p.job is_in.job
-      (with_leg_of p.leg f) is_in.place.job_is phase_still_fits job_still_fits
+      (with_leg_of p.leg f) is_in.place.job_is phase_still_fits job_still_fits needs_stay
       (reads_same p.leg f is_in.job.legs z (λ v. v.lease) is_in.leg_is had)
       (reads_same p.leg f is_in.job.legs z work_of is_in.leg_is works))
 

@@ -15,7 +15,8 @@ use Rattle.run_table.proofs.LeaseReads.{LeasesAgree, leases_same}
 use Rattle.run_table.proofs.LegReads.{had_at, works_at, had_from_leg, works_from_leg, leg_from_had, leg_from_works, work_parts}
 use Rattle.run_table.proofs.Optional.{from_and_then, from_map}
 use Rattle.run_table.proofs.Rests.{settled_has_no_place}
-use Rattle.run_table.proofs.RunFits.{RunsFit, admitted_at, runs_fit, jobs_are_the_plans, run_phases_fit, jobs_fit, leases_fit}
+use Rattle.run_table.proofs.RunFits.{RunsFit, admitted_at, runs_fit, jobs_are_the_plans, run_phases_fit, jobs_fit, needs_come_first}
+use Rattle.run_table.proofs.RunFits.{leases_fit}
 use Rattle.run_table.proofs.RunnerPut.{holds_at}
 use Rattle.run_table.proofs.SettlingKeeps.{settling_settles}
 
@@ -115,7 +116,7 @@ pub kept_from_sound : (t : TableState) → IsSound t → IsKept t
 kept_from_sound t s = record {
   few_runs = s.few_runs;
   deliveries_differ = s.deliveries_differ;
-  fit = runs_fit t.runs s.jobs_are_the_plans s.run_phases_fit s.jobs_fit s.leases_fit;
+  fit = runs_fit t.runs s.jobs_are_the_plans s.run_phases_fit s.jobs_fit s.needs_settled_first s.leases_fit;
   agree = leases_agree t.last_lease t.runs t.runners s.leases_are_given s.leases_differ s.work_is_held s.held_is_at_work s.held_once;
   last_lease_in_range = s.last_lease_in_range;
   names_differ = s.names_differ;
@@ -130,6 +131,7 @@ sound_from_kept t s rests = record {
   jobs_are_the_plans = jobs_are_the_plans t.runs s.fit;
   run_phases_fit = run_phases_fit t.runs s.fit;
   jobs_fit = jobs_fit t.runs s.fit;
+  needs_settled_first = needs_come_first t.runs s.fit;
   leases_fit = leases_fit t.runs s.fit;
   leases_are_given = (λ p x n at e. s.agree.given p n (some_lease t.runs p x n at e));
   leases_differ = (λ p q x y n at bt e f. s.agree.differ p q n (some_lease t.runs p x n at e) (some_lease t.runs q y n bt f));

@@ -20,6 +20,7 @@ pub mod LegReads
 pub mod LivePlaces
 pub mod Lowered
 pub mod Moved
+pub mod NeedsSettled
 pub mod Optional
 pub mod OwnRun
 pub mod ReportKeeps

@@ -14,7 +14,7 @@ use Rattle.run_table.specs.Rules.{settled_as, may_run, decided, next_leg_phase, 
 use Rattle.run_table.specs.Rules.{next_run_phase, run_in_phase}
 use Rattle.run_table.specs.Sound.{PhaseFits, MayLackLegs, LegsFit, LeaseFits, is_at_work}
 use Rattle.run_table.specs.TableState.{LegState, JobState, RunState}
-use Rattle.run_table.specs.Words.{needs_have_settled, is_stopping, planned_legs}
+use Rattle.run_table.specs.Words.{needs_have_settled, is_stopping, planned_legs, settled_result}
 use Rattle.run_table.specs.declared.phases.LegPhase.{LegPhase}
 use Rattle.run_table.specs.declared.phases.LegPhase.TheVariants as leg
 use Rattle.run_table.specs.declared.phases.JobPhase.{JobPhase}
@@ -110,11 +110,16 @@ no_legs planned gathered job.Blocked legs fits e = fits
 no_legs planned gathered job.Open legs fits e = cc
 no_legs planned gathered (job.Settled r) legs fits e = cc
 
+no_result : (phase : JobPhase) (a : JobResult) (o : Option JobResult) → settled_result phase ≡ None → settled_result phase ≡ Some a
+    → o ≡ Some a
+no_result phase a o none some = cc
+
 opening_rule_settles : (runs next : List RunState) (r j : ℕ) (y : JobState) → RunsFit runs → LivePlace runs (Opening r j)
     → job_at runs r j ≡ Some y → opening_rule runs r j y ≡ Some next → Settles runs next
 opening_rule_settles runs next r j y fit live was h =
     let taken = if_some (is_blocked y.phase && needs_have_settled runs r j) (with_job r j (decided runs r j) runs) next h in
-    let blocked = is_blocked_blocked y.phase (and_parts (is_blocked y.phase) (needs_have_settled runs r j) taken.0).0 in
+    let both = and_parts (is_blocked y.phase) (needs_have_settled runs r j) taken.0 in
+    let blocked = is_blocked_blocked y.phase both.0 in
     let at = job_in runs r j y was in
     let x = at.run in
     let run_fits = fit r x at.run_is in
@@ -126,6 +131,10 @@ opening_rule_settles runs next r j y fit live was h =
     (job_keeps runs r x run_fits j y (decided runs r j) at.job_is
     (live_fits x.phase x.stopping (changed_at j (decided runs r j) x.jobs) is_live)
     (made_fits (may_run runs r j) (planned_legs runs r j) (is_stopping runs r) y (result_at runs r j (decided runs r j y)) none)
+    (record {
+      keeps_result = (λ a e. no_result y.phase a (settled_result (decided runs r j y).phase) (ap settled_result blocked) e);
+      needs_first = (λ some. both.1);
+    })
     (made_reads (λ (z : LegState). z.lease) refl (may_run runs r j) (planned_legs runs r j) (is_stopping runs r) y none)
     (made_reads work_of refl (may_run runs r j) (planned_legs runs r j) (is_stopping runs r) y none)))
 
@@ -158,7 +167,11 @@ closing_rule_settles runs next r j y fit was h =
     subst (Settles runs) taken.1
     (one_settles runs fit r x (λ (v : RunState). record v { jobs = changed_at j close v.jobs }) at.run_is
     (job_keeps runs r x run_fits j y close at.job_is (live_fits x.phase x.stopping (changed_at j close x.jobs) live)
-    (record { legs_fit = inr (planned, done.1, refl); leases_fit = fits.leases_fit }) (λ l. refl) (λ l. refl)))
+    (record { legs_fit = inr (planned, done.1, refl); leases_fit = fits.leases_fit })
+    (record {
+      keeps_result = (λ a e. no_result y.phase a (settled_result (close y).phase) (ap settled_result is_open) e);
+      needs_first = (λ some. run_fits.needs_first j y at.job_is some);
+    }) (λ l. refl) (λ l. refl)))
 
 -- ---- a run goes on
 
@@ -183,10 +196,12 @@ whole_rule_settles runs next r x fit was h =
     (record {
       stays = record {
         same_admitted = refl;
+        keeps_results = (λ j a e. e);
         fits = record {
           has_its_jobs = fits.has_its_jobs;
           phase_fits = next_phase_fits x.phase made.value (list_all is_settled x.jobs) x.stopping x.jobs made.is refl;
           jobs_fit = fits.jobs_fit;
+          needs_first = fits.needs_first;
         };
       };
       same_had = (λ j l. refl);

@@ -1,5 +1,5 @@
 -- What each run of a table keeps by itself.
-use Rattle.std.specs.Prelude.{◌≡◌, ℕ, List, length, Option, Some, option_map, option_and_then, slice_get}
+use Rattle.std.specs.Prelude.{◌≡◌, ℕ, List, [], length, true, Option, Some, option_map, option_and_then, slice_get}
 use Rattle.std.proofs.Common.{ap, sym, ◌∙◌}
 use Rattle.std.specs.Option.{option_map_or}
 use Rattle.wf_value.specs.declared.outcome.JobResult.{JobResult}
@@ -8,9 +8,9 @@ use Rattle.run_plan.specs.PlanOf.{plan_of}
 use Rattle.run_plan.specs.declared.planned.PlannedJob.{PlannedJob}
 use Rattle.run_table.specs.Places.{LegPlace, run_at, job_at, leg_at, plan_at}
 use Rattle.run_table.specs.Rules.{result_at}
-use Rattle.run_table.specs.Sound.{JobsAreThePlans, RunPhasesFit, PhaseFits, JobsFit, LegsFit, LeasesFit, LeaseFits}
+use Rattle.run_table.specs.Sound.{JobsAreThePlans, RunPhasesFit, PhaseFits, JobsFit, LegsFit, NeedsComeFirst, LeasesFit, LeaseFits}
 use Rattle.run_table.specs.TableState.{LegState, JobState, RunState}
-use Rattle.run_table.specs.Words.{planned_legs}
+use Rattle.run_table.specs.Words.{needs_have_settled, planned_legs}
 use Rattle.run_table.proofs.Optional.{from_and_then, and_then-option_map}
 
 pub record JobFits (planned : ℕ) (result : JobResult) (x : JobState) : Type 0 where
@@ -21,6 +21,7 @@ pub record RunFits (runs : List RunState) (r : ℕ) (x : RunState) : Type 0 wher
   pub has_its_jobs : length x.jobs ≡ length (plan_of x.admitted.body)
   pub phase_fits : PhaseFits x.phase x.stopping x.jobs
   pub jobs_fit : (j : ℕ) (y : JobState) → slice_get x.jobs j ≡ Some y → JobFits (planned_legs runs r j) (result_at runs r j y) y
+  pub needs_first : (j : ℕ) (y : JobState) → slice_get x.jobs j ≡ Some y → (y.legs ≡ [] → ⊥) → needs_have_settled runs r j ≡ true
 
 abbrev pub RunsFit : List RunState → Type 0
 RunsFit runs = (r : ℕ) (x : RunState) → run_at runs r ≡ Some x → RunFits runs r x
@@ -34,8 +35,9 @@ pub leg_in_job : (runs : List RunState) (p : LegPlace) (y : JobState) → job_at
     → leg_at runs p ≡ slice_get y.legs p.leg
 leg_in_job runs p y e = ap (option_and_then (λ (job : JobState). slice_get job.legs p.leg)) e
 
-pub runs_fit : (runs : List RunState) → JobsAreThePlans runs → RunPhasesFit runs → JobsFit runs → LeasesFit runs → RunsFit runs
-runs_fit runs jobs phases fits leases r x e = record {
+pub runs_fit : (runs : List RunState) → JobsAreThePlans runs → RunPhasesFit runs → JobsFit runs → NeedsComeFirst runs → LeasesFit runs
+    → RunsFit runs
+runs_fit runs jobs phases fits needs leases r x e = record {
   has_its_jobs = jobs r x e;
   phase_fits = phases r x e;
   jobs_fit = (λ j y f.
@@ -45,6 +47,7 @@ runs_fit runs jobs phases fits leases r x e = record {
         leases_fit = (λ l z g. leases (record { run = r; job = j; leg = l }) z
             (leg_in_job runs (record { run = r; job = j; leg = l }) y at ∙ g));
       });
+  needs_first = (λ j y f some. needs r j y (job_in_run runs r j x e ∙ f) some);
 }
 
 pub jobs_are_the_plans : (runs : List RunState) → RunsFit runs → JobsAreThePlans runs
@@ -61,6 +64,11 @@ job_fits runs fit r j y e =
 
 pub jobs_fit : (runs : List RunState) → RunsFit runs → JobsFit runs
 jobs_fit runs fit r j y e = (job_fits runs fit r j y e).legs_fit
+
+pub needs_come_first : (runs : List RunState) → RunsFit runs → NeedsComeFirst runs
+needs_come_first runs fit r j y e some =
+    let f = from_and_then (λ (run : RunState). slice_get run.jobs j) (run_at runs r) y e in
+    (fit r f.value f.is).needs_first j y f.gives some
 
 pub leases_fit : (runs : List RunState) → RunsFit runs → LeasesFit runs
 leases_fit runs fit p z e =

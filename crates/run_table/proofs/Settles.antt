@@ -9,14 +9,16 @@ use Rattle.run_table.specs.Rules.{result_at}
 use Rattle.run_table.specs.RunNumber.{events}
 use Rattle.run_table.specs.TableState.{RunState}
 use Rattle.run_table.specs.Words.{planned_legs}
-use Rattle.run_table.proofs.Changed.{reads_same, holds_of_each, length-changed_at}
+use Rattle.run_table.proofs.Changed.{reads_same, reads_stay, holds_of_each, length-changed_at}
 use Rattle.run_table.proofs.LegFacts.{SameUpTo, result_same}
 use Rattle.run_table.proofs.LegReads.{had_in, works_in, had_at, works_at}
+use Rattle.run_table.proofs.NeedsSettled.{KeepsResults, needs_stay_settled, result_in}
 use Rattle.run_table.proofs.RunFits.{JobFits, RunFits, RunsFit, admitted_at, planned_legs_same}
 
--- a run changed into one that still fits, of the same event
+-- a run changed into one that still fits, of the same event, whose settled jobs keep their results
 pub record StaysFit (runs : List RunState) (r : ℕ) (x y : RunState) : Type 0 where
   pub same_admitted : y.admitted ≡ x.admitted
+  pub keeps_results : (j : ℕ) (a : JobResult) → result_in x j ≡ Some a → result_in y j ≡ Some a
   pub fits : RunFits runs r y
 
 -- and with the same leases
@@ -25,10 +27,11 @@ pub record Keeps (runs : List RunState) (r : ℕ) (x y : RunState) : Type 0 wher
   pub same_had : (j l : ℕ) → had_in y j l ≡ had_in x j l
   pub same_works : (j l : ℕ) → works_in y j l ≡ works_in x j l
 
--- runs that still fit, of the same events
+-- runs that still fit, of the same events, whose settled jobs keep their results
 pub record StayFit (runs next : List RunState) : Type 0 where
   pub same_length : length next ≡ length runs
   pub same_admitted : (r : ℕ) → admitted_at next r ≡ admitted_at runs r
+  pub keeps_results : (r : ℕ) → KeepsResults runs next r
   pub fit : RunsFit next
 
 -- and with the same leases, as after each settling rule
@@ -40,15 +43,19 @@ pub record Settles (runs next : List RunState) : Type 0 where
 pub settles_nothing : (runs : List RunState) → RunsFit runs → Settles runs runs
 settles_nothing runs fit =
     record {
-      stay = record { same_length = refl; same_admitted = (λ r. refl); fit = fit };
+      stay = record { same_length = refl; same_admitted = (λ r. refl); keeps_results = (λ r j a e. e); fit = fit };
       same_had = (λ p. refl);
       same_works =
           (λ p. refl);
     }
 
 pub stay_on : (a b c : List RunState) → StayFit a b → StayFit b c → StayFit a c
-stay_on a b c f g =
-    record { same_length = g.same_length ∙ f.same_length; same_admitted = (λ r. g.same_admitted r ∙ f.same_admitted r); fit = g.fit }
+stay_on a b c f g = record {
+  same_length = g.same_length ∙ f.same_length;
+  same_admitted = (λ r. g.same_admitted r ∙ f.same_admitted r);
+  keeps_results = (λ r j o e. g.keeps_results r j o (f.keeps_results r j o e));
+  fit = g.fit;
+}
 
 pub settles_on : (a b c : List RunState) → Settles a b → Settles b c → Settles a c
 settles_on a b c f g = record {
@@ -64,14 +71,15 @@ same_events runs next r same s le =
 
 -- what fits beside runs fits beside others of the same events
 pub fits_beside : (runs next : List RunState) (r : ℕ) (x : RunState) → ((s : ℕ) → s ≤ r → admitted_at next s ≡ admitted_at runs s)
-    → RunFits runs r x → RunFits next r x
-fits_beside runs next r x same fits = record {
+    → KeepsResults runs next r → RunFits runs r x → RunFits next r x
+fits_beside runs next r x same keeps fits = record {
   has_its_jobs = fits.has_its_jobs;
   phase_fits = fits.phase_fits;
   jobs_fit = (λ j y e.
       subst (λ (n : ℕ). JobFits n (result_at next r j y) y) (sym (planned_legs_same runs next r j (same r (omega arith))))
       (subst (λ (o : JobResult). JobFits (planned_legs runs r j) o y) (sym (result_same runs next r j y (same_events runs next r same)))
       (fits.jobs_fit j y e)));
+  needs_first = (λ j y e some. needs_stay_settled runs next r j (same r (omega arith)) keeps (fits.needs_first j y e some));
 }
 
 admitted_again : (o : Option RunState)
@@ -86,6 +94,9 @@ module _ (runs : List RunState) (fit : RunsFit runs) (r : ℕ) (x : RunState) (g
       ∙ reads_same r g runs x (λ (run : RunState). Some run.admitted) was (ap Some stays.same_admitted) s
       ∙ admitted_again (run_at runs s)
 
+  results_kept : StaysFit runs r x (g x) → (s : ℕ) → KeepsResults runs (changed_at r g runs) s
+  results_kept stays s j a e = reads_stay r g runs x (λ (run : RunState). result_in run j) a was (stays.keeps_results j a) s e
+
   pub one_stays : StaysFit runs r x (g x) → StayFit runs (changed_at r g runs)
   one_stays stays =
       let next = changed_at r g runs in
@@ -93,8 +104,10 @@ module _ (runs : List RunState) (fit : RunsFit runs) (r : ℕ) (x : RunState) (g
       record {
         same_length = length-changed_at r g runs;
         same_admitted = same;
-        fit = holds_of_each r g runs x (RunFits next) was (fits_beside runs next r (g x) (λ s le. same s) stays.fits)
-            (λ s y e. fits_beside runs next s y (λ k le. same k) (fit s y e));
+        keeps_results = results_kept stays;
+        fit = holds_of_each r g runs x (RunFits next) was
+            (fits_beside runs next r (g x) (λ s le. same s) (results_kept stays r) stays.fits)
+            (λ s y e. fits_beside runs next s y (λ k le. same k) (results_kept stays s) (fit s y e));
       }
 
   pub one_settles : Keeps runs r x (g x) → Settles runs (changed_at r g runs)

@@ -81,6 +81,7 @@ empty_is_sound = record {
   jobs_are_the_plans = (λ r x e. cc);
   run_phases_fit = (λ r x e. absurd (no_element r x e));
   jobs_fit = (λ r j x e. absurd (no_element r x e));
+  needs_settled_first = (λ r j x e. absurd (no_element r x e));
   leases_fit = (λ p x e. absurd (no_element p x e));
   leases_are_given = (λ p x n e f. cc);
   leases_differ = (λ p q x y n e f g h. cc);

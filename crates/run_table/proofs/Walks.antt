@@ -12,9 +12,11 @@ use Rattle.run_table.specs.Rules.{job_places, run_places, is_live, is_blocked, i
 use Rattle.run_table.specs.Rules.{opening_rule, leg_rule, closing_rule, whole_rule}
 use Rattle.run_table.specs.Settling.{applies, first_place}
 use Rattle.run_table.specs.TableState.{LegState, JobState, RunState}
-use Rattle.run_table.specs.WithinRun.{goes_on, leg_place, first_in_job, first_in_jobs, first_in_run}
+use Rattle.run_table.specs.WithinRun.{goes_on, leg_place, first_in_job, first_in_jobs, first_in_run, needs_settled_in}
+use Rattle.run_table.specs.Words.{needs_have_settled}
 use Rattle.run_table.specs.declared.place.Place.TheVariants.{Opening, AtLeg, Closing, Whole}
 use Rattle.run_table.proofs.Firsts.{find-flat_map, find-map, first_same_placed}
+use Rattle.run_table.proofs.NeedsSettled.{needs_by_run}
 
 -- ---- whether the rule at a place applies, by what stands there
 
@@ -26,19 +28,15 @@ some_mapped : {X Y : Type 0} (o : Option X) (f : X → Y) → is_some (option_ma
 some_mapped None f = refl
 some_mapped (Some x) f = refl
 
-and_true : (b : Bool) → (b && true) ≡ b
-and_true true = refl
-and_true false = refl
-
 job_found : (runs : List RunState) (r j : ℕ) (run : RunState) (job : JobState) → slice_get runs r ≡ Some run
     → slice_get run.jobs j ≡ Some job → job_at runs r j ≡ Some job
 job_found runs r j run job at_run at_job = ap (option_and_then (λ x. slice_get x.jobs j)) at_run ∙ at_job
 
-opening_applies : (runs : List RunState) (r j : ℕ) (job : JobState) → job_at runs r j ≡ Some job
-    → applies runs (Opening r j) ≡ is_blocked job.phase
-opening_applies runs r j job at =
-    ap (λ o. is_some (option_and_then (opening_rule runs r j) o)) at ∙ some_if (is_blocked job.phase && true) _
-    ∙ and_true (is_blocked job.phase)
+opening_applies : (runs : List RunState) (r j : ℕ) (run : RunState) (job : JobState) → slice_get runs r ≡ Some run
+    → job_at runs r j ≡ Some job → applies runs (Opening r j) ≡ (is_blocked job.phase && needs_settled_in run j)
+opening_applies runs r j run job at_run at =
+    ap (λ o. is_some (option_and_then (opening_rule runs r j) o)) at ∙ some_if (is_blocked job.phase && needs_have_settled runs r j) _
+    ∙ ap (λ b. is_blocked job.phase && b) (needs_by_run runs r j run at_run)
 
 leg_applies : (runs : List RunState) (p : LegPlace) (l : LegState) → leg_at runs p ≡ Some l → applies runs (AtLeg p) ≡ goes_on l
 leg_applies runs p l at = ap (λ o. is_some (option_and_then (leg_rule runs p) o)) at ∙ some_mapped (next_leg_phase l.phase) _
@@ -88,12 +86,12 @@ or_none None = refl
 or_none (Some x) = refl
 
 in_job : (runs : List RunState) (r j : ℕ) (run : RunState) (job : JobState) → slice_get runs r ≡ Some run → slice_get run.jobs j ≡ Some job
-    → find (applies runs) (job_places r (j, job)) ≡ first_in_job r j job
+    → find (applies runs) (job_places r (j, job)) ≡ first_in_job r run j job
 in_job runs r j run job at_run at_job =
     let at = job_found runs r j run job at_run at_job in
     let legs = map (λ l. AtLeg (leg_place r j l.0)) (placed job.legs) in
-    ap (λ b. if b then Some (Opening r j) else find (applies runs) (legs ++ Closing r j ∷ [])) (opening_applies runs r j job at)
-    ∙ ap (λ o. if is_blocked job.phase then Some (Opening r j) else o)
+    ap (λ b. if b then Some (Opening r j) else find (applies runs) (legs ++ Closing r j ∷ [])) (opening_applies runs r j run job at_run at)
+    ∙ ap (λ o. if is_blocked job.phase && needs_settled_in run j then Some (Opening r j) else o)
     (find-append (applies runs) legs (Closing r j ∷ [])
     ∙ ap (λ o. option_or o (find (applies runs) (Closing r j ∷ []))) (at_legs runs r j run job at_run at_job)
     ∙ ap (λ b. option_or (option_map (λ l. AtLeg (leg_place r j l)) (position goes_on job.legs)) (if b then Some (Closing r j) else None))
@@ -102,15 +100,15 @@ in_job runs r j run job at_run at_job =
 -- ---- within a run
 
 in_jobs : (runs : List RunState) (r : ℕ) (run : RunState) → slice_get runs r ≡ Some run
-    → find (applies runs) (flat_map (job_places r) (placed run.jobs)) ≡ first_in_jobs r run.jobs
+    → find (applies runs) (flat_map (job_places r) (placed run.jobs)) ≡ first_in_jobs r run run.jobs
 in_jobs runs r run at =
     find-flat_map (applies runs) (job_places r) (placed run.jobs)
-    ∙ first_same_placed (λ j. find (applies runs) (job_places r j)) (λ j. first_in_job r j.0 j.1) run.jobs
+    ∙ first_same_placed (λ j. find (applies runs) (job_places r j)) (λ j. first_in_job r run j.0 j.1) run.jobs
     (λ j job at_job. in_job runs r j run job at at_job)
 
 jobs_if_live : (runs : List RunState) (r : ℕ) (run : RunState) (live : Bool) → slice_get runs r ≡ Some run
     → find (applies runs) (if live then flat_map (job_places r) (placed run.jobs) else [])
-    ≡ (if live then first_in_jobs r run.jobs else None)
+    ≡ (if live then first_in_jobs r run run.jobs else None)
 jobs_if_live runs r run true at = in_jobs runs r run at
 jobs_if_live runs r run false at = refl
 
@@ -119,7 +117,7 @@ in_run : (runs : List RunState) (r : ℕ) (run : RunState) → slice_get runs r 
 in_run runs r run at =
     find-append (applies runs) (if is_live run.phase then flat_map (job_places r) (placed run.jobs) else []) (Whole r ∷ [])
     ∙ ap (λ o. option_or o (find (applies runs) (Whole r ∷ []))) (jobs_if_live runs r run (is_live run.phase) at)
-    ∙ ap (λ b. option_or (if is_live run.phase then first_in_jobs r run.jobs else None) (if b then Some (Whole r) else None))
+    ∙ ap (λ b. option_or (if is_live run.phase then first_in_jobs r run run.jobs else None) (if b then Some (Whole r) else None))
     (whole_applies runs r run at)
 
 -- ---- in the whole table

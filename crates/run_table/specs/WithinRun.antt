@@ -55,14 +55,14 @@ first_of_open r j job =
 abbrev pub first_in_job : ℕ → RunState → ℕ → JobState → Option Place
 first_in_job r run j job = if is_blocked job.phase && needs_settled_in run j then Some (Opening r j) else first_of_open r j job
 
-abbrev pub first_in_jobs : ℕ → RunState → Option Place
-first_in_jobs r run = first_some (λ j. first_in_job r run j.0 j.1) (placed run.jobs)
+abbrev pub first_in_jobs : ℕ → RunState → List JobState → Option Place
+first_in_jobs r run jobs = first_some (λ j. first_in_job r run j.0 j.1) (placed jobs)
 
 abbrev pub first_of_whole : ℕ → RunState → Option Place
 first_of_whole r run = if is_some (next_run_phase run.phase (list_all is_settled run.jobs)) then Some (Whole r) else None
 
 abbrev pub first_in_run : ℕ → RunState → Option Place
-first_in_run r run = option_or (if is_live run.phase then first_in_jobs r run else None) (first_of_whole r run)
+first_in_run r run = option_or (if is_live run.phase then first_in_jobs r run run.jobs else None) (first_of_whole r run)
 
 -- ---- the first leg that fits
 

@@ -44,10 +44,9 @@ fn first_in_job(r: usize, run: &Run, j: usize, job: &Job) -> Option<Place>
     first_of_open(r, j, job)
 }
 
-fn first_in_jobs(r: usize, run: &Run) -> Option<Place>
-    ensures { result ≡ first_in_jobs r run.now }
+fn first_in_jobs(r: usize, run: &Run, jobs: &[Job]) -> Option<Place>
+    ensures { result ≡ first_in_jobs r run.now (states jobs.now) }
 {
-    let jobs = run.jobs();
     for j in 0..jobs.len() {
         let job = &jobs[j];
         let place = first_in_job(r, run, j, job);
@@ -85,7 +84,7 @@ fn first_in_run(r: usize, run: &Run) -> Option<Place>
     ensures { result ≡ first_in_run r run.now }
 {
     if run.phase().is_live() {
-        let place = first_in_jobs(r, run);
+        let place = first_in_jobs(r, run, run.jobs());
         if place.is_some() {
             return place;
         }
