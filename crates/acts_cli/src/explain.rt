@@ -168,7 +168,7 @@ const EXPLANATIONS: [Explanation; 28] = [
     Explanation {
         number: "45",
         meaning: "no command of this runner is known",
-        input: "the line: beat r9 1, before any claim of r9 (while beat is not read yet, it is refused 75)",
+        input: "the line: beat r9 1, before any claim of r9",
         remedy: "claim under this name first; names of runners compare by bytes",
     },
     Explanation {

@@ -1,5 +1,5 @@
 -- A new run keeps what a table keeps.
-use Rattle.std.specs.Prelude.{◌≡◌, ℕ, ◌+◌, ◌<◌, List, [], ◌∷◌, ◌++◌, map, length, find, nat_le, Bool, true, false, Option, Some, None}
+use Rattle.std.specs.Prelude.{◌≡◌, ℕ, ◌+◌, ◌<◌, ◌≤◌, List, [], ◌∷◌, ◌++◌, map, length, find, nat_le, Bool, true, false, Option, Some, None}
 use Rattle.std.specs.Prelude.{option_map, option_and_then, slice_get, if◌then◌else◌, refl}
 use Rattle.std.specs.List.{position}
 use Rattle.std.specs.Option.{option_or}
@@ -15,7 +15,8 @@ use Rattle.run_plan.specs.declared.planned.PlannedJob.{PlannedJob}
 use Rattle.run_plan.specs.declared.reply.Reply.TheVariants as reply
 use Rattle.run_table.specs.Places.{LegPlace, run_at}
 use Rattle.run_table.specs.Rules.{result_at}
-use Rattle.run_table.specs.Sound.{DeliveriesDiffer}
+use Rattle.run_table.specs.Parallel.{legs_at_work}
+use Rattle.run_table.specs.Sound.{DeliveriesDiffer, ParallelIsBounded}
 use Rattle.run_table.specs.Step.{is_delivered_as, admission_answer, blocked_job, new_run, refused}
 use Rattle.run_table.specs.TableState.{LegState, JobState, RunState, TableState}
 use Rattle.run_table.specs.Words.{planned_legs}
@@ -79,6 +80,23 @@ module _ (runs : List RunState) (event : Admitted) where
     where
       some_same : (x : RunState) → Some (new_run event) ≡ Some x → new_run event ≡ x
       some_same x e = cc
+
+  -- no leg of the new run is at work
+  still_bounded : ParallelIsBounded runs → ParallelIsBounded (runs ++ new_run event ∷ [])
+  still_bounded bounded r j x most at is =
+      let next = runs ++ new_run event ∷ [] in
+      elim (cases_eq r (length runs)) [
+        | inl s ↦
+            let jobs : option_and_then (λ (v : RunState). slice_get v.jobs j) (run_at next r) ≡ slice_get (new_run event).jobs j =
+            ap (option_and_then (λ (v : RunState). slice_get v.jobs j)) (ap (slice_get next) s ∙ at_the_end runs (new_run event)) in
+            let blocked = job_is_blocked (plan_of event.body) j x (sym jobs ∙ at) in
+            subst (λ (v : JobState). legs_at_work v ≤ most) blocked (omega arith)
+        | inr n ↦
+            let before = before_the_end runs (new_run event) r n in
+            bounded r j x most (sym (ap (option_and_then (λ (v : RunState). slice_get v.jobs j)) before) ∙ at)
+            (sym (ap (λ o. option_and_then (λ (planned : PlannedJob). planned.max_parallel)
+            (option_and_then (λ (v : RunState). slice_get (plan_of v.admitted.body) j) o)) before) ∙ is)
+      ]
 
   same_reads : (f : LegState → Option ℕ) (p : LegPlace)
       → option_and_then
@@ -153,6 +171,7 @@ admit_keeps t event s none =
       few_runs = omega (arith, more, room);
       deliveries_differ = deliveries t.runs event (fresh nowhere) s.deliveries_differ;
       fit = all_fit t.runs event s.fit;
+      parallel_bounded = still_bounded t.runs event s.parallel_bounded;
       agree = leases_same t.last_lease (had_at t.runs) (works_at t.runs) (had_at next) (works_at next) (holds_at t.runners)
           (holds_at t.runners) (same_reads t.runs event (λ z. z.lease)) (same_reads t.runs event work_of) (λ k. refl) s.agree;
       last_lease_in_range = s.last_lease_in_range;

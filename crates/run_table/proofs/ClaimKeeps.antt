@@ -1,31 +1,34 @@
 -- A claim keeps what a table keeps: the leg that it gets runs under the lease after the last, or nothing is ready.
-use Rattle.std.specs.Prelude.{◌≡◌, ℕ, ◌+◌, ◌≤◌, ◌&&◌, List, nat_le, Bool, true, false, is_some, Option, Some, None, option_and_then}
-use Rattle.std.specs.Prelude.{if◌then◌else◌, refl}
+use Rattle.std.specs.Prelude.{◌≡◌, ℕ, ◌+◌, ◌<◌, ◌≤◌, ◌&&◌, List, nat_le, nat_lt, Bool, true, false, is_some, Option, Some, None}
+use Rattle.std.specs.Prelude.{option_and_then, slice_get, count_by, if◌then◌else◌, refl}
 use Rattle.std.specs.Option.{option_map_or}
 use Rattle.std.proofs.Common.{arith, ap, sym, ◌∙◌, subst, inl, inr}
-use Rattle.std.proofs.lemmas.Bool.{cases_eq, and_parts, leb-false}
+use Rattle.std.proofs.lemmas.Bool.{cases_eq, and_parts, leb-false, ltb-true}
 use Rattle.wf_value.specs.declared.code.Code.TheVariants.{HasLease, LastCounter}
 use Rattle.run_plan.specs.declared.command.Claim.{Claim as Claimed}
 use Rattle.run_plan.specs.declared.reply.Reply.{Reply}
-use Rattle.run_table.specs.Fitting.{is_ready, has_labels, fits, first_fit}
-use Rattle.run_table.specs.Places.{LegPlace, leg_at, leg_places, with_leg}
+use Rattle.run_table.specs.FirstOf.{changed_at}
+use Rattle.run_table.specs.Fitting.{is_ready, is_served, may_run_too, fits, first_fit}
+use Rattle.run_table.specs.Parallel.{has_room, legs_at_work, most_at_work}
+use Rattle.run_table.specs.Places.{LegPlace, job_at, leg_at, leg_places, with_leg}
 use Rattle.run_table.specs.Rules.{has_ended}
 use Rattle.run_plan.specs.LastCommand.{is_last_claim}
-use Rattle.run_table.specs.Sound.{LeaseFits, IsLastOf}
+use Rattle.run_table.specs.Sound.{LeaseFits, IsLastOf, ParallelIsBounded}
 use Rattle.run_table.specs.Step.{last_number, refused, has_no_lease_left, claim_answer, claiming_runner, leased_leg, lease_at}
-use Rattle.run_table.specs.TableState.{LegState, RunState, RunnerState, TableState}
+use Rattle.run_table.specs.TableState.{LegState, JobState, RunState, RunnerState, TableState}
 use Rattle.run_table.specs.Turns.{runner_named, answer_of_turn, with_runner, holds_lease}
-use Rattle.run_table.specs.Words.{labels_at}
 use Rattle.run_plan.specs.declared.last_command.ClaimReply.TheVariants as given
 use Rattle.run_table.specs.declared.phases.LegPhase.{LegPhase}
 use Rattle.run_table.specs.declared.phases.LegPhase.TheVariants as leg
 use Rattle.run_table.proofs.AdmitKeeps.{nothing_in_or}
 use Rattle.run_table.proofs.Found.{find_passes}
-use Rattle.run_table.proofs.JobKeeps.{leg_in, leg_stays, leg_now, leg_elsewhere}
+use Rattle.run_table.proofs.AtWork.{at_work, one_at_work, at_most_one, fewer_in_job, most_same}
+use Rattle.run_table.proofs.JobKeeps.{leg_in, leg_stays, leg_now, leg_elsewhere, job_is_now, with_leg_of}
+use Rattle.run_table.proofs.Lowered.{sum_of_changed}
 use Rattle.run_table.proofs.Kept.{IsKept, KeptIsHad, kept_still_had, deliveries_still_differ}
 use Rattle.run_table.proofs.LeaseReads.{ChangesAt, place_or_another, lease_given, leases_same, none_is_not_some}
 use Rattle.run_table.proofs.LegReads.{work_of, had_at, works_at, had_is, works_is, had_from_leg, works_from_leg}
-use Rattle.run_table.proofs.RunFits.{leases_fit}
+use Rattle.run_table.proofs.RunFits.{RunsFit, admitted_at, leases_fit}
 use Rattle.run_table.proofs.RunnerPut.{put, each_put, names_still_differ, holds_at, holds_changes}
 
 -- ---- what was looked at first
@@ -67,8 +70,15 @@ ready_at runs p (Some z) is e = record { leg_of = z; is = is; ready = is_ready_r
 fitting_leg : (labels : List (List ℕ)) (runs : List RunState) (p : LegPlace) → first_fit labels runs ≡ Some p → ReadyLeg runs p
 fitting_leg labels runs p e =
     ready_at runs p (leg_at runs p) refl
-    (and_parts (option_map_or (λ l. is_ready l.phase) (leg_at runs p) false) (option_map_or (has_labels labels) (labels_at runs p) false)
+    (and_parts (option_map_or (λ l. is_ready l.phase) (leg_at runs p) false) (may_run_too runs p && is_served labels runs p)
     (find_passes (fits labels runs) (leg_places runs) p e)).0
+
+-- and its job has room
+fitting_room : (labels : List (List ℕ)) (runs : List RunState) (p : LegPlace) → first_fit labels runs ≡ Some p → may_run_too runs p ≡ true
+fitting_room labels runs p e =
+    (and_parts (may_run_too runs p) (is_served labels runs p)
+    (and_parts (option_map_or (λ l. is_ready l.phase) (leg_at runs p) false) (may_run_too runs p && is_served labels runs p)
+    (find_passes (fits labels runs) (leg_places runs) p e)).1).0
 
 ready_has_no_lease : (phase : LegPhase) (lease : Option ℕ) → phase ≡ leg.Ready → LeaseFits phase lease → lease ≡ None
 ready_has_no_lease phase lease e fits = subst (λ (x : LegPhase). LeaseFits x lease) e fits
@@ -95,6 +105,60 @@ works_changes runs p z f is =
           ∙ works_is runs q);
     }
 
+-- ---- one more leg is at work
+
+under : (at_work most : ℕ) (bound : Option ℕ) → bound ≡ Some most → option_map_or (λ n. nat_lt at_work n) bound true ≡ true
+    → at_work < most
+under at_work most bound is e =
+    ltb-true at_work most (sym (ap (λ o. option_map_or (λ n. nat_lt at_work n) o true) is) ∙ e)
+
+one_more : (legs : List LegState) (l : ℕ) (f : LegState → LegState) (z : LegState) → slice_get legs l ≡ Some z
+    → count_by at_work (changed_at l f legs) ≤ count_by at_work legs + 1
+one_more legs l f z was =
+    let sum = sum_of_changed one_at_work legs l f z was in
+    let most = at_most_one (at_work (f z)) in
+    omega (arith, sum, most)
+
+module _ (runs : List RunState) (p : LegPlace) (z : LegState) (f : LegState → LegState) (is : leg_at runs p ≡ Some z)
+    (room : may_run_too runs p ≡ true) (same : (r : ℕ) → admitted_at (with_leg p f runs) r ≡ admitted_at runs r)
+    (fit : RunsFit (with_leg p f runs)) (bounded : ParallelIsBounded runs) where
+  -- in its own job there was room
+  bounded_here : (y : JobState) (most : ℕ) → job_at (with_leg p f runs) p.run p.job ≡ Some y → most_at_work runs p.run p.job ≡ Some most
+      → legs_at_work y ≤ most
+  bounded_here y most at bound =
+      let is_in = leg_in runs p z is in
+      let was = ap (option_and_then (λ (x : RunState). slice_get x.jobs p.job)) is_in.place.run_is ∙ is_in.place.job_is in
+      let has : has_room runs p.run p.job is_in.job ≡ true = sym (ap (λ o. option_map_or (has_room runs p.run p.job) o false) was) ∙ room in
+      let less = under (legs_at_work is_in.job) most (most_at_work runs p.run p.job) bound has in
+      let more = one_more is_in.job.legs p.leg f z is_in.leg_is in
+      let now : with_leg_of p.leg f is_in.job ≡ y = some_job y (sym (job_is_now runs p z f is_in) ∙ at) in
+      subst (λ (v : JobState). legs_at_work v ≤ most) now (omega (arith, less, more))
+    where
+      some_job : (y : JobState) → Some (with_leg_of p.leg f (leg_in runs p z is).job) ≡ Some y → with_leg_of p.leg f (leg_in runs p z is).job ≡ y
+      some_job y e = cc
+
+  -- and the others are as they were
+  bounded_elsewhere : (r j : ℕ) (y : JobState) (most : ℕ) → ((l : ℕ) → record { run = r; job = j; leg = l } ≡ p → ⊥)
+      → job_at (with_leg p f runs) r j ≡ Some y → most_at_work runs r j ≡ Some most → legs_at_work y ≤ most
+  bounded_elsewhere r j y most other at bound =
+      let changes = works_changes runs p z f is in
+      fewer_in_job runs (with_leg p f runs) fit r j y most at
+      (λ l n e. sym (changes.elsewhere (record { run = r; job = j; leg = l }) (other l)) ∙ e)
+      (λ x was. bounded r j x most was bound)
+
+  pub leased_bounded : ParallelIsBounded (with_leg p f runs)
+  leased_bounded r j y most at bound =
+      let bound_before = sym (most_same runs (with_leg p f runs) r j (same r)) ∙ bound in
+      elim (cases_eq r p.run) [
+        | inr n ↦ bounded_elsewhere r j y most (λ l e. n (ap (λ (q : LegPlace). q.run) e)) at bound_before
+        | inl s ↦ elim (cases_eq j p.job) [
+          | inr n ↦ bounded_elsewhere r j y most (λ l e. n (ap (λ (q : LegPlace). q.job) e)) at bound_before
+          | inl t ↦ bounded_here y most
+              (ap (λ (i : ℕ). job_at (with_leg p f runs) i p.job) (sym s) ∙ ap (λ (i : ℕ). job_at (with_leg p f runs) r i) (sym t) ∙ at)
+              (ap (λ (i : ℕ). most_at_work runs i p.job) (sym s) ∙ ap (λ (i : ℕ). most_at_work runs r i) (sym t) ∙ bound_before)
+        ]
+      ]
+
 -- ---- nothing is ready
 
 pub serving_keeps : (t : TableState) (claim : Claimed) → IsKept t → claim_answer t claim ≡ None
@@ -114,6 +178,7 @@ serving_keeps t claim s none =
       few_runs = s.few_runs;
       deliveries_differ = s.deliveries_differ;
       fit = s.fit;
+      parallel_bounded = s.parallel_bounded;
       agree = leases_same t.last_lease (had_at t.runs) (works_at t.runs) (had_at t.runs) (works_at t.runs) (holds_at t.runners)
           (holds_at (with_runner t.runners new)) (λ q. refl) (λ q. refl) (same_holds p.place changes before) s.agree;
       last_lease_in_range = s.last_lease_in_range;
@@ -181,6 +246,8 @@ leasing_keeps t claim p s none fit =
       few_runs = subst (λ (n : ℕ). n ≤ 100000) (sym stay.same_length) s.few_runs;
       deliveries_differ = deliveries_still_differ t.runs next stay.same_admitted s.deliveries_differ;
       fit = stay.fit;
+      parallel_bounded = leased_bounded t.runs p z (λ _. leased_leg lease) ready.is (fitting_room claim.labels t.runs p fit)
+          stay.same_admitted stay.fit s.parallel_bounded;
       agree = lease_given t.last_lease (had_at t.runs) (works_at t.runs) (had_at next) (works_at next) (holds_at t.runners)
           (holds_at (with_runner t.runners new)) p place.place s.agree free_leg free_runner
           had (works_changes t.runs p z (λ _. leased_leg lease) ready.is) (holds_changes t.runners new);

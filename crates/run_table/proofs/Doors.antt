@@ -16,6 +16,7 @@ use Rattle.run_table.specs.JobResults.{settled_result}
 use Rattle.run_table.specs.Rules.{opened}
 use Rattle.run_table.specs.Settling.{legs_in_plan}
 use Rattle.run_table.specs.Step.{blocked_job}
+use Rattle.run_table.specs.Stops.{stopped, with_stopped_legs}
 use Rattle.run_table.specs.TableState.{LegState, JobState, RunState}
 use Rattle.run_table.specs.ViewText.{has_claimed_leg, results_of, was_claimed}
 use Rattle.run_table.specs.Words.{planned_legs}
@@ -71,6 +72,16 @@ no_leg_written phase true xs l leg s past is =
 no_leg_written phase false xs l leg s past is =
     let P : JobCells → Type 0 = λ t. t ≡ in_state (record t.state { legs = changed_at l (λ _. leg) t.state.legs }) t in
     subst P is refl
+
+-- all of them are stopped; those in the room of a job without legs are none of its own
+pub legs_stopped : (phase : JobPhase) (has_legs : Bool) (xs : List LegState) (s : JobCells) → cells_of phase has_legs xs ≡ s
+    → cells_of phase has_legs (map stopped xs) ≡ in_state (with_stopped_legs s.state) s
+legs_stopped phase true xs s is =
+    let P : JobCells → Type 0 = λ t. cells_of phase true (map stopped xs) ≡ in_state (with_stopped_legs t.state) t in
+    subst P is (ap (λ n. record { state = record { phase = phase; legs = map stopped xs }; room = n }) (length-map xs stopped))
+legs_stopped phase false xs s is =
+    let P : JobCells → Type 0 = λ t. cells_of phase false (map stopped xs) ≡ in_state (with_stopped_legs t.state) t in
+    subst P is (ap (λ n. record { state = record { phase = phase; legs = [] }; room = n }) (length-map xs stopped))
 
 -- ---- the jobs of a run
 

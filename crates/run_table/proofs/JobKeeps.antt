@@ -137,13 +137,14 @@ module _ (runs : List RunState) (fit : RunsFit runs) (p : LegPlace) (z : LegStat
   this_job_fits : JobFits (planned_legs runs p.run p.job) (result_at runs p.run p.job is_in.job) is_in.job
   this_job_fits = run_fits.jobs_fit p.job is_in.job is_in.place.job_is
 
+  pub job_is_open : is_in.job.phase ≡ job.Open
+  job_is_open = (unended_is_open (planned_legs runs p.run p.job)
+      (result_at runs p.run p.job is_in.job) is_in.job.phase is_in.job.legs p.leg z this_job_fits.legs_fit is_in.leg_is un).open_is
+
   run_is_live : is_in.place.run.phase ≡ run.Live
   run_is_live =
       let x = is_in.place.run in
-      let y = is_in.job in
-      open_is_live x.phase x.stopping x.jobs p.job y run_fits.phase_fits is_in.place.job_is
-      (unended_is_open (planned_legs runs p.run p.job)
-      (result_at runs p.run p.job y) y.phase y.legs p.leg z this_job_fits.legs_fit is_in.leg_is un).open_is
+      open_is_live x.phase x.stopping x.jobs p.job is_in.job run_fits.phase_fits is_in.place.job_is job_is_open
 
   phase_still_fits : PhaseFits is_in.place.run.phase is_in.place.run.stopping (changed_at p.job (with_leg_of p.leg f) is_in.place.run.jobs)
   phase_still_fits =
@@ -200,6 +201,9 @@ module _ (runs : List RunState) (p : LegPlace) (z : LegState) (f : LegState → 
 
   job_now : slice_get (changed_at p.job (with_leg_of p.leg f) is_in.place.run.jobs) p.job ≡ Some (with_leg_of p.leg f is_in.job)
   job_now = at_changed p.job (with_leg_of p.leg f) is_in.place.run.jobs ∙ ap (option_map (with_leg_of p.leg f)) is_in.place.job_is
+
+  pub job_is_now : job_at (with_leg p f runs) p.run p.job ≡ Some (with_leg_of p.leg f is_in.job)
+  job_is_now = ap (option_and_then (λ (x : RunState). slice_get x.jobs p.job)) run_now ∙ job_now
 
   pub leg_now : leg_at (with_leg p f runs) p ≡ Some (f z)
   leg_now =

@@ -4,13 +4,16 @@ use Rattle.std.specs.Prelude.{if◌then◌else◌, refl}
 use Rattle.std.proofs.Common.{ap, sym, ◌∙◌, subst}
 use Rattle.run_table.specs.Places.{LegPlace, run_at, leg_at}
 use Rattle.run_table.specs.Settling.{first_place, settled}
-use Rattle.run_table.specs.Sound.{DeliveriesDiffer, LeasesAreGiven, LeasesDiffer, NamesDiffer, is_at_work, IsHeld, IsAtWork, WorkIsHeld}
+use Rattle.run_table.specs.Sound.{DeliveriesDiffer, LeasesAreGiven, LeasesDiffer, NamesDiffer, IsHeld, IsAtWork, WorkIsHeld}
+use Rattle.run_table.specs.Parallel.{is_at_work}
 use Rattle.run_table.specs.Sound.{HeldIsAtWork, HeldOnce, LastsAreOwn, KeptIsALegs, IsSound}
+use Rattle.run_table.specs.Sound.{ParallelIsBounded}
 use Rattle.run_table.specs.Step.{last_number}
 use Rattle.run_table.specs.TableState.{LegState, RunState, RunnerState, TableState}
 use Rattle.run_plan.specs.declared.last_command.LastCommand.{LastCommand}
 use Rattle.run_plan.specs.declared.last_command.LastCommand.TheVariants as last
 use Rattle.run_plan.specs.declared.last_command.ClaimReply.TheVariants as given
+use Rattle.run_table.proofs.AtWork.{settling_bounded}
 use Rattle.run_table.proofs.LeaseReads.{LeasesAgree, leases_same}
 use Rattle.run_table.proofs.LegReads.{had_at, works_at, had_from_leg, works_from_leg, leg_from_had, leg_from_works, work_parts}
 use Rattle.run_table.proofs.Optional.{from_and_then, from_map}
@@ -18,6 +21,7 @@ use Rattle.run_table.proofs.Rests.{settled_has_no_place}
 use Rattle.run_table.proofs.RunFits.{RunsFit, admitted_at, runs_fit, jobs_are_the_plans, run_phases_fit, jobs_fit, needs_come_first}
 use Rattle.run_table.proofs.RunFits.{leases_fit}
 use Rattle.run_table.proofs.RunnerPut.{holds_at}
+use Rattle.run_table.proofs.Settles.{Settles}
 use Rattle.run_table.proofs.SettlingKeeps.{settling_settles}
 
 -- a kept lease is one that some leg had
@@ -33,6 +37,7 @@ pub record IsKept (t : TableState) : Type 0 where
   pub few_runs : length t.runs ≤ 100000
   pub deliveries_differ : DeliveriesDiffer t.runs
   pub fit : RunsFit t.runs
+  pub parallel_bounded : ParallelIsBounded t.runs
   pub agree : LeasesAgree t.last_lease (had_at t.runs) (works_at t.runs) (holds_at t.runners)
   pub last_lease_in_range : t.last_lease ≤ last_number
   pub names_differ : NamesDiffer t.runners
@@ -117,6 +122,7 @@ kept_from_sound t s = record {
   few_runs = s.few_runs;
   deliveries_differ = s.deliveries_differ;
   fit = runs_fit t.runs s.jobs_are_the_plans s.run_phases_fit s.jobs_fit s.needs_settled_first s.leases_fit;
+  parallel_bounded = s.parallel_bounded;
   agree = leases_agree t.last_lease t.runs t.runners s.leases_are_given s.leases_differ s.work_is_held s.held_is_at_work s.held_once;
   last_lease_in_range = s.last_lease_in_range;
   names_differ = s.names_differ;
@@ -132,6 +138,7 @@ sound_from_kept t s rests = record {
   run_phases_fit = run_phases_fit t.runs s.fit;
   jobs_fit = jobs_fit t.runs s.fit;
   needs_settled_first = needs_come_first t.runs s.fit;
+  parallel_bounded = s.parallel_bounded;
   leases_fit = leases_fit t.runs s.fit;
   leases_are_given = (λ p x n at e. s.agree.given p n (some_lease t.runs p x n at e));
   leases_differ = (λ p q x y n at bt e f. s.agree.differ p q n (some_lease t.runs p x n at e) (some_lease t.runs q y n bt f));
@@ -159,23 +166,24 @@ deliveries_still_differ runs next same differ a b x y at bt e =
     let g = from_map adm (run_at runs b) y.admitted (sym (same b) ∙ ap (option_map adm) bt) in
     differ a b f.value g.value f.is g.is (ap (λ d. d.delivery) f.gives ∙ e ∙ sym (ap (λ d. d.delivery) g.gives))
 
--- ---- the table settles
+-- ---- the runs of a table settle, or legs are stopped
+
+pub kept_settles : (t : TableState) (next : List RunState) → IsKept t → Settles t.runs next → IsKept (record t { runs = next })
+kept_settles t next s settling = record {
+  few_runs = subst (λ (n : ℕ). n ≤ 100000) (sym settling.stay.same_length) s.few_runs;
+  deliveries_differ = deliveries_still_differ t.runs next settling.stay.same_admitted s.deliveries_differ;
+  fit = settling.stay.fit;
+  parallel_bounded = settling_bounded t.runs next settling s.parallel_bounded;
+  agree = leases_same t.last_lease (had_at t.runs) (works_at t.runs) (had_at next) (works_at next) (holds_at t.runners)
+      (holds_at t.runners) settling.same_had settling.same_works (λ k. refl) s.agree;
+  last_lease_in_range = s.last_lease_in_range;
+  names_differ = s.names_differ;
+  lasts_are_own = s.lasts_are_own;
+  kept_are_had =
+      (λ k x e. kept_still_had (had_at t.runs) (had_at next) (λ p n h. settling.same_had p ∙ h) x.last (s.kept_are_had k x e));
+}
 
 pub rest_is_sound : (t : TableState) → IsKept t → IsSound (record t { runs = settled t.runs })
 rest_is_sound t s =
-    let next = settled t.runs in
-    let settling = settling_settles t.runs s.fit in
-    sound_from_kept (record t { runs = next })
-    (record {
-      few_runs = subst (λ (n : ℕ). n ≤ 100000) (sym settling.stay.same_length) s.few_runs;
-      deliveries_differ = deliveries_still_differ t.runs next settling.stay.same_admitted s.deliveries_differ;
-      fit = settling.stay.fit;
-      agree = leases_same t.last_lease (had_at t.runs) (works_at t.runs) (had_at next) (works_at next) (holds_at t.runners)
-          (holds_at t.runners) settling.same_had settling.same_works (λ k. refl) s.agree;
-      last_lease_in_range = s.last_lease_in_range;
-      names_differ = s.names_differ;
-      lasts_are_own = s.lasts_are_own;
-      kept_are_had =
-          (λ k x e. kept_still_had (had_at t.runs) (had_at next) (λ p n h. settling.same_had p ∙ h) x.last (s.kept_are_had k x e));
-    })
+    sound_from_kept (record t { runs = settled t.runs }) (kept_settles t (settled t.runs) s (settling_settles t.runs s.fit))
     (settled_has_no_place t.runs)

@@ -2,7 +2,7 @@
 use Rattle.std.specs.Prelude.{◌≡◌, ℕ, List, Bool, true, false, Option, Some, None, option_and_then, slice_get, if◌then◌else◌, refl}
 use Rattle.std.proofs.Common.{ap, sym, ◌∙◌}
 use Rattle.run_table.specs.Places.{LegPlace, run_at, job_at, leg_at}
-use Rattle.run_table.specs.Sound.{is_at_work}
+use Rattle.run_table.specs.Parallel.{is_at_work}
 use Rattle.run_table.specs.TableState.{LegState, JobState, RunState}
 use Rattle.run_table.proofs.Optional.{From, from_and_then}
 

@@ -1,4 +1,5 @@
 pub mod AdmitKeeps
+pub mod AtWork
 pub mod Changed
 pub mod ClaimKeeps
 mod ContextRows
@@ -34,6 +35,7 @@ pub mod SettlingKeeps
 pub mod Sought
 pub mod StepKeeps
 pub mod StepRows
+pub mod StopKeeps
 pub mod Under
 pub mod ViewRows
 pub mod Walks

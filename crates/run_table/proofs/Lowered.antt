@@ -32,7 +32,7 @@ use Rattle.run_table.proofs.RuleKeeps.{is_blocked_blocked, is_open_open}
 
 -- ---- sums over a list that is changed at one place
 
-sum_of_changed : {X : Type 0} (f : X → ℕ) (xs : List X) (i : ℕ) (g : X → X) (x : X) → slice_get xs i ≡ Some x
+pub sum_of_changed : {X : Type 0} (f : X → ℕ) (xs : List X) (i : ℕ) (g : X → X) (x : X) → slice_get xs i ≡ Some x
     → sum_by f (changed_at i g xs) + f x ≡ sum_by f xs + f (g x)
 sum_of_changed f [] i g x h = cc
 sum_of_changed f (z ∷ zs) zero g x h =

@@ -12,23 +12,27 @@ use Rattle.run_plan.specs.declared.command.Done.{Done as Reported}
 use Rattle.run_plan.specs.declared.reply.Reply.{Reply}
 use Rattle.run_table.specs.FirstOf.{placed}
 use Rattle.run_table.specs.Fitting.{has_lease, place_of_lease}
-use Rattle.run_table.specs.Places.{LegPlace, leg_at, leg_places_of_job, leg_places_of_run, leg_places, with_leg}
+use Rattle.run_table.specs.Places.{LegPlace, leg_at, leg_places_of_job, leg_places_of_run, leg_places, with_job, with_leg}
 use Rattle.run_table.specs.Rules.{leg_in_phase, outcome_of}
 use Rattle.run_plan.specs.LastCommand.{is_last_report}
-use Rattle.run_table.specs.Sound.{LeaseFits, IsLastOf, is_at_work}
+use Rattle.run_table.specs.Sound.{LeaseFits, IsLastOf}
+use Rattle.run_table.specs.Parallel.{is_at_work}
 use Rattle.run_table.specs.Step.{refused, report_answer, reporting_runner, with_ended}
+use Rattle.run_table.specs.Stops.{after_end, stops_others, with_stopped_legs}
 use Rattle.run_table.specs.TableState.{LegState, JobState, RunState, RunnerState, TableState}
 use Rattle.run_table.specs.Turns.{runner_named, answer_of_turn, with_runner, holds_this}
 use Rattle.run_table.specs.declared.phases.LegPhase.{LegPhase}
 use Rattle.run_table.specs.declared.phases.LegPhase.TheVariants as leg
 use Rattle.run_table.proofs.AdmitKeeps.{nothing_in_or}
+use Rattle.run_table.proofs.AtWork.{fewer_at_work}
 use Rattle.run_table.proofs.ClaimKeeps.{had_changes, works_changes}
 use Rattle.run_table.proofs.Found.{find_passes, none_found, each_of_flat_map, each_of_map, each_of_placed}
-use Rattle.run_table.proofs.JobKeeps.{leg_in, leg_stays}
-use Rattle.run_table.proofs.Kept.{IsKept, KeptIsHad, kept_still_had, deliveries_still_differ}
-use Rattle.run_table.proofs.LeaseReads.{ChangesAt, place_or_another, lease_ended, leases_same}
+use Rattle.run_table.proofs.JobKeeps.{leg_in, leg_stays, job_is_now, job_is_open, with_leg_of}
+use Rattle.run_table.proofs.Kept.{IsKept, KeptIsHad, kept_settles, kept_still_had, deliveries_still_differ}
+use Rattle.run_table.proofs.LeaseReads.{ChangesAt, place_or_another, lease_ended, leases_same, none_is_not_some}
 use Rattle.run_table.proofs.LegReads.{had_at, works_at, had_is, had_from_leg, works_from_leg, leg_from_had, work_parts}
 use Rattle.run_table.proofs.RunnerPut.{put, each_put, names_still_differ, holds_at, holds_changes}
+use Rattle.run_table.proofs.StopKeeps.{stop_settles}
 
 -- ---- the places of all legs
 
@@ -85,92 +89,134 @@ ended_fits outcome.Cancelled lease n e = tt
 
 -- ---- the leg at its place ends
 
-module _ (t : TableState) (report : Reported) (s : IsKept t)
-    (held : holds_this report.lease (runner_named t.runners report.runner) ≡ true) where
+module _ (t : TableState) (new : RunnerState) (lease : ℕ) (result : Outcome) (s : IsKept t)
+    (held : holds_this lease (runner_named t.runners new.name) ≡ true) (free : new.holds ≡ None)
+    (own : IsLastOf new.name new.number new.last) (kept_had : KeptIsHad (had_at t.runs) new.last) where
   runner_place : ℕ
-  runner_place = (put t.runners (reporting_runner report)).place
+  runner_place = (put t.runners new).place
 
-  held_here : holds_at t.runners (put t.runners (reporting_runner report)).place ≡ Some report.lease
-  held_here = ap (option_and_then (λ (x : RunnerState). x.holds)) (put t.runners (reporting_runner report)).was
-      ∙ holds_it report.lease (runner_named t.runners report.runner) held
+  held_here : holds_at t.runners (put t.runners new).place ≡ Some lease
+  held_here = ap (option_and_then (λ (x : RunnerState). x.holds)) (put t.runners new).was
+      ∙ holds_it lease (runner_named t.runners new.name) held
+
+  holds_no_more : ChangesAt (holds_at t.runners) (holds_at (with_runner t.runners new)) (put t.runners new).place None
+  holds_no_more =
+      subst (λ (o : Option ℕ). ChangesAt (holds_at t.runners) (holds_at (with_runner t.runners new)) (put t.runners new).place o) free
+      (holds_changes t.runners new)
 
   -- a leg with the lease is the one at work
-  work_at : (p : LegPlace) → had_at t.runs p ≡ Some report.lease → works_at t.runs p ≡ Some report.lease
+  work_at : (p : LegPlace) → had_at t.runs p ≡ Some lease → works_at t.runs p ≡ Some lease
   work_at p had =
-      let (q, works) = s.agree.held_is_work (put t.runners (reporting_runner report)).place report.lease held_here in
-      ap (works_at t.runs) (s.agree.differ p q report.lease had (s.agree.work_is_had q report.lease works)) ∙ works
+      let (q, works) = s.agree.held_is_work (put t.runners new).place lease held_here in
+      ap (works_at t.runs) (s.agree.differ p q lease had (s.agree.work_is_had q lease works)) ∙ works
 
-  ended_keeps : (p : LegPlace) → had_at t.runs p ≡ Some report.lease
+  ended_keeps : (p : LegPlace) → had_at t.runs p ≡ Some lease
       → IsKept (record t {
-        runs = with_leg p (leg_in_phase (leg.Ended report.result)) t.runs;
+        runs = with_leg p (leg_in_phase (leg.Ended result)) t.runs;
         runners =
-            with_runner t.runners (reporting_runner report);
+            with_runner t.runners new;
       })
   ended_keeps p had =
-      let f = leg_in_phase (leg.Ended report.result) in
-      let new = reporting_runner report in
+      let f = leg_in_phase (leg.Ended result) in
       let next = with_leg p f t.runs in
-      let from = leg_from_had t.runs p report.lease had in
+      let from = leg_from_had t.runs p lease had in
       let z = from.value in
       let work_here = work_at p had in
-      let working = (work_parts (is_at_work z.phase) z.lease report.lease (sym (works_from_leg t.runs p z from.is) ∙ work_here)).0 in
+      let working = (work_parts (is_at_work z.phase) z.lease lease (sym (works_from_leg t.runs p z from.is) ∙ work_here)).0 in
       let stay = leg_stays t.runs s.fit p z f (leg_in t.runs p z from.is) (at_work_is_unended z.phase working)
-      (ended_fits report.result z.lease report.lease from.gives) in
+      (ended_fits result z.lease lease from.gives) in
       let changes = had_changes t.runs p z f from.is in
       let same = same_had p z from.is changes in
       record {
         few_runs = subst (λ (n : ℕ). n ≤ 100000) (sym stay.same_length) s.few_runs;
         deliveries_differ = deliveries_still_differ t.runs next stay.same_admitted s.deliveries_differ;
         fit = stay.fit;
+        parallel_bounded = fewer_at_work t.runs next stay.fit stay.same_admitted
+            (λ q n e. worked_before q p n (works_changes t.runs p z f from.is) e) s.parallel_bounded;
         agree = leases_same t.last_lease (had_at t.runs) (works_at next) (had_at next) (works_at next)
             (holds_at (with_runner t.runners new)) (holds_at (with_runner t.runners new)) same (λ q. refl) (λ k. refl)
             (lease_ended t.last_lease (had_at t.runs) (works_at t.runs) (works_at next) (holds_at t.runners)
-            (holds_at (with_runner t.runners new)) p (put t.runners new).place report.lease s.agree work_here held_here
-            (works_changes t.runs p z f from.is) (holds_changes t.runners new));
+            (holds_at (with_runner t.runners new)) p (put t.runners new).place lease s.agree work_here held_here
+            (works_changes t.runs p z f from.is) holds_no_more);
         last_lease_in_range = s.last_lease_in_range;
         names_differ = names_still_differ t.runners new s.names_differ;
-        lasts_are_own = each_put t.runners new (λ x. IsLastOf x.name x.number x.last) (refl, refl) s.lasts_are_own;
+        lasts_are_own = each_put t.runners new (λ x. IsLastOf x.name x.number x.last) own s.lasts_are_own;
         kept_are_had =
-            each_put t.runners new (λ x. KeptIsHad (had_at next) x.last) tt
+            each_put t.runners new (λ x. KeptIsHad (had_at next) x.last)
+            (kept_still_had (had_at t.runs) (had_at next) (λ q n h. same q ∙ h) new.last kept_had)
             (λ k x e. kept_still_had (had_at t.runs) (had_at next) (λ q n h. same q ∙ h) x.last (s.kept_are_had k x e));
       }
     where
+      worked_before : (q p : LegPlace) (n : ℕ)
+          → ChangesAt (works_at t.runs) (works_at (with_leg p (leg_in_phase (leg.Ended result)) t.runs)) p None
+          → works_at (with_leg p (leg_in_phase (leg.Ended result)) t.runs) q ≡ Some n → works_at t.runs q ≡ Some n
+      worked_before q p n changes e =
+          elim (place_or_another q p) [
+            | inl same ↦ absurd (none_is_not_some n (sym changes.here
+                ∙ ap (works_at (with_leg p (leg_in_phase (leg.Ended result)) t.runs)) (sym same) ∙ e))
+            | inr other ↦ sym (changes.elsewhere q other) ∙ e
+          ]
+
       same_had : (p : LegPlace) (z : LegState) → leg_at t.runs p ≡ Some z
-          → ChangesAt (had_at t.runs) (had_at (with_leg p (leg_in_phase (leg.Ended report.result)) t.runs)) p z.lease
-          → (q : LegPlace) → had_at (with_leg p (leg_in_phase (leg.Ended report.result)) t.runs) q ≡ had_at t.runs q
+          → ChangesAt (had_at t.runs) (had_at (with_leg p (leg_in_phase (leg.Ended result)) t.runs)) p z.lease
+          → (q : LegPlace) → had_at (with_leg p (leg_in_phase (leg.Ended result)) t.runs) q ≡ had_at t.runs q
       same_had p z is changes q =
           elim (place_or_another q p) [
-            | inl e ↦ ap (had_at (with_leg p (leg_in_phase (leg.Ended report.result)) t.runs)) e ∙ changes.here
+            | inl e ↦ ap (had_at (with_leg p (leg_in_phase (leg.Ended result)) t.runs)) e ∙ changes.here
                 ∙ sym (had_from_leg t.runs p z is) ∙ ap (had_at t.runs) (sym e)
             | inr n ↦ changes.elsewhere q n
           ]
 
+  -- the other legs of its job are stopped, or not
+  after_end_keeps : (p : LegPlace) → had_at t.runs p ≡ Some lease
+      → IsKept (record t { runs = after_end p result t.runs; runners = with_runner t.runners new })
+  after_end_keeps p had =
+      let f = leg_in_phase (leg.Ended result) in
+      let ended = with_leg p f t.runs in
+      let runners = with_runner t.runners new in
+      let from = leg_from_had t.runs p lease had in
+      let z = from.value in
+      let is_in = leg_in t.runs p z from.is in
+      let working = (work_parts (is_at_work z.phase) z.lease lease (sym (works_from_leg t.runs p z from.is) ∙ work_at p had)).0 in
+      let is_open = job_is_open t.runs s.fit p z f is_in (at_work_is_unended z.phase working)
+      (ended_fits result z.lease lease from.gives) in
+      let kept = ended_keeps p had in
+      elim (stops_others t.runs p result) as
+      (λ b. IsKept (record t { runs = if b then with_job p.run p.job with_stopped_legs ended else ended; runners = runners })) [
+        | false ↦ kept
+        | true ↦
+            kept_settles (record t { runs = ended; runners = runners }) (with_job p.run p.job with_stopped_legs ended) kept
+            (stop_settles ended kept.fit p.run p.job (with_leg_of p.leg f is_in.job) (job_is_now t.runs p z f is_in) is_open)
+      ]
+
   -- that leg is found
-  lost_lease : place_of_lease t.runs report.lease ≡ None → ⊥
+  lost_lease : place_of_lease t.runs lease ≡ None → ⊥
   lost_lease none =
-      let (p, works) = s.agree.held_is_work (put t.runners (reporting_runner report)).place report.lease held_here in
-      let from = leg_from_had t.runs p report.lease (s.agree.work_is_had p report.lease works) in
-      let test = λ (q : LegPlace). option_map_or (has_lease report.lease) (leg_at t.runs q) false in
+      let (p, works) = s.agree.held_is_work (put t.runners new).place lease held_here in
+      let from = leg_from_had t.runs p lease (s.agree.work_is_had p lease works) in
+      let test = λ (q : LegPlace). option_map_or (has_lease lease) (leg_at t.runs q) false in
       let fails = each_leg_place (λ q. test q ≡ false) t.runs p from.value (none_found test (leg_places t.runs) none) from.is in
       let passes : test p ≡ true =
-      ap (λ o. option_map_or (has_lease report.lease) o false) from.is ∙ is_it report.lease from.value from.gives in
+      ap (λ o. option_map_or (has_lease lease) o false) from.is ∙ is_it lease from.value from.gives in
       true≢false (sym passes ∙ fails)
 
-  in_turn : IsKept
-      (record t { runs = with_ended report.lease report.result t.runs; runners = with_runner t.runners (reporting_runner report) })
-  in_turn =
-      elim (place_of_lease t.runs report.lease) as (λ o. place_of_lease t.runs report.lease ≡ o
+  pub lease_ends : IsKept
+      (record t { runs = with_ended lease result t.runs; runners = with_runner t.runners new })
+  lease_ends =
+      elim (place_of_lease t.runs lease) as (λ o. place_of_lease t.runs lease ≡ o
       → IsKept (record t {
-        runs = option_map_or (λ p. with_leg p (leg_in_phase (leg.Ended report.result)) t.runs) o t.runs;
+        runs = option_map_or (λ p. after_end p result t.runs) o t.runs;
         runners =
-            with_runner t.runners (reporting_runner report);
+            with_runner t.runners new;
       })) [
         | None ↦ λ is. absurd (lost_lease is)
         | Some p ↦ λ is.
-            let test = λ (q : LegPlace). option_map_or (has_lease report.lease) (leg_at t.runs q) false in
-            let has = has_it report.lease (leg_at t.runs p) (find_passes test (leg_places t.runs) p is) in
-            ended_keeps p (sym (had_is t.runs p) ∙ has)
+            let test = λ (q : LegPlace). option_map_or (has_lease lease) (leg_at t.runs q) false in
+            let has = has_it lease (leg_at t.runs p) (find_passes test (leg_places t.runs) p is) in
+            after_end_keeps p (sym (had_is t.runs p) ∙ has)
       ] refl
+
+-- ---- a report
 
 pub report_keeps : (t : TableState) (report : Reported) → IsKept t → report_answer t report ≡ None
     → IsKept (record t { runs = with_ended report.lease report.result t.runs; runners = with_runner t.runners (reporting_runner report) })
@@ -178,4 +224,5 @@ report_keeps t report s none =
     let runner = runner_named t.runners report.runner in
     let looked = nothing_in_or (answer_of_turn runner report.number (is_last_report report))
     (if holds_this report.lease runner then None else Some (refused LeaseNotHeld)) none in
-    in_turn t report s (not_held (holds_this report.lease runner) (refused LeaseNotHeld) looked.1)
+    lease_ends t (reporting_runner report) report.lease report.result s
+    (not_held (holds_this report.lease runner) (refused LeaseNotHeld) looked.1) refl (refl, refl) tt

@@ -12,7 +12,8 @@ use Rattle.run_table.specs.Places.{LegPlace, run_at, job_at, leg_at, with_run, w
 use Rattle.run_table.specs.Rules.{rule_at, opening_rule, leg_rule, closing_rule, whole_rule, is_blocked, is_open, new_leg, opened}
 use Rattle.run_table.specs.Rules.{settled_as, may_run, decided, next_leg_phase, leg_in_phase, outcome_of, has_ended, result_at, is_settled}
 use Rattle.run_table.specs.Rules.{next_run_phase, run_in_phase}
-use Rattle.run_table.specs.Sound.{PhaseFits, MayLackLegs, LegsFit, LeaseFits, is_at_work}
+use Rattle.run_table.specs.Sound.{PhaseFits, MayLackLegs, LegsFit, LeaseFits}
+use Rattle.run_table.specs.Parallel.{is_at_work}
 use Rattle.run_table.specs.TableState.{LegState, JobState, RunState}
 use Rattle.run_table.specs.Words.{needs_have_settled, is_stopping, planned_legs, settled_result}
 use Rattle.run_table.specs.declared.phases.LegPhase.{LegPhase}
@@ -145,7 +146,7 @@ is_open_open job.Blocked e = cc
 is_open_open job.Open e = refl
 is_open_open (job.Settled r) e = cc
 
-all_legs : (planned : ℕ) (gathered : JobResult) (phase : JobPhase) (legs : List LegState) → LegsFit planned gathered phase legs
+pub all_legs : (planned : ℕ) (gathered : JobResult) (phase : JobPhase) (legs : List LegState) → LegsFit planned gathered phase legs
     → phase ≡ job.Open → length legs ≡ planned
 all_legs planned gathered job.Blocked legs fits e = cc
 all_legs planned gathered job.Open legs fits e = fits

@@ -85,8 +85,11 @@ plan_by_admitted : (runs : List RunState) (r j : ℕ)
 plan_by_admitted runs r j =
     and_then-option_map (λ (a : Admitted). slice_get (plan_of a.body) j) (λ (run : RunState). run.admitted) (run_at runs r)
 
+pub plan_at_same : (runs next : List RunState) (r j : ℕ) → admitted_at next r ≡ admitted_at runs r → plan_at next r j ≡ plan_at runs r j
+plan_at_same runs next r j e =
+    sym (plan_by_admitted next r j) ∙ ap (option_and_then (λ (a : Admitted). slice_get (plan_of a.body) j)) e ∙ plan_by_admitted runs r j
+
 pub planned_legs_same : (runs next : List RunState) (r j : ℕ) → admitted_at next r ≡ admitted_at runs r
     → planned_legs next r j ≡ planned_legs runs r j
 planned_legs_same runs next r j e =
-    ap (λ o. option_map_or (λ (planned : PlannedJob). length planned.legs) o 0)
-    (sym (plan_by_admitted next r j) ∙ ap (option_and_then (λ (a : Admitted). slice_get (plan_of a.body) j)) e ∙ plan_by_admitted runs r j)
+    ap (λ o. option_map_or (λ (planned : PlannedJob). length planned.legs) o 0) (plan_at_same runs next r j e)

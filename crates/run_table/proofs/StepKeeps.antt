@@ -69,6 +69,7 @@ pub stepped_is_sound : (t : TableState) (c : Command) → IsSound t → IsSound 
 stepped_is_sound t (command.Admit event) s = admitted_is_sound t event s
 stepped_is_sound t (command.Claim claim) s = claimed_is_sound t claim s
 stepped_is_sound t (command.Done report) s = reported_is_sound t report s
+stepped_is_sound t (command.Beat beat) s = s
 stepped_is_sound t (command.Look id) s = s
 
 pub step_keeps : (t : TableState) (c : Command) → IsSound t → IsSound (step t c).0
@@ -82,6 +83,7 @@ empty_is_sound = record {
   run_phases_fit = (λ r x e. absurd (no_element r x e));
   jobs_fit = (λ r j x e. absurd (no_element r x e));
   needs_settled_first = (λ r j x e. absurd (no_element r x e));
+  parallel_bounded = (λ r j x most e f. absurd (no_element r x e));
   leases_fit = (λ p x e. absurd (no_element p x e));
   leases_are_given = (λ p x n e f. cc);
   leases_differ = (λ p q x y n e f g h. cc);

@@ -10,6 +10,7 @@ ghost use Rattle.run_table.specs.Step.{is_delivered_as, new_run};
 ghost use Rattle.run_table.specs.WithinRun.{may_run_in, needs_settled_in};
 ghost use Rattle.run_table.specs.JobResults.{results_so_far};
 ghost use Rattle.run_table.specs.Words.{all_have_results};
+ghost use Rattle.run_table.specs.Stops.{with_stopped_legs};
 
 use crate::job::Job;
 use crate::leg::Leg;
@@ -142,6 +143,16 @@ impl Run {
         if j < self.jobs.len() {
             let job = &mut self.jobs[j];
             job.settle(settled);
+        }
+    }
+
+    /// All legs of the job at a place are stopped.
+    pub(crate) fn stop_legs(&mut self, j: usize)
+        ensures { self.new ≡ record self.old { jobs = changed_at j with_stopped_legs self.old.jobs } }
+    {
+        if j < self.jobs.len() {
+            let job = &mut self.jobs[j];
+            job.stop_legs();
         }
     }
 

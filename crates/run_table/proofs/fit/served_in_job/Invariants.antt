@@ -2,7 +2,7 @@ use Rattle.std.specs.Prelude.{◌&&◌, Some, None, if◌then◌else◌}
 use Rattle.run_table.specs.Fitting.{is_ready, is_served}
 use Rattle.run_table.specs.WithinRun.{leg_place}
 use Rattle.run_table.proofs.Firsts.{NoneBefore}
-use Rattle.run_table.proofs.fit.fit_in_job.Given as goal
+use Rattle.run_table.proofs.fit.served_in_job.Given as goal
 
 -- none so far is the one
 abbrev pub invariant-loop-l : goal.invariant-loop-l

@@ -5,7 +5,7 @@ use Rattle.run_table.specs.Fitting.{is_ready, is_served}
 use Rattle.run_table.specs.TableState.{LegState}
 use Rattle.run_table.specs.WithinRun.{leg_place}
 use Rattle.run_table.proofs.Firsts.{answer_found, answer_passed, none_found}
-use Rattle.run_table.proofs.fit.fit_in_job.Goals as goal
+use Rattle.run_table.proofs.fit.served_in_job.Goals as goal
 
 pub returns-then-fits-clause-found : goal.returns-then-fits-clause-found
 returns-then-fits-clause-found c =
