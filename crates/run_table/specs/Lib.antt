@@ -4,6 +4,7 @@ pub mod Fitting
 pub mod LegContext
 pub mod Moves
 pub mod Places
+pub mod Reached
 pub mod Rules
 pub mod RunNumber
 pub mod Settling
