@@ -1,8 +1,10 @@
 pub mod AdmitKeeps
 pub mod AtWork
+pub mod AncestorsSettled
 pub mod Changed
 pub mod ClaimKeeps
 mod ContextRows
+pub mod Decided
 pub mod Digits
 pub mod DirectNeeds
 pub mod Doors
@@ -32,6 +34,7 @@ pub mod RunNumbers
 pub mod RunnerPut
 pub mod Settles
 pub mod SettlingKeeps
+pub mod SkipsDue
 pub mod Sought
 pub mod StepKeeps
 pub mod StepRows

@@ -6,6 +6,7 @@ pub mod LegContext
 pub mod Moves
 pub mod Parallel
 pub mod Places
+pub mod Reached
 pub mod Rules
 pub mod RunNumber
 pub mod Settling
