@@ -17,13 +17,14 @@ use Rattle.run_plan.specs.PlanOf.{plan_graph, plan_of}
 use Rattle.run_plan.specs.declared.planned.PlannedJob.{PlannedJob}
 use Rattle.run_table.specs.FirstOf.{placed}
 use Rattle.run_table.specs.Fitting.{has_labels, is_served}
-use Rattle.run_table.specs.JobResults.{direct_needs, job_results, needs_in, results_so_far, with_result}
+use Rattle.run_table.specs.JobResults.{direct_needs, needs_in, results_so_far, with_result}
 use Rattle.run_table.specs.LegContext.{LegFacts, context_of, context_at, facts_at, nothing}
 use Rattle.run_table.specs.Places.{LegPlace, plan_at, run_at}
 use Rattle.run_table.specs.Rules.{leg_end, outcome_of, result_at}
 use Rattle.run_table.specs.RunNumber.{events, same_workflow}
 use Rattle.run_table.specs.TableState.{LegState, JobState, RunState}
 use Rattle.run_table.specs.Words.{all_have_results, is_set, label_texts, needs_have_settled, passes_over}
+use Rattle.run_table.proofs.NeedsSettled.{KeepsResults, result_of_job}
 
 -- what is told of a leg: by its run's event, the events up to it, and the needs of its job
 abbrev told : LegPlace → Admitted → List Admitted → List (List ℕ × Option JobResult) → Option LegFacts
@@ -103,7 +104,7 @@ passes_told runs p =
 -- ---- the needs of a job, once they have settled
 
 -- jobs that had a result have it still
-abbrev pub KeepResults : List (Option JobResult) → List (Option JobResult) → Type 0
+abbrev KeepResults : List (Option JobResult) → List (Option JobResult) → Type 0
 KeepResults before after = (k : ℕ) (r : JobResult) → slice_index_or before k None ≡ Some r → slice_index_or after k None ≡ Some r
 
 result_kept : (o u : Option JobResult) → is_some o ≡ true → ((r : JobResult) → o ≡ Some r → u ≡ Some r) → u ≡ o
@@ -148,43 +149,44 @@ taken_same (suc n) (x ∷ all) (y ∷ others) same =
 
 -- ---- what is told of a leg once the needs of its job have settled
 
-admitted_in : Option RunState → Option Admitted
+abbrev admitted_in : Option RunState → Option Admitted
 admitted_in o = option_map (λ run. run.admitted) o
 
 told_same : (p : LegPlace) (all others : List Admitted) (o u : Option RunState) → admitted_in u ≡ admitted_in o → others ≡ all
     → all_have_results (option_map_or (λ run. results_so_far run.jobs) o []) (needs_at (option_map_or needs_in o []) p.job) ≡ true
     → KeepResults (option_map_or (λ run. results_so_far run.jobs) o []) (option_map_or (λ run. results_so_far run.jobs) u [])
     → option_and_then (told_in p others) u ≡ option_and_then (told_in p all) o
-told_same p all others None None same events settled kept = refl
-told_same p all others None (Some y) same events settled kept = cc
-told_same p all others (Some x) None same events settled kept = cc
-told_same p all others (Some x) (Some y) same events settled kept =
+told_same p all others None None same front settled kept = refl
+told_same p all others None (Some y) same front settled kept = absurd (none_there y.admitted same)
+told_same p all others (Some x) None same front settled kept = absurd (none_there x.admitted (sym same))
+told_same p all others (Some x) (Some y) same front settled kept =
     let event : y.admitted ≡ x.admitted = some_same y.admitted x.admitted same in
     ap (λ a. told p a others (direct_needs y p.job)) event
-    ∙ ap (λ es. told p x.admitted es (direct_needs y p.job)) events
+    ∙ ap (λ es. told p x.admitted es (direct_needs y p.job)) front
     ∙ ap (told p x.admitted all) (needs_kept x y p.job event settled kept)
 
 -- What is told of a leg stays as it is from when the jobs that its job needs have settled, while those keep their results.
 pub facts_stay : (runs next : List RunState) (p : LegPlace) → SameUpTo p.run (events next) (events runs)
-    → needs_have_settled runs p.run p.job ≡ true → KeepResults (job_results runs p.run) (job_results next p.run)
+    → needs_have_settled runs p.run p.job ≡ true → KeepsResults runs next p.run
     → facts_at next p ≡ facts_at runs p
 facts_stay runs next p same settled kept =
     let admitted = λ (run : RunState). run.admitted in
     facts_are next p
     ∙ told_same p (take (p.run + 1) (events runs)) (take (p.run + 1) (events next)) (run_at runs p.run) (run_at next p.run)
     (sym (slice_get-map admitted next p.run) ∙ same p.run (omega arith) ∙ slice_get-map admitted runs p.run)
-    (taken_same (p.run + 1) (events next) (events runs) (λ s lt. same s (omega (arith, lt)))) settled kept
+    (taken_same (p.run + 1) (events next) (events runs) (λ s lt. same s (omega (arith, lt)))) settled
+    (λ k r e. result_of_job next p.run k ∙ kept k r (sym (result_of_job runs p.run k) ∙ e))
     ∙ sym (facts_are runs p)
 
 -- and so does its context
 pub context_stays : (runs next : List RunState) (p : LegPlace) → SameUpTo p.run (events next) (events runs)
-    → needs_have_settled runs p.run p.job ≡ true → KeepResults (job_results runs p.run) (job_results next p.run)
+    → needs_have_settled runs p.run p.job ≡ true → KeepsResults runs next p.run
     → context_at next p ≡ context_at runs p
 unfolding context_at
 context_stays runs next p same settled kept = ap (λ o. option_map_or context_of o nothing) (facts_stay runs next p same settled kept)
 
 passes_stay : (runs next : List RunState) (p : LegPlace) → SameUpTo p.run (events next) (events runs)
-    → needs_have_settled runs p.run p.job ≡ true → KeepResults (job_results runs p.run) (job_results next p.run)
+    → needs_have_settled runs p.run p.job ≡ true → KeepsResults runs next p.run
     → passes_over next p ≡ passes_over runs p
 passes_stay runs next p same settled kept =
     passes_told next p
@@ -200,7 +202,7 @@ ends_same f g (x ∷ xs) same =
     ap (λ o. cons_option o (filter_map f xs)) (same x) ∙ ap (cons_option (g x)) (ends_same f g xs same)
 
 result_of_legs : (runs next : List RunState) (r j : ℕ) (legs : List LegState) → SameUpTo r (events next) (events runs)
-    → ((legs ≡ [] → ⊥) → needs_have_settled runs r j ≡ true) → KeepResults (job_results runs r) (job_results next r)
+    → ((legs ≡ [] → ⊥) → needs_have_settled runs r j ≡ true) → KeepsResults runs next r
     → gathered (filter_map (leg_end next r j) (placed legs)) ≡ gathered (filter_map (leg_end runs r j) (placed legs))
 result_of_legs runs next r j [] same first kept = refl
 result_of_legs runs next r j (x ∷ legs) same first kept =
@@ -211,6 +213,6 @@ result_of_legs runs next r j (x ∷ legs) same first kept =
 
 -- the result of a job from its legs, where one that has legs has its needs settled
 pub result_stays : (runs next : List RunState) (r j : ℕ) (y : JobState) → SameUpTo r (events next) (events runs)
-    → ((y.legs ≡ [] → ⊥) → needs_have_settled runs r j ≡ true) → KeepResults (job_results runs r) (job_results next r)
+    → ((y.legs ≡ [] → ⊥) → needs_have_settled runs r j ≡ true) → KeepsResults runs next r
     → result_at next r j y ≡ result_at runs r j y
 result_stays runs next r j y same first kept = result_of_legs runs next r j y.legs same first kept

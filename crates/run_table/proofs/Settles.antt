@@ -10,7 +10,7 @@ use Rattle.run_table.specs.RunNumber.{events}
 use Rattle.run_table.specs.TableState.{RunState}
 use Rattle.run_table.specs.Words.{planned_legs}
 use Rattle.run_table.proofs.Changed.{reads_same, reads_stay, holds_of_each, length-changed_at}
-use Rattle.run_table.proofs.LegFacts.{SameUpTo, result_same}
+use Rattle.run_table.proofs.LegFacts.{SameUpTo, result_stays}
 use Rattle.run_table.proofs.LegReads.{had_in, works_in, had_at, works_at}
 use Rattle.run_table.proofs.NeedsSettled.{KeepsResults, needs_stay_settled, result_in}
 use Rattle.run_table.proofs.RunFits.{JobFits, RunFits, RunsFit, admitted_at, planned_legs_same}
@@ -77,7 +77,7 @@ fits_beside runs next r x same keeps fits = record {
   phase_fits = fits.phase_fits;
   jobs_fit = (λ j y e.
       subst (λ (n : ℕ). JobFits n (result_at next r j y) y) (sym (planned_legs_same runs next r j (same r (omega arith))))
-      (subst (λ (o : JobResult). JobFits (planned_legs runs r j) o y) (sym (result_same runs next r j y (same_events runs next r same)))
+      (subst (λ (o : JobResult). JobFits (planned_legs runs r j) o y) (sym (result_stays runs next r j y (same_events runs next r same) (fits.needs_first j y e) keeps))
       (fits.jobs_fit j y e)));
   needs_first = (λ j y e some. needs_stay_settled runs next r j (same r (omega arith)) keeps (fits.needs_first j y e some));
 }

@@ -1,8 +1,9 @@
 -- The results that the jobs of a run have so far, and which jobs each one needs. GitHub Docs, "Workflow syntax for
 -- GitHub Actions": jobs.<job_id>.needs.
-use Rattle.std.specs.Prelude.{ℕ, List, [], map, filter_map, Option, Some, None, option_map, slice_get}
+use Rattle.std.specs.Prelude.{ℕ, List, [], map, filter_map, Bool, false, Option, Some, None, option_map, slice_get}
 use Rattle.std.specs.List.{slice_index_or}
 use Rattle.std.specs.Option.{option_map_or}
+use Rattle.std.specs.Str.{bytes_eq}
 use Rattle.wf_value.specs.declared.outcome.JobResult.{JobResult}
 use Rattle.needs_graph.specs.Ancestors.{needs_at}
 use Rattle.run_plan.specs.PlanOf.{plan_of, plan_graph}
@@ -34,6 +35,10 @@ abbrev pub needs_graph_at : List RunState → ℕ → List (List ℕ)
 needs_graph_at runs r = option_map_or needs_in (run_at runs r) []
 
 -- ---- by their ids
+
+-- whether the job at a place of a plan has the id
+unfoldable pub has_id : List PlannedJob → List ℕ → ℕ → Bool
+has_id plan id place = option_map_or (λ planned. bytes_eq planned.id id) (slice_get plan place) false
 
 -- the id of the job at a place, with the result that it has so far
 abbrev pub with_result : List PlannedJob → List (Option JobResult) → ℕ → Option (List ℕ × Option JobResult)
