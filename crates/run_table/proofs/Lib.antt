@@ -23,6 +23,7 @@ pub mod Moved
 pub mod Optional
 pub mod OwnRun
 pub mod ReportKeeps
+pub mod ReachedTables
 pub mod Rests
 pub mod RuleKeeps
 pub mod RunFits

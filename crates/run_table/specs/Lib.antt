@@ -1,6 +1,7 @@
 pub mod Cells
 pub mod FirstOf
 pub mod Fitting
+pub mod Histories
 pub mod LegContext
 pub mod Moves
 pub mod Parallel
