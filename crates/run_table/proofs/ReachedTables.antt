@@ -263,13 +263,17 @@ leased_from t (c ∷ cs) s p n e =
     let sound = stepped_is_sound t c s in
     let reads = step_reads t c s in
     elim (leased_from next cs sound p n e) [
-      | inr w ↦ inr (suc w.0, w.1.0, w.1.1.0, w.1.1.1)
+      | inr w ↦ inr (suc w.0, w.1, w.2, w.3)
       | inl had ↦ elim (reads.had_before p n had) [
         | inl before ↦ inl before
         | inr new ↦
             let later = events_after next cs sound p.run new.event (reads.same_admitted p.run new.event new.event_is) in
-            inr (0, new.claim, ap Some new.claims,
-            ap Some (new.answer ∙ ap (λ l. reply.Lease l) (same_lease t.runs (after next cs).runs p n new.event new.event_is later)))
+            inr (
+              0,
+              new.claim,
+              ap Some new.claims,
+              ap Some (new.answer ∙ ap (λ l. reply.Lease l) (same_lease t.runs (after next cs).runs p n new.event new.event_is later)),
+            )
       ]
     ]
 
