@@ -3,7 +3,9 @@ ghost use Rattle.wf_value.specs.Gives.{Gives};
 ghost use Rattle.acts_cli.specs.Line.{not_a_line, admit_of, claim_of, outcome_of, done_of, beat_of, look_of, command_by, command_of};
 
 use crate::fields::{at_space, three_fields};
-use run_plan::{Beat, Claim, Command, DeliveryId, Done, EventName, Labels, Number, RunnerName, prepare};
+use run_plan::{
+    Beat, Claim, Command, DeliveryId, Done, EventName, Labels, Number, RunnerName, prepare,
+};
 use std::alloc::Global;
 use wf_value::{Code, Outcome, Refusal};
 

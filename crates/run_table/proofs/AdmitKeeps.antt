@@ -98,7 +98,7 @@ module _ (runs : List RunState) (event : Admitted) where
             (option_and_then (λ (v : RunState). slice_get (plan_of v.admitted.body) j) o)) before) ∙ is)
       ]
 
-  same_reads : (f : LegState → Option ℕ) (p : LegPlace)
+  pub same_reads : (f : LegState → Option ℕ) (p : LegPlace)
       → option_and_then
       (λ (x : RunState). option_and_then (λ (y : JobState). option_and_then f (slice_get y.legs p.leg)) (slice_get x.jobs p.job))
       (run_at (runs ++ new_run event ∷ []) p.run)

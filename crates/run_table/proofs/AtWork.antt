@@ -18,8 +18,11 @@ use Rattle.run_table.proofs.Settles.{Settles}
 abbrev pub at_work : LegState → Bool
 at_work l = is_at_work l.phase
 
+abbrev pub one_where : Bool → ℕ
+one_where b = cond b 1 0
+
 abbrev pub one_at_work : LegState → ℕ
-one_at_work l = cond (at_work l) 1 0
+one_at_work l = one_where (at_work l)
 
 -- the lease of work on the leg at a place of a list
 abbrev work_at : List LegState → ℕ → Option ℕ
@@ -52,7 +55,7 @@ works l n e =
       | false ↦ λ f. cc
     ] e
 
-pub at_most_one : (b : Bool) → cond b 1 0 ≤ 1
+pub at_most_one : (b : Bool) → one_where b ≤ 1
 at_most_one true = omega arith
 at_most_one false = omega arith
 
@@ -68,19 +71,19 @@ none_some n e = cc
 fewer_of : (y x : LegState) → LeaseFits y.phase y.lease → ((n : ℕ) → work_of y ≡ Some n → work_of x ≡ Some n)
     → one_at_work y ≤ one_at_work x
 fewer_of y x fits still =
-    elim (at_work y) as (λ b. at_work y ≡ b → cond b 1 0 ≤ one_at_work x) [
+    elim (at_work y) as (λ b. at_work y ≡ b → one_where b ≤ one_at_work x) [
       | false ↦ λ is. omega arith
       | true ↦ λ is.
           let under = leased y.phase y.lease fits is in
           let works_too : at_work x ≡ true = works x under.lease (still under.lease under.is) in
-          let one : one_at_work x ≡ 1 = ap (λ b. cond b 1 0) works_too in
+          let one : one_at_work x ≡ 1 = ap one_where works_too in
           omega (arith, one)
     ] refl
 
 -- of a leg that is not there before
 not_at_work : (y : LegState) → LeaseFits y.phase y.lease → ((n : ℕ) → work_of y ≡ Some n → None ≡ Some n) → one_at_work y ≡ 0
 not_at_work y fits still =
-    elim (at_work y) as (λ b. at_work y ≡ b → cond b 1 0 ≡ 0) [
+    elim (at_work y) as (λ b. at_work y ≡ b → one_where b ≡ 0) [
       | false ↦ λ is. refl
       | true ↦ λ is. let under = leased y.phase y.lease fits is in absurd (none_some under.lease (still under.lease under.is))
     ] refl

@@ -49,10 +49,10 @@ holds_none (Some x) e =
 
 -- ---- the leg that fits
 
-record ReadyLeg (runs : List RunState) (p : LegPlace) : Type 0 where
-  leg_of : LegState
-  is : leg_at runs p ≡ Some leg_of
-  ready : leg_of.phase ≡ leg.Ready
+pub record ReadyLeg (runs : List RunState) (p : LegPlace) : Type 0 where
+  pub leg_of : LegState
+  pub is : leg_at runs p ≡ Some leg_of
+  pub ready : leg_of.phase ≡ leg.Ready
 
 is_ready_ready : (phase : LegPhase) → is_ready phase ≡ true → phase ≡ leg.Ready
 is_ready_ready leg.New e = cc
@@ -67,7 +67,7 @@ ready_at : (runs : List RunState) (p : LegPlace) (o : Option LegState) → leg_a
 ready_at runs p None is e = cc
 ready_at runs p (Some z) is e = record { leg_of = z; is = is; ready = is_ready_ready z.phase e }
 
-fitting_leg : (labels : List (List ℕ)) (runs : List RunState) (p : LegPlace) → first_fit labels runs ≡ Some p → ReadyLeg runs p
+pub fitting_leg : (labels : List (List ℕ)) (runs : List RunState) (p : LegPlace) → first_fit labels runs ≡ Some p → ReadyLeg runs p
 fitting_leg labels runs p e =
     ready_at runs p (leg_at runs p) refl
     (and_parts (option_map_or (λ l. is_ready l.phase) (leg_at runs p) false) (may_run_too runs p && is_served labels runs p)

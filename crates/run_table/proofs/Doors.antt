@@ -1,10 +1,10 @@
 -- The changes of a run's cells, as contracts see them.
-use Rattle.std.specs.Prelude.{◌≡◌, ℕ, zero, suc, ◌<◌, ◌≤◌, ◌||◌, List, [], ◌∷◌, length, map, filter_map, Bool, true, false, slice_get}
-use Rattle.std.specs.Prelude.{slice_set, Some, option_and_then, Result, Ok, refl}
+use Rattle.std.specs.Prelude.{◌≡◌, ℕ, zero, suc, ◌<◌, ◌≤◌, ◌||◌, List, [], ◌∷◌, ◌++◌, length, map, filter_map, Bool, true, false}
+use Rattle.std.specs.Prelude.{slice_get, slice_set, take, Some, option_and_then, Result, Ok, refl}
 use Rattle.std.specs.List.{cons_option, list_any}
 use Rattle.std.specs.Option.{option_map_or}
 use Rattle.std.proofs.Common.{arith, ap, subst, sym, ◌∙◌, get_or}
-use Rattle.std.proofs.lemmas.List.{length-map, length-set}
+use Rattle.std.proofs.lemmas.List.{length-map, length-set, take_at}
 use Rattle.std.proofs.lemmas.Option.{slice_get-get_or}
 use Rattle.wf_value.specs.declared.refusal.Refusal.{Refusal}
 use Rattle.run_plan.specs.Admitted.{Admitted}
@@ -42,7 +42,7 @@ changed_within f (z ∷ xs) zero x y lt is so = ap (λ w. w ∷ xs) (so ∙ ap f
 changed_within f (z ∷ xs) (suc i) x y lt is so = ap (λ ys. z ∷ ys) (changed_within f xs i x y (omega arith) is so)
 
 -- what is read is read again, whatever stands for the place past the end
-read_again : {X : Type 0} (xs : List X) (i : ℕ) (d : X) → get_or xs i d ≡ get_or xs i (get_or xs i d)
+pub read_again : {X : Type 0} (xs : List X) (i : ℕ) (d : X) → get_or xs i d ≡ get_or xs i (get_or xs i d)
 read_again [] i d = refl
 read_again (x ∷ xs) zero d = refl
 read_again (x ∷ xs) (suc i) d = read_again xs i d
@@ -82,6 +82,13 @@ legs_stopped phase true xs s is =
 legs_stopped phase false xs s is =
     let P : JobCells → Type 0 = λ t. cells_of phase false (map stopped xs) ≡ in_state (with_stopped_legs t.state) t in
     subst P is (ap (λ n. record { state = record { phase = phase; legs = [] }; room = n }) (length-map xs stopped))
+
+-- what a `Vec` of them holds once the slice of its items is `new`
+pub room_stopped : (phase : JobPhase) (has_legs : Bool) (xs old new rest : List LegState) (n : ℕ) (s : JobCells) → old ≡ xs
+    → new ≡ map stopped old → n ≡ length new → cells_of phase has_legs xs ≡ s
+    → cells_of phase has_legs (take n (new ++ rest)) ≡ in_state (with_stopped_legs s.state) s
+room_stopped phase has_legs xs old new rest n s was so len is =
+    ap (cells_of phase has_legs) (take_at new rest n (sym len) ∙ so ∙ ap (map stopped) was) ∙ legs_stopped phase has_legs xs s is
 
 -- ---- the jobs of a run
 

@@ -27,6 +27,7 @@ pub mod NeedsSettled
 pub mod Optional
 pub mod OwnRun
 pub mod ReportKeeps
+pub mod ReachedTables
 pub mod Rests
 pub mod RuleKeeps
 pub mod RunFits

@@ -14,7 +14,8 @@ use Rattle.run_plan.specs.declared.reply.Reply.{Reply}
 use Rattle.run_table.specs.Fitting.{first_fit, place_of_lease}
 use Rattle.run_table.specs.Moves.{Step}
 use Rattle.run_table.specs.Places.{LegPlace, run_at, with_leg}
-use Rattle.run_table.specs.Reached.{SkipsAreDue, after}
+use Rattle.run_table.specs.Histories.{after}
+use Rattle.run_table.specs.Skips.{SkipsAreDue}
 use Rattle.run_table.specs.Rules.{leg_in_phase}
 use Rattle.run_table.specs.Sound.{IsSound}
 use Rattle.run_table.specs.Step.{empty, unchanged, admission_answer, new_run, admitting, admitted, claim_answer, leased_leg, leasing}

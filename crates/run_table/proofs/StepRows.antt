@@ -1,5 +1,5 @@
 -- The step worked through by computation, on tables written out.
-use Rattle.std.specs.Prelude.{◌≡◌, ℕ, List, [], ◌∷◌, codes, Bool, Some, None, true, false, is_some, slice_get}
+use Rattle.std.specs.Prelude.{◌≡◌, ◌&&◌, ℕ, List, [], ◌∷◌, codes, not, Bool, Some, None, true, false, is_some, slice_get}
 use Rattle.std.specs.Prelude.{if◌then◌else◌, refl}
 use Rattle.std.proofs.Common.{ap, ◌∙◌}
 use Rattle.std.specs.Option.{option_map_or}
@@ -23,6 +23,7 @@ use Rattle.run_table.specs.Places.{with_job}
 use Rattle.run_table.specs.Rules.{decided, may_run, new_leg, opened, rule_at, settled_as}
 use Rattle.run_table.specs.Settling.{settled, first_place, first_rule, left}
 use Rattle.run_table.specs.Step.{step, empty, blocked_job, claiming_runner, reporting_runner, refused, leased_leg}
+use Rattle.run_table.specs.Stops.{with_stopped_legs}
 use Rattle.run_table.specs.TableState.{LegState, JobState, RunState, RunnerState, TableState}
 use Rattle.run_table.specs.Words.{all_have_results, is_set, needs_have_settled, planned_legs}
 use Rattle.run_plan.specs.declared.last_command.ClaimReply.TheVariants as given
@@ -194,11 +195,27 @@ failed body r = record {
   runners = reporting_runner (record { runner = codes "r1"; number = 3; lease = 1; result = outcome.Failure }) ∷ [];
 }
 
+-- whether the failure stops the other legs, by the plan
+abbrev stopped_by : List ℕ → List PlannedJob → Bool
+stopped_by body plan =
+    let values = context_at (working body).runs (record { run = 0; job = 0; leg = 0 }) in
+    option_map_or (λ planned. planned.fail_fast) (slice_get plan 0) false
+    && not (option_map_or (λ planned. is_set values planned.continue_on_error) (slice_get plan 0) false)
+
 -- a report ends the leg of its lease, its job and its run
 report_of_a_failure : (body : List ℕ) → plan_of body ≡ plan_with false
     → step (working body) (command.Done (record { runner = codes "r1"; number = 3; lease = 1; result = outcome.Failure }))
     ≡ (failed body result.Failure, reply.Ok)
-report_of_a_failure body planned_so = ap (λ plan. (failed body (result_by body plan), reply.Ok)) planned_so
+report_of_a_failure body planned_so =
+    ap (λ plan. (
+      record {
+        last_lease = 1;
+        runs = settled (if stopped_by body plan then with_job 0 0 with_stopped_legs (failed_live body ∷ []) else failed_live body ∷ []);
+        runners = reporting_runner (record { runner = codes "r1"; number = 3; lease = 1; result = outcome.Failure }) ∷ [];
+      },
+      reply.Ok,
+    )) planned_so
+    ∙ ap (λ plan. (failed body (result_by body plan), reply.Ok)) planned_so
 
 -- the lease of a leg is found whatever job it is of
 lease_is_found : place_of_lease

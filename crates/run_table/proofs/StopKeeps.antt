@@ -52,7 +52,7 @@ same_of_leg : (f : LegState → Option ℕ) → ((z : LegState) → f (stopped z
 same_of_leg f same None = refl
 same_of_leg f same (Some z) = same z
 
-same_reads : (f : LegState → Option ℕ) → ((z : LegState) → f (stopped z) ≡ f z) → (legs : List LegState) (l : ℕ)
+pub same_reads : (f : LegState → Option ℕ) → ((z : LegState) → f (stopped z) ≡ f z) → (legs : List LegState) (l : ℕ)
     → option_and_then f (slice_get (map stopped legs) l) ≡ option_and_then f (slice_get legs l)
 same_reads f same legs l = ap (option_and_then f) (slice_get-map stopped legs l) ∙ same_of_leg f same (slice_get legs l)
 

@@ -1,15 +1,16 @@
 pub mod Cells
 pub mod FirstOf
 pub mod Fitting
+pub mod Histories
 pub mod JobResults
 pub mod LegContext
 pub mod Moves
 pub mod Parallel
 pub mod Places
-pub mod Reached
 pub mod Rules
 pub mod RunNumber
 pub mod Settling
+pub mod Skips
 pub mod Sound
 pub mod Step
 pub mod Stops

@@ -26,13 +26,7 @@ fn fits(labels: &[Label], runs: &Runs, place: LegPlace, leg: &Leg) -> bool
 }
 
 /// The first ready leg of the job that asks for no label that these lack.
-fn served_in_job(
-    labels: &[Label],
-    runs: &Runs,
-    r: usize,
-    j: usize,
-    job: &Job,
-) -> Option<LegPlace>
+fn served_in_job(labels: &[Label], runs: &Runs, r: usize, j: usize, job: &Job) -> Option<LegPlace>
     ensures found { result ≡ served_in_job labels.now runs.now r j job.now.state }
     ensures run { IfSome result (λ p. p.run ≡ r) }
 {
