@@ -31,7 +31,7 @@ use Rattle.run_table.proofs.Settles.{fits_beside}
 
 -- ---- the new run by itself
 
-job_is_blocked : (plan : List PlannedJob) (j : ℕ) (y : JobState) → slice_get (map (λ _. blocked_job) plan) j ≡ Some y → blocked_job ≡ y
+pub job_is_blocked : (plan : List PlannedJob) (j : ℕ) (y : JobState) → slice_get (map (λ _. blocked_job) plan) j ≡ Some y → blocked_job ≡ y
 job_is_blocked plan j y e = (from_map (λ _. blocked_job) (slice_get plan j) y (sym (slice_get-map (λ _. blocked_job) plan j) ∙ e)).gives
 
 blocked_fits : (planned : ℕ) (runs : List RunState) (r j : ℕ) → JobFits planned (result_at runs r j blocked_job) blocked_job

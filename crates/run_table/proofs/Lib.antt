@@ -1,7 +1,9 @@
 pub mod AdmitKeeps
+pub mod AncestorsSettled
 pub mod Changed
 pub mod ClaimKeeps
 mod ContextRows
+pub mod Decided
 pub mod Digits
 pub mod DirectNeeds
 pub mod Doors
@@ -31,6 +33,7 @@ pub mod RunNumbers
 pub mod RunnerPut
 pub mod Settles
 pub mod SettlingKeeps
+pub mod SkipsDue
 pub mod Sought
 pub mod StepKeeps
 pub mod StepRows

@@ -1,12 +1,13 @@
 -- Whether a job's needs have settled and whether its condition holds, by its run; and that needs stay settled, since
 -- a settled job keeps its result.
-use Rattle.std.specs.Prelude.{◌≡◌, ℕ, zero, suc, ◌<◌, ◌&&◌, List, [], ◌∷◌, length, Bool, true, false, is_some, Option, Some, None}
+use Rattle.std.specs.Prelude.{◌≡◌, ℕ, zero, suc, ◌<◌, ◌&&◌, List, [], ◌∷◌, map, length, Bool, true, false, is_some, Option, Some, None}
 use Rattle.std.specs.Prelude.{option_map, option_and_then, slice_get, refl}
 use Rattle.std.specs.List.{slice_index_or}
 use Rattle.std.specs.Option.{option_map_or}
 use Rattle.std.proofs.Common.{ap, sym, ◌∙◌, get_or}
 use Rattle.std.proofs.lemmas.Bool.{and_parts}
 use Rattle.std.proofs.lemmas.Option.{slice_get-get_or}
+use Rattle.wf_value.specs.declared.condition.Condition.{Condition}
 use Rattle.wf_value.specs.declared.condition.Condition.TheVariants as condition
 use Rattle.wf_value.specs.declared.outcome.JobResult.{JobResult}
 use Rattle.needs_graph.specs.Ancestors.{needs_at}
@@ -14,11 +15,11 @@ use Rattle.needs_graph.specs.Conditions.{condition_value, ancestor_results as re
 use Rattle.run_plan.specs.Admitted.{Admitted}
 use Rattle.run_plan.specs.PlanOf.{plan_of, plan_graph}
 use Rattle.run_plan.specs.declared.planned.PlannedJob.{PlannedJob}
-use Rattle.run_table.specs.Cells.{JobCells, states}
+use Rattle.run_table.specs.Cells.{JobCells, result_of, states}
 use Rattle.run_table.specs.Places.{run_at}
 use Rattle.run_table.specs.Rules.{may_run}
 use Rattle.run_table.specs.TableState.{JobState, RunState}
-use Rattle.run_table.specs.WithinRun.{may_run_in, needs_settled_in}
+use Rattle.run_table.specs.WithinRun.{condition_in, may_run_in, needs_settled_in}
 use Rattle.run_table.specs.Words.{all_have_results, job_results, needs_graph_at, needs_have_settled, needs_in, results_so_far, settled_result}
 
 -- ---- by its run
@@ -38,6 +39,22 @@ may_run_where j o =
 
 pub may_run_by_run : (runs : List RunState) (r j : ℕ) (run : RunState) → run_at runs r ≡ Some run → may_run runs r j ≡ may_run_in run j
 may_run_by_run runs r j run at = ap (may_run_where j) at
+
+-- the results of jobs, with their rooms
+results_of_cells : (cells : List JobCells) → map result_of cells ≡ results_so_far (states cells)
+results_of_cells [] = refl
+results_of_cells (x ∷ xs) = ap (λ os. settled_result x.state.phase ∷ os) (results_of_cells xs)
+
+-- from what a run keeps
+pub decided_in : (run : RunState) (j : ℕ) (asked : Condition) (graph : List (List ℕ)) (cells : List JobCells) (stopping : Bool)
+    → asked ≡ condition_in run j → graph ≡ needs_in run → states cells ≡ run.jobs → stopping ≡ run.stopping
+    → condition_value asked (results_of_ancestors graph (map result_of cells) j) stopping ≡ may_run_in run j
+decided_in run j asked graph cells stopping is_asked is_graph is_jobs is_stopping =
+    ap (λ c. condition_value c (results_of_ancestors graph (map result_of cells) j) stopping) is_asked
+    ∙ ap (λ g. condition_value (condition_in run j) (results_of_ancestors g (map result_of cells) j) stopping) is_graph
+    ∙ ap (λ rs. condition_value (condition_in run j) (results_of_ancestors (needs_in run) rs j) stopping)
+    (results_of_cells cells ∙ ap results_so_far is_jobs)
+    ∙ ap (λ s. condition_value (condition_in run j) (results_of_ancestors (needs_in run) (results_so_far run.jobs) j) s) is_stopping
 
 -- where there is no run, none of its jobs runs
 pub may_run_nowhere : (runs : List RunState) (r j : ℕ) → run_at runs r ≡ None → may_run runs r j ≡ false

@@ -1,6 +1,7 @@
 -- The step worked through by computation, on tables written out.
-use Rattle.std.specs.Prelude.{◌≡◌, ℕ, List, [], ◌∷◌, codes, Bool, Some, None, true, false, slice_get, refl}
-use Rattle.std.proofs.Common.{ap}
+use Rattle.std.specs.Prelude.{◌≡◌, ℕ, List, [], ◌∷◌, codes, Bool, Some, None, true, false, is_some, slice_get}
+use Rattle.std.specs.Prelude.{if◌then◌else◌, refl}
+use Rattle.std.proofs.Common.{ap, ◌∙◌}
 use Rattle.std.specs.Option.{option_map_or}
 use Rattle.wf_value.specs.declared.code.Code.TheVariants.{HasLease, LeaseNotHeld, NoRun}
 use Rattle.wf_value.specs.declared.condition.Condition.TheVariants as condition
@@ -8,20 +9,22 @@ use Rattle.wf_value.specs.declared.outcome.JobResult.{JobResult}
 use Rattle.wf_value.specs.declared.outcome.JobResult.TheVariants as result
 use Rattle.wf_value.specs.declared.outcome.Outcome.TheVariants as outcome
 use Rattle.wf_value.specs.declared.refusal.Refusal.TheVariants.{Turn}
+use Rattle.needs_graph.specs.Ancestors.{needs_at}
 use Rattle.needs_graph.specs.Results.{gathered}
 use Rattle.wf_reader.specs.declared.flag.Flag.TheVariants as flag
-use Rattle.run_plan.specs.PlanOf.{plan_of}
+use Rattle.run_plan.specs.PlanOf.{plan_of, plan_graph}
 use Rattle.run_plan.specs.declared.planned.PlannedJob.{PlannedJob}
 use Rattle.run_plan.specs.declared.command.Claim.{Claim as Claimed}
 use Rattle.run_plan.specs.declared.command.Command.TheVariants as command
 use Rattle.run_plan.specs.declared.reply.Reply.TheVariants as reply
 use Rattle.run_table.specs.Fitting.{place_of_lease}
 use Rattle.run_table.specs.LegContext.{context_at}
-use Rattle.run_table.specs.Rules.{new_leg, opened, rule_at}
+use Rattle.run_table.specs.Places.{with_job}
+use Rattle.run_table.specs.Rules.{decided, may_run, new_leg, opened, rule_at, settled_as}
 use Rattle.run_table.specs.Settling.{settled, first_place, first_rule, left}
-use Rattle.run_table.specs.Step.{step, empty, claiming_runner, reporting_runner, refused, leased_leg}
+use Rattle.run_table.specs.Step.{step, empty, blocked_job, claiming_runner, reporting_runner, refused, leased_leg}
 use Rattle.run_table.specs.TableState.{LegState, JobState, RunState, RunnerState, TableState}
-use Rattle.run_table.specs.Words.{is_set}
+use Rattle.run_table.specs.Words.{all_have_results, is_set, needs_have_settled, planned_legs}
 use Rattle.run_plan.specs.declared.last_command.ClaimReply.TheVariants as given
 use Rattle.run_table.specs.declared.phases.LegPhase.TheVariants as leg
 use Rattle.run_table.specs.declared.phases.JobPhase.TheVariants as job
@@ -107,19 +110,39 @@ running_leg_rests = refl
 waiting_run_becomes_live : first_place (run_of run.Waiting (record { phase = job.Blocked; legs = [] } ∷ []) ∷ []) ≡ Some (Whole 0)
 waiting_run_becomes_live = refl
 
--- a blocked job of a live run opens
-blocked_job_opens : first_place (run_of run.Live (record { phase = job.Blocked; legs = [] } ∷ []) ∷ []) ≡ Some (Opening 0 0)
-blocked_job_opens = refl
+-- a blocked job of a live run opens where it needs no other
+blocked_job_opens : (body : List ℕ) → needs_at (plan_graph (plan_of body)) 0 ≡ []
+    → first_place (run_with body run.Live (blocked_job ∷ []) ∷ []) ≡ Some (Opening 0 0)
+blocked_job_opens body needs =
+    let runs = run_with body run.Live (blocked_job ∷ []) ∷ [] in
+    ap (λ places. if is_some (if all_have_results (None ∷ []) places then Some (with_job 0 0 (decided runs 0 0) runs) else None)
+    then Some (Opening 0 0) else None) needs
+
+-- and waits where it needs a job that is open
+blocked_job_waits : (body : List ℕ) → needs_at (plan_graph (plan_of body)) 0 ≡ 1 ∷ []
+    → first_place (run_with body run.Live (blocked_job ∷ open_job (leased_leg 1 ∷ []) ∷ []) ∷ []) ≡ None
+blocked_job_waits body needs =
+    let runs = run_with body run.Live (blocked_job ∷ open_job (leased_leg 1 ∷ []) ∷ []) ∷ [] in
+    ap (λ places. if is_some (if all_have_results (None ∷ None ∷ []) places then Some (with_job 0 0 (decided runs 0 0) runs) else None)
+    then Some (Opening 0 0) else None) needs
 
 -- with the legs of its plan
 job_opens_with_its_legs : opened 2 (record { phase = job.Blocked; legs = [] }) ≡ open_job (new_leg ∷ new_leg ∷ [])
 job_opens_with_its_legs = refl
 
--- the blocked job of a run that is told to stop settles as cancelled
-stopping_job_is_cancelled : rule_at (record (run_of run.Live (record { phase = job.Blocked; legs = [] } ∷ [])) { stopping = true } ∷ [])
-    (Opening 0 0)
-    ≡ Some (record (run_of run.Live (record { phase = job.Settled result.Cancelled; legs = [] } ∷ [])) { stopping = true } ∷ [])
-stopping_job_is_cancelled = refl
+-- a live run of this job that is told to stop
+abbrev stopping_with : List ℕ → JobState → List RunState
+stopping_with body job = record (run_with body run.Live (job ∷ [])) { stopping = true } ∷ []
+
+-- the blocked job of a run that is told to stop settles as cancelled where its condition is false
+stopping_job_is_cancelled : (body : List ℕ) → needs_have_settled (stopping_with body blocked_job) 0 0 ≡ true
+    → may_run (stopping_with body blocked_job) 0 0 ≡ false
+    → rule_at (stopping_with body blocked_job) (Opening 0 0)
+    ≡ Some (stopping_with body (record { phase = job.Settled result.Cancelled; legs = [] }))
+stopping_job_is_cancelled body needs may =
+    let runs = stopping_with body blocked_job in
+    ap (λ b. if b then Some (with_job 0 0 (decided runs 0 0) runs) else None) needs
+    ∙ ap (λ b. Some (with_job 0 0 (if b then opened (planned_legs runs 0 0) else settled_as result.Cancelled) runs)) may
 
 -- each rule lowers what is left: a job that settles by one, a leg that goes on by one
 left_of_one_job : left (one_job (new_leg ∷ []) ∷ []) ≡ 7

@@ -5,6 +5,7 @@ pub mod JobResults
 pub mod LegContext
 pub mod Moves
 pub mod Places
+pub mod Reached
 pub mod Rules
 pub mod RunNumber
 pub mod Settling

@@ -3,10 +3,11 @@
 ghost use Rattle.std.specs.Prelude.{◌≡◌, ◌<◌, ℕ, List, Some, None};
 ghost use Rattle.run_plan.specs.declared.command.Command.{Command};
 ghost use Rattle.run_table.specs.Places.{run_at};
+ghost use Rattle.run_table.specs.Reached.{SkipsAreDue, after};
 ghost use Rattle.run_table.specs.Rules.{rule_at, run_of_place};
 ghost use Rattle.run_table.specs.Settling.{first_place, first_rule, left, settled};
 ghost use Rattle.run_table.specs.Sound.{IsSound};
-ghost use Rattle.run_table.specs.Step.{stepped};
+ghost use Rattle.run_table.specs.Step.{empty, stepped};
 ghost use Rattle.run_table.specs.TableState.{RunState, TableState};
 ghost use Rattle.run_table.specs.declared.place.Place.{Place};
 
@@ -34,4 +35,10 @@ pub fn plain_rules_touch_one_run()
 /// A step keeps what every table keeps, from any table that keeps it, also one that no commands reach.
 pub fn steps_keep_tables_sound()
     ensures { (t : TableState) (c : Command) → IsSound t → IsSound (stepped t c).table }
+{}
+
+/// In every table that commands lead to from the empty one, a job that settled as skipped has all its needs settled,
+/// and its condition is false for the results of its ancestors in a run that is not stopping.
+pub fn skips_are_due()
+    ensures { (commands : List Command) → SkipsAreDue (after empty commands).runs }
 {}

@@ -7,8 +7,8 @@ ghost use Rattle.run_table.specs.FirstOf.{changed_at};
 ghost use Rattle.run_table.specs.Rules.{opened, settled_as, run_in_phase};
 ghost use Rattle.run_table.specs.Settling.{legs_in_plan};
 ghost use Rattle.run_table.specs.Step.{is_delivered_as, new_run};
-ghost use Rattle.run_table.specs.WithinRun.{may_run_in, needs_settled_in};
 ghost use Rattle.run_table.specs.JobResults.{results_so_far};
+ghost use Rattle.run_table.specs.WithinRun.{condition_in, may_run_in, needs_settled_in};
 ghost use Rattle.run_table.specs.Words.{all_have_results};
 
 use crate::job::Job;
@@ -17,7 +17,7 @@ use crate::phases::RunPhase;
 use run_plan::{DeliveryId, PlannedJob, Prepared};
 use std::alloc::Global;
 use std::marker::Model;
-use wf_value::{JobResult, Refusal, TryCopy, copy_items};
+use wf_value::{Condition, JobResult, Refusal, TryCopy, copy_items};
 
 /// A run: what was admitted, and how far it has come.
 #[derive(Drop)]
@@ -102,17 +102,28 @@ impl Run {
         j >= graph.job_count() || have_settled(self.jobs(), graph.needs(j))
     }
 
-    /// Whether the condition of the job at a place holds, from the results of all jobs before it.
+    fn planned(&self, j: usize) -> Option<&PlannedJob>
+        ensures { option_map (λ p. p.now) result ≡ slice_get (plan_of self.now.admitted.body) j }
+    {
+        self.prepared.plan().as_slice().get(j)
+    }
+
+    fn condition(&self, j: usize) -> Condition
+        ensures { result ≡ condition_in self.now j }
+    {
+        match self.planned(j) {
+            Some(job) => job.condition,
+            None => Condition::Never,
+        }
+    }
+
+    /// Whether the condition of the job at a place holds, from the results of all its ancestors.
     pub(crate) fn may_run(&self, j: usize) -> bool
         ensures { result ≡ may_run_in self.now j }
     {
-        let plan = self.prepared.plan();
-        match plan.as_slice().get(j) {
-            Some(job) => plan
-                .graph()
-                .decide(j, job.condition, self.jobs(), self.stopping),
-            None => false,
-        }
+        let condition = self.condition(j);
+        let graph = self.prepared.plan().graph();
+        graph.decide(j, condition, self.jobs(), self.stopping)
     }
 
     // ---- the changes of a run

@@ -1,0 +1,121 @@
+-- Every step keeps what was decided of jobs, so it holds in each table that commands lead to.
+use Rattle.std.specs.Prelude.{◌≡◌, ℕ, List, [], ◌∷◌, ◌++◌, length, Option, Some, None, option_map, option_and_then, refl}
+use Rattle.std.specs.Option.{option_map_or}
+use Rattle.std.proofs.Common.{ap, sym, ◌∙◌, subst, inl, inr}
+use Rattle.std.proofs.lemmas.Bool.{cases_eq}
+use Rattle.wf_value.specs.declared.outcome.JobResult.TheVariants as result
+use Rattle.run_plan.specs.Admitted.{Admitted}
+use Rattle.run_plan.specs.PlanOf.{plan_of}
+use Rattle.run_plan.specs.declared.command.Claim.{Claim as Claimed}
+use Rattle.run_plan.specs.declared.command.Done.{Done as Reported}
+use Rattle.run_plan.specs.declared.command.Command.{Command}
+use Rattle.run_plan.specs.declared.command.Command.TheVariants as command
+use Rattle.run_plan.specs.declared.reply.Reply.{Reply}
+use Rattle.run_table.specs.Fitting.{first_fit, place_of_lease}
+use Rattle.run_table.specs.Moves.{Step}
+use Rattle.run_table.specs.Places.{LegPlace, run_at, with_leg}
+use Rattle.run_table.specs.Reached.{SkipsAreDue, after}
+use Rattle.run_table.specs.Rules.{leg_in_phase}
+use Rattle.run_table.specs.Sound.{IsSound}
+use Rattle.run_table.specs.Step.{empty, unchanged, admission_answer, new_run, admitting, admitted, claim_answer, leased_leg, leasing}
+use Rattle.run_table.specs.Step.{serving_nothing, claiming, claimed, report_answer, with_ended, reporting, reported, stepped}
+use Rattle.run_table.specs.TableState.{JobState, RunState, TableState}
+use Rattle.run_table.specs.declared.phases.JobPhase.TheVariants as job
+use Rattle.run_table.specs.declared.phases.LegPhase.TheVariants as leg
+use Rattle.run_table.proofs.AdmitKeeps.{admit_keeps, job_is_blocked}
+use Rattle.run_table.proofs.ClaimKeeps.{leasing_keeps}
+use Rattle.run_table.proofs.Decided.{JobDecided, Decided, decided_stays, leg_change_decided, settled_decided}
+use Rattle.run_table.proofs.Found.{at_the_end, before_the_end}
+use Rattle.run_table.proofs.JobKeeps.{job_in}
+use Rattle.run_table.proofs.Kept.{kept_from_sound}
+use Rattle.run_table.proofs.NeedsSettled.{result_in}
+use Rattle.run_table.proofs.ReportKeeps.{report_keeps}
+use Rattle.run_table.proofs.RunFits.{job_in_run}
+use Rattle.run_table.proofs.StepKeeps.{empty_is_sound, stepped_is_sound}
+
+-- ---- a new run
+
+same_run : (x y : RunState) → Some x ≡ Some y → x ≡ y
+same_run x y e = cc
+
+module _ (runs : List RunState) (event : Admitted) (all : Decided runs) where
+  blocked_decided : (r j : ℕ) (y : JobState) (x : RunState) → new_run event ≡ x → slice_get x.jobs j ≡ Some y
+      → JobDecided (runs ++ new_run event ∷ []) r j y.phase
+  blocked_decided r j y x is e =
+      subst (λ (v : JobState). JobDecided (runs ++ new_run event ∷ []) r j v.phase)
+      (job_is_blocked (plan_of event.body) j y (ap (λ (v : RunState). slice_get v.jobs j) is ∙ e)) tt
+
+  new_run_decided : Decided (runs ++ new_run event ∷ [])
+  new_run_decided r j y at =
+      let next = runs ++ new_run event ∷ [] in
+      let new = job_in next r j y at in
+      elim (cases_eq r (length runs)) [
+        | inl s ↦
+            blocked_decided r j y new.run
+            (same_run (new_run event) new.run (sym (at_the_end runs (new_run event)) ∙ ap (slice_get next) (sym s) ∙ new.run_is)) new.job_is
+        | inr n ↦
+            let before = before_the_end runs (new_run event) r n in
+            decided_stays runs next all r (ap (option_map (λ (v : RunState). v.admitted)) before)
+            (λ i a had. ap (option_and_then (λ (v : RunState). result_in v i)) before ∙ had) j y.phase
+            (all r j y (job_in_run runs r j new.run (sym before ∙ new.run_is) ∙ new.job_is))
+      ]
+
+-- ---- the steps
+
+-- a command is answered from the table as it is, or changes it
+answered_or_changed : (t : TableState) (answer : Option Reply) (change : Step) → Decided t.runs
+    → (answer ≡ None → Decided change.table.runs) → Decided (option_map_or (unchanged t) answer change).table.runs
+answered_or_changed t None change all h = h refl
+answered_or_changed t (Some reply) change all h = all
+
+admitted_decided : (t : TableState) (event : Admitted) → IsSound t → Decided t.runs → Decided (admitted t event).table.runs
+admitted_decided t event s all =
+    answered_or_changed t (admission_answer t event) (admitting t event) all
+    (λ none. settled_decided (t.runs ++ new_run event ∷ []) (admit_keeps t event (kept_from_sound t s) none).fit
+    (new_run_decided t.runs event all))
+
+claiming_decided : (t : TableState) (claim : Claimed) → IsSound t → Decided t.runs → claim_answer t claim ≡ None
+    → Decided (claiming t claim).table.runs
+claiming_decided t claim s all none =
+    elim (first_fit claim.labels t.runs) as
+    (λ o. first_fit claim.labels t.runs ≡ o → Decided (option_map_or (leasing t claim) o (serving_nothing t claim)).table.runs) [
+      | None ↦ λ is. settled_decided t.runs (kept_from_sound t s).fit all
+      | Some p ↦ λ is. settled_decided (with_leg p (λ _. leased_leg (t.last_lease + 1)) t.runs)
+          (leasing_keeps t claim p (kept_from_sound t s) none is).fit (leg_change_decided t.runs p (λ _. leased_leg (t.last_lease + 1)) all)
+    ] refl
+
+claimed_decided : (t : TableState) (claim : Claimed) → IsSound t → Decided t.runs → Decided (claimed t claim).table.runs
+claimed_decided t claim s all =
+    answered_or_changed t (claim_answer t claim) (claiming t claim) all (claiming_decided t claim s all)
+
+ended_decided : (runs : List RunState) (report : Reported) (o : Option LegPlace) → Decided runs
+    → Decided (option_map_or (λ p. with_leg p (leg_in_phase (leg.Ended report.result)) runs) o runs)
+ended_decided runs report None all = all
+ended_decided runs report (Some p) all = leg_change_decided runs p (leg_in_phase (leg.Ended report.result)) all
+
+reported_decided : (t : TableState) (report : Reported) → IsSound t → Decided t.runs → Decided (reported t report).table.runs
+reported_decided t report s all =
+    answered_or_changed t (report_answer t report) (reporting t report) all
+    (λ none. settled_decided (with_ended report.lease report.result t.runs) (report_keeps t report (kept_from_sound t s) none).fit
+    (ended_decided t.runs report (place_of_lease t.runs report.lease) all))
+
+stepped_decided : (t : TableState) (c : Command) → IsSound t → Decided t.runs → Decided (stepped t c).table.runs
+stepped_decided t (command.Admit event) s all = admitted_decided t event s all
+stepped_decided t (command.Claim claim) s all = claimed_decided t claim s all
+stepped_decided t (command.Done report) s all = reported_decided t report s all
+stepped_decided t (command.Look id) s all = all
+
+-- ---- all commands
+
+after_decided : (commands : List Command) (t : TableState) → IsSound t → Decided t.runs → Decided (after t commands).runs
+after_decided [] t s all = all
+after_decided (c ∷ cs) t s all = after_decided cs (stepped t c).table (stepped_is_sound t c s) (stepped_decided t c s all)
+
+none_decided : Decided empty.runs
+none_decided r j y e = cc
+
+pub skips_due : (commands : List Command) → SkipsAreDue (after empty commands).runs
+skips_due commands r j x at is =
+    let runs = (after empty commands).runs in
+    let d = subst (JobDecided runs r j) is (after_decided commands empty empty_is_sound none_decided r j x at) in
+    (d.0, d.1 refl)
