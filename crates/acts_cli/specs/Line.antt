@@ -56,6 +56,12 @@ done_of fields =
     (outcome_of f.2)) (number_of f.1)) (number_of f.0)) (runner_name_of first.0))
     (three_fields first.1)) (at_space fields)
 
+-- `beat RUNNER LEASE`
+abbrev pub beat_of : List ℕ → Option Command
+beat_of fields =
+    option_and_then (λ f. option_and_then (λ runner. option_map (λ lease. command.Beat (record { runner = runner; lease = lease }))
+    (number_of f.1)) (runner_name_of f.0)) (at_space fields)
+
 -- `look RUN`
 abbrev pub look_of : List ℕ → Option Command
 look_of field = option_map (λ run. command.Look run) (number_of field)
@@ -65,7 +71,8 @@ command_by word fields =
     if bytes_eq word (codes "admit") then admit_of fields
     else (if bytes_eq word (codes "claim") then ok_or (claim_of fields) not_a_line
     else (if bytes_eq word (codes "done") then ok_or (done_of fields) not_a_line
-    else (if bytes_eq word (codes "look") then ok_or (look_of fields) not_a_line else Err not_a_line)))
+    else (if bytes_eq word (codes "beat") then ok_or (beat_of fields) not_a_line
+    else (if bytes_eq word (codes "look") then ok_or (look_of fields) not_a_line else Err not_a_line))))
 
 abbrev pub command_of : List ℕ → Result Command Refusal
 command_of line = option_map_or (λ p. command_by p.0 p.1) (at_space line) (Err not_a_line)

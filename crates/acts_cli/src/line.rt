@@ -1,9 +1,9 @@
 ghost use Rattle.std.specs.Prelude.{◌≡◌, Ok, Some, None, IfOk, IfErr, ok_or};
 ghost use Rattle.wf_value.specs.Gives.{Gives};
-ghost use Rattle.acts_cli.specs.Line.{not_a_line, admit_of, claim_of, outcome_of, done_of, look_of, command_by, command_of};
+ghost use Rattle.acts_cli.specs.Line.{not_a_line, admit_of, claim_of, outcome_of, done_of, beat_of, look_of, command_by, command_of};
 
 use crate::fields::{at_space, three_fields};
-use run_plan::{Claim, Command, DeliveryId, Done, EventName, Labels, Number, RunnerName, prepare};
+use run_plan::{Beat, Claim, Command, DeliveryId, Done, EventName, Labels, Number, RunnerName, prepare};
 use std::alloc::Global;
 use wf_value::{Code, Outcome, Refusal};
 
@@ -63,6 +63,16 @@ fn done_of(alloc: Global, fields: &[u8]) -> Result<Command, Refusal>
     }))
 }
 
+fn beat_of(alloc: Global, fields: &[u8]) -> Result<Command, Refusal>
+    ensures { Gives (λ c. c) result (ok_or (beat_of fields.now) not_a_line) }
+{
+    let (runner, lease) = spelled(at_space(fields))?;
+    Ok(Command::Beat(Beat {
+        runner: spelled(RunnerName::of(alloc, runner)?)?,
+        lease: spelled(Number::of(lease))?,
+    }))
+}
+
 fn look_of(field: &[u8]) -> Result<Command, Refusal>
     ensures { result ≡ ok_or (look_of field.now) not_a_line }
 {
@@ -78,6 +88,8 @@ fn command_by(alloc: Global, word: &[u8], fields: &[u8]) -> Result<Command, Refu
         claim_of(alloc, fields)
     } else if word == b"done".as_slice() {
         done_of(alloc, fields)
+    } else if word == b"beat".as_slice() {
+        beat_of(alloc, fields)
     } else if word == b"look".as_slice() {
         look_of(fields)
     } else {
@@ -86,8 +98,8 @@ fn command_by(alloc: Global, word: &[u8], fields: &[u8]) -> Result<Command, Refu
 }
 
 /// The command of a line: `admit DELIVERY EVENT BODY`, `claim RUNNER NUMBER LABELS`,
-/// `done RUNNER NUMBER LEASE RESULT` or `look RUN`, parted by one space. BODY is all that follows the
-/// third space. Every other line is refused 75, and a body with a fault with the first one's number: 10 to
+/// `done RUNNER NUMBER LEASE RESULT`, `beat RUNNER LEASE` or `look RUN`, parted by one space. BODY is all that
+/// follows the third space. Every other line is refused 75, and a body with a fault with the first one's number: 10 to
 /// 12, 15 to 17 or 19 to 25. Want of memory is 50.
 pub fn command_of(alloc: Global, line: &[u8]) -> Result<Command, Refusal>
     ensures { Gives (λ c. c) result (command_of line.now) }

@@ -40,6 +40,8 @@ reply_text (reply.Created run) = codes "created " ++ decimal run
 reply_text (reply.Lease l) = lease_text l
 reply_text reply.Nothing = codes "nothing"
 reply_text reply.Ok = codes "ok"
+reply_text reply.Stop = codes "stop"
+reply_text reply.GoOn = codes "go on"
 reply_text (reply.Run view) = view
 reply_text (reply.Refused r) = refusal_text r
 
@@ -49,6 +51,8 @@ carries_text (reply.Created run) = false
 carries_text (reply.Lease l) = true
 carries_text reply.Nothing = false
 carries_text reply.Ok = false
+carries_text reply.Stop = false
+carries_text reply.GoOn = false
 carries_text (reply.Run view) = true
 carries_text (reply.Refused (Numbered code)) = false
 carries_text (reply.Refused (Cycle ids)) = true

@@ -24,6 +24,13 @@ pub struct Done {
     pub result: Outcome,
 }
 
+/// A runner asks whether it is to go on with the leg of a lease.
+#[derive(Drop)]
+pub struct Beat {
+    pub runner: RunnerName,
+    pub lease: Number,
+}
+
 /// What the service is asked.
 #[derive(Drop)]
 pub enum Command {
@@ -31,6 +38,7 @@ pub enum Command {
     Admit(Prepared),
     Claim(Claim),
     Done(Done),
+    Beat(Beat),
     /// Looks at the run of this id.
     Look(Number),
 }
@@ -41,6 +49,7 @@ impl TryCopy for Command {
             Command::Admit(prepared) => Ok(Command::Admit(prepared.share()?)),
             Command::Claim(claim) => Ok(Command::Claim(claim.copy(alloc)?)),
             Command::Done(done) => Ok(Command::Done(done.copy(alloc)?)),
+            Command::Beat(beat) => Ok(Command::Beat(beat.copy(alloc)?)),
             Command::Look(run) => Ok(Command::Look(*run)),
         }
     }
@@ -52,6 +61,7 @@ impl Same for Command {
             (Command::Admit(one), Command::Admit(other)) => one.same(other),
             (Command::Claim(one), Command::Claim(other)) => one.same(other),
             (Command::Done(one), Command::Done(other)) => one.same(other),
+            (Command::Beat(one), Command::Beat(other)) => one.same(other),
             (Command::Look(one), Command::Look(other)) => *one == *other,
             _ => false,
         }
@@ -93,5 +103,20 @@ impl Same for Done {
             && self.number == other.number
             && self.lease == other.lease
             && self.result == other.result
+    }
+}
+
+impl TryCopy for Beat {
+    fn copy(&self, alloc: Global) -> Result<Self, Refusal> {
+        Ok(Beat {
+            runner: self.runner.copy(alloc)?,
+            lease: self.lease,
+        })
+    }
+}
+
+impl Same for Beat {
+    fn same(&self, other: &Self) -> bool {
+        self.runner.same(&other.runner) && self.lease == other.lease
     }
 }

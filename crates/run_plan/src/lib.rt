@@ -14,7 +14,7 @@ mod reply;
 mod small_text;
 
 pub use combo_text::text_of_combo;
-pub use command::{Claim, Command, Done};
+pub use command::{Beat, Claim, Command, Done};
 pub use form::{DeliveryForm, EventForm, Form, LabelForm, RunnerForm};
 pub use labels::Labels;
 pub use last_command::{ClaimReply, LastCommand};

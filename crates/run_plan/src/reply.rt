@@ -81,9 +81,12 @@ pub enum Reply {
     /// No leg is ready for the runner.
     Nothing,
     Ok,
+    /// The runner is to stop at work on the leg, and to report how it ended.
+    Stop,
+    GoOn,
     /// The view of a run, printed.
     Run(Chars),
-    /// 40 to 45 and 48. The table is as it was.
+    /// 40, 42 to 45 and 48. The table is as it was.
     Refused(Refusal),
 }
 
@@ -98,6 +101,8 @@ impl TryCopy for Reply {
             Reply::Lease(lease) => Ok(Reply::Lease(lease.copy(alloc)?)),
             Reply::Nothing => Ok(Reply::Nothing),
             Reply::Ok => Ok(Reply::Ok),
+            Reply::Stop => Ok(Reply::Stop),
+            Reply::GoOn => Ok(Reply::GoOn),
             Reply::Run(view) => Ok(Reply::Run(view.copy(alloc)?)),
             Reply::Refused(refusal) => Ok(Reply::Refused(refusal.copy(alloc)?)),
         }
@@ -111,6 +116,8 @@ impl Same for Reply {
             (Reply::Lease(one), Reply::Lease(other)) => one.same(other),
             (Reply::Nothing, Reply::Nothing) => true,
             (Reply::Ok, Reply::Ok) => true,
+            (Reply::Stop, Reply::Stop) => true,
+            (Reply::GoOn, Reply::GoOn) => true,
             (Reply::Run(one), Reply::Run(other)) => one.same(other),
             (Reply::Refused(one), Reply::Refused(other)) => one.same(other),
             _ => false,
@@ -131,6 +138,8 @@ impl Reply {
             Reply::Lease(lease) => lease.text(alloc),
             Reply::Nothing => Chars::from_str(alloc, "nothing"),
             Reply::Ok => Chars::from_str(alloc, "ok"),
+            Reply::Stop => Chars::from_str(alloc, "stop"),
+            Reply::GoOn => Chars::from_str(alloc, "go on"),
             Reply::Run(view) => view.copy(alloc),
             Reply::Refused(refusal) => refusal.text(alloc),
         }

@@ -3,12 +3,14 @@ pub mod FirstOf
 pub mod Fitting
 pub mod LegContext
 pub mod Moves
+pub mod Parallel
 pub mod Places
 pub mod Rules
 pub mod RunNumber
 pub mod Settling
 pub mod Sound
 pub mod Step
+pub mod Stops
 pub mod TableState
 pub mod Turns
 pub mod ViewText

@@ -1,5 +1,5 @@
 -- What every table keeps, whatever its commands were: each rule in the words of GitHub Docs, "Workflow syntax for
--- GitHub Actions" (jobs, jobs.<job_id>.strategy.matrix, jobs.<job_id>.runs-on), where these have them; leases,
+-- GitHub Actions" (jobs, jobs.<job_id>.strategy, jobs.<job_id>.runs-on), where these have them; leases,
 -- numbers of commands and kept replies are own.
 use Rattle.std.specs.Prelude.{◌≡◌, ◌⊎◌, ℕ, ◌≤◌, List, [], length, Bool, true, false, slice_get, Option, Some, None, IsSome}
 use Rattle.std.specs.List.{list_all}
@@ -7,6 +7,7 @@ use Rattle.wf_value.specs.declared.outcome.JobResult.{JobResult}
 use Rattle.wf_value.specs.declared.outcome.JobResult.TheVariants as result
 use Rattle.wf_value.specs.declared.outcome.Outcome.TheVariants as outcome
 use Rattle.run_plan.specs.PlanOf.{plan_of}
+use Rattle.run_table.specs.Parallel.{is_at_work, legs_at_work, most_at_work}
 use Rattle.run_table.specs.Places.{LegPlace, run_at, job_at, leg_at}
 use Rattle.run_table.specs.Rules.{has_ended, is_settled, result_at}
 use Rattle.run_table.specs.Settling.{first_place}
@@ -63,6 +64,11 @@ LegsFit planned gathered (job.Settled r) legs =
 abbrev pub JobsFit : List RunState → Type 0
 JobsFit runs = (r j : ℕ) (x : JobState) → job_at runs r j ≡ Some x → LegsFit (planned_legs runs r j) (result_at runs r j x) x.phase x.legs
 
+-- of no job are more legs running or stopping than its max-parallel
+abbrev pub ParallelIsBounded : List RunState → Type 0
+ParallelIsBounded runs =
+    (r j : ℕ) (x : JobState) (most : ℕ) → job_at runs r j ≡ Some x → most_at_work runs r j ≡ Some most → legs_at_work x ≤ most
+
 -- ---- leases of legs
 
 -- a leg that no runner has claimed has no lease, and one that runs, or has ended by itself, has one
@@ -93,15 +99,6 @@ LeasesDiffer runs =
 
 abbrev pub NamesDiffer : List RunnerState → Type 0
 NamesDiffer runners = (a b : ℕ) (x y : RunnerState) → slice_get runners a ≡ Some x → slice_get runners b ≡ Some y → x.name ≡ y.name → a ≡ b
-
--- whether a runner is at work on the leg
-abbrev pub is_at_work : LegPhase → Bool
-is_at_work leg.New = false
-is_at_work leg.Waiting = false
-is_at_work leg.Ready = false
-is_at_work leg.Running = true
-is_at_work leg.Stopping = true
-is_at_work (leg.Ended r) = false
 
 -- some runner holds the lease
 abbrev pub IsHeld : List RunnerState → ℕ → Type 0
@@ -155,6 +152,7 @@ pub record IsSound (t : TableState) : Type 0 where
   pub jobs_are_the_plans : JobsAreThePlans t.runs
   pub run_phases_fit : RunPhasesFit t.runs
   pub jobs_fit : JobsFit t.runs
+  pub parallel_bounded : ParallelIsBounded t.runs
   pub leases_fit : LeasesFit t.runs
   pub leases_are_given : LeasesAreGiven t.last_lease t.runs
   pub leases_differ : LeasesDiffer t.runs

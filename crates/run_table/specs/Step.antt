@@ -1,19 +1,20 @@
 -- One step of the table: what a command is answered, and the table after it. A command is either answered from
 -- the table as it is, which then stays: the refusals, in the order of their checks, a delivery that is known, a
--- command that is repeated, and what is looked at. Or it changes the table, which settles then.
+-- command that is repeated, what a runner asks, and what is looked at. Or it changes the table, which settles then.
 use Rattle.std.specs.Prelude.{ℕ, ◌+◌, ◌&&◌, List, [], ◌∷◌, ◌++◌, map, length, Bool, false, not, is_some, nat_le, Option, Some, None}
 use Rattle.std.specs.Prelude.{option_map, if◌then◌else◌}
 use Rattle.std.specs.List.{position}
 use Rattle.std.specs.Option.{option_or, option_map_or}
 use Rattle.std.specs.Str.{bytes_eq}
 use Rattle.wf_value.specs.declared.code.Code.{Code}
-use Rattle.wf_value.specs.declared.code.Code.TheVariants.{HasLease, LeaseNotHeld, LastCounter, NoRun}
+use Rattle.wf_value.specs.declared.code.Code.TheVariants.{HasLease, LeaseNotHeld, LastCounter, NoRun, NoRunner}
 use Rattle.wf_value.specs.declared.refusal.Refusal.TheVariants.{Numbered}
 use Rattle.wf_value.specs.declared.outcome.Outcome.{Outcome}
 use Rattle.run_plan.specs.Admitted.{Admitted}
 use Rattle.run_plan.specs.LastCommand.{is_last_claim, is_last_report}
 use Rattle.run_plan.specs.PlanOf.{plan_of}
 use Rattle.run_plan.specs.ReplyText.{carries_text}
+use Rattle.run_plan.specs.declared.command.Beat.{Beat as Asked}
 use Rattle.run_plan.specs.declared.command.Claim.{Claim as Claimed}
 use Rattle.run_plan.specs.declared.command.Done.{Done as Reported}
 use Rattle.run_plan.specs.declared.command.Command.{Command}
@@ -21,11 +22,11 @@ use Rattle.run_plan.specs.declared.command.Command.TheVariants as command
 use Rattle.run_plan.specs.declared.reply.Lease.{Lease as Leased}
 use Rattle.run_plan.specs.declared.reply.Reply.{Reply}
 use Rattle.run_plan.specs.declared.reply.Reply.TheVariants as reply
-use Rattle.run_table.specs.Fitting.{first_fit, place_of_lease}
+use Rattle.run_table.specs.Fitting.{first_fit, is_told_to_stop, place_of_lease}
 use Rattle.run_table.specs.Moves.{Step}
 use Rattle.run_table.specs.Places.{LegPlace, with_leg}
-use Rattle.run_table.specs.Rules.{leg_in_phase}
 use Rattle.run_table.specs.Settling.{settled}
+use Rattle.run_table.specs.Stops.{after_end}
 use Rattle.run_table.specs.TableState.{LegState, JobState, RunState, RunnerState, TableState}
 use Rattle.run_table.specs.Turns.{runner_named, answer_of_turn, with_runner, holds_lease, holds_this}
 use Rattle.run_table.specs.ViewText.{Seen, seen_of, seen_text}
@@ -141,7 +142,7 @@ reporting_runner report = record { name = report.runner; number = report.number;
 
 -- the leg of the lease ends
 abbrev pub with_ended : ℕ → Outcome → List RunState → List RunState
-with_ended lease outcome runs = option_map_or (λ p. with_leg p (leg_in_phase (leg.Ended outcome)) runs) (place_of_lease runs lease) runs
+with_ended lease outcome runs = option_map_or (λ p. after_end p outcome runs) (place_of_lease runs lease) runs
 
 abbrev pub reporting : TableState → Reported → Step
 reporting t report =
@@ -153,6 +154,16 @@ reporting t report =
 
 abbrev pub reported : TableState → Reported → Step
 reported t report = option_map_or (unchanged t) (report_answer t report) (reporting t report)
+
+-- ---- beat
+
+-- a runner that holds the lease is told whether its leg is to stop
+abbrev pub beat_answer : TableState → Asked → Reply
+beat_answer t beat =
+    option_map_or (λ runner.
+    if holds_this beat.lease (Some runner)
+    then (if is_told_to_stop t.runs beat.lease then reply.Stop else reply.GoOn)
+    else refused LeaseNotHeld) (runner_named t.runners beat.runner) (refused NoRunner)
 
 -- ---- look
 
@@ -169,6 +180,7 @@ abbrev pub stepped : TableState → Command → Step
 stepped t (command.Admit event) = admitted t event
 stepped t (command.Claim claim) = claimed t claim
 stepped t (command.Done report) = reported t report
+stepped t (command.Beat beat) = unchanged t (beat_answer t beat)
 stepped t (command.Look id) = unchanged t (look_answer t id)
 
 -- the table after the command, and its reply
@@ -185,6 +197,7 @@ abbrev pub answered : TableState → Command → Option Reply
 answered t (command.Admit event) = admission_answer t event
 answered t (command.Claim claim) = claim_answer t claim
 answered t (command.Done report) = report_answer t report
+answered t (command.Beat beat) = Some (beat_answer t beat)
 answered t (command.Look id) = Some (look_answer t id)
 
 -- whether it holds no text, so that no memory is needed for it

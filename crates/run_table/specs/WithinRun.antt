@@ -7,6 +7,7 @@ use Rattle.std.specs.Option.{option_or, option_map_or}
 use Rattle.needs_graph.specs.Results.{fails_job}
 use Rattle.run_table.specs.FirstOf.{placed, first_some}
 use Rattle.run_table.specs.Fitting.{is_ready, is_served, has_lease}
+use Rattle.run_table.specs.Parallel.{has_room}
 use Rattle.run_table.specs.Places.{LegPlace}
 use Rattle.run_table.specs.Rules.{is_live, is_blocked, is_done, is_settled, leg_end, leg_in_phase, next_leg_phase, next_run_phase}
 use Rattle.run_table.specs.TableState.{LegState, JobState, RunState}
@@ -44,10 +45,14 @@ first_in_run r run = option_or (if is_live run.phase then first_in_jobs r run.jo
 
 -- ---- the first leg that fits
 
-abbrev pub fit_in_job : List (List ℕ) → List RunState → ℕ → ℕ → JobState → Option LegPlace
-fit_in_job labels runs r j job =
+-- the first ready one that is served
+abbrev pub served_in_job : List (List ℕ) → List RunState → ℕ → ℕ → JobState → Option LegPlace
+served_in_job labels runs r j job =
     first_some (λ l. if is_ready l.1.phase && is_served labels runs (leg_place r j l.0) then Some (leg_place r j l.0) else None)
     (placed job.legs)
+
+abbrev pub fit_in_job : List (List ℕ) → List RunState → ℕ → ℕ → JobState → Option LegPlace
+fit_in_job labels runs r j job = if has_room runs r j job then served_in_job labels runs r j job else None
 
 abbrev pub fit_in_jobs : List (List ℕ) → List RunState → ℕ → List JobState → Option LegPlace
 fit_in_jobs labels runs r jobs = first_some (λ j. fit_in_job labels runs r j.0 j.1) (placed jobs)

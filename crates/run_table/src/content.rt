@@ -2,11 +2,12 @@ ghost use Rattle.std.specs.Prelude.{◌≡◌, ◌<◌, ◌+◌, true, length, O
 ghost use Rattle.std.specs.Option.{option_map_or};
 ghost use Rattle.wf_value.specs.declared.code.Code.TheVariants.{LastCounter};
 ghost use Rattle.wf_value.specs.Gives.{Gives};
-ghost use Rattle.run_table.specs.Step.{admission_answer, admitted, admitting, answered, claim_answer, claimed, claiming, empty, is_free};
+ghost use Rattle.run_table.specs.Step.{admission_answer, admitted, admitting, answered, beat_answer, claim_answer};
+ghost use Rattle.run_table.specs.Step.{claimed, claiming, empty, is_free};
 ghost use Rattle.run_table.specs.Step.{last_number, lease_answer, lease_at, leasing, look_answer, outcome, refused, report_answer};
 ghost use Rattle.run_table.specs.Step.{reported, reporting, seen, serving_nothing, step, unchanged};
 
-use crate::fit::first_fit;
+use crate::fit::{first_fit, is_told_to_stop};
 use crate::leg::Leg;
 use crate::place::LegPlace;
 use crate::run::Run;
@@ -14,7 +15,7 @@ use crate::runner::{Runner, holds_lease, holds_this, put_runner, runner_named};
 use crate::runs::{MOST_RUNS, Runs};
 use crate::turns::{answer_to_claim, answer_to_report};
 use crate::view::{RunView, look};
-use run_plan::{Claim, ClaimReply, Command, Done, Lease, Number, Prepared, Reply};
+use run_plan::{Beat, Claim, ClaimReply, Command, Done, Lease, Number, Prepared, Reply};
 use std::alloc::Global;
 use std::marker::Model;
 use wf_value::{Code, Refusal, TryCopy, copy_items};
@@ -47,8 +48,8 @@ impl Content {
         }
     }
 
-    /// Carries out a command, settles, and answers its reply. Refusals of the table, 40, 42, 43, 44 and
-    /// 48, are replies. The error is 50 alone, and the table is then as it was. What is answered from
+    /// Carries out a command, settles, and answers its reply. Refusals of the table, 40, 42 to 45 and 48,
+    /// are replies. The error is 50 alone, and the table is then as it was. What is answered from
     /// the table as it is, without a text, is answered memory or not.
     pub(crate) fn step(&mut self, alloc: Global, command: &Command) -> Result<Reply, Refusal>
         ensures step { Gives (λ reply. (self.new, reply)) result (Ok (step self.old command.now)) }
@@ -59,6 +60,7 @@ impl Content {
             Command::Admit(prepared) => self.admit(alloc, prepared),
             Command::Claim(claim) => self.claim(alloc, claim),
             Command::Done(report) => self.report(alloc, report),
+            Command::Beat(beat) => Ok(self.beat(beat)),
             Command::Look(id) => self.show(alloc, *id),
         }
     }
@@ -179,6 +181,24 @@ impl Content {
         self.runs.end(report.lease, report.result);
         self.runs.settle();
         Ok(Reply::Ok)
+    }
+
+    // ---- beat
+
+    /// What a runner is told of the leg that it has. It takes no memory.
+    fn beat(&self, beat: &Beat) -> Reply
+        ensures { result ≡ beat_answer self.now beat.now }
+    {
+        let runner = runner_named(&self.runners, &beat.runner);
+        if runner.is_none() {
+            refused(Code::NoRunner)
+        } else if !holds_this(runner, beat.lease) {
+            refused(Code::LeaseNotHeld)
+        } else if is_told_to_stop(beat.lease, &self.runs) {
+            Reply::Stop
+        } else {
+            Reply::GoOn
+        }
     }
 
     // ---- look

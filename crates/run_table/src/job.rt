@@ -1,10 +1,12 @@
-ghost use Rattle.std.specs.Prelude.{◌≡◌, Ok};
+ghost use Rattle.std.specs.Prelude.{◌≡◌, Ok, count_by, map};
 ghost use Rattle.std.specs.List.{list_all};
 ghost use Rattle.wf_value.specs.Gives.{Gives};
 ghost use Rattle.run_table.specs.Cells.{in_state};
 ghost use Rattle.run_table.specs.FirstOf.{changed_at};
+ghost use Rattle.run_table.specs.Parallel.{is_at_work, legs_at_work};
 ghost use Rattle.run_table.specs.Rules.{has_ended, is_done, is_settled, opened, settled_as};
 ghost use Rattle.run_table.specs.Step.{blocked_job};
+ghost use Rattle.run_table.specs.Stops.{stopped, with_stopped_legs};
 
 use crate::leg::Leg;
 use crate::phases::JobPhase;
@@ -79,6 +81,20 @@ impl Job {
         }
     }
 
+    /// All legs of the job are stopped.
+    pub(crate) fn stop_legs(&mut self)
+        ensures { self.new ≡ in_state (with_stopped_legs self.old.state) self.old }
+    {
+        stop_all(&mut self.room);
+    }
+
+    /// How many legs runners are at work on.
+    pub(crate) fn legs_at_work(&self) -> usize
+        ensures { result ≡ legs_at_work self.now.state }
+    {
+        count_at_work(self.legs())
+    }
+
     pub(crate) fn is_settled(&self) -> bool
         ensures { result ≡ is_settled self.now.state }
     {
@@ -117,4 +133,19 @@ impl TryCopy for Job {
             room: Vec::from_slice(alloc, self.room.as_slice())?,
         })
     }
+}
+
+/// Stops each of the legs.
+fn stop_all(legs: &mut [Leg])
+    ensures { legs.new ≡ map stopped legs.old }
+{
+    for leg in legs.iter_mut() {
+        *leg = leg.stopped();
+    }
+}
+
+fn count_at_work(legs: &[Leg]) -> usize
+    ensures { result ≡ count_by (λ leg. is_at_work leg.phase) legs.now }
+{
+    legs.iter().filter(|leg| leg.is_at_work()).count()
 }

@@ -1,9 +1,11 @@
 ghost use Rattle.std.specs.Prelude.{◌≡◌, None, Some, false};
 ghost use Rattle.std.specs.Option.{option_map_or};
 ghost use Rattle.needs_graph.specs.Results.{is_cancelled, is_failure};
-ghost use Rattle.run_table.specs.Fitting.{has_lease, is_ready};
+ghost use Rattle.run_table.specs.Fitting.{has_lease, is_ready, is_stopping_leg};
+ghost use Rattle.run_table.specs.Parallel.{is_at_work};
 ghost use Rattle.run_table.specs.Rules.{has_ended, leg_in_phase, new_leg, outcome_of};
 ghost use Rattle.run_table.specs.Step.{leased_leg};
+ghost use Rattle.run_table.specs.Stops.{stopped};
 ghost use Rattle.run_table.specs.WithinRun.{goes_on, next_leg};
 
 use crate::phases::LegPhase;
@@ -72,6 +74,16 @@ impl Leg {
         }
     }
 
+    /// The leg, stopped.
+    pub(crate) fn stopped(&self) -> Leg
+        ensures { result ≡ stopped self.now }
+    {
+        Leg {
+            phase: self.phase.stopped(),
+            lease: self.lease,
+        }
+    }
+
     pub(crate) fn goes_on(&self) -> bool
         ensures { result ≡ goes_on self.now }
     {
@@ -106,6 +118,18 @@ impl Leg {
         ensures { result ≡ is_ready self.now.phase }
     {
         self.phase.is_ready()
+    }
+
+    pub(crate) fn is_at_work(&self) -> bool
+        ensures { result ≡ is_at_work self.now.phase }
+    {
+        self.phase.is_at_work()
+    }
+
+    pub(crate) fn is_stopping(&self) -> bool
+        ensures { result ≡ is_stopping_leg self.now.phase }
+    {
+        self.phase.is_stopping()
     }
 
     pub(crate) fn has_lease(&self, lease: Number) -> bool

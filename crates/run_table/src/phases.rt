@@ -35,8 +35,10 @@ pub enum RunPhase {
 }
 
 impl LegPhase {
-    ghost use Rattle.run_table.specs.Fitting.{is_ready};
+    ghost use Rattle.run_table.specs.Fitting.{is_ready, is_stopping_leg};
+    ghost use Rattle.run_table.specs.Parallel.{is_at_work};
     ghost use Rattle.run_table.specs.Rules.{next_leg_phase, outcome_of};
+    ghost use Rattle.run_table.specs.Stops.{stopped_phase};
 
     pub(crate) fn is_ready(self) -> bool
         ensures { result ≡ is_ready self }
@@ -45,6 +47,40 @@ impl LegPhase {
             LegPhase::Ready => true,
             LegPhase::New | LegPhase::Waiting => false,
             LegPhase::Running | LegPhase::Stopping | LegPhase::Ended(_) => false,
+        }
+    }
+
+    /// Whether a runner is at work on the leg.
+    pub(crate) fn is_at_work(self) -> bool
+        ensures { result ≡ is_at_work self }
+    {
+        match self {
+            LegPhase::Running | LegPhase::Stopping => true,
+            LegPhase::New | LegPhase::Waiting | LegPhase::Ready | LegPhase::Ended(_) => false,
+        }
+    }
+
+    /// Whether the leg's runner is told to stop.
+    pub(crate) fn is_stopping(self) -> bool
+        ensures { result ≡ is_stopping_leg self }
+    {
+        match self {
+            LegPhase::Stopping => true,
+            LegPhase::New | LegPhase::Waiting | LegPhase::Ready => false,
+            LegPhase::Running | LegPhase::Ended(_) => false,
+        }
+    }
+
+    /// The phase of the leg once it is stopped: one that no runner has is cancelled.
+    pub(crate) fn stopped(self) -> LegPhase
+        ensures { result ≡ stopped_phase self }
+    {
+        match self {
+            LegPhase::New | LegPhase::Waiting | LegPhase::Ready => {
+                LegPhase::Ended(Outcome::Cancelled)
+            }
+            LegPhase::Running | LegPhase::Stopping => LegPhase::Stopping,
+            LegPhase::Ended(outcome) => LegPhase::Ended(outcome),
         }
     }
 

@@ -6,6 +6,7 @@ ghost use Rattle.run_table.specs.FirstOf.{changed_at};
 ghost use Rattle.run_table.specs.Rules.{opened, settled_as, run_in_phase};
 ghost use Rattle.run_table.specs.Settling.{legs_in_plan};
 ghost use Rattle.run_table.specs.Step.{is_delivered_as, new_run};
+ghost use Rattle.run_table.specs.Stops.{with_stopped_legs};
 
 use crate::job::Job;
 use crate::leg::Leg;
@@ -117,6 +118,16 @@ impl Run {
         if j < self.jobs.len() {
             let job = &mut self.jobs[j];
             job.settle(settled);
+        }
+    }
+
+    /// All legs of the job at a place are stopped.
+    pub(crate) fn stop_legs(&mut self, j: usize)
+        ensures { self.new ≡ record self.old { jobs = changed_at j with_stopped_legs self.old.jobs } }
+    {
+        if j < self.jobs.len() {
+            let job = &mut self.jobs[j];
+            job.stop_legs();
         }
     }
 

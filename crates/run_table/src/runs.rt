@@ -12,7 +12,9 @@ ghost use Rattle.run_table.specs.Rules.{closing_rule, decided, leg_end, leg_in_p
 ghost use Rattle.run_table.specs.Rules.{settled_as, whole_rule};
 ghost use Rattle.run_table.specs.RunNumber.{events, run_number, same_workflow};
 ghost use Rattle.run_table.specs.Settling.{first_place, first_rule, settled};
+ghost use Rattle.run_table.specs.Parallel.{most_at_work};
 ghost use Rattle.run_table.specs.Step.{is_delivered_as, with_ended};
+ghost use Rattle.run_table.specs.Stops.{after_end, fails_fast, stops_others, with_stopped_legs};
 ghost use Rattle.run_table.specs.WithinRun.{failing, leg_place, next_leg};
 ghost use Rattle.run_table.specs.Words.{combo_at, is_stopping, job_id, passes_over, planned_legs};
 
@@ -100,6 +102,23 @@ impl Runs {
         match self.planned(place.run, place.job) {
             Some(planned) => combo_of(alloc, planned, place.leg),
             None => Ok(Combo::new(alloc)),
+        }
+    }
+
+    /// The most legs of a job on which runners are at work, where its plan sets a bound.
+    pub(crate) fn most_at_work(&self, r: usize, j: usize) -> Option<u16>
+        ensures { result ≡ most_at_work self.now r j }
+    {
+        self.planned(r, j)?.max_parallel
+    }
+
+    /// Whether the job ends its legs once one has failed.
+    fn fails_fast(&self, r: usize, j: usize) -> bool
+        ensures { result ≡ fails_fast self.now r j }
+    {
+        match self.planned(r, j) {
+            Some(planned) => planned.fail_fast,
+            None => false,
         }
     }
 
@@ -199,6 +218,16 @@ impl Runs {
         }
     }
 
+    /// All legs of the job are stopped.
+    pub(crate) fn stop_legs(&mut self, r: usize, j: usize)
+        ensures { self.new ≡ with_job r j with_stopped_legs self.old }
+    {
+        if r < self.runs.len() {
+            let run = &mut self.runs[r];
+            run.stop_legs(j);
+        }
+    }
+
     /// Puts the leg in the place of the one that is there, if one is.
     pub(crate) fn set_leg(&mut self, r: usize, j: usize, l: usize, leg: Leg)
         ensures { self.new ≡ with_leg (leg_place r j l) (λ _. leg) self.old }
@@ -258,7 +287,29 @@ impl Runs {
         ensures { self.new ≡ with_ended lease outcome self.old }
     {
         if let Some(place) = place_of_lease(lease, &self.runs) {
-            self.end_leg(place, outcome);
+            self.end_at(place, outcome);
+        }
+    }
+
+    /// Whether the end of the leg stops the others of its job. It takes no memory.
+    fn stops_others(&self, place: LegPlace, outcome: Outcome) -> bool
+        requires leg { place.leg < 2 ^ 63 }
+        ensures { result ≡ stops_others self.now place outcome }
+    {
+        outcome == Outcome::Failure
+            && self.fails_fast(place.run, place.job)
+            && !self.passes_over(place)
+    }
+
+    /// The leg at the place ends, and the others of its job are stopped where its end stops them.
+    fn end_at(&mut self, place: LegPlace, outcome: Outcome)
+        requires leg { place.leg < 2 ^ 63 }
+        ensures { self.new ≡ after_end place outcome self.old }
+    {
+        let stops_others = self.stops_others(place, outcome);
+        self.end_leg(place, outcome);
+        if stops_others {
+            self.stop_legs(place.run, place.job);
         }
     }
 
@@ -307,7 +358,7 @@ impl Runs {
     }
 
     /// A leg at a place.
-    fn leg(&self, place: LegPlace) -> Option<&Leg>
+    pub(crate) fn leg(&self, place: LegPlace) -> Option<&Leg>
         ensures { option_copied result ≡ leg_at self.now place }
     {
         let job = self.job(place.run, place.job)?;

@@ -37,8 +37,8 @@ impl Table {
         }
     }
 
-    /// Carries out a command, settles, and answers its reply. Refusals of the table, 40, 42, 43, 44 and
-    /// 48, are replies. The error is 50 alone, and the table is then as it was. What is answered from
+    /// Carries out a command, settles, and answers its reply. Refusals of the table, 40, 42 to 45 and 48,
+    /// are replies. The error is 50 alone, and the table is then as it was. What is answered from
     /// the table as it is, without a text, is answered memory or not.
     pub fn step(&mut self, alloc: Global, command: &Command) -> Result<Reply, Refusal>
         ensures step { Gives (λ reply. (self.new, reply)) result (Ok (step self.old command.now)) }
