@@ -58,8 +58,7 @@ const EXPLANATIONS: [Explanation; 28] = [
         meaning: "a workflow has a member, or a kind of job, that is left out",
         input: "the workflow {\"jobs\":{\"a\":{\"uses\":\"./x.yml\"}}}",
         remedy: "write the job's own steps in place of \"uses\", and labels in place of a runner group; \
-            docs/FORMATS.md says which other members are not read yet; a \"strategy\" is checked by acts \
-            check, and not run yet",
+            docs/FORMATS.md says which other members are not read yet",
     },
     Explanation {
         number: "17",

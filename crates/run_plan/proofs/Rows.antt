@@ -4,7 +4,7 @@ use Rattle.std.specs.Fmt.{digits}
 use Rattle.std.specs.Str.{is_utf8, chars}
 use Rattle.serde_json.proofs.OnLiterals.{serde_json_on_literals}
 use Rattle.wf_value.specs.Matrix.{NamedValues}
-use Rattle.wf_value.specs.declared.code.Code.TheVariants.{HasLease, LeftOut, LegCount, MatrixTooLarge, UnknownNeed}
+use Rattle.wf_value.specs.declared.code.Code.TheVariants.{HasLease, LegCount, MatrixTooLarge, UnknownNeed}
 use Rattle.wf_value.specs.declared.condition.Condition.TheVariants.{Success, Always}
 use Rattle.wf_value.specs.declared.refusal.Refusal.TheVariants.{Numbered, Cycle, Turn}
 use Rattle.wf_value.specs.declared.scalar.Scalar.TheVariants.{Null, Truth, Whole, Text}
@@ -15,7 +15,7 @@ use Rattle.wf_reader.specs.declared.flag.Flag.TheVariants.{Fixed}
 use Rattle.wf_reader.specs.declared.job.Job.{Job}
 use Rattle.wf_reader.specs.declared.workflow.Workflow.{Workflow}
 use Rattle.run_plan.specs.declared.reply.Reply.TheVariants as reply
-use Rattle.run_plan.specs.PlanOf.{plan_faults, plan_graph, plan_of, run_faults, workflow_plan}
+use Rattle.run_plan.specs.PlanOf.{plan_faults, plan_graph, plan_of, workflow_plan}
 use Rattle.run_plan.specs.ReplyText.{combo_text, reply_text}
 use Rattle.run_plan.specs.SmallText.{delivery_id_of, event_name_of, label_list_of, number_of, runner_name_of}
 
@@ -161,17 +161,6 @@ cycle = refl
 graph : plan_graph (workflow_plan (of_jobs (plain_job (codes "a") ∷ job_needing (codes "b") (codes "c" ∷ codes "a" ∷ codes "a" ∷ [])
     ∷ plain_job (codes "c") ∷ []))) ≡ [] ∷ (0 ∷ 2 ∷ []) ∷ [] ∷ []
 graph = refl
-
--- ---- what runs leave out
-
-needs_left_out : run_faults (plain_job (codes "a") ∷ job_needing (codes "b") (codes "a" ∷ []) ∷ []) ≡ Numbered LeftOut ∷ []
-needs_left_out = refl
-
-needs_of_none : run_faults (job_needing (codes "b") [] ∷ []) ≡ []
-needs_of_none = refl
-
-unknown_need_first : run_faults (job_needing (codes "b") (codes "a" ∷ []) ∷ []) ≡ Numbered UnknownNeed ∷ Numbered LeftOut ∷ []
-unknown_need_first = refl
 
 plan_of_body : plan_of (codes "{\"repo\":\"o/r\",\"path\":\"ci.json\",\"workflow\":{\"jobs\":{\"b\":{\"runs-on\":\"x\"}}}}")
     ≡ workflow_plan (of_jobs (plain_job (codes "b") ∷ []))

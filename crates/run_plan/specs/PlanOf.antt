@@ -2,19 +2,15 @@
 -- themselves, each with its combination, and which jobs each one needs. GitHub Docs, "Running variations of jobs in a workflow" and
 -- "Workflow syntax for GitHub Actions", jobs.<job_id>.runs-on, jobs.<job_id>.needs, jobs.<job_id>.if,
 -- jobs.<job_id>.continue-on-error, jobs.<job_id>.strategy.
-use Rattle.std.specs.Prelude.{ℕ, List, [], ◌∷◌, ◌++◌, ◌&&◌, length, map, flat_map, nat_eq, Bool, true, false, is_none, Option, Result, Ok}
-use Rattle.std.specs.List.{list_all}
+use Rattle.std.specs.Prelude.{ℕ, List, [], ◌∷◌, ◌++◌, map, flat_map, true, Option, Result, Ok}
 use Rattle.std.specs.Option.{option_and_then, option_map_or}
 use Rattle.std.specs.Result.{result_unwrap_or}
 use Rattle.wf_value.specs.Matrix.{MatrixLists}
-use Rattle.wf_value.specs.declared.code.Code.TheVariants.{LeftOut}
-use Rattle.wf_value.specs.declared.condition.Condition.{Condition}
-use Rattle.wf_value.specs.declared.condition.Condition.TheVariants.{Success, Failure, Always, Cancelled, NotCancelled, Never}
 use Rattle.wf_value.specs.declared.refusal.Refusal.{Refusal}
 use Rattle.wf_reader.specs.declared.job.Job.{Job}
 use Rattle.wf_reader.specs.declared.workflow.Workflow.{Workflow}
 use Rattle.wf_reader.specs.Event.{event_faults, event_of}
-use Rattle.wf_reader.specs.Faults.{fault_unless, outcome_faults}
+use Rattle.wf_reader.specs.Faults.{outcome_faults}
 use Rattle.matrix_expand.specs.Combinations.{Combination, combinations_or_refusal}
 use Rattle.needs_graph.specs.JobNeeds.{JobNeeds}
 use Rattle.needs_graph.specs.Needs.{graph_of, needs_of}
@@ -88,31 +84,9 @@ jobs_faults jobs = legs_faults jobs ++ needs_faults jobs
 abbrev pub plan_faults : Workflow → List Refusal
 plan_faults workflow = jobs_faults workflow.jobs
 
--- ---- what runs leave out
-
-abbrev pub is_of_success : Condition → Bool
-is_of_success Success = true
-is_of_success Failure = false
-is_of_success Always = false
-is_of_success Cancelled = false
-is_of_success NotCancelled = false
-is_of_success Never = false
-
--- without strategy and needs, and with the condition of a job that has no `if`
-abbrev pub is_plain : Job → Bool
-is_plain job = is_none job.strategy && nat_eq (length job.needs) 0 && is_of_success job.condition
-
--- other jobs are left out of runs, as long as these follow no needs
-abbrev pub left_out_of_runs : List Job → List Refusal
-left_out_of_runs jobs = fault_unless (list_all is_plain jobs) LeftOut
-
--- what is wrong with jobs that are to be run
-abbrev pub run_faults : List Job → List Refusal
-run_faults jobs = jobs_faults jobs ++ left_out_of_runs jobs
-
--- what is wrong with the event that a body spells, and then with its jobs as ones to be run
+-- what is wrong with the event that a body spells, and then with the plan of its workflow
 abbrev pub faults_of : List ℕ → List Refusal
-faults_of body = event_faults body ++ run_faults (event_of body).workflow.jobs
+faults_of body = event_faults body ++ plan_faults (event_of body).workflow
 
 -- the plan of the workflow that a body spells
 abbrev pub plan_of : List ℕ → List PlannedJob

@@ -1,17 +1,16 @@
 ghost use Rattle.std.specs.Prelude.{◌≡◌, IsTrue, IfOk, Ok, map, true};
 ghost use Rattle.std.specs.Option.{option_and_then, option_map_or};
-ghost use Rattle.std.specs.List.{list_all};
 ghost use Rattle.wf_value.specs.Gives.{Gives};
 ghost use Rattle.wf_reader.specs.Faults.{unless_faulty};
 ghost use Rattle.needs_graph.specs.Needs.{ids_rise};
-ghost use Rattle.run_plan.specs.PlanOf.{combinations_where, is_of_success, is_plain, job_faults, jobs_faults, legs_faults, legs_of};
-ghost use Rattle.run_plan.specs.PlanOf.{needs_listed, plan_faults, planned_job, run_faults, workflow_plan};
+ghost use Rattle.run_plan.specs.PlanOf.{combinations_where, job_faults, jobs_faults, legs_faults, legs_of};
+ghost use Rattle.run_plan.specs.PlanOf.{needs_listed, plan_faults, planned_job, workflow_plan};
 
 use crate::planned::{Plan, PlannedJob, PlannedLeg};
 use matrix_expand::expand;
 use std::alloc::Global;
 use wf_reader::{Job, Jobs, Strategy, Workflow};
-use wf_value::{Code, Combo, Condition, Matrix, Refusal, Sequence};
+use wf_value::{Combo, Matrix, Refusal, Sequence};
 
 /// The plan of a workflow, whose texts it takes over. Job by job, a matrix is refused 21 where the
 /// lengths of its lists multiply to over 4,096, else 22 where it gives no leg or more than 256. Then 13 is
@@ -43,39 +42,6 @@ fn planned_jobs(alloc: Global, jobs: Jobs) -> Result<Sequence<PlannedJob>, Refus
         planned.push(planned_job(alloc, job)?)?;
     }
     Ok(Sequence::new(planned))
-}
-
-/// Whether the condition is that of a job without `if`.
-fn is_of_success(condition: Condition) -> bool
-    ensures { result ≡ is_of_success condition }
-{
-    condition == Condition::Success
-}
-
-/// Whether a job has no strategy, no needs and no condition of its own.
-fn is_plain(job: &Job) -> bool
-    ensures { result ≡ is_plain job.now }
-{
-    job.strategy.is_none() && job.needs.len() == 0 && is_of_success(job.condition)
-}
-
-fn are_plain(jobs: &[Job]) -> bool
-    ensures { result ≡ list_all is_plain jobs.now }
-{
-    jobs.iter().all(is_plain)
-}
-
-/// The plan of jobs that are to be run. After every other fault, a job with a strategy, with needs or with
-/// a condition of its own is refused 16, as long as runs follow none of these.
-pub fn plan_run(alloc: Global, jobs: Jobs) -> Result<Plan, Refusal>
-    ensures { Gives (λ p. p) result (unless_faulty (run_faults jobs) (map planned_job jobs)) }
-{
-    let are_run = are_plain(jobs.as_slice());
-    let plan = plan_jobs(alloc, jobs)?;
-    if !are_run {
-        return Err(Refusal::Numbered(Code::LeftOut));
-    }
-    Ok(plan)
 }
 
 fn planned_job(alloc: Global, job: Job) -> Result<PlannedJob, Refusal>

@@ -116,7 +116,7 @@ fn number_of_refusal(alloc: Global, body: &str) -> Result<u64, Refusal> {
     }
 }
 
-/// Bodies and their first faults. A job with a strategy is refused after every other fault.
+/// Bodies and their first faults, 0 where there is none.
 const BODIES: [(&str, u64); 15] = [
     (BODY, 0),
     ("[", 10),
@@ -137,14 +137,13 @@ const BODIES: [(&str, u64); 15] = [
         "{\"repo\":\"r\",\"path\":\"p\",\"workflow\":{\"jobs\":{\"a\":{\"runs-on\":\"x\",\"needs\":\"a\"}}}}",
         14,
     ),
-    // Runs do not follow these yet.
     (
         "{\"repo\":\"r\",\"path\":\"p\",\"workflow\":{\"jobs\":{\"a\":{\"runs-on\":\"x\"},\"b\":{\"runs-on\":\"x\",\"needs\":\"a\"}}}}",
-        16,
+        0,
     ),
     (
         "{\"repo\":\"r\",\"path\":\"p\",\"workflow\":{\"jobs\":{\"a\":{\"runs-on\":\"x\",\"if\":\"always()\"}}}}",
-        16,
+        0,
     ),
     (
         "{\"repo\":\"r\",\"path\":\"p\",\"workflow\":{\"jobs\":{\"a\":{\"runs-on\":\"x\",\"needs\":[],\"if\":true}}}}",
@@ -156,7 +155,7 @@ const BODIES: [(&str, u64); 15] = [
     ),
     (
         "{\"repo\":\"r\",\"path\":\"p\",\"workflow\":{\"jobs\":{\"a\":{\"runs-on\":\"x\",\"strategy\":{}}}}}",
-        16,
+        0,
     ),
     (
         "{\"repo\":\"r\",\"path\":\"p\",\"workflow\":{\"jobs\":{\"a\":{\"runs-on\":\"x\",\"strategy\":{}},\"b\":{}}}}",

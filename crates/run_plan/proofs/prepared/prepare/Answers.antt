@@ -2,7 +2,7 @@ use Rattle.std.proofs.Common.{sym, subst, refl}
 use Rattle.wf_value.proofs.PassedOn.{passed_on}
 use Rattle.wf_reader.specs.Event.{event_faults, event_of}
 use Rattle.run_plan.specs.Origins.{IsOrigin}
-use Rattle.run_plan.specs.PlanOf.{run_faults}
+use Rattle.run_plan.specs.PlanOf.{jobs_faults}
 use Rattle.run_plan.proofs.Faultless.{refused_too, given}
 use Rattle.run_plan.proofs.Prepares.{refused_run, faultless_run, plan_of_run}
 use Rattle.run_plan.proofs.prepared.prepare.Goals as goal
@@ -11,7 +11,7 @@ pub returns-in_err-read-clause-gives : goal.returns-in_err-read-clause-gives
 returns-in_err-read-clause-gives c =
     let body = c.args.body.items in
     passed_on _ _ _ _ c.in_err-read.field-0.0 c.from_residual.ensures.1 (rw c.as_slice.ensures.value at c.in_err-read.ensures.gives)
-    (λ refused. refused_too (event_faults body) (run_faults (event_of body).workflow.jobs) (event_of body) _ c.in_err-read.field-0.0 refused)
+    (λ refused. refused_too (event_faults body) (jobs_faults (event_of body).workflow.jobs) (event_of body) _ c.in_err-read.field-0.0 refused)
 
 pub returns-in_err-plan-clause-gives : goal.returns-in_err-plan-clause-gives
 returns-in_err-plan-clause-gives c =
