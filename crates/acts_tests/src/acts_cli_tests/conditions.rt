@@ -20,9 +20,9 @@ const JOBS: &str = concat!(
 );
 
 /// A job, with the condition under which it runs, or is skipped, whatever was before it.
-fn add_job(workflow: &mut String, head: &str, result: &str) -> Result<(), Refusal> {
+fn add_job(workflow: &mut String, head: &str, end: &str) -> Result<(), Refusal> {
     workflow.push_str(head)?;
-    let condition = if result == "skipped" {
+    let condition = if end == "skipped" {
         "false"
     } else {
         "always()"
@@ -51,15 +51,15 @@ fn add_end(
     script: &mut Script,
     job: &str,
     lease: u32,
-    result: &str,
+    end: &str,
 ) -> Result<(), Refusal> {
-    if result == "skipped" {
+    if end == "skipped" {
         return Ok(());
     }
     let claim = format!(in alloc; "claim r{job} 1 {job}")?;
     let leased = format!(in alloc; "lease {lease} 1 {job} 0 {{}}")?;
     script.add(claim.as_str(), leased.as_str())?;
-    let done = format!(in alloc; "done r{job} 2 {lease} {result}")?;
+    let done = format!(in alloc; "done r{job} 2 {lease} {end}")?;
     script.add(done.as_str(), "ok")
 }
 
@@ -69,9 +69,9 @@ fn state(holds: bool) -> &'static str {
 }
 
 /// The state of a job that has ended with this result.
-fn ended(alloc: Global, result: &str) -> Result<String, Refusal> {
-    let legs = if result == "skipped" { "" } else { result };
-    Ok(format!(in alloc; "{result}({legs})")?)
+fn ended(alloc: Global, end: &str) -> Result<String, Refusal> {
+    let legs = if end == "skipped" { "" } else { end };
+    Ok(format!(in alloc; "{end}({legs})")?)
 }
 
 /// What the end of a run's view has to say of the jobs behind `b`.
