@@ -177,39 +177,56 @@ fn results_of_needs_in_templates(rt: HostRuntime) -> Result<(), Fail> {
     expect_rows(&rt, alloc, RESULT_AS_FLAG, &FLAGS_BY_RESULTS)
 }
 
-/// A workflow of 256 jobs of which each but the last needs the one behind it.
-fn chain_workflow(alloc: Global) -> Result<String, Refusal> {
+/// A workflow of 256 jobs of which each but the last needs the one behind it; the last has this member too.
+fn chain_workflow(alloc: Global, member: &str) -> Result<String, Refusal> {
     let mut workflow = String::from_str(alloc, r#"{"jobs":{"#)?;
     for job in 100u32..355 {
         let behind = job.saturating_add(1);
-        let member = format!(in alloc;
+        let chained = format!(in alloc;
             "\"j{job}\":{{\"runs-on\":\"x\",\"needs\":\"j{behind}\"}},"
         )?;
-        workflow.push_str(member.as_str())?;
+        workflow.push_str(chained.as_str())?;
     }
-    workflow.push_str(r#""j355":{"runs-on":"x"}}}"#)?;
+    workflow.push_str(r#""j355":{"runs-on":"x""#)?;
+    workflow.push_str(member)?;
+    workflow.push_str("}}}")?;
     Ok(workflow)
 }
 
-/// The view of the chain's run after its last job has failed.
-fn skipped_chain(alloc: Global) -> Result<String, Refusal> {
-    let mut view = String::from_str(alloc, "run 1 1 completed failure")?;
+/// The view of the chain's run where all but the last are skipped.
+fn skipped_chain(alloc: Global, conclusion: &str, last: &str) -> Result<String, Refusal> {
+    let mut view = String::from_str(alloc, "run 1 1 completed ")?;
+    view.push_str(conclusion)?;
     for job in 100u32..355 {
         view.push_str(format!(in alloc; " j{job}:skipped()")?.as_str())?;
     }
-    view.push_str(" j355:failure(failure)")?;
+    view.push_str(" j355:")?;
+    view.push_str(last)?;
     Ok(view)
 }
 
-/// Where the job that all others wait for fails, they are all skipped by the same step.
+/// Where the job that all others wait for is skipped, all are by the same step.
 #[test]
-fn a_chain_of_256_jobs(rt: HostRuntime) -> Result<(), Fail> {
+fn a_chain_of_256_skipped_jobs(rt: HostRuntime) -> Result<(), Fail> {
     let alloc = rt.alloc();
-    let workflow = chain_workflow(alloc)?;
+    let workflow = chain_workflow(alloc, r#","if":false"#)?;
+    let mut script = Script::admitting(alloc, workflow.as_str())?;
+    let view = skipped_chain(alloc, "success", "skipped()")?;
+    script.add("look 1", view.as_str())?;
+    script.expect(&rt, alloc)?;
+    Ok(())
+}
+
+/// And so are the others where it fails.
+#[test]
+fn a_chain_of_256_jobs_behind_a_failure(rt: HostRuntime) -> Result<(), Fail> {
+    let alloc = rt.alloc();
+    let workflow = chain_workflow(alloc, "")?;
     let mut script = Script::admitting(alloc, workflow.as_str())?;
     script.add("claim r1 1 x", "lease 1 1 j355 0 {}")?;
     script.add("done r1 2 1 failure", "ok")?;
-    script.add("look 1", skipped_chain(alloc)?.as_str())?;
+    let view = skipped_chain(alloc, "failure", "failure(failure)")?;
+    script.add("look 1", view.as_str())?;
     script.expect(&rt, alloc)?;
     Ok(())
 }
