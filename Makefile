@@ -3,7 +3,7 @@
 ACTS := crates/acts/out/acts
 OUT := crates/acts/out
 
-.PHONY: first-run test build bench gate sweep wrong-bodies
+.PHONY: first-run test build example bench gate sweep wrong-bodies
 
 # Plays the example by a trial run, and prints each line of the script with its answer.
 first-run:
@@ -16,6 +16,10 @@ first-run:
 # Proves and builds `acts` and the crates below it.
 build:
 	cd crates/acts && rt run -- play < /dev/null
+
+# Plays the fan-out and fan-in to its end, and compares the answers.
+example: build
+	$(ACTS) play < examples/fan_out_fan_in.script | diff - examples/fan_out_fan_in.answers
 
 # The merge gate: every proof from nothing, the must-fail edits, the tests and the stored runs.
 test:

@@ -58,7 +58,7 @@ const EXPLANATIONS: [Explanation; 28] = [
         meaning: "a workflow has a member, or a kind of job, that is left out",
         input: "the workflow {\"jobs\":{\"a\":{\"uses\":\"./x.yml\"}}}",
         remedy: "write the job's own steps in place of \"uses\", and labels in place of a runner group; \
-            docs/FORMATS.md says which other members are not read yet",
+            \"concurrency\" is checked by acts check, and not run yet",
     },
     Explanation {
         number: "17",
@@ -71,8 +71,7 @@ const EXPLANATIONS: [Explanation; 28] = [
     Explanation {
         number: "18",
         meaning: "an expression uses a context that has no value in its place",
-        input: "the workflow {\"concurrency\":\"${{ matrix.os }}\",\"jobs\":{\"a\":{\"runs-on\":\"x\"}}} \
-            (while \"concurrency\" is not read yet, it is refused 16)",
+        input: "the workflow {\"concurrency\":\"${{ matrix.os }}\",\"jobs\":{\"a\":{\"runs-on\":\"x\"}}}",
         remedy: "use github, inputs and vars alone in the concurrency of the workflow, or move the group \
             to the job",
     },

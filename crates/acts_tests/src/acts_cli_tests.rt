@@ -2,6 +2,10 @@
 
 mod checks;
 mod command_line;
+mod conditions;
+mod legs;
+mod needs;
+mod scripts;
 
 use crate::given::spelled;
 use acts_cli::{MOST_BYTES, run_script};
@@ -96,8 +100,8 @@ const ROWS: [(&str, &str); 12] = [
         "refused 75\nrefused 75\nrefused 75\nrefused 75\n",
     ),
     (
-        "beat r1 1\ncancel 1\nlost r1\nfetch 1\ncommit",
-        "refused 75\nrefused 75\nrefused 75\nrefused 75\nrefused 75\n",
+        "cancel 1\nlost r1\nfetch 1\ncommit",
+        "refused 75\nrefused 75\nrefused 75\nrefused 75\n",
     ),
 ];
 

@@ -1,5 +1,6 @@
 //! Bodies of events and workflows. A call that was refused memory is made again, and has it then.
 
+mod concurrency;
 mod contexts;
 mod needs;
 mod strategy;
@@ -60,7 +61,7 @@ const WORKFLOWS: [(&str, u64); 24] = [
     ("{\"jobs\":{\"a\":{\"runs-on\":{}}}}", 16),
     ("{\"jobs\":{\"a\":{\"runs-on\":null}}}", 11),
     ("{\"jobs\":{\"a\":{\"runs-on\":[\"x\",{}]}}}", 11),
-    ("{\"concurrency\":null,\"jobs\":5}", 16),
+    ("{\"concurrency\":null,\"jobs\":{}}", 11),
     ("{\"jobs\":{\"a\":{\"runs-on\":\"x\",\"needs\":null}}}", 11),
     ("{\"jobs\":{\"a\":{\"runs-on\":\"x\",\"if\":null}}}", 26),
     // Whether a job is there is asked of the plan.
@@ -70,7 +71,7 @@ const WORKFLOWS: [(&str, u64); 24] = [
     ),
     (
         "{\"jobs\":{\"a\":{\"runs-on\":\"x\",\"concurrency\":\"g\"}}}",
-        16,
+        ACCEPTED,
     ),
     ("{\"jobs\":{\"b\":{\"uses\":1},\"a\":{\"runs-on\":5}}}", 11),
     (
@@ -205,8 +206,8 @@ const EARLIER_MEMBERS: [(&str, u64); 8] = [
         17,
     ),
     (
-        "\"concurrency\":\"g\",\"continue-on-error\":5,\"runs-on\":\"x\"",
-        11,
+        "\"strategy\":5,\"concurrency\":\"${{ x }}\",\"runs-on\":\"x\"",
+        17,
     ),
     (
         "\"strategy\":5,\"continue-on-error\":null,\"runs-on\":\"x\"",
@@ -224,8 +225,11 @@ fn answers_the_earlier_of_two_members(rt: HostRuntime) {
 const EARLIER_FAULTS: [(&str, u64); 5] = [
     ("{\"jobs\":{\"1a\":[]}}", 12),
     ("{\"jobs\":{\"b\":{},\"a\":{\"runs-on\":\"${{ x }}\"}}}", 17),
-    ("{\"jobs\":[],\"concurrency\":\"g\"}", 16),
-    ("{\"concurrency\":\"g\",\"name\":5}", 11),
+    (
+        "{\"jobs\":[],\"concurrency\":\"${{ needs.a.result }}\"}",
+        18,
+    ),
+    ("{\"concurrency\":\"${{ x }}\",\"name\":5}", 11),
     ("{\"jobs\":{\"a\":{}},\"name\":[]}", 11),
 ];
 
@@ -354,6 +358,7 @@ fn one_job(alloc: Global) -> Result<Jobs, Refusal> {
         needs: Sequence::new(Vec::new(alloc)),
         condition: Condition::Success,
         continue_on_error: Flag::Fixed(false),
+        concurrency: None,
         strategy: None,
     };
     Ok(Jobs::new(vec![in alloc; job]?))

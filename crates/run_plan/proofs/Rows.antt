@@ -89,6 +89,7 @@ job_needing id needs = record {
   needs = needs;
   condition = Success;
   continue_on_error = Fixed false;
+  concurrency = None;
   strategy = None;
 }
 
@@ -102,6 +103,7 @@ job_of_matrix id variables = record {
   needs = codes "a" ∷ [];
   condition = Always;
   continue_on_error = Fixed true;
+  concurrency = None;
   strategy = Some (record {
     matrix = Some (record { variables = variables; include = []; exclude = [] });
     fail_fast = false;
@@ -110,7 +112,7 @@ job_of_matrix id variables = record {
 }
 
 abbrev of_jobs : List Job → Workflow
-of_jobs jobs = record { name = []; jobs = jobs }
+of_jobs jobs = record { name = []; concurrency = None; jobs = jobs }
 
 plan_of_a_plain_job : workflow_plan (of_jobs (plain_job (codes "b") ∷ [])) ≡ record {
   id = codes "b";
@@ -118,6 +120,7 @@ plan_of_a_plain_job : workflow_plan (of_jobs (plain_job (codes "b") ∷ [])) ≡
   needs = [];
   condition = Success;
   continue_on_error = Fixed false;
+  concurrency = None;
   fail_fast = true;
   max_parallel = None;
   legs = record { combo = [] } ∷ [];
@@ -130,6 +133,7 @@ plan_of_a_matrix : workflow_plan (of_jobs (job_of_matrix (codes "m") ((codes "n"
   needs = codes "a" ∷ [];
   condition = Always;
   continue_on_error = Fixed true;
+  concurrency = None;
   fail_fast = false;
   max_parallel = Some 2;
   legs = record { combo = (codes "n", Whole (pos 1)) ∷ [] } ∷ record { combo = (codes "n", Null) ∷ [] } ∷ [];

@@ -8,7 +8,7 @@ use needs_graph::{Graph, JobNeeds};
 use std::alloc::Global;
 use std::marker::Model;
 use wf_expr::Template;
-use wf_reader::Flag;
+use wf_reader::{Concurrency, Flag};
 use wf_value::{Chars, Combo, Condition, Refusal, Sequence};
 
 /// A leg of a job as it is planned: one combination of its matrix.
@@ -29,6 +29,8 @@ pub struct PlannedJob {
     pub condition: Condition,
     /// Whether a leg that fails is passed over in the result of the job.
     pub continue_on_error: Flag,
+    /// The group of each leg, where the job asks for one.
+    pub concurrency: Option<Concurrency>,
     /// Whether a leg that fails ends the others: true where the workflow does not say.
     pub fail_fast: bool,
     /// The most legs that run at a time, 1 to 256, where there is a limit.

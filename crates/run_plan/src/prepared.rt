@@ -1,4 +1,4 @@
-ghost use Rattle.std.specs.Prelude.{◌≡◌, ◌<◌, ◌≤◌, [], Err, Ok, false, length};
+ghost use Rattle.std.specs.Prelude.{◌≡◌, ◌<◌, ◌≤◌, [], Err, Ok, false, length, option_copied};
 ghost use Rattle.std.specs.Str.{is_utf8};
 ghost use Rattle.wf_value.specs.declared.code.Code.TheVariants.{NotJson, TooLong};
 ghost use Rattle.wf_value.specs.declared.refusal.Refusal.TheVariants.{Numbered};
@@ -9,12 +9,12 @@ ghost use Rattle.run_plan.specs.Origins.{IsOrigin};
 ghost use Rattle.run_plan.specs.PlanOf.{faults_of, plan_of};
 
 use crate::planned::Plan;
-use crate::planning::plan_jobs;
+use crate::planning::plan_run;
 use crate::small_text::{DeliveryId, EventName};
 use std::alloc::Global;
 use std::marker::Model;
 use std::sync::Arc;
-use wf_reader::{Contexts, Event, Jobs, Workflow, read_event};
+use wf_reader::{Concurrency, Contexts, Event, Jobs, Workflow, read_event};
 use wf_value::{Chars, Refusal, Same};
 
 /// What an event says beside the jobs of its workflow.
@@ -24,6 +24,7 @@ struct Origin {
     path: Chars,
     contexts: Contexts,
     workflow_name: Chars,
+    concurrency: Option<Concurrency>,
 }
 
 /// An admitted event, and beside its bytes what they spell.
@@ -113,6 +114,13 @@ impl Prepared {
         &self.admission.origin.workflow_name
     }
 
+    /// The `concurrency` of the workflow, where it has one.
+    pub fn concurrency(&self) -> Option<&Concurrency>
+        ensures { option_copied result ≡ (event_of self.now.body).workflow.concurrency }
+    {
+        self.admission.origin.concurrency.as_ref()
+    }
+
     /// The plan of the body's workflow.
     pub fn plan(&self) -> &Plan
         ensures { result.now ≡ plan_of self.now.body }
@@ -141,6 +149,7 @@ impl Same for Prepared {
 /// The jobs of an event's workflow, and what else it says.
 fn origin_and_jobs(event: Event) -> (Origin, Jobs)
     ensures origin { IsOrigin result.0 event }
+    ensures concurrency { result.0.concurrency ≡ event.workflow.concurrency }
     ensures jobs { result.1 ≡ event.workflow.jobs }
 {
     let Event {
@@ -149,18 +158,24 @@ fn origin_and_jobs(event: Event) -> (Origin, Jobs)
         contexts,
         workflow,
     } = event;
-    let Workflow { name, jobs } = workflow;
+    let Workflow {
+        name,
+        concurrency,
+        jobs,
+    } = workflow;
     let origin = Origin {
         repo,
         path,
         contexts,
         workflow_name: name,
+        concurrency,
     };
     (origin, jobs)
 }
 
-/// An event made ready: its body is read and planned, and refused with the first of its faults, 10 to 26.
-/// Want of memory is 50. A body that is too long or no UTF-8 is refused memory or not.
+/// An event made ready: its body is read and planned, and refused with the first of its faults, 10 to 26; one
+/// in which the workflow or a job has a concurrency group is refused 16 where it has no other fault. Want of
+/// memory is 50. A body that is too long or no UTF-8 is refused memory or not.
 pub fn prepare(
     alloc: Global,
     event: EventName,
@@ -177,7 +192,7 @@ pub fn prepare(
 {
     let read = read_event(alloc, body.as_slice())?;
     let (origin, jobs) = origin_and_jobs(read);
-    let plan = plan_jobs(alloc, jobs)?;
+    let plan = plan_run(alloc, &origin.concurrency, jobs)?;
     let admission = Admission {
         delivery,
         event,

@@ -20,6 +20,7 @@ job = record {
   needs = [];
   condition = condition.Success;
   continue_on_error = Fixed false;
+  concurrency = None;
   fail_fast = false;
   max_parallel = None;
   legs =

@@ -93,7 +93,7 @@ module _ (runs next : List RunState) (all : Decided runs) (r : ℕ) (same : admi
     needs_stay_settled runs next r j same keeps d.0,
     (λ e. ap (λ o. condition_value (option_map_or (λ (planned : PlannedJob). planned.condition) o condition.Never)
         (ancestor_results next r j) false) (plan_same runs next r j same)
-    ∙ ap (λ os. condition_value (condition_of runs r j) os false) (ancestors_stay j d.0) ∙ d.1 e),
+        ∙ ap (λ os. condition_value (condition_of runs r j) os false) (ancestors_stay j d.0) ∙ d.1 e),
   )
 
 -- where each job now is as it was decided before
@@ -234,9 +234,10 @@ rule_now runs next (Closing r j) h all =
     let taken = if_some (is_open y.phase && list_all has_ended y.legs) (with_job r j close runs) next from.gives in
     let is_open = is_open_open y.phase (and_parts (is_open y.phase) (list_all has_ended y.legs) taken.0).0 in
     subst (NowDecided runs) taken.1
-    (one_decided runs r j close y from.is
-    (open_needs runs r j y.phase is_open (all r j y from.is),
-    (λ e. absurd (never_skipped (list_any fails_job (leg_ends runs r j y)) (list_any was_cancelled (leg_ends runs r j y)) e))) all)
+    (one_decided runs r j close y from.is (
+      open_needs runs r j y.phase is_open (all r j y from.is),
+      (λ e. absurd (never_skipped (list_any fails_job (leg_ends runs r j y)) (list_any was_cancelled (leg_ends runs r j y)) e)),
+    ) all)
 rule_now runs next (Whole r) h all =
     let from = from_and_then (whole_rule runs r) (run_at runs r) next h in
     let made = from_map (λ phase. with_run r (run_in_phase phase) runs)

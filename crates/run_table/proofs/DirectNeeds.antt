@@ -50,4 +50,5 @@ need_found run j id plan places jobs found result is_plan are_places are_jobs is
     ∙ ap (option_and_then (λ place. slice_index_or (results_so_far run.jobs) place None)) is_found
     ∙ sym (result_by_id id plan (results_so_far run.jobs) places)
     ∙ ap (λ ps. option_and_then (λ r. r) (under id (filter_map (with_result ps (results_so_far run.jobs)) places))) is_plan
-    ∙ ap (λ ps. option_and_then (λ r. r) (under id (filter_map (with_result (plan_of run.admitted.body) (results_so_far run.jobs)) ps))) are_places
+    ∙ ap (λ ps. option_and_then (λ r. r) (under id (filter_map (with_result (plan_of run.admitted.body) (results_so_far run.jobs)) ps)))
+    are_places

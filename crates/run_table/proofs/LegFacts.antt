@@ -3,7 +3,7 @@
 use Rattle.std.specs.Prelude.{◌≡◌, ℕ, zero, suc, ◌+◌, ◌<◌, ◌≤◌, List, [], ◌∷◌, filter_map, take, count_by, true, false, is_some, Option}
 use Rattle.std.specs.Prelude.{Some, None, option_map, option_and_then, slice_get, refl}
 use Rattle.std.specs.Fmt.{decimal}
-use Rattle.std.specs.List.{cons_option, list_all, slice_index_or}
+use Rattle.std.specs.List.{cons_option, slice_index_or}
 use Rattle.std.specs.Option.{option_map_or}
 use Rattle.std.proofs.Common.{arith, ap, sym, ◌∙◌}
 use Rattle.std.proofs.lemmas.Bool.{and_parts}
@@ -117,7 +117,8 @@ each_kept plan before after [] settled kept = refl
 each_kept plan before after (k ∷ places) settled kept =
     let parts = and_parts (is_some (slice_index_or before k None)) (all_have_results before places) settled in
     let same = result_kept (slice_index_or before k None) (slice_index_or after k None) parts.0 (λ r e. kept k r e) in
-    ap (λ o. cons_option (option_map (λ (planned : PlannedJob). (planned.id, o)) (slice_get plan k)) (filter_map (with_result plan after) places)) same
+    ap (λ o. cons_option (option_map (λ (planned : PlannedJob). (planned.id, o)) (slice_get plan k))
+    (filter_map (with_result plan after) places)) same
     ∙ ap (cons_option (with_result plan before k)) (each_kept plan before after places parts.1 kept)
 
 needs_kept : (x y : RunState) (j : ℕ) → y.admitted ≡ x.admitted → all_have_results (results_so_far x.jobs) (needs_at (needs_in x) j) ≡ true

@@ -77,7 +77,8 @@ fits_beside runs next r x same keeps fits = record {
   phase_fits = fits.phase_fits;
   jobs_fit = (λ j y e.
       subst (λ (n : ℕ). JobFits n (result_at next r j y) y) (sym (planned_legs_same runs next r j (same r (omega arith))))
-      (subst (λ (o : JobResult). JobFits (planned_legs runs r j) o y) (sym (result_stays runs next r j y (same_events runs next r same) (fits.needs_first j y e) keeps))
+      (subst (λ (o : JobResult). JobFits (planned_legs runs r j) o y)
+      (sym (result_stays runs next r j y (same_events runs next r same) (fits.needs_first j y e) keeps))
       (fits.jobs_fit j y e)));
   needs_first = (λ j y e some. needs_stay_settled runs next r j (same r (omega arith)) keeps (fits.needs_first j y e some));
 }

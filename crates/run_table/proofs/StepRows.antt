@@ -71,6 +71,7 @@ plan_with set = record {
   needs = [];
   condition = condition.Success;
   continue_on_error = flag.Fixed set;
+  concurrency = None;
   fail_fast = true;
   max_parallel = None;
   legs = record { combo = [] } ∷ [];

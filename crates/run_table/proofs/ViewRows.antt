@@ -26,6 +26,7 @@ planned id = record {
   needs = [];
   condition = condition.Success;
   continue_on_error = flag.Fixed false;
+  concurrency = None;
   fail_fast = true;
   max_parallel = None;
   legs = [];

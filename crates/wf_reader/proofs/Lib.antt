@@ -1,5 +1,6 @@
 pub mod BodyCases
 pub mod Contents
+pub mod ConcurrencyParts
 pub mod ConditionTexts
 pub mod ContextParts
 pub mod Entries
@@ -11,6 +12,8 @@ pub mod Members
 pub mod NeedsListed
 pub mod RunsOn
 pub mod StrategyParts
+pub mod WorkflowParts
+mod ConcurrencyRows
 mod ConditionRows
 mod Rows
 mod StrategyRows

@@ -50,7 +50,7 @@ unfolding on_bodies
 null_name = refl
 
 workflow_concurrency : workflow_faults (codes "{\"concurrency\":null,\"jobs\":{\"a\":{\"runs-on\":\"x\"}}}")
-    ≡ Numbered LeftOut ∷ []
+    ≡ Numbered WrongKind ∷ []
 unfolding on_bodies
 workflow_concurrency = refl
 
@@ -107,9 +107,9 @@ job_by_job : workflow_faults (codes "{\"jobs\":{\"b\":{\"runs-on\":5},\"a\":{\"r
 unfolding on_bodies
 job_by_job = refl
 
-members_in_turn : workflow_faults (codes "{\"jobs\":{\"a\":{\"runs-on\":\"x\",\"strategy\":null,\"concurrency\":\"g\"," ++ codes
+members_in_turn : workflow_faults (codes "{\"jobs\":{\"a\":{\"runs-on\":\"x\",\"strategy\":null,\"concurrency\":\"${{ a }}\"," ++ codes
     "\"continue-on-error\":5,\"if\":\"b\",\"needs\":[{}]}}}")
-    ≡ Numbered WrongKind ∷ Numbered Condition ∷ Numbered WrongKind ∷ Numbered LeftOut ∷ Numbered StrategyMember ∷ []
+    ≡ Numbered WrongKind ∷ Numbered Condition ∷ Numbered WrongKind ∷ Numbered Expression ∷ Numbered StrategyMember ∷ []
 unfolding on_bodies
 members_in_turn = refl
 
@@ -147,14 +147,24 @@ good = refl
 in_order : workflow_of (codes "{\"name\":\"n\",\"jobs\":{\"b\":{\"runs-on\":[\"linux\",\"x64\"]},\"a\":{\"runs-on\":\"y\"}}}")
     ≡ record {
       name = codes "n";
+      concurrency = None;
       jobs =
-          record { id = codes "a"; labels = (Plain (codes "y") ∷ []) ∷ []; needs = []; condition = Success; continue_on_error = Fixed false; strategy = None }
+          record {
+            id = codes "a";
+            labels = (Plain (codes "y") ∷ []) ∷ [];
+            needs = [];
+            condition = Success;
+            continue_on_error = Fixed false;
+            concurrency = None;
+            strategy = None;
+          }
           ∷ record {
             id = codes "b";
             labels = (Plain (codes "linux") ∷ []) ∷ (Plain (codes "x64") ∷ []) ∷ [];
             needs = [];
             condition = Success;
             continue_on_error = Fixed false;
+            concurrency = None;
             strategy = None;
           }
           ∷ [];
@@ -165,6 +175,7 @@ in_order = refl
 templates : workflow_of (codes "{\"jobs\":{\"a\":{\"runs-on\":\"${{ vars.os }}-x\",\"continue-on-error\":\"${{ matrix.soft }}\"}}}")
     ≡ record {
       name = [];
+      concurrency = None;
       jobs =
           record {
             id = codes "a";
@@ -172,6 +183,7 @@ templates : workflow_of (codes "{\"jobs\":{\"a\":{\"runs-on\":\"${{ vars.os }}-x
             needs = [];
             condition = Success;
             continue_on_error = Template (Braced (Reference (codes "matrix" ∷ codes "soft" ∷ []) ∷ []) ∷ []);
+            concurrency = None;
             strategy = None;
           }
           ∷ [];
@@ -187,6 +199,7 @@ envelope : event_of (codes "{\"repo\":\"o/r\",\"path\":\"ci.json\",\"vars\":{\"l
           { github = None; inputs = None; vars = Some (object (member (codes "l") (number (unsigned 1)) no_members)) };
       workflow = record {
         name = [];
+        concurrency = None;
         jobs =
             record {
               id = codes "build";
@@ -194,6 +207,7 @@ envelope : event_of (codes "{\"repo\":\"o/r\",\"path\":\"ci.json\",\"vars\":{\"l
               needs = [];
               condition = Success;
               continue_on_error = Fixed false;
+              concurrency = None;
               strategy = None;
             }
             ∷ [];

@@ -1,6 +1,6 @@
 -- A job of a workflow: what is wrong with it, and the job that it spells.
 -- GitHub Docs, "Workflow syntax for GitHub Actions": jobs.<job_id>, its runs-on and its continue-on-error.
--- `Needs`, `Condition` and `Strategy` have its needs, its if and its strategy.
+-- `Needs`, `Condition`, `Concurrency` and `Strategy` have its needs, its if, its concurrency and its strategy.
 use Rattle.std.specs.Prelude.{ℕ, List, [], ◌∷◌, ◌++◌, length, Bool, false, ◌&&◌, ◌||◌, ◌==◌, nat_le, codes, map, flat_map, option_map}
 use Rattle.std.specs.Char.{is_ascii_alphabetic, is_ascii_digit}
 use Rattle.std.specs.List.{list_all}
@@ -10,14 +10,14 @@ use Rattle.wf_value.specs.declared.code.Code.TheVariants.{WrongKind, JobId, NoLa
 use Rattle.wf_value.specs.declared.refusal.Refusal.{Refusal}
 use Rattle.wf_expr.specs.declared.piece.Piece.{Piece}
 use Rattle.wf_expr.specs.declared.place.Place.TheVariants as place
+use Rattle.wf_reader.specs.Concurrency.{concurrency_faults, concurrency_in}
 use Rattle.wf_reader.specs.Condition.{condition_faults, condition_where}
 use Rattle.wf_reader.specs.Faults.{fault, fault_unless, in_turn, optional, required, left_out, faults_within}
+use Rattle.wf_reader.specs.Flags.{flag_faults, flag_in}
 use Rattle.wf_reader.specs.Json.{item_list, listed, text_in, member_at}
 use Rattle.wf_reader.specs.Needs.{needs_faults, needs_in}
 use Rattle.wf_reader.specs.Strategy.{strategy_faults, strategy_of}
 use Rattle.wf_reader.specs.Templates.{template_faults, template_in}
-use Rattle.wf_reader.specs.declared.flag.Flag.{Flag}
-use Rattle.wf_reader.specs.declared.flag.Flag.TheVariants.{Fixed, Template}
 use Rattle.wf_reader.specs.declared.job.Job.{Job}
 
 -- ---- jobs.<job_id>: a letter or `_` first, then these, digits and `-`; at most 100 bytes (own)
@@ -58,25 +58,6 @@ label_in d = template_in place.Job (text_in d)
 abbrev pub labels_asked : Data → List (List Piece)
 labels_asked d = map label_in (listed d)
 
--- ---- continue-on-error: a truth value, or a text that is a template
-
-abbrev pub flag_faults : Data → List Refusal
-flag_faults null = fault WrongKind
-flag_faults (boolean b) = []
-flag_faults (number n) = fault WrongKind
-flag_faults (string t) = template_faults place.Job t
-flag_faults (array ds) = fault WrongKind
-flag_faults (object ms) = fault WrongKind
-
--- a flag that is missing is not set
-abbrev pub flag_in : Data → Flag
-flag_in null = Fixed false
-flag_in (boolean b) = Fixed b
-flag_in (number n) = Fixed false
-flag_in (string t) = Template (template_in place.Job t)
-flag_in (array ds) = Fixed false
-flag_in (object ms) = Fixed false
-
 -- ---- the job: its members are checked in this order
 
 abbrev pub inside_job : Data → List Refusal
@@ -84,8 +65,8 @@ inside_job d = in_turn (left_out (get (codes "uses") d)
     ∷ required NoLabels labels_faults (get (codes "runs-on") d)
     ∷ optional needs_faults (get (codes "needs") d)
     ∷ optional condition_faults (get (codes "if") d)
-    ∷ optional flag_faults (get (codes "continue-on-error") d)
-    ∷ left_out (get (codes "concurrency") d)
+    ∷ optional (flag_faults place.Job) (get (codes "continue-on-error") d)
+    ∷ optional (concurrency_faults place.Job) (get (codes "concurrency") d)
     ∷ optional strategy_faults (get (codes "strategy") d) ∷ [])
 
 -- of an id and its value
@@ -98,6 +79,7 @@ job_of job = record {
   labels = labels_asked (member_at (codes "runs-on") job.1);
   needs = needs_in (member_at (codes "needs") job.1);
   condition = condition_where (get (codes "if") job.1);
-  continue_on_error = flag_in (member_at (codes "continue-on-error") job.1);
+  continue_on_error = flag_in place.Job (member_at (codes "continue-on-error") job.1);
+  concurrency = option_map (concurrency_in place.Job) (get (codes "concurrency") job.1);
   strategy = option_map strategy_of (get (codes "strategy") job.1);
 }

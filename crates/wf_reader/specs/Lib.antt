@@ -1,9 +1,11 @@
 pub mod Body
+pub mod Concurrency
 pub mod Condition
 pub mod ConditionTexts
 pub mod Contexts
 pub mod Event
 pub mod Faults
+pub mod Flags
 pub mod Job
 pub mod JobCode
 pub mod Json

@@ -1,12 +1,14 @@
 -- A workflow: what is wrong with it, and the workflow that it spells.
 -- GitHub Docs, "Workflow syntax for GitHub Actions": name, concurrency, jobs. Other members are read past.
-use Rattle.std.specs.Prelude.{ℕ, List, [], ◌∷◌, ◌++◌, map, length, nat_le, codes, flat_map}
+use Rattle.std.specs.Prelude.{ℕ, List, [], ◌∷◌, ◌++◌, map, length, nat_le, codes, flat_map, option_map}
 use Rattle.serde_json.specs.Data.{Data}
 use Rattle.serde_json.specs.Find.{get}
 use Rattle.wf_value.specs.declared.code.Code.TheVariants.{WrongKind, TooManyJobs}
 use Rattle.wf_value.specs.declared.refusal.Refusal.{Refusal}
+use Rattle.wf_expr.specs.declared.place.Place.TheVariants as place
 use Rattle.wf_reader.specs.Body.{body_value, body_faults}
-use Rattle.wf_reader.specs.Faults.{fault, fault_unless, in_turn, optional, left_out, text_faults, faults_within}
+use Rattle.wf_reader.specs.Concurrency.{concurrency_faults, concurrency_in}
+use Rattle.wf_reader.specs.Faults.{fault, fault_unless, in_turn, optional, text_faults, faults_within}
 use Rattle.wf_reader.specs.Job.{job_faults, job_of}
 use Rattle.wf_reader.specs.Json.{text_in, members_of, member_at}
 use Rattle.wf_reader.specs.declared.workflow.Workflow.{Workflow}
@@ -18,7 +20,7 @@ jobs_faults (j ∷ js) = fault_unless (nat_le (length (j ∷ js)) 256) TooManyJo
 
 abbrev pub inside_workflow : Data → List Refusal
 inside_workflow d = in_turn (optional text_faults (get (codes "name") d)
-    ∷ left_out (get (codes "concurrency") d)
+    ∷ optional (concurrency_faults place.Workflow) (get (codes "concurrency") d)
     ∷ jobs_faults (members_of (member_at (codes "jobs") d)) ∷ [])
 
 -- what is wrong with a value that is to be a workflow
@@ -26,7 +28,11 @@ abbrev pub workflow_faults_in : Data → List Refusal
 workflow_faults_in = faults_within inside_workflow
 
 abbrev pub workflow_in : Data → Workflow
-workflow_in d = record { name = text_in (member_at (codes "name") d); jobs = map job_of (members_of (member_at (codes "jobs") d)) }
+workflow_in d = record {
+  name = text_in (member_at (codes "name") d);
+  concurrency = option_map (concurrency_in place.Workflow) (get (codes "concurrency") d);
+  jobs = map job_of (members_of (member_at (codes "jobs") d));
+}
 
 -- what is wrong with a body that is a workflow, and the workflow that it spells where nothing is
 abbrev pub workflow_faults : List ℕ → List Refusal

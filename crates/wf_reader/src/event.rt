@@ -67,8 +67,8 @@ fn event_in(alloc: Global, value: Value) -> Result<Event, Refusal>
 }
 
 /// The event that a body spells, or the first of its faults: 24 for a body over 65,536 bytes, 10 where
-/// it is not UTF-8 or not JSON, 11 for the envelope, and for the workflow in it 11, 12, 15, 16 and 23.
-/// Want of memory is 50.
+/// it is not UTF-8 or not JSON, 11 for the envelope, and for the workflow in it 11, 12, 15 to 20,
+/// 23, 25 and 26. Want of memory is 50.
 pub fn read_event(alloc: Global, bytes: &[u8]) -> Result<Event, Refusal>
     ensures gives { Gives (λ e. e) result
         (unless_faulty (event_faults bytes.now) (event_of bytes.now)) }

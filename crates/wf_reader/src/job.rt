@@ -5,6 +5,7 @@ ghost use Rattle.wf_value.specs.Gives.{Gives};
 ghost use Rattle.wf_reader.specs.Faults.{unless_faulty};
 ghost use Rattle.wf_reader.specs.Job.{is_id_start, is_id_part, is_job_id, job_faults, job_of};
 
+use crate::concurrency::{Concurrency, read_concurrency};
 use crate::condition::read_condition;
 use crate::fields::{refuse_left_out, wrong_kind};
 use crate::flag::{Flag, read_flag};
@@ -13,7 +14,7 @@ use crate::needs::read_needs;
 use crate::strategy::{Strategy, read_strategy};
 use serde_json::Value;
 use std::alloc::Global;
-use wf_expr::Template;
+use wf_expr::{Place, Template};
 use wf_value::{Chars, Code, Condition, Refusal, Sequence};
 
 /// A job of a workflow. GitHub Docs, "Workflow syntax for GitHub Actions", `jobs.<job_id>`.
@@ -29,6 +30,8 @@ pub struct Job {
     pub condition: Condition,
     /// Whether the job may fail without failing its run. It is not set where the member is missing.
     pub continue_on_error: Flag,
+    /// The group of each of its legs, where it asks for one.
+    pub concurrency: Option<Concurrency>,
     pub strategy: Option<Strategy>,
 }
 
@@ -78,8 +81,8 @@ pub fn read_job(alloc: Global, id: &str, value: &Value) -> Result<Job, Refusal>
     let labels = read_runs_on(alloc, value)?;
     let needs = read_needs(alloc, value)?;
     let condition = read_condition(value)?;
-    let continue_on_error = read_flag(alloc, value, "continue-on-error")?;
-    refuse_left_out(value, "concurrency")?;
+    let continue_on_error = read_flag(alloc, value, "continue-on-error", Place::Job)?;
+    let concurrency = read_concurrency(alloc, value, Place::Job)?;
     let strategy = read_strategy(alloc, value)?;
     Ok(Job {
         id: Chars::from_str(alloc, id)?,
@@ -87,6 +90,7 @@ pub fn read_job(alloc: Global, id: &str, value: &Value) -> Result<Job, Refusal>
         needs,
         condition,
         continue_on_error,
+        concurrency,
         strategy,
     })
 }

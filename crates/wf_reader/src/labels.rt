@@ -30,7 +30,7 @@ fn read_labels(alloc: Global, values: &[Value]) -> Result<Vec<Template>, Refusal
         (unless_faulty (flat_map (λ v. label_faults (view v)) values.now)
         (map (λ v. label_in (view v)) values.now)) }
 {
-    let mut labels = Vec::new(alloc);
+    let mut labels = Vec::with_capacity(alloc, values.len())?;
     for value in values {
         labels.push(read_label(alloc, value)?)?;
     }

@@ -4,6 +4,7 @@
 #![tactic(auto)]
 
 mod body;
+mod concurrency;
 mod condition;
 mod contexts;
 mod event;
@@ -21,6 +22,7 @@ mod templates;
 mod values;
 mod workflow;
 
+pub use concurrency::Concurrency;
 pub use condition::conditions_are_their_spellings;
 pub use contexts::Contexts;
 pub use event::{Event, read_event};

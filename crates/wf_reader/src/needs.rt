@@ -26,7 +26,7 @@ fn read_list(alloc: Global, values: &[Value]) -> Result<Vec<Chars>, Refusal>
     ensures { Gives (λ v. v.items) result
         (unless_faulty (flat_map (λ v. text_faults (view v)) values.now) (map (λ v. text_in (view v)) values.now)) }
 {
-    let mut needs = Vec::new(alloc);
+    let mut needs = Vec::with_capacity(alloc, values.len())?;
     for value in values {
         needs.push(read_need(alloc, value)?)?;
     }

@@ -26,7 +26,7 @@ fn read_pairs(alloc: Global, members: &Map<String, Value>) -> Result<Combo, Refu
         (unless_faulty (flat_map (λ e. pair_faults (string_bytes e.0, view e.1)) members.now.entries)
         (map (λ e. pair_of (string_bytes e.0, view e.1)) members.now.entries)) }
 {
-    let mut pairs = Vec::new(alloc);
+    let mut pairs = Vec::with_capacity(alloc, members.len())?;
     for (name, value) in members {
         pairs.push(read_pair(alloc, name.as_str(), value)?)?;
     }
@@ -53,7 +53,7 @@ fn read_each(alloc: Global, values: &[Value]) -> Result<Vec<Combo>, Refusal>
         (unless_faulty (flat_map (λ v. pattern_faults (view v)) values.now)
         (map (λ v. pattern_of (view v)) values.now)) }
 {
-    let mut patterns = Vec::new(alloc);
+    let mut patterns = Vec::with_capacity(alloc, values.len())?;
     for value in values {
         patterns.push(read_pattern(alloc, value)?)?;
     }

@@ -42,7 +42,7 @@ pub fn read_values(alloc: Global, values: &[Value]) -> Result<Vec<Scalar>, Refus
         (unless_faulty (flat_map (λ v. value_faults (view v)) values.now)
         (map (λ v. scalar_or_null (view v)) values.now)) }
 {
-    let mut scalars = Vec::new(alloc);
+    let mut scalars = Vec::with_capacity(alloc, values.len())?;
     for value in values {
         scalars.push(read_value(alloc, value)?)?;
     }

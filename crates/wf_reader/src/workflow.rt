@@ -10,11 +10,13 @@ ghost use Rattle.wf_reader.specs.Json.{members_of, member_at};
 ghost use Rattle.wf_reader.specs.Workflow.{jobs_faults, workflow_faults_in, workflow_in, workflow_faults, workflow_of};
 
 use crate::body::read_body;
-use crate::fields::{members_at, read_text, refuse_left_out, wrong_kind};
+use crate::concurrency::{Concurrency, read_concurrency};
+use crate::fields::{members_at, read_text, wrong_kind};
 use crate::job::{Job, read_job};
 use crate::jobs::Jobs;
 use serde_json::{Map, Value};
 use std::alloc::Global;
+use wf_expr::Place;
 use wf_value::{Chars, Code, Refusal};
 
 /// The most jobs of a workflow.
@@ -25,6 +27,8 @@ const MAX_JOBS: usize = 256;
 pub struct Workflow {
     /// The `name`, and the empty text where it is missing.
     pub name: Chars,
+    /// The group of the run, where it asks for one.
+    pub concurrency: Option<Concurrency>,
     /// 1 to 256 jobs.
     pub jobs: Jobs,
 }
@@ -35,7 +39,7 @@ fn read_each(alloc: Global, members: &Map<String, Value>) -> Result<Jobs, Refusa
         (unless_faulty (flat_map (λ e. job_faults (string_bytes e.0, view e.1)) members.now.entries)
         (map (λ e. job_of (string_bytes e.0, view e.1)) members.now.entries)) }
 {
-    let mut jobs = Vec::new(alloc);
+    let mut jobs = Vec::with_capacity(alloc, members.len())?;
     for (id, value) in members {
         jobs.push(read_job(alloc, id.as_str(), value)?)?;
     }
@@ -70,14 +74,18 @@ pub fn workflow_in(alloc: Global, value: &Value) -> Result<Workflow, Refusal>
         return Err(wrong_kind());
     }
     let name = read_text(alloc, value, "name")?;
-    refuse_left_out(value, "concurrency")?;
+    let concurrency = read_concurrency(alloc, value, Place::Workflow)?;
     let jobs = read_jobs(alloc, value)?;
-    Ok(Workflow { name, jobs })
+    Ok(Workflow {
+        name,
+        concurrency,
+        jobs,
+    })
 }
 
 /// The workflow that a body spells, or the first of its faults: 24 for a body over 65,536 bytes, 10
-/// where it is not UTF-8 or not JSON, and for what is inside it 11, 12, 15, 16 and 23. Want of memory
-/// is 50. GitHub Docs, "Workflow syntax for GitHub Actions"; RFC 8259.
+/// where it is not UTF-8 or not JSON, and for what is inside it 11, 12, 15 to 20, 23, 25 and 26. Want of
+/// memory is 50. GitHub Docs, "Workflow syntax for GitHub Actions"; RFC 8259.
 pub fn read_workflow(alloc: Global, bytes: &[u8]) -> Result<Workflow, Refusal>
     ensures gives { Gives (λ w. w) result
         (unless_faulty (workflow_faults bytes.now) (workflow_of bytes.now)) }

@@ -163,6 +163,10 @@ fn refuses_with_the_first_fault(rt: HostRuntime) {
             "{\"jobs\":{\"a\":{\"runs-on\":\"x\",\"strategy\":{\"matrix\":{\"n\":[]}}}}}",
             20,
         ),
+        (
+            "{\"concurrency\":\"${{ matrix.os }}\",\"jobs\":{\"a\":{\"runs-on\":\"x\"}}}",
+            18,
+        ),
         (TOO_MANY_CHOICES, 21),
         (
             "{\"jobs\":{\"a\":{\"runs-on\":\"x\",\"strategy\":{\"matrix\":{}}}}}",
@@ -190,8 +194,8 @@ fn refuses_with_the_first_fault(rt: HostRuntime) {
 /// The checks of a workflow and of the members of a job:
 const NEIGHBOURS: [(&str, u64); 10] = [
     ("[] 1", 10),
-    ("{\"concurrency\":\"g\",\"name\":5}", 11),
-    ("{\"jobs\":[],\"concurrency\":\"g\"}", 16),
+    ("{\"concurrency\":\"${{ x }}\",\"name\":5}", 11),
+    ("{\"jobs\":[],\"concurrency\":\"${{ matrix.os }}\"}", 18),
     ("{\"jobs\":{\"1a\":[]}}", 12),
     ("{\"jobs\":{\"a\":{\"runs-on\":5,\"uses\":1}}}", 16),
     ("{\"jobs\":{\"a\":{\"needs\":\"b\"}}}", 15),
@@ -200,12 +204,12 @@ const NEIGHBOURS: [(&str, u64); 10] = [
         26,
     ),
     (
-        "{\"jobs\":{\"a\":{\"concurrency\":\"g\",\"continue-on-error\":5,\"runs-on\":\"x\"}}}",
+        "{\"jobs\":{\"a\":{\"concurrency\":\"${{ x }}\",\"continue-on-error\":5,\"runs-on\":\"x\"}}}",
         11,
     ),
     (
-        "{\"jobs\":{\"a\":{\"strategy\":5,\"concurrency\":\"g\",\"runs-on\":\"x\"}}}",
-        16,
+        "{\"jobs\":{\"a\":{\"strategy\":5,\"concurrency\":null,\"runs-on\":\"x\"}}}",
+        11,
     ),
     ("{\"jobs\":{\"b\":{\"runs-on\":5},\"a\":{}}}", 15),
 ];

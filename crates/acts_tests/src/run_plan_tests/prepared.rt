@@ -117,7 +117,7 @@ fn number_of_refusal(alloc: Global, body: &str) -> Result<u64, Refusal> {
 }
 
 /// Bodies and their first faults, 0 where there is none.
-const BODIES: [(&str, u64); 15] = [
+const BODIES: [(&str, u64); 18] = [
     (BODY, 0),
     ("[", 10),
     ("{}", 11),
@@ -169,6 +169,19 @@ const BODIES: [(&str, u64); 15] = [
         "{\"repo\":\"r\",\"path\":\"p\",\"workflow\":{\"jobs\":{\"a\":{\"runs-on\":\"x\",\"strategy\":{}},\
         \"b\":{\"runs-on\":\"x\",\"strategy\":{\"matrix\":{\"include\":[]}}}}}}",
         22,
+    ),
+    // Runs keep no groups yet.
+    (
+        "{\"repo\":\"r\",\"path\":\"p\",\"workflow\":{\"concurrency\":\"g\",\"jobs\":{\"a\":{\"runs-on\":\"x\"}}}}",
+        16,
+    ),
+    (
+        "{\"repo\":\"r\",\"path\":\"p\",\"workflow\":{\"jobs\":{\"a\":{\"runs-on\":\"x\",\"concurrency\":\"g\"}}}}",
+        16,
+    ),
+    (
+        "{\"repo\":\"r\",\"path\":\"p\",\"workflow\":{\"concurrency\":\"g\",\"jobs\":{\"a\":{\"runs-on\":\"x\",\"needs\":\"a\"}}}}",
+        14,
     ),
 ];
 

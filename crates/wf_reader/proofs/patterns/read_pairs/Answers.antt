@@ -7,7 +7,7 @@ use Rattle.wf_reader.proofs.patterns.read_pairs.Goals as goal
 
 pub returns-in_err-read_pair : goal.returns-in_err-read_pair
 returns-in_err-read_pair c =
-    passed_on _ _ _ _ c.in_err-read_pair.field-0.0 c.from_residual.ensures.1 c.in_err-read_pair.ensures (λ refused.
+    passed_on _ _ _ _ c.in_err-read_pair.field-0.0 c.from_residual-in_err-read_pair.ensures.1 c.in_err-read_pair.ensures (λ refused.
     turn_fails pair_faults pair_of c.args.members.now.entries c.loop-name.name-iterator c.next.new.self
     (c.in-Some.name.now, c.in-Some.value.now) c.as_str.result.now _ _ c.loop-name.invariant.left c.in-Some.ensures.steps
     c.as_str.ensures.value refused)

@@ -7,7 +7,7 @@ use Rattle.wf_reader.proofs.workflow.read_each.Goals as goal
 
 pub returns-in_err-read_job : goal.returns-in_err-read_job
 returns-in_err-read_job c =
-    passed_on _ _ _ _ c.in_err-read_job.field-0.0 c.from_residual.ensures.1
+    passed_on _ _ _ _ c.in_err-read_job.field-0.0 c.from_residual-in_err-read_job.ensures.1
     c.in_err-read_job.ensures (λ refused.
     turn_fails job_faults job_of c.args.members.now.entries c.loop-id.id-iterator c.next.new.self (c.in-Some.id.now, c.in-Some.value.now)
     c.as_str.result.now _ _ c.loop-id.invariant.left c.in-Some.ensures.steps c.as_str.ensures.value refused)

@@ -1,0 +1,173 @@
+//! The `concurrency` of a workflow and of a job, as it is read.
+
+use super::{ACCEPTED, number};
+use std::alloc::Global;
+use std::process::Abort;
+use wf_expr::{Piece, Template};
+use wf_reader::{Concurrency, Flag, Workflow, read_workflow};
+use wf_value::Refusal;
+
+/// A workflow with this `concurrency`, and one with a job that has it.
+fn of_workflow(alloc: Global, value: &str) -> Result<String, Refusal> {
+    Ok(format!(in alloc; "{{\"concurrency\":{value},\"jobs\":{{\"a\":{{\"runs-on\":\"x\"}}}}}}")?)
+}
+
+fn of_job(alloc: Global, value: &str) -> Result<String, Refusal> {
+    Ok(format!(in alloc; "{{\"jobs\":{{\"a\":{{\"runs-on\":\"x\",\"concurrency\":{value}}}}}}}")?)
+}
+
+/// The number of the refusal of each.
+fn numbers(alloc: Global, value: &str) -> Result<(u64, u64), Refusal> {
+    let workflow = of_workflow(alloc, value)?;
+    let job = of_job(alloc, value)?;
+    Ok((
+        number(read_workflow(alloc, workflow.as_bytes())),
+        number(read_workflow(alloc, job.as_bytes())),
+    ))
+}
+
+/// A second call has the memory that the first was refused.
+fn answers(alloc: Global, value: &str) -> (u64, u64) {
+    match numbers(alloc, value) {
+        Ok((workflow, job)) if workflow != 50 && job != 50 => (workflow, job),
+        _ => numbers(alloc, value).unwrap_or((50, 50)),
+    }
+}
+
+/// Values, and what is answered where a workflow has them and where a job has them.
+const VALUES: [(&str, u64, u64); 22] = [
+    ("\"g\"", ACCEPTED, ACCEPTED),
+    ("\"\"", ACCEPTED, ACCEPTED),
+    ("{\"group\":\"g\"}", ACCEPTED, ACCEPTED),
+    (
+        "{\"cancel-in-progress\":false,\"group\":\"g\"}",
+        ACCEPTED,
+        ACCEPTED,
+    ),
+    (
+        "{\"group\":\"g\",\"cancel-in-progress\":\"${{ vars.c }}\"}",
+        ACCEPTED,
+        ACCEPTED,
+    ),
+    ("null", 11, 11),
+    ("true", 11, 11),
+    ("5", 11, 11),
+    ("[\"g\"]", 11, 11),
+    ("{}", 11, 11),
+    ("{\"cancel-in-progress\":true}", 11, 11),
+    ("{\"group\":null}", 11, 11),
+    ("{\"group\":\"g\",\"queue\":1}", 11, 11),
+    ("{\"group\":\"g\",\"Group\":\"g\"}", 11, 11),
+    ("{\"group\":\"g\",\"cancel-in-progress\":null}", 11, 11),
+    ("{\"group\":\"g\",\"cancel-in-progress\":1}", 11, 11),
+    // A context that only jobs have.
+    ("\"${{ matrix.os }}\"", 18, ACCEPTED),
+    (
+        "{\"group\":\"g\",\"cancel-in-progress\":\"${{ needs.a.result }}\"}",
+        18,
+        ACCEPTED,
+    ),
+    // Two faults of neighbouring checks: the earlier one is answered.
+    (
+        "{\"group\":\"${{ x }}\",\"cancel-in-progress\":null}",
+        11,
+        11,
+    ),
+    ("{\"group\":\"${{ matrix.os }} ${{ x }}\"}", 17, 17),
+    (
+        "{\"cancel-in-progress\":\"${{ x }}\",\"group\":\"${{ matrix.os }}\"}",
+        18,
+        17,
+    ),
+    (
+        "{\"cancel-in-progress\":\"${{ matrix.os }}\",\"group\":\"${{ x }}\"}",
+        17,
+        17,
+    ),
+];
+
+#[test]
+fn answers_each_fault_of_a_concurrency(rt: HostRuntime) {
+    for (value, workflow, job) in VALUES {
+        let found = answers(rt.alloc(), value);
+        assert!(rt; found.0 == workflow, "{value}");
+        assert!(rt; found.1 == job, "{value}");
+    }
+}
+
+/// Whether a template is this text alone.
+fn is_plain(template: &Template, want: &str) -> bool {
+    match template.pieces() {
+        [Piece::Plain(text)] => text.as_str() == want,
+        _ => false,
+    }
+}
+
+/// Whether a template is one expression.
+fn is_expression(template: &Template) -> bool {
+    match template.pieces() {
+        [Piece::Braced(operands)] => operands.len() == 1,
+        _ => false,
+    }
+}
+
+fn expect_fixed(rt: &impl Abort, concurrency: &Concurrency, group: &str, want: bool) {
+    assert!(rt; is_plain(&concurrency.group, group));
+    match &concurrency.cancel_in_progress {
+        Flag::Fixed(set) => assert!(rt; *set == want),
+        Flag::Template(_) => panic!(rt; "a template"),
+    }
+}
+
+fn expect_by_template(rt: &impl Abort, concurrency: &Concurrency, group: &str) {
+    assert!(rt; is_plain(&concurrency.group, group));
+    match &concurrency.cancel_in_progress {
+        Flag::Template(template) => assert!(rt; is_expression(template)),
+        Flag::Fixed(_) => panic!(rt; "no template"),
+    }
+}
+
+fn read(rt: &impl Abort, alloc: Global, body: &str) -> Workflow {
+    match read_workflow(alloc, body.as_bytes()) {
+        Ok(workflow) => workflow,
+        Err(_) => read_workflow(alloc, body.as_bytes()).expect(rt, "a workflow"),
+    }
+}
+
+/// The `concurrency` of the only job.
+fn of_the_job(workflow: &Workflow) -> Option<&Concurrency> {
+    match workflow.jobs.as_slice() {
+        [job] => job.concurrency.as_ref(),
+        _ => None,
+    }
+}
+
+/// Of the workflow a group that stops what runs, and of its job one whose template decides that.
+const BOTH: &str =
+    "{\"concurrency\":{\"group\":\"g\",\"cancel-in-progress\":true},\"jobs\":{\"a\":{\"runs-on\":\"x\",\
+    \"concurrency\":{\"cancel-in-progress\":\"${{ vars.c }}\",\"group\":\"h\"}}}}";
+
+#[test]
+fn reads_a_concurrency(rt: HostRuntime) {
+    let workflow = read(&rt, rt.alloc(), BOTH);
+    match &workflow.concurrency {
+        Some(concurrency) => expect_fixed(&rt, concurrency, "g", true),
+        None => panic!(rt; "no concurrency"),
+    }
+    match of_the_job(&workflow) {
+        Some(concurrency) => expect_by_template(&rt, concurrency, "h"),
+        None => panic!(rt; "no concurrency of the job"),
+    }
+}
+
+/// A text alone names a group that stops nothing.
+#[test]
+fn reads_a_text_as_a_group(rt: HostRuntime) {
+    let body = "{\"jobs\":{\"a\":{\"runs-on\":\"x\",\"concurrency\":\"k\"}}}";
+    let workflow = read(&rt, rt.alloc(), body);
+    assert!(rt; workflow.concurrency.is_none());
+    match of_the_job(&workflow) {
+        Some(concurrency) => expect_fixed(&rt, concurrency, "k", false),
+        None => panic!(rt; "no concurrency"),
+    }
+}

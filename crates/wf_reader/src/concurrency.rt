@@ -1,0 +1,125 @@
+ghost use Rattle.std.specs.Prelude.{◌≡◌, [], codes, option_map, string_bytes, unwrap_or};
+ghost use Rattle.std.specs.List.{list_all};
+ghost use Rattle.serde_json.specs.Find.{get};
+ghost use Rattle.serde_json.specs.View.{view};
+ghost use Rattle.wf_value.specs.Gives.{Gives};
+ghost use Rattle.wf_reader.specs.Concurrency.{concurrency_faults, concurrency_in, group_text, has_its_names};
+ghost use Rattle.wf_reader.specs.Concurrency.{is_concurrency, is_concurrency_name, is_truth_or_text};
+ghost use Rattle.wf_reader.specs.Faults.{unless_faulty, optional};
+ghost use Rattle.wf_reader.specs.Templates.{template_faults, template_in};
+
+use crate::fields::wrong_kind;
+use crate::flag::{Flag, read_flag};
+use serde_json::{Map, Value};
+use std::alloc::Global;
+use wf_expr::{Place, Template};
+use wf_value::Refusal;
+
+/// What a workflow or a job asks of a concurrency group. GitHub Docs, "Workflow syntax for GitHub Actions",
+/// `concurrency` and `jobs.<job_id>.concurrency`.
+#[derive(Drop)]
+pub struct Concurrency {
+    /// The name of the group.
+    pub group: Template,
+    /// Whether what runs in the group is stopped. It is not set where the member is missing.
+    pub cancel_in_progress: Flag,
+}
+
+/// The text that names the group: the value itself, or its member `group`.
+fn group_text(value: &Value) -> Option<&str>
+    ensures { option_map (λ t. t.now) result ≡ group_text (view value.now) }
+{
+    match value.as_str() {
+        Some(text) => Some(text),
+        None => value.get("group").and_then(Value::as_str),
+    }
+}
+
+fn is_name(name: &str) -> bool
+    ensures { result ≡ is_concurrency_name name.now }
+{
+    name == "group" || name == "cancel-in-progress"
+}
+
+fn are_names(members: &Map<String, Value>) -> bool
+    ensures { result ≡ list_all (λ e. is_concurrency_name (string_bytes e.0)) members.now.entries }
+{
+    for (name, _) in members {
+        if !is_name(name.as_str()) {
+            return false;
+        }
+    }
+    true
+}
+
+/// Whether an object has no member of another name.
+fn has_its_names(value: &Value) -> bool
+    ensures { result ≡ has_its_names (view value.now) }
+{
+    match value.as_object() {
+        Some(members) => are_names(members),
+        None => true,
+    }
+}
+
+fn is_truth_or_text(value: &Value) -> bool
+    ensures { result ≡ is_truth_or_text (view value.now) }
+{
+    value.is_boolean() || value.is_string()
+}
+
+/// Whether a value is of the kind of a `concurrency`, with all that is inside it.
+fn is_concurrency(value: &Value) -> bool
+    ensures { result ≡ is_concurrency (view value.now) }
+{
+    if group_text(value).is_none() || !has_its_names(value) {
+        return false;
+    }
+    match value.get("cancel-in-progress") {
+        Some(flag) => is_truth_or_text(flag),
+        None => true,
+    }
+}
+
+/// The group of a value of that kind: 17 where its text is no template, else 18 where the place does not
+/// allow one of its contexts.
+fn read_group(alloc: Global, value: &Value, place: Place) -> Result<Template, Refusal>
+    ensures { Gives (λ t. t) result
+        (unless_faulty (template_faults place (unwrap_or (group_text (view value.now)) []))
+        (template_in place (unwrap_or (group_text (view value.now)) []))) }
+{
+    Template::parse(alloc, group_text(value).unwrap_or(""), place)
+}
+
+/// The concurrency of a value: 11 where it, or what is inside it, is of another kind, and then the faults of
+/// its templates.
+fn concurrency_of(alloc: Global, value: &Value, place: Place) -> Result<Concurrency, Refusal>
+    ensures { Gives (λ c. c) result
+        (unless_faulty (concurrency_faults place (view value.now)) (concurrency_in place (view value.now))) }
+{
+    if !is_concurrency(value) {
+        return Err(wrong_kind());
+    }
+    let group = read_group(alloc, value, place)?;
+    let cancel_in_progress = read_flag(alloc, value, "cancel-in-progress", place)?;
+    Ok(Concurrency {
+        group,
+        cancel_in_progress,
+    })
+}
+
+/// The `concurrency` of a workflow or of a job, where it has one.
+pub fn read_concurrency(
+    alloc: Global,
+    object: &Value,
+    place: Place,
+) -> Result<Option<Concurrency>, Refusal>
+    ensures { Gives (λ c. c) result
+        (unless_faulty (optional (concurrency_faults place) (get (codes "concurrency") (view object.now)))
+        (option_map (concurrency_in place) (get (codes "concurrency") (view object.now)))) }
+{
+    match object.get("concurrency") {
+        Some(value) => Ok(Some(concurrency_of(alloc, value, place)?)),
+        None => Ok(None),
+    }
+}
