@@ -81,4 +81,8 @@ stop_settles runs fit r j y was is_open =
     (live_fits x.phase x.stopping (changed_at j with_stopped_legs x.jobs) live)
     (stopped_fits (planned_legs runs r j) (result_at runs r j y) (result_at runs r j (with_stopped_legs y)) y is_open
     (run_fits.jobs_fit j y at.job_is))
+    (record {
+      keeps_result = (λ a e. e);
+      needs_first = (λ some. run_fits.needs_first j y at.job_is (λ none. some (ap (map stopped) none)));
+    })
     (same_reads (λ z. z.lease) (λ z. refl) y.legs) (same_reads work_of same_work y.legs))
