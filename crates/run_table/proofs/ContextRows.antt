@@ -1,5 +1,5 @@
 -- The context of a leg worked through by computation, on a job of two legs.
-use Rattle.std.specs.Prelude.{◌≡◌, ℕ, List, [], ◌∷◌, codes, Some, None, false, pos, refl}
+use Rattle.std.specs.Prelude.{◌≡◌, ℕ, [], ◌∷◌, codes, Some, None, false, pos, refl}
 use Rattle.wf_value.specs.declared.condition.Condition.TheVariants as condition
 use Rattle.wf_value.specs.declared.scalar.Scalar.TheVariants.{Truth, Whole, Text}
 use Rattle.wf_reader.specs.declared.flag.Flag.TheVariants.{Fixed}
