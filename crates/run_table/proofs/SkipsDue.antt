@@ -1,9 +1,10 @@
 -- Every step keeps what was decided of jobs, so it holds in each table that commands lead to.
-use Rattle.std.specs.Prelude.{◌≡◌, ℕ, ◌+◌, List, [], ◌∷◌, ◌++◌, length, Option, Some, None, option_map, option_and_then, slice_get, refl}
+use Rattle.std.specs.Prelude.{◌≡◌, ℕ, ◌+◌, List, [], ◌∷◌, ◌++◌, length, Option, Some, None, option_map, option_and_then, slice_get}
+use Rattle.std.specs.Prelude.{true, false, if◌then◌else◌, refl}
 use Rattle.std.specs.Option.{option_map_or}
 use Rattle.std.proofs.Common.{ap, sym, ◌∙◌, subst, inl, inr}
 use Rattle.std.proofs.lemmas.Bool.{cases_eq}
-use Rattle.wf_value.specs.declared.outcome.JobResult.TheVariants as result
+use Rattle.wf_value.specs.declared.outcome.Outcome.{Outcome}
 use Rattle.run_plan.specs.Admitted.{Admitted}
 use Rattle.run_plan.specs.PlanOf.{plan_of}
 use Rattle.run_plan.specs.declared.command.Claim.{Claim as Claimed}
@@ -12,20 +13,20 @@ use Rattle.run_plan.specs.declared.command.Command.{Command}
 use Rattle.run_plan.specs.declared.command.Command.TheVariants as command
 use Rattle.run_plan.specs.declared.reply.Reply.{Reply}
 use Rattle.run_table.specs.Fitting.{first_fit, place_of_lease}
-use Rattle.run_table.specs.Moves.{Step}
-use Rattle.run_table.specs.Places.{LegPlace, run_at, with_leg}
 use Rattle.run_table.specs.Histories.{after}
-use Rattle.run_table.specs.Skips.{SkipsAreDue}
+use Rattle.run_table.specs.Moves.{Step}
+use Rattle.run_table.specs.Places.{LegPlace, with_job, with_leg}
 use Rattle.run_table.specs.Rules.{leg_in_phase}
 use Rattle.run_table.specs.Sound.{IsSound}
 use Rattle.run_table.specs.Step.{empty, unchanged, admission_answer, new_run, admitting, admitted, claim_answer, leased_leg, leasing}
 use Rattle.run_table.specs.Step.{serving_nothing, claiming, claimed, report_answer, with_ended, reporting, reported, stepped}
+use Rattle.run_table.specs.Skips.{SkipsAreDue}
+use Rattle.run_table.specs.Stops.{after_end, stops_others, with_stopped_legs}
 use Rattle.run_table.specs.TableState.{JobState, RunState, TableState}
-use Rattle.run_table.specs.declared.phases.JobPhase.TheVariants as job
 use Rattle.run_table.specs.declared.phases.LegPhase.TheVariants as leg
 use Rattle.run_table.proofs.AdmitKeeps.{admit_keeps, job_is_blocked}
 use Rattle.run_table.proofs.ClaimKeeps.{leasing_keeps}
-use Rattle.run_table.proofs.Decided.{JobDecided, Decided, decided_stays, leg_change_decided, settled_decided}
+use Rattle.run_table.proofs.Decided.{JobDecided, Decided, decided_stays, job_change_decided, leg_change_decided, settled_decided}
 use Rattle.run_table.proofs.Found.{at_the_end, before_the_end}
 use Rattle.run_table.proofs.JobKeeps.{job_in}
 use Rattle.run_table.proofs.Kept.{kept_from_sound}
@@ -89,10 +90,19 @@ claimed_decided : (t : TableState) (claim : Claimed) → IsSound t → Decided t
 claimed_decided t claim s all =
     answered_or_changed t (claim_answer t claim) (claiming t claim) all (claiming_decided t claim s all)
 
+after_end_decided : (runs : List RunState) (p : LegPlace) (o : Outcome) → Decided runs → Decided (after_end p o runs)
+after_end_decided runs p o all =
+    let ended = with_leg p (leg_in_phase (leg.Ended o)) runs in
+    let ended_decided = leg_change_decided runs p (leg_in_phase (leg.Ended o)) all in
+    elim (stops_others runs p o) as (λ stops. Decided (if stops then with_job p.run p.job with_stopped_legs ended else ended)) [
+      | true ↦ job_change_decided ended p.run p.job with_stopped_legs (λ y. refl) ended_decided
+      | false ↦ ended_decided
+    ]
+
 ended_decided : (runs : List RunState) (report : Reported) (o : Option LegPlace) → Decided runs
-    → Decided (option_map_or (λ p. with_leg p (leg_in_phase (leg.Ended report.result)) runs) o runs)
+    → Decided (option_map_or (λ p. after_end p report.result runs) o runs)
 ended_decided runs report None all = all
-ended_decided runs report (Some p) all = leg_change_decided runs p (leg_in_phase (leg.Ended report.result)) all
+ended_decided runs report (Some p) all = after_end_decided runs p report.result all
 
 reported_decided : (t : TableState) (report : Reported) → IsSound t → Decided t.runs → Decided (reported t report).table.runs
 reported_decided t report s all =
@@ -104,6 +114,7 @@ stepped_decided : (t : TableState) (c : Command) → IsSound t → Decided t.run
 stepped_decided t (command.Admit event) s all = admitted_decided t event s all
 stepped_decided t (command.Claim claim) s all = claimed_decided t claim s all
 stepped_decided t (command.Done report) s all = reported_decided t report s all
+stepped_decided t (command.Beat beat) s all = all
 stepped_decided t (command.Look id) s all = all
 
 -- ---- all commands
