@@ -1,9 +1,9 @@
 -- Where each job that was decided has its needs settled, all ancestors of a job with settled needs have settled, and
 -- their results stay.
-use Rattle.std.specs.Prelude.{◌≡◌, ℕ, zero, suc, ◌&&◌, ◌||◌, List, [], ◌∷◌, ◌++◌, filter, map, length, nat_eq, Bool, true, false, is_some}
-use Rattle.std.specs.Prelude.{Option, Some, None, option_and_then, if◌then◌else◌, refl}
-use Rattle.std.specs.List.{flat_map, list_all, list_any, range_with_len, slice_index_or}
-use Rattle.std.proofs.Common.{ap, sym, ◌∙◌}
+use Rattle.std.specs.Prelude.{◌≡◌, ℕ, zero, suc, ◌&&◌, ◌||◌, List, [], ◌∷◌, ◌++◌, filter, length, nat_eq, Bool, true, false, is_some}
+use Rattle.std.specs.Prelude.{Option, Some, None, if◌then◌else◌, refl}
+use Rattle.std.specs.List.{flat_map, list_any, range_with_len, slice_index_or}
+use Rattle.std.proofs.Common.{ap, ◌∙◌}
 use Rattle.std.proofs.lemmas.Bool.{and_parts, eqb-true}
 use Rattle.wf_value.specs.declared.outcome.JobResult.{JobResult}
 use Rattle.needs_graph.specs.Ancestors.{ancestors_of, is_ancestor, needs_at, walk_ends}

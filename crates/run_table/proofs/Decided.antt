@@ -17,7 +17,7 @@ use Rattle.run_plan.specs.PlanOf.{plan_of}
 use Rattle.run_plan.specs.declared.planned.PlannedJob.{PlannedJob}
 use Rattle.run_table.specs.FirstOf.{changed_at}
 use Rattle.run_table.specs.Places.{LegPlace, run_at, job_at, leg_at, plan_at, with_run, with_job, with_leg}
-use Rattle.run_table.specs.Rules.{rule_at, opening_rule, leg_rule, closing_rule, whole_rule, is_blocked, is_done, is_open, is_settled, opened}
+use Rattle.run_table.specs.Rules.{rule_at, opening_rule, leg_rule, closing_rule, whole_rule, is_blocked, is_open, is_settled, opened}
 use Rattle.run_table.specs.Rules.{settled_as, may_run, decided, has_ended, leg_ends, next_leg_phase, leg_in_phase, next_run_phase, result_at}
 use Rattle.run_table.specs.Rules.{run_in_phase}
 use Rattle.run_table.specs.Settling.{first_place, first_rule, left, settled_within, settled}
@@ -32,7 +32,7 @@ use Rattle.run_table.proofs.AncestorsSettled.{NeedsBefore, ancestors_settled, re
 use Rattle.run_table.proofs.Changed.{holds_of_each}
 use Rattle.run_table.proofs.JobKeeps.{JobIn, job_in, leg_in, with_job_of}
 use Rattle.run_table.proofs.LivePlaces.{LivePlace, first_place_is_live}
-use Rattle.run_table.proofs.NeedsSettled.{KeepsResults, graph_same, needs_stay_settled, result_in, result_of_job, result_so_far}
+use Rattle.run_table.proofs.NeedsSettled.{KeepsResults, graph_same, needs_stay_settled, result_in, result_of_job}
 use Rattle.run_table.proofs.Optional.{from_and_then, from_map, if_some, and_then-option_map}
 use Rattle.run_table.proofs.RuleKeeps.{is_open_open, rule_settles}
 use Rattle.run_table.proofs.RunFits.{RunsFit, admitted_at, job_in_run}

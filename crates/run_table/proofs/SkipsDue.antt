@@ -3,7 +3,6 @@ use Rattle.std.specs.Prelude.{◌≡◌, ℕ, ◌+◌, List, [], ◌∷◌, ◌+
 use Rattle.std.specs.Option.{option_map_or}
 use Rattle.std.proofs.Common.{ap, sym, ◌∙◌, subst, inl, inr}
 use Rattle.std.proofs.lemmas.Bool.{cases_eq}
-use Rattle.wf_value.specs.declared.outcome.JobResult.TheVariants as result
 use Rattle.run_plan.specs.Admitted.{Admitted}
 use Rattle.run_plan.specs.PlanOf.{plan_of}
 use Rattle.run_plan.specs.declared.command.Claim.{Claim as Claimed}
@@ -13,14 +12,13 @@ use Rattle.run_plan.specs.declared.command.Command.TheVariants as command
 use Rattle.run_plan.specs.declared.reply.Reply.{Reply}
 use Rattle.run_table.specs.Fitting.{first_fit, place_of_lease}
 use Rattle.run_table.specs.Moves.{Step}
-use Rattle.run_table.specs.Places.{LegPlace, run_at, with_leg}
+use Rattle.run_table.specs.Places.{LegPlace, with_leg}
 use Rattle.run_table.specs.Reached.{SkipsAreDue, after}
 use Rattle.run_table.specs.Rules.{leg_in_phase}
 use Rattle.run_table.specs.Sound.{IsSound}
 use Rattle.run_table.specs.Step.{empty, unchanged, admission_answer, new_run, admitting, admitted, claim_answer, leased_leg, leasing}
 use Rattle.run_table.specs.Step.{serving_nothing, claiming, claimed, report_answer, with_ended, reporting, reported, stepped}
 use Rattle.run_table.specs.TableState.{JobState, RunState, TableState}
-use Rattle.run_table.specs.declared.phases.JobPhase.TheVariants as job
 use Rattle.run_table.specs.declared.phases.LegPhase.TheVariants as leg
 use Rattle.run_table.proofs.AdmitKeeps.{admit_keeps, job_is_blocked}
 use Rattle.run_table.proofs.ClaimKeeps.{leasing_keeps}
