@@ -1,8 +1,11 @@
 -- The characters that a folded text spells, and what two groups have in common.
 use Rattle.std.proofs.Common.{◌≡◌, ℕ, List, [], ◌∷◌, Some, chars, encode_utf8_all, IsUtf8, refl, sym, ap, ap₂, subst, ◌∙◌}
-use Rattle.std.specs.Prelude.{◌≢◌, String, string_bytes}
+use Rattle.std.specs.Prelude.{◌≢◌, ◌&&◌, IsTrue, String, string_bytes}
+use Rattle.std.specs.Cmp.{first_so, second_so}
+use Rattle.std.proofs.lemmas.Slice.Eq.{bytes_eq-Decides}
 use Rattle.std.proofs.lemmas.Str.{IsUtf8-string_bytes, chars_from_encodes, encodes-chars}
 use Rattle.group_name.specs.Group.{Group, folded_name, group_of}
+use Rattle.group_name.specs.Order.{group_eq, name_bytes, repository_bytes}
 
 -- the bytes of a text that a `String` is
 pub text_of_string : {Z : Type 0} (folding : String Z) (text : List ℕ) → text ≡ string_bytes folding → IsUtf8 text
@@ -43,4 +46,26 @@ same_groups {one} {other} {repository} {text} {other_repository} {other_text} is
     ap (λ (g : Group). g.repository) (is ∙ same ∙ sym other_is),
     same_bytes text other_text utf8 other_utf8 (ap (λ (g : Group). g.folded) (is ∙ same ∙ sym other_is)),
   ),
+)
+
+-- the text of the name that a group is kept with
+pub kept_name : {g : Group} {repository text : List ℕ} → record { repository = repository; folded = chars text } ≡ g → IsUtf8 text
+    → text ≡ name_bytes g
+kept_name {g} {repository} {text} is utf8 = sym (encodes-chars text utf8) ∙ ap (λ (h : Group). name_bytes h) is
+
+-- and the characters that it spells
+pub spelled_name : {g : Group} {repository text : List ℕ} → record { repository = repository; folded = chars text } ≡ g → IsUtf8 text
+    → chars (name_bytes g) ≡ g.folded
+spelled_name {g} {repository} {text} is utf8 = ap chars (sym (kept_name is utf8)) ∙ ap (λ (h : Group). h.folded) is
+
+-- groups that are kept are equal where they are the same
+pub one_group : (g h : Group) → chars (name_bytes g) ≡ g.folded → chars (name_bytes h) ≡ h.folded
+    → (IsTrue (group_eq g h) → g ≡ h) × (g ≡ h → IsTrue (group_eq g h))
+one_group g h own other_own = (
+  (λ equal.
+      let same = (bytes_eq-Decides (repository_bytes g) (repository_bytes h)).0 (first_so _ _ equal) in
+      let names = (bytes_eq-Decides (name_bytes g) (name_bytes h)).0 (second_so _ _ equal) in
+      ap₂ (λ r f. record { repository = r; folded = f }) same (sym own ∙ ap chars names ∙ other_own)),
+  λ same. subst (λ k. IsTrue (group_eq g k)) same
+      (ap₂ (λ a b. a && b) ((bytes_eq-Decides (repository_bytes g) _).1 refl) ((bytes_eq-Decides (name_bytes g) _).1 refl)),
 )

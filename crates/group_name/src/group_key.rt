@@ -1,5 +1,6 @@
 ghost use Rattle.std.specs.Prelude.{◌≡◌, ◌↔◌, [], IsTrue, IsUtf8, chars, Ok, IfOk, None};
 ghost use Rattle.group_name.specs.Group.{folded_name, group_of};
+ghost use Rattle.group_name.specs.Order.{name_bytes, repository_bytes};
 ghost use Rattle.wf_value.specs.Gives.{Gives};
 
 use caseless::default_case_fold_str;
@@ -44,6 +45,21 @@ impl GroupKey {
             repository: Chars::from_str(alloc, repository)?,
             folded: folded(alloc, name)?,
         }))
+    }
+
+    /// The text of the repository.
+    pub(crate) fn repository(&self) -> &str
+        ensures { result.now ≡ repository_bytes self.now }
+    {
+        self.repository.as_str()
+    }
+
+    /// The text of the name without its case.
+    pub(crate) fn name(&self) -> &str
+        ensures bytes { result.now ≡ name_bytes self.now }
+        ensures characters { chars (name_bytes self.now) ≡ self.now.folded }
+    {
+        self.folded.as_str()
     }
 }
 

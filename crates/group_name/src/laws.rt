@@ -1,7 +1,10 @@
 //! What follows for names, in a reader's words.
-ghost use Rattle.std.specs.Prelude.{◌≡◌, ◌≢◌, ◌↔◌, ℕ, List, [], chars};
+ghost use Rattle.std.specs.Prelude.{◌≡◌, ◌≢◌, ◌↔◌, ℕ, IsTrue, List, [], chars};
 ghost use Rattle.caseless.specs.Caseless.{IsDefaultMatch};
 ghost use Rattle.group_name.specs.Group.{group_of};
+ghost use Rattle.group_name.specs.Order.{group_eq};
+
+use crate::group_key::GroupKey;
 
 /// Two names that are not empty mean one group exactly where the repositories are the same bytes, and the
 /// names' default case foldings are the same characters.
@@ -11,3 +14,12 @@ pub fn names_of_one_group()
         → ((group_of repository name ≡ group_of other_repository other_name)
         ↔ ((repository ≡ other_repository) × IsDefaultMatch (chars name) (chars other_name))) }
 {}
+
+/// Two groups are equal, for a map, exactly where they are the same.
+#[tactic(auto, using(crate::proofs::Folding::one_group))]
+pub fn equal_where_same(one: &GroupKey, other: &GroupKey)
+    ensures { IsTrue (group_eq one.now other.now) ↔ (one.now ≡ other.now) }
+{
+    let _name = one.name();
+    let _other_name = other.name();
+}

@@ -3,5 +3,6 @@
 
 mod group_key;
 pub mod laws;
+mod order;
 
 pub use group_key::GroupKey;
