@@ -1,6 +1,6 @@
 -- What a table says of a run, of a job or of a leg beyond its state. GitHub Docs, "Workflow syntax for GitHub
 -- Actions": jobs.<job_id>.needs, jobs.<job_id>.if, jobs.<job_id>.runs-on, jobs.<job_id>.continue-on-error.
-use Rattle.std.specs.Prelude.{ℕ, List, [], length, map, Bool, false, is_some, Option, Some, None, option_map, option_and_then, slice_get}
+use Rattle.std.specs.Prelude.{ℕ, List, [], length, map, Bool, false, is_some, Option, None, option_map, option_and_then, slice_get}
 use Rattle.std.specs.List.{list_all, slice_index_or}
 use Rattle.std.specs.Option.{option_map_or}
 use Rattle.wf_value.specs.declared.condition.Condition.{Condition}
