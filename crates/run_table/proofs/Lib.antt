@@ -6,6 +6,15 @@ pub mod Digits
 pub mod Doors
 pub mod Firsts
 pub mod Found
+pub mod GroupArrival
+pub mod GroupBase
+pub mod GroupChangeKeeps
+pub mod GroupFollows
+pub mod GroupLawTested
+pub mod GroupLawWalk
+mod GroupRows
+pub mod GroupSaid
+pub mod GroupTruths
 pub mod JobKeeps
 pub mod JobResult
 pub mod JobsText
@@ -16,6 +25,7 @@ pub mod LeaseReads
 pub mod Leased
 pub mod LegFacts
 pub mod LegReads
+pub mod ListWalk
 pub mod LivePlaces
 pub mod Lowered
 pub mod Moved

@@ -4,6 +4,7 @@
 mod content;
 mod first_place;
 mod fit;
+pub mod group_laws;
 mod job;
 pub mod laws;
 mod leg;
