@@ -81,11 +81,17 @@ walks_by : (cancels : Holder → Bool) (moves : List Move) (k : Holder) (d s : O
     → ((h : Holder) → cancels k ≡ true → is_running h moves ≡ true → was_stopped h moves ≡ false → s ≡ Some h)
     → Walk (Lawful cancels) moves (arrival_moves k d s)
 walks_by cancels moves k d s next stops =
-    let stop_list : Option Holder → List Move = λ o. map (λ s. Move.stop s) (option_to_list o) in
-    ((λ h is. begins_with_end d (stop_list s) h (sym next ∙ is),
-    λ h asks runs unstopped. ([], ap₂ (λ x y. cancelled_end x ++ stop_list y) (sym next) (stops h asks runs unstopped)
-    ∙ sym (append-nil (cancelled_end (next_displaced moves) ++ Move.stop h ∷ [])))),
-    rest_walks cancels moves k d s next)
+    let stop_list : Option Holder → List Move = λ o. map (λ s. Move.stop s) (option_to_list o) in (
+      (
+        λ h is. begins_with_end d (stop_list s) h (sym next ∙ is),
+        λ h asks runs unstopped. (
+          [],
+          ap₂ (λ x y. cancelled_end x ++ stop_list y) (sym next) (stops h asks runs unstopped)
+              ∙ sym (append-nil (cancelled_end (next_displaced moves) ++ Move.stop h ∷ [])),
+        ),
+      ),
+      rest_walks cancels moves k d s next,
+    )
 
 pub arrival_walks : (cancels : Holder → Bool) (g : GroupState) (moves : List Move) (k : Holder) → Matches g moves
     → Walk (Lawful cancels) moves (moves_of cancels g (Change.arrival k))
@@ -169,9 +175,9 @@ arrival_matches cancels g moves k new is =
     let none = nothing_of k moves new in
     let stays : is_the g.running k ≡ false = sym (is.running k) ∙ ap (λ b. b && not (has_ended k moves)) none.started in
     let unasked : was_stopped k (moves ++ more) ≡ false =
-        stopped_on k moves more
-        ∙ ap₂ (λ a b. a || b) none.stopped
-        (stopped_here k k g.pending s ∙ not_the_one (cancels k && not g.stopping) g.running k stays) in
+    stopped_on k moves more
+    ∙ ap₂ (λ a b. a || b) none.stopped
+    (stopped_here k k g.pending s ∙ not_the_one (cancels k && not g.stopping) g.running k stays) in
     record {
       running = λ h.
           running_on h moves more false (is_the g.pending h) (started_here h k g.pending s) (ended_here h k g.pending s)

@@ -43,9 +43,14 @@ running_waits_not g moves h is one =
 
 start_walks : (cancels : Holder → Bool) (g : GroupState) (moves : List Move) (k : Holder) → g.running ≡ None → g.pending ≡ Some k
     → Matches g moves → Walk (Lawful cancels) moves (Move.start k ∷ [])
-start_walks cancels g moves k idle one is =
-    ((λ other. is.running other ∙ ap (λ o. is_the o other) idle, is.latest k one,
-    not_yes (has_ended k moves) (waits_unstarted k moves (waits g moves k is one)).1), tt)
+start_walks cancels g moves k idle one is = (
+  (
+    λ other. is.running other ∙ ap (λ o. is_the o other) idle,
+    is.latest k one,
+    not_yes (has_ended k moves) (waits_unstarted k moves (waits g moves k is one)).1,
+  ),
+  tt,
+)
 
 start_matches : (cancels : Holder → Bool) (g : GroupState) (moves : List Move) (k : Holder) → g.running ≡ None → g.pending ≡ Some k
     → Matches g moves → Matches (changed cancels g (Change.beginning k)) (moves ++ Move.start k ∷ [])

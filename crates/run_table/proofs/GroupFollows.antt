@@ -82,13 +82,13 @@ pub first_has_ended : (cancels : Holder → Bool) (moves before between after : 
 first_has_ended cancels moves before between after h k law e =
     let own = law.starts_in_turn before (between ++ Move.start k ∷ after) h e in
     let later = law.starts_in_turn (before ++ Move.start h ∷ between) after k
-        (e ∙ sym (append_assoc before (Move.start h ∷ between) (Move.start k ∷ after))) in
+    (e ∙ sym (append_assoc before (Move.start h ∷ between) (Move.start k ∷ after))) in
     let started : has_started h (before ++ Move.start h ∷ between) ≡ true =
-        started_on h before (Move.start h ∷ between)
-        ∙ ap (λ b. has_started h before || (b || has_started h between)) (own_holder h)
-        ∙ or_true (has_started h before) in
+    started_on h before (Move.start h ∷ between)
+    ∙ ap (λ b. has_started h before || (b || has_started h between)) (own_holder h)
+    ∙ or_true (has_started h before) in
     let ended = and_second (has_started h (before ++ Move.start h ∷ between)) (has_ended h (before ++ Move.start h ∷ between)) started
-        (later.0 h) in
+    (later.0 h) in
     or_second (has_ended h before) (has_ended h between) own.2 (sym (ended_on h before (Move.start h ∷ between)) ∙ ended)
 
 -- who has ended does not start again
@@ -97,7 +97,7 @@ pub ended_is_over : (cancels : Holder → Bool) (moves before after : List Move)
 ended_is_over cancels moves before after h law e ended starts =
     let spot = start_found h after starts in
     let own = law.starts_in_turn (before ++ spot.0) spot.1 h
-        (e ∙ ap (λ ms. before ++ ms) spot.2 ∙ sym (append_assoc before spot.0 (Move.start h ∷ spot.1))) in
+    (e ∙ ap (λ ms. before ++ ms) spot.2 ∙ sym (append_assoc before spot.0 (Move.start h ∷ spot.1))) in
     not_both (has_ended h (before ++ spot.0)) (ended_on h before spot.0 ∙ ap (λ b. b || has_ended h spot.0) ended) own.2
 
 runs_unended : (h : Holder) (moves : List Move) → is_running h moves ≡ true → has_ended h moves ≡ false
@@ -110,13 +110,13 @@ in_order : (cancels : Holder → Bool) (moves before after x y : List Move) (h k
 in_order cancels moves before after x y h k law e is starts =
     let spot = start_found k y starts in
     let whole : moves ≡ x ++ Move.start h ∷ (spot.0 ++ Move.start k ∷ (spot.1 ++ after)) =
-        e ∙ ap (λ ms. ms ++ after) is
-        ∙ append_assoc x (Move.start h ∷ y) after
-        ∙ ap (λ ms. x ++ Move.start h ∷ (ms ++ after)) spot.2
-        ∙ ap (λ ms. x ++ Move.start h ∷ ms) (append_assoc spot.0 (Move.start k ∷ spot.1) after) in
+    e ∙ ap (λ ms. ms ++ after) is
+    ∙ append_assoc x (Move.start h ∷ y) after
+    ∙ ap (λ ms. x ++ Move.start h ∷ (ms ++ after)) spot.2
+    ∙ ap (λ ms. x ++ Move.start h ∷ ms) (append_assoc spot.0 (Move.start k ∷ spot.1) after) in
     let ended = first_has_ended cancels moves x spot.0 (spot.1 ++ after) h k law whole in
     let ended_then : has_ended h y ≡ true =
-        ap (λ ms. has_ended h ms) spot.2 ∙ ended_on h spot.0 (Move.start k ∷ spot.1) ∙ ap (λ b. b || has_ended h spot.1) ended in
+    ap (λ ms. has_ended h ms) spot.2 ∙ ended_on h spot.0 (Move.start k ∷ spot.1) ∙ ap (λ b. b || has_ended h spot.1) ended in
     ap (λ ms. has_ended h ms) is
     ∙ ended_on h x (Move.start h ∷ y)
     ∙ ap (λ b. has_ended h x || b) ended_then
@@ -131,11 +131,11 @@ one_by cancels moves before after x y h k law e is one other a false true in_x s
 one_by cancels moves before after x y h k law e is one other true false false in_x same in_y found =
     let spot = start_found k x in_x in
     let parts : before ≡ spot.0 ++ Move.start k ∷ (spot.1 ++ Move.start h ∷ y) =
-        is ∙ ap (λ ms. ms ++ Move.start h ∷ y) spot.2 ∙ append_assoc spot.0 (Move.start k ∷ spot.1) (Move.start h ∷ y) in
+    is ∙ ap (λ ms. ms ++ Move.start h ∷ y) spot.2 ∙ append_assoc spot.0 (Move.start k ∷ spot.1) (Move.start h ∷ y) in
     let later : has_started h (spot.1 ++ Move.start h ∷ y) ≡ true =
-        started_on h spot.1 (Move.start h ∷ y)
-        ∙ ap (λ b. has_started h spot.1 || (b || has_started h y)) (own_holder h)
-        ∙ or_true (has_started h spot.1) in
+    started_on h spot.1 (Move.start h ∷ y)
+    ∙ ap (λ b. has_started h spot.1 || (b || has_started h y)) (own_holder h)
+    ∙ or_true (has_started h spot.1) in
     absurd (not_both (has_ended k before)
     (in_order cancels moves before after spot.0 (spot.1 ++ Move.start h ∷ y) k h law e parts later) (runs_unended k before other))
 one_by cancels moves before after x y h k law e is one other false false false in_x same in_y found = absurd (no_is_yes found)
@@ -174,7 +174,7 @@ waits_before : (h : Holder) (x y : List Move) → has_arrived h x ≡ true → i
 waits_before h x y arrived is =
     let parts = waits_unstarted h (x ++ y) is in
     let started = or_neither (has_started h x) (has_started h y)
-        (sym (started_on h x y) ∙ not_yes (has_started h (x ++ y)) parts.0) in
+    (sym (started_on h x y) ∙ not_yes (has_started h (x ++ y)) parts.0) in
     let ended = or_neither (has_ended h x) (has_ended h y) (sym (ended_on h x y) ∙ not_yes (has_ended h (x ++ y)) parts.1) in
     ap₂ (λ a b. a && b) arrived (ap₂ (λ a b. not a && not b) started.0 ended.0)
 
@@ -195,7 +195,7 @@ end_is_next before x [] after h is unended begins = begins
 end_is_next before x (m ∷ y) after h is unended begins =
     let same : m ≡ Move.end_with Cancelled h = same_head m (Move.end_with Cancelled h) (y ++ after) begins.0 begins.1 in
     let ended : has_ended h (m ∷ y) ≡ true =
-        ap (λ z. is_the (end_of z) h || has_ended h y) same ∙ ap (λ b. b || has_ended h y) (own_holder h) in
+    ap (λ z. is_the (end_of z) h || has_ended h y) same ∙ ap (λ b. b || has_ended h y) (own_holder h) in
     absurd (not_both (has_ended h before)
     (ap (λ ms. has_ended h ms) is ∙ ended_on h x (m ∷ y) ∙ ap (λ b. has_ended h x || b) ended ∙ or_true (has_ended h x)) unended)
 
@@ -207,10 +207,10 @@ latest_by cancels moves before after x y h law e is waits (nobody none) =
 latest_by cancels moves before after x y h law e is waits (first p q k spot none) =
     let earlier : List Move = x ++ Move.arrive h ∷ p in
     let parts : before ≡ earlier ++ Move.arrive k ∷ q =
-        is ∙ ap (λ ms. x ++ Move.arrive h ∷ ms) spot ∙ sym (append_assoc x (Move.arrive h ∷ p) (Move.arrive k ∷ q)) in
+    is ∙ ap (λ ms. x ++ Move.arrive h ∷ ms) spot ∙ sym (append_assoc x (Move.arrive h ∷ p) (Move.arrive k ∷ q)) in
     let waited = waits_before h earlier (Move.arrive k ∷ q) (arrived_then h x p) (ap (λ ms. is_pending h ms) (sym parts) ∙ waits) in
     let whole : moves ≡ earlier ++ Move.arrive k ∷ (q ++ after) =
-        e ∙ ap (λ ms. ms ++ after) parts ∙ append_assoc earlier (Move.arrive k ∷ q) after in
+    e ∙ ap (λ ms. ms ++ after) parts ∙ append_assoc earlier (Move.arrive k ∷ q) after in
     let begins = law.displaced_are_cancelled earlier (q ++ after) k h whole (next_shown earlier h (latest_then h x p none) waited) in
     inr (end_is_next before (earlier ++ Move.arrive k ∷ []) q after h (parts ∙ sym (append_assoc earlier (Move.arrive k ∷ []) q))
     (not_yes (has_ended h before) (waits_unstarted h before waits).1) begins)
@@ -252,15 +252,15 @@ displaced_never_starts cancels moves before after newcomer h law e is =
     let rest : List Move = begins.0 in
     let pair : List Move = Move.arrive newcomer ∷ Move.end_with Cancelled h ∷ [] in
     let whole : moves ≡ (before ++ pair) ++ rest =
-        e ∙ ap (λ ms. before ++ Move.arrive newcomer ∷ ms) begins.1 ∙ sym (append_assoc before pair rest) in
+    e ∙ ap (λ ms. before ++ Move.arrive newcomer ∷ ms) begins.1 ∙ sym (append_assoc before pair rest) in
     let ended : has_ended h (before ++ pair) ≡ true =
-        ended_on h before pair ∙ ap (λ b. has_ended h before || (b || false)) (own_holder h) ∙ or_true (has_ended h before) in
+    ended_on h before pair ∙ ap (λ b. has_ended h before || (b || false)) (own_holder h) ∙ or_true (has_ended h before) in
     let unstarted : has_started h before ≡ false =
-        not_yes (has_started h before) (waits_unstarted h before (displaced_waits before h is)).0 in
+    not_yes (has_started h before) (waits_unstarted h before (displaced_waits before h is)).0 in
     let started : has_started h moves ≡ has_started h rest =
-        ap (λ ms. has_started h ms) whole
-        ∙ started_on h (before ++ pair) rest
-        ∙ ap (λ b. b || has_started h rest) (started_on h before pair ∙ ap (λ b. b || false) unstarted) in
+    ap (λ ms. has_started h ms) whole
+    ∙ started_on h (before ++ pair) rest
+    ∙ ap (λ b. b || has_started h rest) (started_on h before pair ∙ ap (λ b. b || false) unstarted) in
     started ∙ never (has_started h rest) (ended_is_over cancels moves (before ++ pair) rest h law whole ended)
 
 -- who ends without a start or a stop is displaced by one that arrived later

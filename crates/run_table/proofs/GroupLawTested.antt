@@ -105,25 +105,28 @@ lawful_by_test : (cancels : Holder → Bool) (before : List Move) (m : Move) (af
     → Lawful cancels before m after
 lawful_by_test cancels before (Move.arrive k) after is =
     let test : Holder → Bool =
-        λ h. not (is_running h before) || (was_stopped h before || stops_behind (next_displaced before) h after) in
-    let parts = and_parts (ends_displaced (next_displaced before) after) (not (cancels k) || list_all test (map holder_of before)) is in
-    (λ h one. displaced_shown (next_displaced before) h after one parts.0,
-    λ h asks runs unstopped.
-    let all : list_all test (map holder_of before) ≡ true =
-        ap (λ c. not c || list_all test (map holder_of before)) (sym asks) ∙ parts.1 in
-    behind_shown (next_displaced before) h after
-    (stops_tested before after h runs unstopped (named test h before (runs_started h before runs) all)))
+    λ h. not (is_running h before) || (was_stopped h before || stops_behind (next_displaced before) h after) in
+    let parts = and_parts (ends_displaced (next_displaced before) after) (not (cancels k) || list_all test (map holder_of before)) is in (
+      λ h one. displaced_shown (next_displaced before) h after one parts.0,
+      λ h asks runs unstopped.
+          let all : list_all test (map holder_of before) ≡ true =
+          ap (λ c. not c || list_all test (map holder_of before)) (sym asks) ∙ parts.1 in
+          behind_shown (next_displaced before) h after
+          (stops_tested before after h runs unstopped (named test h before (runs_started h before runs) all)),
+    )
 lawful_by_test cancels before (Move.start h) after is =
     let parts = and_parts (list_all (λ other. not (is_running other before)) (map holder_of before))
-        (is_the (latest before) h && not (has_ended h before)) is in
-    let own = and_parts (is_the (latest before) h) (not (has_ended h before)) parts.1 in
-    (λ other. never_runs before other (is_running other before) refl parts.0, the_one (latest before) h own.0,
-    not_yes (has_ended h before) own.1)
+    (is_the (latest before) h && not (has_ended h before)) is in
+    let own = and_parts (is_the (latest before) h) (not (has_ended h before)) parts.1 in (
+      λ other. never_runs before other (is_running other before) refl parts.0,
+      the_one (latest before) h own.0,
+      not_yes (has_ended h before) own.1,
+    )
 lawful_by_test cancels before (Move.stop h) after is = tt
 lawful_by_test cancels before (Move.end_with r h) after is =
     λ unstarted unstopped.
     let last = or_second (was_stopped h before) (is_cancelled r && displaced_last h [] before) unstopped
-        (or_second (has_started h before) (was_stopped h before || (is_cancelled r && displaced_last h [] before)) unstarted is) in
+    (or_second (has_started h before) (was_stopped h before || (is_cancelled r && displaced_last h [] before)) unstarted is) in
     let parts = and_parts (is_cancelled r) (displaced_last h [] before) last in
     (cancelled_is r parts.0, last_shown h [] before parts.1)
 
@@ -188,7 +191,7 @@ test_of_lawful : (cancels : Holder → Bool) (before : List Move) (m : Move) (af
     → allows cancels before m after ≡ true
 test_of_lawful cancels before (Move.arrive k) after law =
     let test : Holder → Bool =
-        λ h. not (is_running h before) || (was_stopped h before || stops_behind (next_displaced before) h after) in
+    λ h. not (is_running h before) || (was_stopped h before || stops_behind (next_displaced before) h after) in
     and_both (ends_displaced (next_displaced before) after) (not (cancels k) || list_all test (map holder_of before))
     (displaced_tested (next_displaced before) after law.0)
     (asked_by (cancels k) (list_all test (map holder_of before))

@@ -48,10 +48,11 @@ still_begins front after more begins =
 
 still_lawful : (cancels : Holder → Bool) (before after more : List Move) (m : Move) → Lawful cancels before m after
     → Lawful cancels before m (after ++ more)
-still_lawful cancels before after more (Move.arrive newcomer) law =
-    (λ h is. still_begins (Move.end_with Cancelled h ∷ []) after more (law.0 h is),
-    λ h asks runs unstopped.
-    still_begins (cancelled_end (next_displaced before) ++ Move.stop h ∷ []) after more (law.1 h asks runs unstopped))
+still_lawful cancels before after more (Move.arrive newcomer) law = (
+  λ h is. still_begins (Move.end_with Cancelled h ∷ []) after more (law.0 h is),
+  λ h asks runs unstopped.
+      still_begins (cancelled_end (next_displaced before) ++ Move.stop h ∷ []) after more (law.1 h asks runs unstopped),
+)
 still_lawful cancels before after more (Move.start h) law = law
 still_lawful cancels before after more (Move.stop h) law = tt
 still_lawful cancels before after more (Move.end_with r h) law = law

@@ -129,4 +129,3 @@ pending_after_withdrawal false true true = refl
 pending_after_withdrawal false true false = refl
 pending_after_withdrawal false false true = refl
 pending_after_withdrawal false false false = refl
-

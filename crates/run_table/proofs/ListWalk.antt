@@ -12,10 +12,11 @@ Walk P start (x ∷ xs) = P start x xs × Walk P (start ++ x ∷ []) xs
 
 pub walk_of : {X : Type 0} (P : List X → X → List X → Type 0) (start xs : List X) → AtEach P start xs → Walk P start xs
 walk_of P start [] each = tt
-walk_of P start (x ∷ xs) each =
-    (subst (λ s. P s x xs) (append-nil start) (each [] xs x refl),
-    walk_of P (start ++ x ∷ []) xs (λ before after y e.
-    subst (λ s. P s y after) (sym (append_assoc start (x ∷ []) before)) (each (x ∷ before) after y (ap (λ ys. x ∷ ys) e))))
+walk_of P start (x ∷ xs) each = (
+  subst (λ s. P s x xs) (append-nil start) (each [] xs x refl),
+  walk_of P (start ++ x ∷ []) xs (λ before after y e.
+      subst (λ s. P s y after) (sym (append_assoc start (x ∷ []) before)) (each (x ∷ before) after y (ap (λ ys. x ∷ ys) e))),
+)
 
 nil_is_no_cons : {X : Type 0} (before after : List X) (x : X) → [] ≡ before ++ x ∷ after → ⊥
 nil_is_no_cons [] after x e = cc
@@ -37,6 +38,7 @@ each_of P start (x ∷ xs) walk (z ∷ before) after y e =
 pub walk_on : {X : Type 0} (P : List X → X → List X → Type 0) → ((before after more : List X) (x : X) → P before x after
     → P before x (after ++ more)) → (start xs ys : List X) → Walk P start xs → Walk P (start ++ xs) ys → Walk P start (xs ++ ys)
 walk_on P more start [] ys first second = subst (λ s. Walk P s ys) (append-nil start) second
-walk_on P more start (x ∷ xs) ys first second =
-    (more start xs ys x first.0,
-    walk_on P more (start ++ x ∷ []) xs ys first.1 (subst (λ s. Walk P s ys) (sym (append_assoc start (x ∷ []) xs)) second))
+walk_on P more start (x ∷ xs) ys first second = (
+  more start xs ys x first.0,
+  walk_on P more (start ++ x ∷ []) xs ys first.1 (subst (λ s. Walk P s ys) (sym (append_assoc start (x ∷ []) xs)) second),
+)
