@@ -8,7 +8,7 @@ use Rattle.run_table.specs.GroupChanges.{Change, GroupState, Matches, MayAllBe, 
 use Rattle.run_table.specs.GroupChanges.{moves_of_all}
 use Rattle.run_table.specs.GroupLaw.{KeepsLaw}
 use Rattle.run_table.specs.GroupWords.{has_arrived, has_ended, has_started, was_stopped}
-use Rattle.run_table.specs.GroupWords.{is_pending, is_running, is_the, latest, same_holder}
+use Rattle.run_table.specs.GroupWords.{is_pending, is_running, is_the, same_holder}
 use Rattle.run_table.specs.Moves.{Holder, Move}
 use Rattle.run_table.proofs.GroupArrival.{arrival_matches, arrival_walks}
 use Rattle.run_table.proofs.GroupLawWalk.{Lawful, law_goes_on}

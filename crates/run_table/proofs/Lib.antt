@@ -14,6 +14,7 @@ pub mod GroupLawTested
 pub mod GroupLawWalk
 mod GroupRows
 pub mod GroupSaid
+mod GroupTableRows
 pub mod GroupTruths
 pub mod JobKeeps
 pub mod JobResult
