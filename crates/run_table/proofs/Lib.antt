@@ -10,6 +10,16 @@ pub mod DirectNeeds
 pub mod Doors
 pub mod Firsts
 pub mod Found
+pub mod GroupArrival
+pub mod GroupBase
+pub mod GroupChangeKeeps
+pub mod GroupFollows
+pub mod GroupLawTested
+pub mod GroupLawWalk
+mod GroupRows
+pub mod GroupSaid
+mod GroupTableRows
+pub mod GroupTruths
 pub mod JobKeeps
 pub mod JobResult
 pub mod JobsText
@@ -20,6 +30,7 @@ pub mod LeaseReads
 pub mod Leased
 pub mod LegFacts
 pub mod LegReads
+pub mod ListWalk
 pub mod LivePlaces
 pub mod Lowered
 pub mod Moved

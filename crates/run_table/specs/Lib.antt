@@ -1,6 +1,11 @@
 pub mod Cells
 pub mod FirstOf
 pub mod Fitting
+pub mod GroupChanges
+pub mod GroupLaw
+pub mod GroupLawTest
+pub mod GroupWords
+pub mod Groups
 pub mod Histories
 pub mod JobResults
 pub mod LegContext

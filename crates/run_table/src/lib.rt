@@ -5,6 +5,7 @@ mod content;
 mod direct_needs;
 mod first_place;
 mod fit;
+pub mod group_laws;
 mod job;
 pub mod laws;
 mod leg;

@@ -1,0 +1,99 @@
+-- What a list of moves says of a holder once more moves stand behind it.
+use Rattle.std.specs.List.{last_or}
+use Rattle.std.specs.Prelude.{filter_map, nat_eq}
+use Rattle.std.proofs.Common.{◌≡◌, ℕ, List, [], ◌∷◌, ◌++◌, Bool, true, ◌&&◌, ◌||◌, not, Option, Some, None}
+use Rattle.std.proofs.Common.{refl, ap, ap₂, sym, ◌∙◌}
+use Rattle.std.proofs.lemmas.Bool.{eq-eqb, eqb-true}
+use Rattle.std.proofs.lemmas.List.Elements.{filter_map-append}
+use Rattle.std.proofs.lemmas.List.Folds.{list_any-append}
+use Rattle.run_table.specs.GroupWords.{arrival_of, end_of, start_of, stop_of, has_arrived, has_ended, has_started, was_stopped}
+use Rattle.run_table.specs.GroupWords.{is_pending, is_running, is_the, latest, same_holder, same_place}
+use Rattle.run_table.specs.Moves.{Holder, Move}
+use Rattle.run_table.specs.Places.{LegPlace}
+use Rattle.run_table.proofs.GroupTruths.{and_parts}
+
+-- ---- the same holder
+
+place_by : (p q : LegPlace) → p.run ≡ q.run → p.job ≡ q.job → p.leg ≡ q.leg → p ≡ q
+place_by p q runs jobs legs =
+    let spot : ℕ → ℕ → ℕ → LegPlace = λ r j l. record { run = r; job = j; leg = l } in
+    ap (λ r. spot r p.job p.leg) runs ∙ ap (λ j. spot q.run j p.leg) jobs ∙ ap (λ l. spot q.run q.job l) legs
+
+one_place : (p q : LegPlace) → same_place p q ≡ true → p ≡ q
+one_place p q is =
+    let first = and_parts (nat_eq p.run q.run) (nat_eq p.job q.job && nat_eq p.leg q.leg) is in
+    let second = and_parts (nat_eq p.job q.job) (nat_eq p.leg q.leg) first.1 in
+    place_by p q (eqb-true p.run q.run first.0) (eqb-true p.job q.job second.0) (eqb-true p.leg q.leg second.1)
+
+pub one_holder : (h k : Holder) → same_holder h k ≡ true → h ≡ k
+one_holder (Holder.a_run r) (Holder.a_run s) is = ap (λ n. Holder.a_run n) (eqb-true r s is)
+one_holder (Holder.a_run r) (Holder.a_leg p) is = absurd (cc)
+one_holder (Holder.a_leg p) (Holder.a_run s) is = absurd (cc)
+one_holder (Holder.a_leg p) (Holder.a_leg q) is = ap (λ l. Holder.a_leg l) (one_place p q is)
+
+pub own_holder : (h : Holder) → same_holder h h ≡ true
+own_holder (Holder.a_run r) = eq-eqb r r refl
+own_holder (Holder.a_leg p) =
+    ap₂ (λ a b. a && b) (eq-eqb p.run p.run refl) (ap₂ (λ a b. a && b) (eq-eqb p.job p.job refl) (eq-eqb p.leg p.leg refl))
+
+pub the_one : (o : Option Holder) (h : Holder) → is_the o h ≡ true → o ≡ Some h
+the_one None h is = absurd (cc)
+the_one (Some k) h is = ap (λ x. Some x) (sym (one_holder h k is))
+
+pub the_same : (o : Option Holder) (h : Holder) → o ≡ Some h → is_the o h ≡ true
+the_same o h is = ap (λ x. is_the x h) is ∙ own_holder h
+
+pub some_one : (h k : Holder) → Some h ≡ Some k → h ≡ k
+some_one h k is = cc
+
+pub none_is_not : (h : Holder) → None ≡ Some h → ⊥
+none_is_not h is = cc
+
+-- ---- what all moves together say
+
+pub arrived_on : (h : Holder) (moves more : List Move) → has_arrived h (moves ++ more) ≡ (has_arrived h moves || has_arrived h more)
+arrived_on h moves more = list_any-append (λ m. is_the (arrival_of m) h) moves more
+
+pub started_on : (h : Holder) (moves more : List Move) → has_started h (moves ++ more) ≡ (has_started h moves || has_started h more)
+started_on h moves more = list_any-append (λ m. is_the (start_of m) h) moves more
+
+pub stopped_on : (h : Holder) (moves more : List Move) → was_stopped h (moves ++ more) ≡ (was_stopped h moves || was_stopped h more)
+stopped_on h moves more = list_any-append (λ m. is_the (stop_of m) h) moves more
+
+pub ended_on : (h : Holder) (moves more : List Move) → has_ended h (moves ++ more) ≡ (has_ended h moves || has_ended h more)
+ended_on h moves more = list_any-append (λ m. is_the (end_of m) h) moves more
+
+-- where more moves say so much
+pub running_on : (h : Holder) (moves more : List Move) (s e : Bool) → has_started h more ≡ s → has_ended h more ≡ e
+    → is_running h (moves ++ more) ≡ ((has_started h moves || s) && not (has_ended h moves || e))
+running_on h moves more s e starts ends =
+    ap₂ (λ x y. x && not y) (started_on h moves more ∙ ap (λ b. has_started h moves || b) starts)
+    (ended_on h moves more ∙ ap (λ b. has_ended h moves || b) ends)
+
+pub pending_on : (h : Holder) (moves more : List Move) (a s e : Bool) → has_arrived h more ≡ a → has_started h more ≡ s
+    → has_ended h more ≡ e
+    → is_pending h (moves ++ more) ≡ ((has_arrived h moves || a) && (not (has_started h moves || s) && not (has_ended h moves || e)))
+pending_on h moves more a s e arrives starts ends =
+    ap₂ (λ x y. x && y) (arrived_on h moves more ∙ ap (λ b. has_arrived h moves || b) arrives)
+    (ap₂ (λ x y. not x && not y) (started_on h moves more ∙ ap (λ b. has_started h moves || b) starts)
+    (ended_on h moves more ∙ ap (λ b. has_ended h moves || b) ends))
+
+last_on : {X : Type 0} (o : Option X) (xs ys : List X) → last_or o (xs ++ ys) ≡ last_or (last_or o xs) ys
+last_on o [] ys = refl
+last_on o (x ∷ xs) ys = last_on (Some x) xs ys
+
+pub latest_on : (moves more : List Move) → latest (moves ++ more) ≡ last_or (latest moves) (filter_map arrival_of more)
+latest_on moves more =
+    ap (λ hs. last_or None hs) (filter_map-append arrival_of moves more)
+    ∙ last_on None (filter_map arrival_of moves) (filter_map arrival_of more)
+
+-- ---- who runs does not wait
+
+pub runs_started : (h : Holder) (moves : List Move) → is_running h moves ≡ true → has_started h moves ≡ true
+runs_started h moves is = (and_parts (has_started h moves) (not (has_ended h moves)) is).0
+
+pub waits_unstarted : (h : Holder) (moves : List Move) → is_pending h moves ≡ true
+    → (not (has_started h moves) ≡ true) × (not (has_ended h moves) ≡ true)
+waits_unstarted h moves is =
+    and_parts (not (has_started h moves)) (not (has_ended h moves))
+    (and_parts (has_arrived h moves) (not (has_started h moves) && not (has_ended h moves)) is).1
