@@ -1,0 +1,5 @@
+//! The stored bytes of commands and batches, both ways.
+#![tactic(auto)]
+
+mod front;
+mod not_read;
