@@ -1,2 +1,5 @@
 pub mod Bytes
+pub mod CommandReaders
+pub mod Fields
+pub mod Loop
 pub mod Readers

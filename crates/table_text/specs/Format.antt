@@ -1,5 +1,5 @@
 -- Formats of bytes: which values have a spelling, and which one that is. Own: there is no public source.
-use Rattle.std.specs.Prelude.{◌≡◌, ℕ, ◌<◌, ◌≤◌, ◌^◌, List, ◌++◌, length, flat_map, Bool, IsTrue}
+use Rattle.std.specs.Prelude.{◌≡◌, ℕ, ◌<◌, ◌≤◌, ◌^◌, List, ◌++◌, length, flat_map, Bool, IsTrue, Option, Some, None}
 use Rattle.std.specs.List.{AllByRecursion}
 use Rattle.std.specs.Int.{to_be_bytes, w32}
 
@@ -24,15 +24,30 @@ NoneBeginsAnother {A} format = (a b more other : List ℕ) (x y : A) → Spells 
 abbrev pub HasOneSpelling : {A : Type 0} → Format A → Type 0
 HasOneSpelling {A} format = (x : A) → format.Takes x → (bytes : List ℕ) × Spells format bytes x × ((other : List ℕ) → Spells format other x → other ≡ bytes)
 
+-- The value has a spelling, which was appended.
+abbrev pub Appends : {A : Type 0} → Format A → List ℕ → A → List ℕ → Type 0
+Appends format before x after = format.Takes x × (after ≡ before ++ format.spelling x)
+
+-- What stands at the front of bytes: a value and the bytes behind its spelling, or nothing, where no front of them is a spelling.
+abbrev pub StandsAtFront : {A : Type 0} → Format A → List ℕ → Option (A × List ℕ) → Type 0
+StandsAtFront format bytes (Some found) = OpensWith format bytes found.0 found.1
+StandsAtFront {A} format bytes None = (x : A) (rest : List ℕ) → OpensWith format bytes x rest → ⊥
+
 -- ---- the forms that formats are made of
 
 -- a number in four bytes, the most significant first
+unfoldable pub word_bytes : ℕ → List ℕ
+word_bytes n = to_be_bytes w32 n
+
 abbrev pub word : Format ℕ
-word = record { Takes = λ n. n < 2 ^ 32; spelling = to_be_bytes w32 }
+word = record { Takes = λ n. n < 2 ^ 32; spelling = word_bytes }
 
 -- a text or any bytes: their length in four bytes, and so many bytes
+unfoldable pub text_bytes : List ℕ → List ℕ
+text_bytes bytes = word_bytes (length bytes) ++ bytes
+
 abbrev pub text : Format (List ℕ)
-text = record { Takes = λ t. length t < 2 ^ 32; spelling = λ t. to_be_bytes w32 (length t) ++ t }
+text = record { Takes = λ t. length t < 2 ^ 32; spelling = text_bytes }
 
 -- those values of a format that pass a test
 abbrev pub only : {A : Type 0} → (A → Bool) → Format A → Format A
@@ -50,5 +65,5 @@ parts parts_of format = record { Takes = λ x. format.Takes (parts_of x); spelli
 abbrev pub counted : {A : Type 0} → ℕ → ℕ → Format A → Format (List A)
 counted least most item = record {
   Takes = λ xs. (least ≤ length xs) × (length xs ≤ most) × AllByRecursion item.Takes xs;
-  spelling = λ xs. to_be_bytes w32 (length xs) ++ flat_map item.spelling xs;
+  spelling = λ xs. word_bytes (length xs) ++ flat_map item.spelling xs;
 }

@@ -3,6 +3,7 @@ ghost use Rattle.table_text.specs.Reading.{Finds, bytes_at, text_at, word_at};
 use crate::not_read::NotRead;
 
 /// The number in the first four bytes, and what stands behind it.
+#[tactic(auto, unfolding(crate::specs::Reading::word_at))]
 pub(crate) fn word_at(bytes: &[u8]) -> Result<(u32, &[u8]), NotRead>
     ensures { Finds (λ f. (f.0, f.1.now)) result (word_at bytes.now) }
 {
@@ -25,6 +26,7 @@ fn bytes_at(bytes: &[u8], count: usize) -> Result<(&[u8], &[u8]), NotRead>
 }
 
 /// The bytes behind their length, and what stands behind them.
+#[tactic(auto, unfolding(crate::specs::Reading::text_at))]
 pub(crate) fn text_at(bytes: &[u8]) -> Result<(&[u8], &[u8]), NotRead>
     ensures { Finds (λ f. (f.0.now, f.1.now)) result (text_at bytes.now) }
 {

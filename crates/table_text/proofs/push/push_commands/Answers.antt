@@ -1,0 +1,11 @@
+use Rattle.std.proofs.Common.{subst, rules}
+use Rattle.table_text.specs.Commands.{IsSpelled}
+use Rattle.table_text.proofs.Fields.{all_more}
+use Rattle.table_text.proofs.push.push_commands.Goals as goal
+
+pub loop-asked-preserved : goal.loop-asked-preserved
+loop-asked-preserved c = record {
+  each = all_more IsSpelled c.args.list.now c.loop-asked.asked-index _ c.loop-asked-test.true c.loop-asked.invariant.each
+      (subst IsSpelled c.asked-item.is c.in_ok-push_command.ensures.takes);
+  bytes = search rules;
+}
