@@ -130,16 +130,16 @@ kinds_sound kind rest found are h =
     let asks : Option (Command × List ℕ) = if kind == 2 then parts_at (λ (c : Claim). asked.Claim c) claim_at rest else report in
     elim (chosen (kind == 1) (parts_at (λ (a : Admitted). asked.Admit a) admit_at rest) asks (Some found) h) [
       | inl one ↦ subst (λ (k : ℕ). Fronts command (k ∷ rest) found) (sym (eqb-true kind 1 one.0))
-        (kind_sound 1 admit admit_at (λ (a : Admitted). asked.Admit a) admit_reads (λ x t. t) (λ _. refl) rest found are one.1)
+          (kind_sound 1 admit admit_at (λ (a : Admitted). asked.Admit a) admit_reads (λ x t. t) (λ _. refl) rest found are one.1)
       | inr not_one ↦ elim (chosen (kind == 2) (parts_at (λ (c : Claim). asked.Claim c) claim_at rest) report (Some found) not_one.1) [
         | inl two ↦ subst (λ (k : ℕ). Fronts command (k ∷ rest) found) (sym (eqb-true kind 2 two.0))
-          (kind_sound 2 claim claim_at (λ (c : Claim). asked.Claim c) claim_reads (λ x t. t) (λ _. refl) rest found are two.1)
+            (kind_sound 2 claim claim_at (λ (c : Claim). asked.Claim c) claim_reads (λ x t. t) (λ _. refl) rest found are two.1)
         | inr not_two ↦ elim (chosen (kind == 3) (parts_at (λ (d : Done). asked.Done d) done_at rest) look (Some found) not_two.1) [
           | inl three ↦ subst (λ (k : ℕ). Fronts command (k ∷ rest) found) (sym (eqb-true kind 3 three.0))
-            (kind_sound 3 done done_at (λ (d : Done). asked.Done d) done_reads (λ x t. t) (λ _. refl) rest found are three.1)
+              (kind_sound 3 done done_at (λ (d : Done). asked.Done d) done_reads (λ x t. t) (λ _. refl) rest found are three.1)
           | inr not_three ↦ elim (chosen (kind == 7) (parts_at (λ (n : ℕ). asked.Look n) number_at rest) None (Some found) not_three.1) [
             | inl seven ↦ subst (λ (k : ℕ). Fronts command (k ∷ rest) found) (sym (eqb-true kind 7 seven.0))
-              (kind_sound 7 number number_at (λ (n : ℕ). asked.Look n) number_reads (λ x t. t) (λ _. refl) rest found are seven.1)
+                (kind_sound 7 number number_at (λ (n : ℕ). asked.Look n) number_reads (λ x t. t) (λ _. refl) rest found are seven.1)
             | inr none ↦ absurd (none-some found none.1)
           ]
         ]

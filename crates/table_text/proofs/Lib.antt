@@ -1,5 +1,5 @@
 pub mod Bytes
 pub mod CommandReaders
-pub mod Fields
+pub mod Known
 pub mod Loop
 pub mod Readers

@@ -1,5 +1,5 @@
 -- The spellings of commands and of batches of them. Own: there is no public source.
-use Rattle.std.specs.Prelude.{ℕ, List, [], ◌∷◌, ◌&&◌, Bool, length, nat_le, nat_eq}
+use Rattle.std.specs.Prelude.{ℕ, List, [], ◌∷◌, ◌&&◌, Bool, true, false, nat_le}
 use Rattle.wf_value.specs.declared.outcome.Outcome.{Outcome}
 use Rattle.wf_value.specs.declared.outcome.Outcome.TheVariants as ended
 use Rattle.run_plan.specs.Admitted.{Admitted}
@@ -26,9 +26,13 @@ small_text kind = only (is_short kind) text
 abbrev pub labels : Format (List (List ℕ))
 labels = counted 1 16 (small_text is_label_byte)
 
+abbrev pub are_none : {X : Type 0} → List X → Bool
+are_none [] = true
+are_none (x ∷ xs) = false
+
 -- a body in which nothing is wrong
 unfoldable pub is_faultless : List ℕ → Bool
-is_faultless bytes = nat_eq (length (faults_of bytes)) 0
+is_faultless bytes = are_none (faults_of bytes)
 
 abbrev pub body : Format (List ℕ)
 body = only is_faultless text

@@ -1,4 +1,6 @@
-ghost use Rattle.std.specs.Prelude.{◌≡◌, IfOk};
+ghost use Rattle.std.specs.Prelude.{◌≡◌, ◌≢◌, IfOk};
+ghost use Rattle.wf_value.specs.RefusalText.{refusal_number};
+ghost use Rattle.table_text.specs.declared.not_read.NotRead.TheVariants.{NoSpelling};
 ghost use Rattle.table_text.specs.Commands.{is_faultless};
 ghost use Rattle.table_text.specs.Reading.{Finds, items_at, kept};
 ghost use Rattle.table_text.specs.ReadingCommands.{admit_at, batch_at, claim_at, command_at, command_of, done_at};
@@ -6,9 +8,22 @@ ghost use Rattle.table_text.specs.ReadingCommands.{admit_at, batch_at, claim_at,
 use crate::fields::{is_within, labels_at, number_at, result_at, small_text_at};
 use crate::front::{text_at, word_at};
 use crate::not_read::NotRead;
-use run_plan::{Claim, Command, DeliveryId, Done, EventName, Prepared, prepare};
+use run_plan::{
+    Claim, Command, DeliveryForm, DeliveryId, Done, EventForm, EventName, Number, Prepared,
+    RunnerForm, prepare,
+};
 use std::alloc::Global;
 use wf_value::{Code, Refusal};
+
+/// Why a body was refused: for want of memory, or since it is none.
+fn why(refusal: &Refusal) -> NotRead
+    ensures { result ≡ NoSpelling → refusal_number refusal.now ≢ 50 }
+{
+    if refusal.number() == Code::NoMemory.number() {
+        return NotRead::NoMemory;
+    }
+    NotRead::NoSpelling
+}
 
 /// The event of a body, where nothing is wrong with it.
 fn prepared_of(
@@ -23,8 +38,7 @@ fn prepared_of(
     let body = Vec::from_slice(alloc, body)?;
     match prepare(alloc, event, delivery, body) {
         Ok(prepared) => Ok(prepared),
-        Err(Refusal::Numbered(Code::NoMemory)) => Err(NotRead::NoMemory),
-        Err(_) => Err(NotRead::NoSpelling),
+        Err(refusal) => Err(why(&refusal)),
     }
 }
 
@@ -32,8 +46,8 @@ fn prepared_of(
 fn admit_at(alloc: Global, bytes: &[u8]) -> Result<(Prepared, &[u8]), NotRead>
     ensures { Finds (λ f. (f.0, f.1.now)) result (admit_at bytes.now) }
 {
-    let (delivery, rest) = small_text_at(alloc, bytes)?;
-    let (event, rest) = small_text_at(alloc, rest)?;
+    let (delivery, rest) = small_text_at::<DeliveryForm>(alloc, bytes)?;
+    let (event, rest) = small_text_at::<EventForm>(alloc, rest)?;
     let (body, rest) = text_at(rest)?;
     let prepared = prepared_of(alloc, event, delivery, body)?;
     Ok((prepared, rest))
@@ -43,12 +57,12 @@ fn admit_at(alloc: Global, bytes: &[u8]) -> Result<(Prepared, &[u8]), NotRead>
 fn claim_at(alloc: Global, bytes: &[u8]) -> Result<(Claim, &[u8]), NotRead>
     ensures { Finds (λ f. (f.0, f.1.now)) result (claim_at bytes.now) }
 {
-    let (runner, rest) = small_text_at(alloc, bytes)?;
+    let (runner, rest) = small_text_at::<RunnerForm>(alloc, bytes)?;
     let (number, rest) = number_at(rest)?;
     let (labels, rest) = labels_at(alloc, rest)?;
     let claim = Claim {
         runner,
-        number,
+        number: Number::new(number),
         labels,
     };
     Ok((claim, rest))
@@ -58,14 +72,14 @@ fn claim_at(alloc: Global, bytes: &[u8]) -> Result<(Claim, &[u8]), NotRead>
 fn done_at(alloc: Global, bytes: &[u8]) -> Result<(Done, &[u8]), NotRead>
     ensures { Finds (λ f. (f.0, f.1.now)) result (done_at bytes.now) }
 {
-    let (runner, rest) = small_text_at(alloc, bytes)?;
+    let (runner, rest) = small_text_at::<RunnerForm>(alloc, bytes)?;
     let (number, rest) = number_at(rest)?;
     let (lease, rest) = number_at(rest)?;
     let (result, rest) = result_at(rest)?;
     let done = Done {
         runner,
-        number,
-        lease,
+        number: Number::new(number),
+        lease: Number::new(lease),
         result,
     };
     Ok((done, rest))
@@ -91,7 +105,7 @@ fn command_of(alloc: Global, kind: u8, bytes: &[u8]) -> Result<(Command, &[u8]),
         }
         7 => {
             let (run, rest) = number_at(bytes)?;
-            Ok((Command::Look(run), rest))
+            Ok((Command::Look(Number::new(run)), rest))
         }
         _ => Err(NotRead::NoSpelling),
     }

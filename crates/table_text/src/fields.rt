@@ -1,4 +1,4 @@
-ghost use Rattle.std.specs.Prelude.{◌≡◌, ◌&&◌, nat_le};
+ghost use Rattle.std.specs.Prelude.{◌≡◌, ◌≤◌, ◌&&◌, IfOk, nat_le};
 ghost use Rattle.run_plan.specs.SmallText.{is_label_byte, short_text_of};
 ghost use Rattle.table_text.specs.Commands.{is_numbered};
 ghost use Rattle.table_text.specs.Reading.{Finds, items_at, kept};
@@ -6,7 +6,7 @@ ghost use Rattle.table_text.specs.ReadingCommands.{labels_at, number_at, result_
 
 use crate::front::{text_at, word_at};
 use crate::not_read::NotRead;
-use run_plan::{Form, Label, Labels, Number, SmallText};
+use run_plan::{Form, Label, LabelForm, Labels, SmallText};
 use std::alloc::Global;
 use wf_value::Outcome;
 
@@ -24,23 +24,25 @@ pub(crate) fn is_within(value: u32, most: u32) -> bool
 }
 
 /// The number, where it is one of a command.
-fn numbered(value: u32) -> Result<Number, NotRead>
-    ensures { Finds (λ n. n) result (kept is_numbered value) }
+fn numbered(value: u32) -> Result<u32, NotRead>
+    ensures gives { Finds (λ n. n) result (kept is_numbered value) }
+    ensures range { IfOk result (λ n. (1 ≤ n) × (n ≤ 999999999)) }
 {
     if 1 <= value && value <= MOST {
-        return Ok(Number::new(value));
+        return Ok(value);
     }
     Err(NotRead::NoSpelling)
 }
 
-/// The number at the front, and what stands behind it.
+/// The number of a command at the front, and what stands behind it.
 #[tactic(auto, unfolding(crate::specs::ReadingCommands::number_at))]
-pub(crate) fn number_at(bytes: &[u8]) -> Result<(Number, &[u8]), NotRead>
-    ensures { Finds (λ f. (f.0, f.1.now)) result (number_at bytes.now) }
+pub(crate) fn number_at(bytes: &[u8]) -> Result<(u32, &[u8]), NotRead>
+    ensures gives { Finds (λ f. (f.0, f.1.now)) result (number_at bytes.now) }
+    ensures range { IfOk result (λ f. (1 ≤ f.0) × (f.0 ≤ 999999999)) }
 {
     let (value, rest) = word_at(bytes)?;
-    let number = numbered(value)?;
-    Ok((number, rest))
+    let value = numbered(value)?;
+    Ok((value, rest))
 }
 
 /// The text, where it is of the form.
@@ -68,17 +70,13 @@ pub(crate) fn small_text_at<F: Form>(
 }
 
 /// So many labels, one behind the other, and what stands behind them.
-fn label_list_at(
-    alloc: Global,
-    count: u32,
-    bytes: &[u8],
-) -> Result<(Vec<Label>, &[u8]), NotRead>
+fn label_list_at(alloc: Global, count: u32, bytes: &[u8]) -> Result<(Vec<Label>, &[u8]), NotRead>
     ensures { Finds (λ f. (f.0.items, f.1.now)) result (items_at (small_text_at is_label_byte) count bytes.now) }
 {
     let mut labels = Vec::new(alloc);
     let mut rest = bytes;
     for _ in 0..count {
-        let (label, behind) = small_text_at(alloc, rest)?;
+        let (label, behind) = small_text_at::<LabelForm>(alloc, rest)?;
         labels.push(label)?;
         rest = behind;
     }

@@ -127,12 +127,23 @@ pub(crate) fn push_command(out: &mut Vec<u8>, asked: &Command) -> Result<(), All
 {
     push_kind(out, asked)?;
     match asked {
-        Command::Admit(event) => push_admit(out, event)?,
-        Command::Claim(asks) => push_claim(out, asks)?,
-        Command::Done(report) => push_done(out, report)?,
-        Command::Look(run) => push_number(out, *run)?,
+        Command::Admit(event) => {
+            push_admit(out, event)?;
+            Ok(())
+        }
+        Command::Claim(asks) => {
+            push_claim(out, asks)?;
+            Ok(())
+        }
+        Command::Done(report) => {
+            push_done(out, report)?;
+            Ok(())
+        }
+        Command::Look(run) => {
+            push_number(out, *run)?;
+            Ok(())
+        }
     }
-    Ok(())
 }
 
 /// Appends each command, one behind the other.

@@ -12,10 +12,7 @@ use wf_value::{Code, Refusal};
 
 /// The command that is spelled at the front of the bytes, and the bytes behind it, or `None` where no front of them spells one. Where
 /// memory is refused the answer is 50, and nothing is known.
-pub fn read_command(
-    alloc: Global,
-    bytes: &[u8],
-) -> Result<Option<(Command, &[u8])>, Refusal>
+pub fn read_command(alloc: Global, bytes: &[u8]) -> Result<Option<(Command, &[u8])>, Refusal>
     ensures front { IfOk result (λ found. StandsAtFront command bytes.now (option_map (λ f. (f.0, f.1.now)) found)) }
     ensures refused { IfErr result (λ e. e ≡ no_memory) }
 {
@@ -28,10 +25,7 @@ pub fn read_command(
 
 /// The batch that is spelled at the front of the bytes, and the bytes behind it, or `None` where no front of them spells one. Where
 /// memory is refused the answer is 50, and nothing is known.
-pub fn read_batch(
-    alloc: Global,
-    bytes: &[u8],
-) -> Result<Option<(Vec<Command>, &[u8])>, Refusal>
+pub fn read_batch(alloc: Global, bytes: &[u8]) -> Result<Option<(Vec<Command>, &[u8])>, Refusal>
     ensures front { IfOk result (λ found. StandsAtFront batch bytes.now (option_map (λ f. (f.0.items, f.1.now)) found)) }
     ensures refused { IfErr result (λ e. e ≡ no_memory) }
 {

@@ -1,5 +1,5 @@
 use Rattle.std.proofs.Common.{rules}
-use Rattle.table_text.proofs.Fields.{labels_read}
+use Rattle.table_text.proofs.Known.{labels_read}
 use Rattle.table_text.proofs.fields.labels_at.Goals as goal
 
 pub new-requires : goal.new-requires

@@ -1,5 +1,5 @@
 use Rattle.std.proofs.Common.{◌≡◌, ◌<◌, ◌^◌, ℕ, List, length, subst, sym}
-use Rattle.table_text.proofs.Fields.{faultless_fits}
+use Rattle.table_text.proofs.Known.{faultless_fits}
 use Rattle.table_text.proofs.push.push_body.Goals as goal
 
 pub push_text-requires : goal.push_text-requires

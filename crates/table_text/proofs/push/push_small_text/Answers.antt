@@ -1,5 +1,5 @@
 use Rattle.std.proofs.Common.{◌≡◌, ◌<◌, ◌^◌, ℕ, List, length, subst, sym, rules}
-use Rattle.table_text.proofs.Fields.{short_fits}
+use Rattle.table_text.proofs.Known.{short_fits}
 use Rattle.table_text.proofs.push.push_small_text.Goals as goal
 
 pub push_text-requires : goal.push_text-requires

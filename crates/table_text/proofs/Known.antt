@@ -1,18 +1,26 @@
 -- What texts and numbers of a form are known to be.
 use Rattle.std.proofs.Common.{◌≡◌, inl, inr, ◌++◌, ℕ, zero, suc, ◌+◌, ◌<◌, ◌≤◌, ◌^◌, List, [], ◌∷◌, length, take, get_or, refl, sym, ◌∙◌, ap, subst, arith}
-use Rattle.std.specs.Prelude.{Bool, true, false, ◌&&◌, IsTrue, Option, Some, nat_le, nat_eq, if◌then◌else◌}
-use Rattle.std.specs.List.{list_all, AllByRecursion}
+use Rattle.std.specs.Prelude.{Bool, true, false, ◌&&◌, IsTrue, ◌≢◌, ◌⊎◌, Option, Some, None, Result, Ok, Err, nat_le, if◌then◌else◌}
+use Rattle.std.specs.List.{list_all, flat_map, AllByRecursion}
+use Rattle.std.proofs.lemmas.List.{flat_map_more}
+use Rattle.std.proofs.lemmas.Grind.{take_at_read}
 use Rattle.std.proofs.lemmas.Bool.{leb-true, le-leb, cases_Bool}
 use Rattle.std.proofs.lemmas.Option.{same_Some, cond_some}
 use Rattle.wf_value.specs.declared.code.Code.TheVariants.{NotJson, TooLong}
+use Rattle.wf_value.specs.declared.refusal.Refusal.{Refusal}
 use Rattle.wf_value.specs.declared.refusal.Refusal.TheVariants.{Numbered}
+use Rattle.wf_value.specs.Gives.{no_memory}
+use Rattle.wf_value.specs.RefusalText.{refusal_number}
 use Rattle.wf_reader.specs.Body.{json_of}
 use Rattle.wf_reader.specs.Event.{event_faults, event_faults_in, event_of}
-use Rattle.wf_reader.specs.Faults.{fault, required}
+use Rattle.wf_reader.specs.Faults.{fault, required, unless_faulty}
+use Rattle.run_plan.specs.Admitted.{Admitted}
 use Rattle.run_plan.specs.PlanOf.{faults_of, run_faults}
 use Rattle.run_plan.specs.SmallText.{is_of_short_length, is_short, is_label_byte, are_labels}
-use Rattle.table_text.specs.Commands.{is_numbered, is_faultless, small_text, labels}
-use Rattle.table_text.specs.Reading.{◌>>=◌, kept, text_at, items_at}
+use Rattle.table_text.specs.declared.not_read.NotRead.{NotRead}
+use Rattle.table_text.specs.declared.not_read.NotRead.TheVariants.{NoMemory, NoSpelling}
+use Rattle.table_text.specs.Commands.{is_numbered, are_none, is_faultless, small_text, labels}
+use Rattle.table_text.specs.Reading.{◌>>=◌, Fails, kept, text_at, items_at}
 use Rattle.table_text.specs.ReadingCommands.{small_text_at}
 use Rattle.table_text.proofs.Readers.{bind_some, both}
 
@@ -90,7 +98,19 @@ all_taken P (x ∷ xs) zero d below all one = (one, tt)
 all_taken P (x ∷ xs) (suc i) d below all one = (all.0, all_taken P xs i d (omega (arith, below)) all.1 one)
 
 pub all_more : {X : Type 0} (P : X → Type 0) (xs : List X) (i : ℕ) (d : X) → i < length xs → AllByRecursion P (take i xs) → P (get_or xs i d) → AllByRecursion P (take (i + 1) xs)
-all_more P xs i d below all one = subst (λ (n : ℕ). AllByRecursion P (take n xs)) (omega arith) (all_taken P xs i d below all one)
+all_more P xs i d below all one =
+    let next : suc i ≡ i + 1 = omega arith in
+    subst (λ (n : ℕ). AllByRecursion P (take n xs)) next (all_taken P xs i d below all one)
+
+-- each has its bytes behind those before it
+pub bytes_more : {X : Type 0} (f : X → List ℕ) (old mid new : List ℕ) (xs : List X) (i : ℕ) (d y : X) → i < length xs → y ≡ get_or xs i d
+    → mid ≡ old ++ flat_map f (take i xs) → new ≡ mid ++ f y → new ≡ old ++ flat_map f (take (i + 1) xs)
+bytes_more {X} f old mid new xs i d y below one was is =
+    is
+    ∙ ap (λ (x : X). mid ++ f x) one
+    ∙ ap (λ (l : List ℕ). l ++ f (get_or xs i d)) was
+    ∙ flat_map_more f old (take i xs) (get_or xs i d)
+    ∙ ap (λ (ys : List X). old ++ flat_map f ys) (sym (take_at_read xs i d below).1)
 
 -- ---- bodies
 
@@ -107,11 +127,47 @@ long_body b long h =
 
 short_body : (b : List ℕ) → faults_of b ≡ [] → length b < 2 ^ 32
 short_body b h = elim (cases_Bool (nat_le (length b) 65536)) [
-    | inl short ↦ (let most : length b ≤ 65536 = leb-true (length b) 65536 short in omega (arith, most))
-    | inr long ↦ absurd (long_body b long h)
-  ]
+  | inl short ↦ (let most : length b ≤ 65536 = leb-true (length b) 65536 short in omega (arith, most))
+  | inr long ↦ absurd (long_body b long h)
+]
 
 -- a body in which nothing is wrong is one that a length can tell
 pub faultless_fits : (b : List ℕ) → faults_of b ≡ [] → (length b < 2 ^ 32) × (is_faultless b ≡ true)
 unfolding is_faultless
-faultless_fits b h = (short_body b h, ap (λ fs. nat_eq (length fs) 0) h)
+faultless_fits b h = (short_body b h, ap (λ fs. are_none fs) h)
+
+given_none : {X : Type 0} (fs : List Refusal) (x z : X) → unless_faulty fs x ≡ Ok z → (are_none fs ≡ true) × (x ≡ z)
+given_none [] x z h = (refl, cc)
+given_none (f ∷ fs) x z h = absurd (cc)
+
+refused_some : {X : Type 0} (fs : List Refusal) (x : X) (r : Refusal) → unless_faulty fs x ≡ Err r → are_none fs ≡ false
+refused_some [] x r h = absurd (cc)
+refused_some (f ∷ fs) x r h = refl
+
+-- what preparing gives is an event with a body that passes
+pub kept_body : (b items d e : List ℕ) (z : Admitted) → items ≡ b → unless_faulty {X = Admitted} (faults_of items) (record { delivery = d; event = e; body = items }) ≡ Ok z
+    → kept is_faultless b ≡ Some z.body
+unfolding is_faultless
+kept_body b items d e z is h =
+    let x : Admitted = record { delivery = d; event = e; body = items } in
+    let by = given_none (faults_of items) x z h in
+    let same : b ≡ z.body = sym is ∙ ap (λ (a : Admitted). a.body) by.1 in
+    ap (λ t. if t then Some b else None) (ap (λ (l : List ℕ). are_none (faults_of l)) (sym is) ∙ by.0) ∙ ap (λ (l : List ℕ). Some l) same
+
+pub same_event : (b items d e : List ℕ) (z : Admitted) → items ≡ b → unless_faulty {X = Admitted} (faults_of items) (record { delivery = d; event = e; body = items }) ≡ Ok z
+    → z ≡ record { delivery = d; event = e; body = b }
+same_event b items d e z is h =
+    let x : Admitted = record { delivery = d; event = e; body = items } in
+    let by = given_none (faults_of items) x z h in
+    sym by.1 ∙ ap (λ (l : List ℕ). record { delivery = d; event = e; body = l }) is
+
+-- and where it refuses for another cause than memory, the body does not
+pub fails_kept : (b items d e : List ℕ) (r : Refusal) (why : NotRead) → items ≡ b
+    → (r ≡ no_memory) ⊎ (unless_faulty {X = Admitted} (faults_of items) (record { delivery = d; event = e; body = items }) ≡ Err r)
+    → (why ≡ NoSpelling → refusal_number r ≢ 50) → Fails why (kept is_faultless b)
+unfolding is_faultless
+fails_kept b items d e r NoMemory is gives other = tt
+fails_kept b items d e r NoSpelling is (inl memory) other = absurd (other refl (ap refusal_number memory))
+fails_kept b items d e r NoSpelling is (inr refused) other =
+    let x : Admitted = record { delivery = d; event = e; body = items } in
+    ap (λ t. if t then Some b else None) (ap (λ (l : List ℕ). are_none (faults_of l)) (sym is) ∙ refused_some (faults_of items) x r refused)
