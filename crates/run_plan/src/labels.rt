@@ -30,6 +30,16 @@ impl Model for Labels {
 }
 
 impl Labels {
+    /// The labels of a list, which is moved and not copied.
+    pub fn new(labels: Vec<Label>) -> Self
+        requires { IsTrue (are_labels labels.items) }
+        ensures { result ≡ labels.items }
+    {
+        Labels {
+            labels: Sequence::new(labels),
+        }
+    }
+
     /// The labels that the bytes are, joined by commas, or `None` where they are none, memory or not.
     pub fn of(alloc: Global, text: &[u8]) -> Result<Option<Self>, Refusal>
         ensures gives { Gives (λ l. l) result (Ok (label_list_of text.now)) }

@@ -1,0 +1,5 @@
+pub mod Bytes
+pub mod CommandReaders
+pub mod Known
+pub mod Loop
+pub mod Readers

@@ -1,0 +1,282 @@
+-- The forms that readers are made of find what the forms of formats spell, and nothing else.
+use Rattle.std.proofs.Common.{◌≡◌, ℕ, zero, suc, ◌+◌, ◌<◌, ◌≤◌, ◌^◌, List, [], ◌∷◌, ◌++◌, length, take, drop, refl, sym, ◌∙◌, ap, subst, arith}
+use Rattle.std.proofs.Common.{append_assoc, append-nil, length-append, take-append-drop}
+use Rattle.std.specs.Prelude.{Bool, true, false, ◌&&◌, Option, Some, None, flat_map, nat_lt, nat_le, if◌then◌else◌}
+use Rattle.std.specs.List.{AllByRecursion}
+use Rattle.std.specs.Int.{from_be_bytes, to_be_bytes, w32}
+use Rattle.std.proofs.lemmas.Bool.{ltb-false, le-ltb, leb-true, le-leb}
+use Rattle.std.proofs.lemmas.List.{take_at, drop_at, length-take}
+use Rattle.std.proofs.lemmas.Nat.{from_be_bytes-to_be_bytes_4}
+use Rattle.std.proofs.lemmas.Option.{same_Some, none-some, cond_some, some_pair_parts}
+use Rattle.table_text.specs.Format.{Format, NoneBeginsAnother, HasOneSpelling, StandsAtFront, word, word_bytes, text, text_bytes, only, pair, parts, counted}
+use Rattle.table_text.specs.Reading.{◌>>=◌, Reader, word_at, bytes_at, text_at, kept, only_at, pair_at, parts_at, items_at, with_front, counted_at}
+use Rattle.table_text.proofs.Bytes.{AreBytes, AreBytes-drop, spell_number, number_below}
+
+-- The bytes are a spelling of what was found, and then the bytes behind it.
+pub record Fronts {A : Type 0} (format : Format A) (bytes : List ℕ) (found : A × List ℕ) : Type 0 where
+  pub takes : format.Takes found.0
+  pub split : bytes ≡ format.spelling found.0 ++ found.1
+  pub rest : AreBytes found.1
+
+-- What is found is spelled there, and what is spelled is found.
+pub record Reads {A : Type 0} (format : Format A) (at : Reader A) : Type 0 where
+  pub sound : (bytes : List ℕ) (found : A × List ℕ) → AreBytes bytes → at bytes ≡ Some found → Fronts format bytes found
+  pub complete : (x : A) (rest : List ℕ) → format.Takes x → at (format.spelling x ++ rest) ≡ Some (x, rest)
+
+pub bind_some : {A B : Type 0} (o : Option A) (f : A → Option B) (y : B) → (o >>= f) ≡ Some y → (x : A) × (o ≡ Some x) × (f x ≡ Some y)
+bind_some None f y h = absurd (none-some y h)
+bind_some (Some x) f y h = (x, refl, h)
+
+pub some_bind : {A B : Type 0} (o : Option A) (f : A → Option B) (x : A) → o ≡ Some x → (o >>= f) ≡ f x
+some_bind o f x h = ap (λ p. p >>= f) h
+
+-- a guard that was passed
+pub passed : {A : Type 0} (b : Bool) (x y : A) → (if b then None else Some x) ≡ Some y → (b ≡ false) × (x ≡ y)
+passed true x y h = absurd (none-some y h)
+passed false x y h = (refl, same_Some x y h)
+
+pub word_reads : Reads word word_at
+unfolding word_bytes word_at
+word_reads = record {
+  sound = λ bytes found are h.
+      let by = passed (nat_lt (length bytes) 4) (from_be_bytes w32 (take 4 bytes), drop 4 bytes) found h in
+      subst (λ (q : ℕ × List ℕ). Fronts word bytes q) by.1 (record {
+        takes = number_below bytes are;
+        split = spell_number bytes are (ltb-false (length bytes) 4 by.0);
+        rest = AreBytes-drop 4 bytes are;
+      });
+  complete = λ n rest fits.
+      let four : length (to_be_bytes w32 n) ≡ 4 = refl in
+      let long : nat_lt (length (to_be_bytes w32 n ++ rest)) 4 ≡ false = le-ltb (length (to_be_bytes w32 n ++ rest)) 4 (omega (arith, length-append (to_be_bytes w32 n) rest, four)) in
+      let number : from_be_bytes w32 (take 4 (to_be_bytes w32 n ++ rest)) ≡ n = ap (from_be_bytes w32) (take_at (to_be_bytes w32 n) rest 4 refl) ∙ from_be_bytes-to_be_bytes_4 n fits in
+      let behind : drop 4 (to_be_bytes w32 n ++ rest) ≡ rest = drop_at (to_be_bytes w32 n) rest 4 refl in
+      ap (λ b. if b then None else Some (from_be_bytes w32 (take 4 (to_be_bytes w32 n ++ rest)), drop 4 (to_be_bytes w32 n ++ rest))) long
+      ∙ ap (λ m. Some (m, drop 4 (to_be_bytes w32 n ++ rest))) number
+      ∙ ap (λ (l : List ℕ). Some (n, l)) behind;
+}
+
+-- so many bytes, for which nothing but the count is asked
+pub bytes_sound : (n : ℕ) (bytes : List ℕ) (found : List ℕ × List ℕ) → bytes_at n bytes ≡ Some found → (length found.0 ≡ n) × (bytes ≡ found.0 ++ found.1) × (found.1 ≡ drop n bytes)
+bytes_sound n bytes found h =
+    let by = passed (nat_lt (length bytes) n) (take n bytes, drop n bytes) found h in
+    let long : n ≤ length bytes = ltb-false (length bytes) n by.0 in
+    subst (λ (q : List ℕ × List ℕ). (length q.0 ≡ n) × (bytes ≡ q.0 ++ q.1) × (q.1 ≡ drop n bytes)) by.1
+    (omega (arith, length-take n bytes, long), sym (take-append-drop n bytes), refl)
+
+pub bytes_complete : (t rest : List ℕ) → bytes_at (length t) (t ++ rest) ≡ Some (t, rest)
+bytes_complete t rest =
+    let long : nat_lt (length (t ++ rest)) (length t) ≡ false = le-ltb (length (t ++ rest)) (length t) (omega (arith, length-append t rest)) in
+    ap (λ b. if b then None else Some (take (length t) (t ++ rest), drop (length t) (t ++ rest))) long
+    ∙ ap (λ (l : List ℕ). Some (l, drop (length t) (t ++ rest))) (take_at t rest (length t) refl)
+    ∙ ap (λ (l : List ℕ). Some (t, l)) (drop_at t rest (length t) refl)
+
+pub text_reads : Reads text text_at
+unfolding text_bytes text_at
+text_reads = record {
+  sound = λ bytes found are h.
+      let step = bind_some (word_at bytes) (λ n. bytes_at n.0 n.1) found h in
+      let n = step.0 in
+      let front = word_reads.sound bytes n are step.1 in
+      let body = bytes_sound n.0 n.1 found step.2 in
+      record {
+        takes = subst (λ (k : ℕ). k < 2 ^ 32) (sym body.0) front.takes;
+        split = front.split
+            ∙ ap (λ (l : List ℕ). word_bytes n.0 ++ l) body.1
+            ∙ sym (append_assoc (word_bytes n.0) found.0 found.1)
+            ∙ ap (λ (k : ℕ). (word_bytes k ++ found.0) ++ found.1) (sym body.0);
+        rest = subst AreBytes (sym body.2) (AreBytes-drop n.0 n.1 front.rest);
+      };
+  complete = λ t rest fits.
+      ap text_at (append_assoc (word_bytes (length t)) t rest)
+      ∙ some_bind (word_at (word_bytes (length t) ++ (t ++ rest))) (λ n. bytes_at n.0 n.1) (length t, t ++ rest) (word_reads.complete (length t) (t ++ rest) fits)
+      ∙ bytes_complete t rest;
+}
+
+pub only_reads : {A : Type 0} (test : A → Bool) (format : Format A) (at : Reader A) → Reads format at → Reads (only test format) (only_at test at)
+only_reads {A} test format at reads = record {
+  sound = λ bytes found are h.
+      let step = bind_some (at bytes) (λ x. kept test x.0 >>= (λ y. Some (y, x.1))) found h in
+      let a = step.0 in
+      let front = reads.sound bytes a are step.1 in
+      let next = bind_some (kept test a.0) (λ y. Some (y, a.1)) found step.2 in
+      let by = cond_some (test a.0) a.0 next.0 next.1 in
+      let same : a ≡ found = ap (λ (y : A). (y, a.1)) by.1 ∙ same_Some (next.0, a.1) found next.2 in
+      subst (λ (q : A × List ℕ). Fronts (only test format) bytes q) same (record {
+        takes = (front.takes, by.0);
+        split = front.split;
+        rest = front.rest;
+      });
+  complete = λ x rest fits.
+      some_bind (at (format.spelling x ++ rest)) (λ y. kept test y.0 >>= (λ z. Some (z, y.1))) (x, rest) (reads.complete x rest fits.0)
+      ∙ some_bind (kept test x) (λ z. Some (z, rest)) x (ap (λ b. if b then Some x else None) fits.1);
+}
+
+pub pair_reads : {A B : Type 0} (first : Format A) (second : Format B) (first_at : Reader A) (second_at : Reader B) → Reads first first_at → Reads second second_at
+    → Reads (pair first second) (pair_at first_at second_at)
+pair_reads {A} {B} first second first_at second_at one other = record {
+  sound = λ bytes found are h.
+      let step = bind_some (first_at bytes) (λ a. second_at a.1 >>= (λ b. Some ((a.0, b.0), b.1))) found h in
+      let a = step.0 in
+      let front = one.sound bytes a are step.1 in
+      let next = bind_some (second_at a.1) (λ b. Some ((a.0, b.0), b.1)) found step.2 in
+      let b = next.0 in
+      let behind = other.sound a.1 b front.rest next.1 in
+      subst (λ (q : (A × B) × List ℕ). Fronts (pair first second) bytes q) (same_Some ((a.0, b.0), b.1) found next.2) (record {
+        takes = (front.takes, behind.takes);
+        split = front.split
+            ∙ ap (λ (l : List ℕ). first.spelling a.0 ++ l) behind.split
+            ∙ sym (append_assoc (first.spelling a.0) (second.spelling b.0) b.1);
+        rest = behind.rest;
+      });
+  complete = λ p rest fits.
+      ap (pair_at first_at second_at) (append_assoc (first.spelling p.0) (second.spelling p.1) rest)
+      ∙ some_bind (first_at (first.spelling p.0 ++ (second.spelling p.1 ++ rest))) (λ a. second_at a.1 >>= (λ b. Some ((a.0, b.0), b.1))) (p.0, second.spelling p.1 ++ rest)
+      (one.complete p.0 (second.spelling p.1 ++ rest) fits.0)
+      ∙ some_bind (second_at (second.spelling p.1 ++ rest)) (λ b. Some ((p.0, b.0), b.1)) (p.1, rest) (other.complete p.1 rest fits.1);
+}
+
+pub parts_reads : {A B : Type 0} (parts_of : B → A) (whole_of : A → B) (format : Format A) (at : Reader A) → ((a : A) → parts_of (whole_of a) ≡ a) → ((b : B) → whole_of (parts_of b) ≡ b)
+    → Reads format at → Reads (parts parts_of format) (parts_at whole_of at)
+parts_reads {A} {B} parts_of whole_of format at there back reads = record {
+  sound = λ bytes found are h.
+      let step = bind_some (at bytes) (λ a. Some (whole_of a.0, a.1)) found h in
+      let a = step.0 in
+      let front = reads.sound bytes a are step.1 in
+      subst (λ (q : B × List ℕ). Fronts (parts parts_of format) bytes q) (same_Some (whole_of a.0, a.1) found step.2) (record {
+        takes = subst format.Takes (sym (there a.0)) front.takes;
+        split = front.split ∙ ap (λ x. format.spelling x ++ a.1) (sym (there a.0));
+        rest = front.rest;
+      });
+  complete = λ b rest fits.
+      some_bind (at (format.spelling (parts_of b) ++ rest)) (λ a. Some (whole_of a.0, a.1)) (parts_of b, rest) (reads.complete (parts_of b) rest fits)
+      ∙ ap (λ x. Some (x, rest)) (back b);
+}
+
+-- one behind the other, so many
+pub record Items {A : Type 0} (format : Format A) (n : ℕ) (bytes : List ℕ) (found : List A × List ℕ) : Type 0 where
+  pub many : length found.0 ≡ n
+  pub takes : AllByRecursion format.Takes found.0
+  pub split : bytes ≡ flat_map format.spelling found.0 ++ found.1
+  pub rest : AreBytes found.1
+
+pub items_sound : {A : Type 0} (format : Format A) (at : Reader A) → Reads format at → (n : ℕ) (bytes : List ℕ) (found : List A × List ℕ) → AreBytes bytes
+    → items_at at n bytes ≡ Some found → Items format n bytes found
+items_sound {A} format at reads zero bytes found are h =
+    subst (λ (q : List A × List ℕ). Items format zero bytes q) (same_Some ([], bytes) found h) (record {
+      many = refl;
+      takes = tt;
+      split = refl;
+      rest = are;
+    })
+items_sound {A} format at reads (suc n) bytes found are h =
+    let step = bind_some (at bytes) (λ x. items_at at n x.1 >>= (λ xs. Some (x.0 ∷ xs.0, xs.1))) found h in
+    let x = step.0 in
+    let front = reads.sound bytes x are step.1 in
+    let next = bind_some (items_at at n x.1) (λ xs. Some (x.0 ∷ xs.0, xs.1)) found step.2 in
+    let xs = next.0 in
+    let behind = items_sound format at reads n x.1 xs front.rest next.1 in
+    subst (λ (q : List A × List ℕ). Items format (suc n) bytes q) (same_Some (x.0 ∷ xs.0, xs.1) found next.2) (record {
+      many = ap suc behind.many;
+      takes = (front.takes, behind.takes);
+      split = front.split
+          ∙ ap (λ (l : List ℕ). format.spelling x.0 ++ l) behind.split
+          ∙ sym (append_assoc (format.spelling x.0) (flat_map format.spelling xs.0) xs.1);
+      rest = behind.rest;
+    })
+
+pub items_complete : {A : Type 0} (format : Format A) (at : Reader A) → Reads format at → (xs : List A) (rest : List ℕ) → AllByRecursion format.Takes xs
+    → items_at at (length xs) (flat_map format.spelling xs ++ rest) ≡ Some (xs, rest)
+items_complete format at reads [] rest fits = refl
+items_complete format at reads (x ∷ xs) rest fits =
+    ap (items_at at (suc (length xs))) (append_assoc (format.spelling x) (flat_map format.spelling xs) rest)
+    ∙ some_bind (at (format.spelling x ++ (flat_map format.spelling xs ++ rest))) (λ y. items_at at (length xs) y.1 >>= (λ ys. Some (y.0 ∷ ys.0, ys.1)))
+    (x, flat_map format.spelling xs ++ rest) (reads.complete x (flat_map format.spelling xs ++ rest) fits.0)
+    ∙ some_bind (items_at at (length xs) (flat_map format.spelling xs ++ rest)) (λ ys. Some (x ∷ ys.0, ys.1)) (xs, rest) (items_complete format at reads xs rest fits.1)
+
+-- a test that was passed
+pub took : {A : Type 0} (b : Bool) (x : Option A) (y : A) → (if b then x else None) ≡ Some y → (b ≡ true) × (x ≡ Some y)
+took true x y h = (refl, h)
+took false x y h = absurd (none-some y h)
+
+pub both : (a b : Bool) → (a && b) ≡ true → (a ≡ true) × (b ≡ true)
+both true b h = (refl, h)
+both false b h = absurd (cc)
+
+pub counted_reads : {A : Type 0} (least most : ℕ) (format : Format A) (at : Reader A) → most < 2 ^ 32 → Reads format at → Reads (counted least most format) (counted_at least most at)
+counted_reads least most format at small reads = record {
+  sound = λ bytes found are h.
+      let step = bind_some (word_at bytes) (λ n. if nat_le least n.0 && nat_le n.0 most then items_at at n.0 n.1 else None) found h in
+      let n = step.0 in
+      let front = word_reads.sound bytes n are step.1 in
+      let by = took (nat_le least n.0 && nat_le n.0 most) (items_at at n.0 n.1) found step.2 in
+      let range = both (nat_le least n.0) (nat_le n.0 most) by.0 in
+      let items = items_sound format at reads n.0 n.1 found front.rest by.1 in
+      let low : least ≤ n.0 = leb-true least n.0 range.0 in
+      let high : n.0 ≤ most = leb-true n.0 most range.1 in
+      record {
+        takes = (subst (λ (k : ℕ). least ≤ k) (sym items.many) low, subst (λ (k : ℕ). k ≤ most) (sym items.many) high, items.takes);
+        split = front.split
+            ∙ ap (λ (l : List ℕ). word_bytes n.0 ++ l) items.split
+            ∙ sym (append_assoc (word_bytes n.0) (flat_map format.spelling found.0) found.1)
+            ∙ ap (λ (k : ℕ). (word_bytes k ++ flat_map format.spelling found.0) ++ found.1) (sym items.many);
+        rest = items.rest;
+      };
+  complete = λ xs rest fits.
+      let n : ℕ = length xs in
+      let behind : List ℕ = flat_map format.spelling xs ++ rest in
+      let short : length xs < 2 ^ 32 = omega (arith, fits.1) in
+      let passes : (nat_le least (length xs) && nat_le (length xs) most) ≡ true = ap (λ b. b && nat_le (length xs) most) (le-leb least (length xs) fits.0) ∙ le-leb (length xs) most fits.1 in
+      ap (counted_at least most at) (append_assoc (word_bytes (length xs)) (flat_map format.spelling xs) rest)
+      ∙ some_bind (word_at (word_bytes (length xs) ++ (flat_map format.spelling xs ++ rest)))
+      (λ n. if nat_le least n.0 && nat_le n.0 most then items_at at n.0 n.1 else None) (length xs, flat_map format.spelling xs ++ rest)
+      (word_reads.complete (length xs) (flat_map format.spelling xs ++ rest) short)
+      ∙ ap (λ b. if b then items_at at (length xs) (flat_map format.spelling xs ++ rest) else None) passes
+      ∙ items_complete format at reads xs rest fits.2;
+}
+
+-- ---- a loop over a count
+
+pub front_all : {A : Type 0} (at : Reader A) (front : List A) (n : ℕ) (rest : List ℕ) → n ≡ 0 → with_front front (items_at at n rest) ≡ Some (front, rest)
+front_all {A} at front n rest none =
+    ap (λ (k : ℕ). with_front front (items_at at k rest)) none ∙ ap (λ (l : List A). Some (l, rest)) (append-nil front)
+
+pub front_none : {A : Type 0} (at : Reader A) (front : List A) (n k : ℕ) (bytes : List ℕ) → n ≡ suc k → at bytes ≡ None → with_front front (items_at at n bytes) ≡ None
+front_none {A} at front n k bytes is h =
+    ap (λ (m : ℕ). with_front front (items_at at m bytes)) is
+    ∙ ap (λ (p : Option (A × List ℕ)). with_front front (p >>= (λ x. items_at at k x.1 >>= (λ xs. Some (x.0 ∷ xs.0, xs.1))))) h
+
+joined : {A : Type 0} (front : List A) (x : A) (o : Option (List A × List ℕ)) → with_front front (o >>= (λ xs. Some (x ∷ xs.0, xs.1))) ≡ with_front (front ++ x ∷ []) o
+joined front x None = refl
+joined {A} front x (Some xs) = ap (λ (l : List A). Some (l, xs.1)) (sym (append_assoc front (x ∷ []) xs.0))
+
+pub front_more : {A : Type 0} (at : Reader A) (front : List A) (n k : ℕ) (bytes : List ℕ) (x : A) (behind : List ℕ) → n ≡ suc k → at bytes ≡ Some (x, behind)
+    → with_front front (items_at at n bytes) ≡ with_front (front ++ x ∷ []) (items_at at k behind)
+front_more {A} at front n k bytes x behind is h =
+    ap (λ (m : ℕ). with_front front (items_at at m bytes)) is
+    ∙ ap (λ (p : Option (A × List ℕ)). with_front front (p >>= (λ y. items_at at k y.1 >>= (λ xs. Some (y.0 ∷ xs.0, xs.1))))) h
+    ∙ joined front x (items_at at k behind)
+
+-- ---- laws of formats
+
+-- no spelling begins another where a reader finds what is spelled
+pub none_begins : {A : Type 0} (format : Format A) (at : Reader A) → Reads format at → NoneBeginsAnother format
+none_begins {A} format at reads a b more other x y one two same =
+    let found : at (a ++ more) ≡ Some (x, more) = ap (λ (l : List ℕ). at (l ++ more)) one.1 ∙ reads.complete x more one.0 in
+    let again : at (b ++ other) ≡ Some (y, other) = ap (λ (l : List ℕ). at (l ++ other)) two.1 ∙ reads.complete y other two.0 in
+    let parts = some_pair_parts x y more other (sym found ∙ ap at same ∙ again) in
+    (one.1 ∙ ap format.spelling parts.0 ∙ sym two.1, parts.0)
+
+pub one_spelling : {A : Type 0} (format : Format A) → HasOneSpelling format
+one_spelling format x takes = (format.spelling x, (takes, refl), λ other spelled. spelled.1)
+
+-- what was found stands at the front
+pub found_at_front : {A : Type 0} (format : Format A) (at : Reader A) → Reads format at → (bytes : List ℕ) (found : A × List ℕ) → AreBytes bytes → at bytes ≡ Some found
+    → StandsAtFront format bytes (Some found)
+found_at_front format at reads bytes found are h =
+    let front = reads.sound bytes found are h in
+    (front.takes, front.split)
+
+-- and where nothing was found nothing does
+pub none_at_front : {A : Type 0} (format : Format A) (at : Reader A) → Reads format at → (bytes : List ℕ) → at bytes ≡ None → StandsAtFront format bytes None
+none_at_front format at reads bytes h x rest opens =
+    none-some (x, rest) (sym h ∙ ap at opens.1 ∙ reads.complete x rest opens.0)

@@ -1,0 +1,4 @@
+pub mod Commands
+pub mod Format
+pub mod Reading
+pub mod ReadingCommands

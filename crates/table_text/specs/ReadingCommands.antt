@@ -1,0 +1,59 @@
+-- Reading of commands and batches as a function, field by field.
+use Rattle.std.specs.Prelude.{ℕ, ◌==◌, List, [], ◌∷◌, Bool, if◌then◌else◌, Option, Some, None}
+use Rattle.wf_value.specs.declared.outcome.Outcome.{Outcome}
+use Rattle.wf_value.specs.declared.outcome.Outcome.TheVariants as outcome
+use Rattle.run_plan.specs.Admitted.{Admitted}
+use Rattle.run_plan.specs.SmallText.{is_short, is_delivery_byte, is_event_byte, is_runner_byte, is_label_byte}
+use Rattle.run_plan.specs.declared.command.Claim.{Claim}
+use Rattle.run_plan.specs.declared.command.Done.{Done}
+use Rattle.run_plan.specs.declared.command.Command.{Command}
+use Rattle.run_plan.specs.declared.command.Command.TheVariants as asked
+use Rattle.table_text.specs.Commands.{is_numbered, is_faultless}
+use Rattle.table_text.specs.Reading.{◌>>=◌, Reader, kept, word_at, text_at, only_at, pair_at, parts_at, counted_at}
+
+unfoldable pub number_at : Reader ℕ
+number_at bytes = only_at is_numbered word_at bytes
+
+unfoldable pub small_text_at : (ℕ → Bool) → Reader (List ℕ)
+small_text_at kind bytes = only_at (is_short kind) text_at bytes
+
+unfoldable pub labels_at : Reader (List (List ℕ))
+labels_at bytes = counted_at 1 16 (small_text_at is_label_byte) bytes
+
+unfoldable pub body_at : Reader (List ℕ)
+body_at bytes = only_at is_faultless text_at bytes
+
+abbrev pub result_of : ℕ → Option Outcome
+result_of byte = if byte == 1 then Some outcome.Success else (if byte == 2 then Some outcome.Failure else (if byte == 3 then Some outcome.Cancelled else None))
+
+unfoldable pub result_at : Reader Outcome
+result_at [] = None
+result_at (byte ∷ rest) = result_of byte >>= (λ r. Some (r, rest))
+
+unfoldable pub admit_at : Reader Admitted
+admit_at bytes = parts_at (λ (p : List ℕ × (List ℕ × List ℕ)). record { delivery = p.0; event = p.1.0; body = p.1.1 })
+    (pair_at (small_text_at is_delivery_byte) (pair_at (small_text_at is_event_byte) body_at)) bytes
+
+unfoldable pub claim_at : Reader Claim
+claim_at bytes = parts_at (λ (p : List ℕ × (ℕ × List (List ℕ))). record { runner = p.0; number = p.1.0; labels = p.1.1 })
+    (pair_at (small_text_at is_runner_byte) (pair_at number_at labels_at)) bytes
+
+unfoldable pub done_at : Reader Done
+done_at bytes = parts_at (λ (p : List ℕ × (ℕ × (ℕ × Outcome))). record { runner = p.0; number = p.1.0; lease = p.1.1.0; result = p.1.1.1 })
+    (pair_at (small_text_at is_runner_byte) (pair_at number_at (pair_at number_at result_at))) bytes
+
+-- what stands behind the byte that says which command it is
+unfoldable pub command_of : ℕ → Reader Command
+command_of kind rest =
+    if kind == 1 then parts_at (λ (a : Admitted). asked.Admit a) admit_at rest
+    else (if kind == 2 then parts_at (λ (c : Claim). asked.Claim c) claim_at rest
+    else (if kind == 3 then parts_at (λ (d : Done). asked.Done d) done_at rest
+    else (if kind == 7 then parts_at (λ (n : ℕ). asked.Look n) number_at rest
+    else None)))
+
+unfoldable pub command_at : Reader Command
+command_at [] = None
+command_at (kind ∷ rest) = command_of kind rest
+
+unfoldable pub batch_at : Reader (List Command)
+batch_at bytes = counted_at 1 4294967295 command_at bytes

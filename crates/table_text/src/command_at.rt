@@ -1,0 +1,153 @@
+ghost use Rattle.std.specs.Prelude.{◌≡◌, ◌≢◌, IfOk};
+ghost use Rattle.wf_value.specs.RefusalText.{refusal_number};
+ghost use Rattle.table_text.specs.declared.not_read.NotRead.TheVariants.{NoSpelling};
+ghost use Rattle.table_text.specs.Commands.{is_faultless};
+ghost use Rattle.table_text.specs.Reading.{Finds, items_at, kept};
+ghost use Rattle.table_text.specs.ReadingCommands.{admit_at, batch_at, claim_at, command_at, command_of, done_at};
+
+use crate::fields::{is_within, labels_at, number_at, result_at, small_text_at};
+use crate::front::{text_at, word_at};
+use crate::not_read::NotRead;
+use run_plan::{
+    Claim, Command, DeliveryForm, DeliveryId, Done, EventForm, EventName, Number, Prepared,
+    RunnerForm, prepare,
+};
+use std::alloc::Global;
+use wf_value::{Code, Refusal};
+
+/// Why a body was refused: for want of memory, or since it is none.
+fn why(refusal: &Refusal) -> NotRead
+    ensures { result ≡ NoSpelling → refusal_number refusal.now ≢ 50 }
+{
+    if refusal.number() == Code::NoMemory.number() {
+        return NotRead::NoMemory;
+    }
+    NotRead::NoSpelling
+}
+
+/// The event of a body, where nothing is wrong with it.
+fn prepared_of(
+    alloc: Global,
+    event: EventName,
+    delivery: DeliveryId,
+    body: &[u8],
+) -> Result<Prepared, NotRead>
+    ensures body { Finds (λ p. p.body) result (kept is_faultless body.now) }
+    ensures event { IfOk result (λ p. p ≡ record { delivery = delivery; event = event; body = body.now }) }
+{
+    let body = Vec::from_slice(alloc, body)?;
+    match prepare(alloc, event, delivery, body) {
+        Ok(prepared) => Ok(prepared),
+        Err(refusal) => Err(why(&refusal)),
+    }
+}
+
+#[tactic(auto, unfolding(crate::specs::ReadingCommands::admit_at, crate::specs::ReadingCommands::body_at))]
+fn admit_at(alloc: Global, bytes: &[u8]) -> Result<(Prepared, &[u8]), NotRead>
+    ensures { Finds (λ f. (f.0, f.1.now)) result (admit_at bytes.now) }
+{
+    let (delivery, rest) = small_text_at::<DeliveryForm>(alloc, bytes)?;
+    let (event, rest) = small_text_at::<EventForm>(alloc, rest)?;
+    let (body, rest) = text_at(rest)?;
+    let prepared = prepared_of(alloc, event, delivery, body)?;
+    Ok((prepared, rest))
+}
+
+#[tactic(auto, unfolding(crate::specs::ReadingCommands::claim_at))]
+fn claim_at(alloc: Global, bytes: &[u8]) -> Result<(Claim, &[u8]), NotRead>
+    ensures { Finds (λ f. (f.0, f.1.now)) result (claim_at bytes.now) }
+{
+    let (runner, rest) = small_text_at::<RunnerForm>(alloc, bytes)?;
+    let (number, rest) = number_at(rest)?;
+    let (labels, rest) = labels_at(alloc, rest)?;
+    let claim = Claim {
+        runner,
+        number: Number::new(number),
+        labels,
+    };
+    Ok((claim, rest))
+}
+
+#[tactic(auto, unfolding(crate::specs::ReadingCommands::done_at))]
+fn done_at(alloc: Global, bytes: &[u8]) -> Result<(Done, &[u8]), NotRead>
+    ensures { Finds (λ f. (f.0, f.1.now)) result (done_at bytes.now) }
+{
+    let (runner, rest) = small_text_at::<RunnerForm>(alloc, bytes)?;
+    let (number, rest) = number_at(rest)?;
+    let (lease, rest) = number_at(rest)?;
+    let (result, rest) = result_at(rest)?;
+    let done = Done {
+        runner,
+        number: Number::new(number),
+        lease: Number::new(lease),
+        result,
+    };
+    Ok((done, rest))
+}
+
+/// The command of a kind, and what stands behind it.
+#[tactic(auto, unfolding(crate::specs::ReadingCommands::command_of))]
+fn command_of(alloc: Global, kind: u8, bytes: &[u8]) -> Result<(Command, &[u8]), NotRead>
+    ensures { Finds (λ f. (f.0, f.1.now)) result (command_of kind bytes.now) }
+{
+    match kind {
+        1 => {
+            let (prepared, rest) = admit_at(alloc, bytes)?;
+            Ok((Command::Admit(prepared), rest))
+        }
+        2 => {
+            let (claim, rest) = claim_at(alloc, bytes)?;
+            Ok((Command::Claim(claim), rest))
+        }
+        3 => {
+            let (done, rest) = done_at(alloc, bytes)?;
+            Ok((Command::Done(done), rest))
+        }
+        7 => {
+            let (run, rest) = number_at(bytes)?;
+            Ok((Command::Look(Number::new(run)), rest))
+        }
+        _ => Err(NotRead::NoSpelling),
+    }
+}
+
+/// The command at the front, and what stands behind it.
+#[tactic(auto, unfolding(crate::specs::ReadingCommands::command_at))]
+pub(crate) fn command_at(alloc: Global, bytes: &[u8]) -> Result<(Command, &[u8]), NotRead>
+    ensures { Finds (λ f. (f.0, f.1.now)) result (command_at bytes.now) }
+{
+    match bytes {
+        [] => Err(NotRead::NoSpelling),
+        [kind, rest @ ..] => command_of(alloc, *kind, rest),
+    }
+}
+
+/// So many commands, one behind the other, and what stands behind them.
+fn command_list_at(
+    alloc: Global,
+    count: u32,
+    bytes: &[u8],
+) -> Result<(Vec<Command>, &[u8]), NotRead>
+    ensures { Finds (λ f. (f.0.items, f.1.now)) result (items_at command_at count bytes.now) }
+{
+    let mut commands = Vec::new(alloc);
+    let mut rest = bytes;
+    for _ in 0..count {
+        let (command, behind) = command_at(alloc, rest)?;
+        commands.push(command)?;
+        rest = behind;
+    }
+    Ok((commands, rest))
+}
+
+/// The commands behind their count, and what stands behind them.
+#[tactic(auto, unfolding(crate::specs::ReadingCommands::batch_at))]
+pub(crate) fn batch_at(alloc: Global, bytes: &[u8]) -> Result<(Vec<Command>, &[u8]), NotRead>
+    ensures { Finds (λ f. (f.0.items, f.1.now)) result (batch_at bytes.now) }
+{
+    let (count, rest) = word_at(bytes)?;
+    if !is_within(count, u32::MAX) {
+        return Err(NotRead::NoSpelling);
+    }
+    command_list_at(alloc, count, rest)
+}

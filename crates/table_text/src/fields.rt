@@ -1,0 +1,123 @@
+ghost use Rattle.std.specs.Prelude.{◌≡◌, ◌≤◌, ◌&&◌, IfOk, nat_le};
+ghost use Rattle.run_plan.specs.SmallText.{is_label_byte, short_text_of};
+ghost use Rattle.table_text.specs.Commands.{is_numbered};
+ghost use Rattle.table_text.specs.Reading.{Finds, items_at, kept};
+ghost use Rattle.table_text.specs.ReadingCommands.{labels_at, number_at, result_at, result_of, small_text_at};
+
+use crate::front::{text_at, word_at};
+use crate::not_read::NotRead;
+use run_plan::{Form, Label, LabelForm, Labels, SmallText};
+use std::alloc::Global;
+use wf_value::Outcome;
+
+/// The highest number of a command.
+const MOST: u32 = 999_999_999;
+
+/// How many labels a runner has at most.
+const MOST_LABELS: u32 = 16;
+
+/// Whether it is 1 at least, and so much at most.
+pub(crate) fn is_within(value: u32, most: u32) -> bool
+    ensures { result ≡ (nat_le 1 value && nat_le value most) }
+{
+    1 <= value && value <= most
+}
+
+/// The number, where it is one of a command.
+fn numbered(value: u32) -> Result<u32, NotRead>
+    ensures gives { Finds (λ n. n) result (kept is_numbered value) }
+    ensures range { IfOk result (λ n. (1 ≤ n) × (n ≤ 999999999)) }
+{
+    if 1 <= value && value <= MOST {
+        return Ok(value);
+    }
+    Err(NotRead::NoSpelling)
+}
+
+/// The number of a command at the front, and what stands behind it.
+#[tactic(auto, unfolding(crate::specs::ReadingCommands::number_at))]
+pub(crate) fn number_at(bytes: &[u8]) -> Result<(u32, &[u8]), NotRead>
+    ensures gives { Finds (λ f. (f.0, f.1.now)) result (number_at bytes.now) }
+    ensures range { IfOk result (λ f. (1 ≤ f.0) × (f.0 ≤ 999999999)) }
+{
+    let (value, rest) = word_at(bytes)?;
+    let value = numbered(value)?;
+    Ok((value, rest))
+}
+
+/// The text, where it is of the form.
+fn small_text_of<F: Form>(alloc: Global, text: &[u8]) -> Result<SmallText<F>, NotRead>
+    ensures { Finds (λ t. t) result (short_text_of F.allows text.now) }
+{
+    match SmallText::of(alloc, text) {
+        Ok(Some(small)) => Ok(small),
+        Ok(None) => Err(NotRead::NoSpelling),
+        Err(_) => Err(NotRead::NoMemory),
+    }
+}
+
+/// The text at the front that is of a form, and what stands behind it.
+#[tactic(auto, unfolding(crate::specs::ReadingCommands::small_text_at))]
+pub(crate) fn small_text_at<F: Form>(
+    alloc: Global,
+    bytes: &[u8],
+) -> Result<(SmallText<F>, &[u8]), NotRead>
+    ensures { Finds (λ f. (f.0, f.1.now)) result (small_text_at F.allows bytes.now) }
+{
+    let (text, rest) = text_at(bytes)?;
+    let small = small_text_of(alloc, text)?;
+    Ok((small, rest))
+}
+
+/// So many labels, one behind the other, and what stands behind them.
+fn label_list_at(alloc: Global, count: u32, bytes: &[u8]) -> Result<(Vec<Label>, &[u8]), NotRead>
+    ensures { Finds (λ f. (f.0.items, f.1.now)) result (items_at (small_text_at is_label_byte) count bytes.now) }
+{
+    let mut labels = Vec::new(alloc);
+    let mut rest = bytes;
+    for _ in 0..count {
+        let (label, behind) = small_text_at::<LabelForm>(alloc, rest)?;
+        labels.push(label)?;
+        rest = behind;
+    }
+    Ok((labels, rest))
+}
+
+/// The labels behind their count, and what stands behind them.
+#[tactic(auto, unfolding(crate::specs::ReadingCommands::labels_at))]
+pub(crate) fn labels_at(alloc: Global, bytes: &[u8]) -> Result<(Labels, &[u8]), NotRead>
+    ensures { Finds (λ f. (f.0, f.1.now)) result (labels_at bytes.now) }
+{
+    let (count, rest) = word_at(bytes)?;
+    if !is_within(count, MOST_LABELS) {
+        return Err(NotRead::NoSpelling);
+    }
+    let (labels, rest) = label_list_at(alloc, count, rest)?;
+    Ok((Labels::new(labels), rest))
+}
+
+/// The result that a byte stands for.
+fn result_of(byte: u8) -> Result<Outcome, NotRead>
+    ensures { Finds (λ r. r) result (result_of byte) }
+{
+    match byte {
+        1 => Ok(Outcome::Success),
+        2 => Ok(Outcome::Failure),
+        3 => Ok(Outcome::Cancelled),
+        _ => Err(NotRead::NoSpelling),
+    }
+}
+
+/// The result at the front, and what stands behind it.
+#[tactic(auto, unfolding(crate::specs::ReadingCommands::result_at))]
+pub(crate) fn result_at(bytes: &[u8]) -> Result<(Outcome, &[u8]), NotRead>
+    ensures { Finds (λ f. (f.0, f.1.now)) result (result_at bytes.now) }
+{
+    match bytes {
+        [] => Err(NotRead::NoSpelling),
+        [byte, rest @ ..] => {
+            let outcome = result_of(*byte)?;
+            Ok((outcome, rest))
+        }
+    }
+}

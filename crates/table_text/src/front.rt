@@ -1,0 +1,35 @@
+ghost use Rattle.table_text.specs.Reading.{Finds, bytes_at, text_at, word_at};
+
+use crate::not_read::NotRead;
+
+/// The number in the first four bytes, and what stands behind it.
+#[tactic(auto, unfolding(crate::specs::Reading::word_at))]
+pub(crate) fn word_at(bytes: &[u8]) -> Result<(u32, &[u8]), NotRead>
+    ensures { Finds (λ f. (f.0, f.1.now)) result (word_at bytes.now) }
+{
+    if bytes.len() < 4 {
+        return Err(NotRead::NoSpelling);
+    }
+    let (front, rest) = bytes.split_at(4);
+    let number = u32::from_be_bytes([front[0], front[1], front[2], front[3]]);
+    Ok((number, rest))
+}
+
+/// The first bytes, so many of them, and what stands behind them.
+fn bytes_at(bytes: &[u8], count: usize) -> Result<(&[u8], &[u8]), NotRead>
+    ensures { Finds (λ f. (f.0.now, f.1.now)) result (bytes_at count bytes.now) }
+{
+    if bytes.len() < count {
+        return Err(NotRead::NoSpelling);
+    }
+    Ok(bytes.split_at(count))
+}
+
+/// The bytes behind their length, and what stands behind them.
+#[tactic(auto, unfolding(crate::specs::Reading::text_at))]
+pub(crate) fn text_at(bytes: &[u8]) -> Result<(&[u8], &[u8]), NotRead>
+    ensures { Finds (λ f. (f.0.now, f.1.now)) result (text_at bytes.now) }
+{
+    let (length, rest) = word_at(bytes)?;
+    bytes_at(rest, length as usize)
+}

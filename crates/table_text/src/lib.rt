@@ -1,0 +1,14 @@
+//! The stored bytes of commands and of batches of them, both ways.
+#![tactic(auto)]
+
+mod command_at;
+mod fields;
+mod front;
+pub mod laws;
+mod not_read;
+mod push;
+mod read;
+mod write;
+
+pub use read::{read_batch, read_command};
+pub use write::{write_batch, write_command};

@@ -1,0 +1,158 @@
+ghost use Rattle.std.specs.Prelude.{◌≡◌, [], ◌∷◌, ◌++◌, ◌<◌, ◌^◌, length, flat_map, OnOk};
+ghost use Rattle.std.specs.List.{AllByRecursion};
+ghost use Rattle.table_text.specs.Commands.{IsSpelled, admit, body, claim, command_bytes, done, kind_of, labels, number, outcome_byte, small_text};
+ghost use Rattle.table_text.specs.Format.{text_bytes, word_bytes};
+
+use run_plan::{Claim, Command, Done, Form, Label, Labels, Number, Prepared, SmallText};
+use std::alloc::AllocError;
+use wf_value::Outcome;
+
+/// Appends a number in four bytes.
+#[tactic(auto, unfolding(crate::specs::Format::word_bytes))]
+pub(crate) fn push_word(out: &mut Vec<u8>, value: u32) -> Result<(), AllocError>
+    ensures { OnOk result (out.new.items ≡ out.old.items ++ word_bytes value) }
+{
+    out.extend_from_slice(&value.to_be_bytes())
+}
+
+/// Appends bytes behind their length.
+#[tactic(auto, unfolding(crate::specs::Format::text_bytes))]
+fn push_text(out: &mut Vec<u8>, text: &[u8]) -> Result<(), AllocError>
+    requires { length text.now < 2 ^ 32 }
+    ensures { OnOk result (out.new.items ≡ out.old.items ++ text_bytes text.now) }
+{
+    push_word(out, text.len() as u32)?;
+    out.extend_from_slice(text)
+}
+
+fn push_number(out: &mut Vec<u8>, value: Number) -> Result<(), AllocError>
+    ensures takes { number.Takes value }
+    ensures bytes { OnOk result (out.new.items ≡ out.old.items ++ word_bytes value) }
+{
+    push_word(out, value.get())
+}
+
+fn push_small_text<F: Form>(out: &mut Vec<u8>, text: &SmallText<F>) -> Result<(), AllocError>
+    ensures takes { (small_text F.allows).Takes text.now }
+    ensures bytes { OnOk result (out.new.items ≡ out.old.items ++ text_bytes text.now) }
+{
+    push_text(out, text.as_str().as_bytes())
+}
+
+/// Appends each label, one behind the other.
+fn push_label_list(out: &mut Vec<u8>, list: &[Label]) -> Result<(), AllocError>
+    ensures { OnOk result (out.new.items ≡ out.old.items ++ flat_map text_bytes list.now) }
+{
+    for label in list {
+        push_small_text(out, label)?;
+    }
+    Ok(())
+}
+
+fn push_labels(out: &mut Vec<u8>, value: &Labels) -> Result<(), AllocError>
+    ensures takes { labels.Takes value.now }
+    ensures bytes { OnOk result (out.new.items ≡ out.old.items ++ labels.spelling value.now) }
+{
+    let list = value.as_slice();
+    push_word(out, list.len() as u32)?;
+    push_label_list(out, list)?;
+    Ok(())
+}
+
+fn push_outcome(out: &mut Vec<u8>, value: Outcome) -> Result<(), AllocError>
+    ensures { OnOk result (out.new.items ≡ out.old.items ++ outcome_byte value ∷ []) }
+{
+    match value {
+        Outcome::Success => out.extend_from_slice(&[1]),
+        Outcome::Failure => out.extend_from_slice(&[2]),
+        Outcome::Cancelled => out.extend_from_slice(&[3]),
+    }
+}
+
+/// Appends the admitted bytes.
+fn push_body(out: &mut Vec<u8>, event: &Prepared) -> Result<(), AllocError>
+    ensures takes { body.Takes event.now.body }
+    ensures bytes { OnOk result (out.new.items ≡ out.old.items ++ text_bytes event.now.body) }
+{
+    push_text(out, event.body())
+}
+
+fn push_admit(out: &mut Vec<u8>, event: &Prepared) -> Result<(), AllocError>
+    ensures takes { OnOk result (admit.Takes event.now) }
+    ensures bytes { OnOk result (out.new.items ≡ out.old.items ++ admit.spelling event.now) }
+{
+    push_small_text(out, event.delivery())?;
+    push_small_text(out, event.event())?;
+    push_body(out, event)?;
+    Ok(())
+}
+
+fn push_claim(out: &mut Vec<u8>, asks: &Claim) -> Result<(), AllocError>
+    ensures takes { OnOk result (claim.Takes asks.now) }
+    ensures bytes { OnOk result (out.new.items ≡ out.old.items ++ claim.spelling asks.now) }
+{
+    push_small_text(out, &asks.runner)?;
+    push_number(out, asks.number)?;
+    push_labels(out, &asks.labels)?;
+    Ok(())
+}
+
+fn push_done(out: &mut Vec<u8>, report: &Done) -> Result<(), AllocError>
+    ensures takes { OnOk result (done.Takes report.now) }
+    ensures bytes { OnOk result (out.new.items ≡ out.old.items ++ done.spelling report.now) }
+{
+    push_small_text(out, &report.runner)?;
+    push_number(out, report.number)?;
+    push_number(out, report.lease)?;
+    push_outcome(out, report.result)?;
+    Ok(())
+}
+
+/// Appends the byte that says which command it is.
+fn push_kind(out: &mut Vec<u8>, asked: &Command) -> Result<(), AllocError>
+    ensures { OnOk result (out.new.items ≡ out.old.items ++ kind_of asked.now ∷ []) }
+{
+    match asked {
+        Command::Admit(_) => out.extend_from_slice(&[1]),
+        Command::Claim(_) => out.extend_from_slice(&[2]),
+        Command::Done(_) => out.extend_from_slice(&[3]),
+        Command::Look(_) => out.extend_from_slice(&[7]),
+    }
+}
+
+/// Appends the spelling of a command.
+pub(crate) fn push_command(out: &mut Vec<u8>, asked: &Command) -> Result<(), AllocError>
+    ensures takes { OnOk result (IsSpelled asked.now) }
+    ensures bytes { OnOk result (out.new.items ≡ out.old.items ++ command_bytes asked.now) }
+{
+    push_kind(out, asked)?;
+    match asked {
+        Command::Admit(event) => {
+            push_admit(out, event)?;
+            Ok(())
+        }
+        Command::Claim(asks) => {
+            push_claim(out, asks)?;
+            Ok(())
+        }
+        Command::Done(report) => {
+            push_done(out, report)?;
+            Ok(())
+        }
+        Command::Look(run) => {
+            push_number(out, *run)?;
+            Ok(())
+        }
+    }
+}
+
+/// Appends each command, one behind the other.
+pub(crate) fn push_commands(out: &mut Vec<u8>, list: &[Command]) -> Result<(), AllocError>
+    ensures takes { OnOk result (AllByRecursion IsSpelled list.now) }
+    ensures bytes { OnOk result (out.new.items ≡ out.old.items ++ flat_map command_bytes list.now) }
+{
+    for asked in list {
+        push_command(out, asked)?;
+    }
+    Ok(())
+}

@@ -1,0 +1,37 @@
+ghost use Rattle.std.specs.Prelude.{◌≡◌, IfErr, IfOk};
+ghost use Rattle.std.specs.Option.{option_map};
+ghost use Rattle.wf_value.specs.Gives.{no_memory};
+ghost use Rattle.table_text.specs.Commands.{batch, command};
+ghost use Rattle.table_text.specs.Format.{StandsAtFront};
+
+use crate::command_at::{batch_at, command_at};
+use crate::not_read::NotRead;
+use run_plan::Command;
+use std::alloc::Global;
+use wf_value::{Code, Refusal};
+
+/// The command that is spelled at the front of the bytes, and the bytes behind it, or `None` where no front of them spells one. Where
+/// memory is refused the answer is 50, and nothing is known.
+pub fn read_command(alloc: Global, bytes: &[u8]) -> Result<Option<(Command, &[u8])>, Refusal>
+    ensures front { IfOk result (λ found. StandsAtFront command bytes.now (option_map (λ f. (f.0, f.1.now)) found)) }
+    ensures refused { IfErr result (λ e. e ≡ no_memory) }
+{
+    match command_at(alloc, bytes) {
+        Ok(found) => Ok(Some(found)),
+        Err(NotRead::NoSpelling) => Ok(None),
+        Err(NotRead::NoMemory) => Err(Refusal::Numbered(Code::NoMemory)),
+    }
+}
+
+/// The batch that is spelled at the front of the bytes, and the bytes behind it, or `None` where no front of them spells one. Where
+/// memory is refused the answer is 50, and nothing is known.
+pub fn read_batch(alloc: Global, bytes: &[u8]) -> Result<Option<(Vec<Command>, &[u8])>, Refusal>
+    ensures front { IfOk result (λ found. StandsAtFront batch bytes.now (option_map (λ f. (f.0.items, f.1.now)) found)) }
+    ensures refused { IfErr result (λ e. e ≡ no_memory) }
+{
+    match batch_at(alloc, bytes) {
+        Ok(found) => Ok(Some(found)),
+        Err(NotRead::NoSpelling) => Ok(None),
+        Err(NotRead::NoMemory) => Err(Refusal::Numbered(Code::NoMemory)),
+    }
+}
