@@ -1,12 +1,12 @@
 -- How many legs of a job are at work follows from the leases that are read of them; and what a table keeps of their bound.
-use Rattle.std.specs.Prelude.{◌≡◌, ℕ, zero, suc, ◌+◌, ◌≤◌, ◌<◌, List, [], ◌∷◌, count_by, Bool, true, false, Option, Some, None}
-use Rattle.std.specs.Prelude.{option_map, option_and_then, slice_get, if◌then◌else◌, refl}
+use Rattle.std.specs.Prelude.{◌≡◌, ℕ, suc, ◌≤◌, List, [], ◌∷◌, count_by, Bool, true, false, Option, Some, None}
+use Rattle.std.specs.Prelude.{option_and_then, slice_get, if◌then◌else◌, refl}
 use Rattle.std.specs.Option.{option_map_or}
-use Rattle.std.proofs.Common.{arith, ap, sym, ◌∙◌, subst, cond}
+use Rattle.std.proofs.Common.{arith, ap, sym, ◌∙◌, cond}
 use Rattle.std.proofs.lemmas.List.Sums.{sum_by-cons}
 use Rattle.run_plan.specs.declared.planned.PlannedJob.{PlannedJob}
 use Rattle.run_table.specs.Parallel.{is_at_work, legs_at_work, most_at_work}
-use Rattle.run_table.specs.Places.{LegPlace, job_at, leg_at}
+use Rattle.run_table.specs.Places.{LegPlace, job_at}
 use Rattle.run_table.specs.Sound.{LeaseFits, ParallelIsBounded}
 use Rattle.run_table.specs.TableState.{LegState, JobState, RunState}
 use Rattle.run_table.specs.declared.phases.LegPhase.{LegPhase}

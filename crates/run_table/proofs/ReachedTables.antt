@@ -1,5 +1,5 @@
 -- What a list of commands leaves: a sound table, and leases that were answers to claims.
-use Rattle.std.specs.Prelude.{◌≡◌, ◌⊎◌, ℕ, zero, suc, ◌+◌, List, [], ◌∷◌, ◌++◌, length, map, Bool, true, false, Option, Some, None}
+use Rattle.std.specs.Prelude.{◌≡◌, ◌⊎◌, ℕ, zero, suc, ◌+◌, List, [], ◌∷◌, ◌++◌, length, true, false, Option, Some, None}
 use Rattle.std.specs.Prelude.{option_map, option_and_then, slice_get, if◌then◌else◌, refl}
 use Rattle.std.specs.Option.{option_map_or}
 use Rattle.std.proofs.Common.{arith, ap, sym, ◌∙◌, inl, inr}
@@ -23,7 +23,7 @@ use Rattle.run_table.specs.Places.{LegPlace, leg_at, with_job, with_leg}
 use Rattle.run_table.specs.Rules.{leg_in_phase}
 use Rattle.run_table.specs.Sound.{IsSound}
 use Rattle.run_table.specs.Step.{empty, at_rest, unchanged, admission_answer, new_run, admitting, admitted, claim_answer, claiming_runner}
-use Rattle.run_table.specs.Step.{leased_leg, lease_at, leasing, serving_nothing, claiming, claimed, report_answer, reporting_runner}
+use Rattle.run_table.specs.Step.{leased_leg, lease_at, leasing, serving_nothing, claiming, report_answer, reporting_runner}
 use Rattle.run_table.specs.Step.{with_ended, reporting, reported, stepped}
 use Rattle.run_table.specs.Stops.{after_end, stops_others, with_stopped_legs}
 use Rattle.run_table.specs.TableState.{LegState, JobState, RunState, TableState}

@@ -1,5 +1,5 @@
 -- The stop of an open job's legs keeps what settling keeps: what each run keeps by itself, and the leases.
-use Rattle.std.specs.Prelude.{◌≡◌, ℕ, List, map, length, Bool, Option, Some, None, option_map, option_and_then, slice_get}
+use Rattle.std.specs.Prelude.{◌≡◌, ℕ, List, map, Bool, Option, Some, None, option_map, option_and_then, slice_get}
 use Rattle.std.specs.Prelude.{if◌then◌else◌, refl}
 use Rattle.std.proofs.Common.{ap, sym, ◌∙◌, subst}
 use Rattle.std.proofs.lemmas.List.{length-map}

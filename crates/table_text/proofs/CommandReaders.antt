@@ -7,14 +7,15 @@ use Rattle.wf_value.specs.declared.outcome.Outcome.{Outcome}
 use Rattle.wf_value.specs.declared.outcome.Outcome.TheVariants as ended
 use Rattle.run_plan.specs.Admitted.{Admitted}
 use Rattle.run_plan.specs.SmallText.{is_short, is_delivery_byte, is_event_byte, is_runner_byte, is_label_byte}
+use Rattle.run_plan.specs.declared.command.Beat.{Beat}
 use Rattle.run_plan.specs.declared.command.Claim.{Claim}
 use Rattle.run_plan.specs.declared.command.Done.{Done}
 use Rattle.run_plan.specs.declared.command.Command.{Command}
 use Rattle.run_plan.specs.declared.command.Command.TheVariants as asked
 use Rattle.table_text.specs.Format.{Format, word, text, pair}
-use Rattle.table_text.specs.Commands.{is_numbered, number, small_text, labels, is_faultless, body, outcome_byte, outcome, admit, claim, done, IsSpelled, command_bytes, command, batch}
+use Rattle.table_text.specs.Commands.{is_numbered, number, small_text, labels, is_faultless, body, outcome_byte, outcome, admit, claim, done, beat, IsSpelled, command_bytes, command, batch}
 use Rattle.table_text.specs.Reading.{◌>>=◌, Reader, word_at, text_at, pair_at, parts_at}
-use Rattle.table_text.specs.ReadingCommands.{number_at, small_text_at, labels_at, body_at, result_of, result_at, admit_at, claim_at, done_at, command_of, command_at, batch_at}
+use Rattle.table_text.specs.ReadingCommands.{number_at, small_text_at, labels_at, body_at, result_of, result_at, admit_at, claim_at, done_at, beat_at, command_of, command_at, batch_at}
 use Rattle.table_text.proofs.Bytes.{AreBytes, AreBytes-drop}
 use Rattle.table_text.proofs.Readers.{Fronts, Reads, bind_some, some_bind, word_reads, text_reads, only_reads, pair_reads, parts_reads, counted_reads}
 
@@ -103,6 +104,13 @@ done_reads =
     (small_text_reads is_runner_byte)
     (pair_reads number (pair number outcome) number_at (pair_at number_at result_at) number_reads (pair_reads number outcome number_at result_at number_reads result_reads)))
 
+pub beat_reads : Reads beat beat_at
+unfolding beat_at
+beat_reads =
+    parts_reads (λ (b : Beat). (b.runner, b.lease)) (λ (p : List ℕ × ℕ). record { runner = p.0; lease = p.1 })
+    (pair (small_text is_runner_byte) number) (pair_at (small_text_at is_runner_byte) number_at) (λ _. refl) (λ _. refl)
+    (pair_reads (small_text is_runner_byte) number (small_text_at is_runner_byte) number_at (small_text_reads is_runner_byte) number_reads)
+
 -- what a kind of command is read as, where its byte stands before
 kind_sound : {A : Type 0} (kind : ℕ) (format : Format A) (at : Reader A) (made : A → Command) → Reads format at
     → ((x : A) → format.Takes x → IsSpelled (made x)) → ((x : A) → command_bytes (made x) ≡ kind ∷ format.spelling x)
@@ -126,7 +134,8 @@ kinds_sound : (kind : ℕ) (rest : List ℕ) (found : Command × List ℕ) → A
 unfolding command_of
 kinds_sound kind rest found are h =
     let look : Option (Command × List ℕ) = if kind == 7 then parts_at (λ (n : ℕ). asked.Look n) number_at rest else None in
-    let report : Option (Command × List ℕ) = if kind == 3 then parts_at (λ (d : Done). asked.Done d) done_at rest else look in
+    let beats : Option (Command × List ℕ) = if kind == 4 then parts_at (λ (b : Beat). asked.Beat b) beat_at rest else look in
+    let report : Option (Command × List ℕ) = if kind == 3 then parts_at (λ (d : Done). asked.Done d) done_at rest else beats in
     let asks : Option (Command × List ℕ) = if kind == 2 then parts_at (λ (c : Claim). asked.Claim c) claim_at rest else report in
     elim (chosen (kind == 1) (parts_at (λ (a : Admitted). asked.Admit a) admit_at rest) asks (Some found) h) [
       | inl one ↦ subst (λ (k : ℕ). Fronts command (k ∷ rest) found) (sym (eqb-true kind 1 one.0))
@@ -134,13 +143,17 @@ kinds_sound kind rest found are h =
       | inr not_one ↦ elim (chosen (kind == 2) (parts_at (λ (c : Claim). asked.Claim c) claim_at rest) report (Some found) not_one.1) [
         | inl two ↦ subst (λ (k : ℕ). Fronts command (k ∷ rest) found) (sym (eqb-true kind 2 two.0))
             (kind_sound 2 claim claim_at (λ (c : Claim). asked.Claim c) claim_reads (λ x t. t) (λ _. refl) rest found are two.1)
-        | inr not_two ↦ elim (chosen (kind == 3) (parts_at (λ (d : Done). asked.Done d) done_at rest) look (Some found) not_two.1) [
+        | inr not_two ↦ elim (chosen (kind == 3) (parts_at (λ (d : Done). asked.Done d) done_at rest) beats (Some found) not_two.1) [
           | inl three ↦ subst (λ (k : ℕ). Fronts command (k ∷ rest) found) (sym (eqb-true kind 3 three.0))
               (kind_sound 3 done done_at (λ (d : Done). asked.Done d) done_reads (λ x t. t) (λ _. refl) rest found are three.1)
-          | inr not_three ↦ elim (chosen (kind == 7) (parts_at (λ (n : ℕ). asked.Look n) number_at rest) None (Some found) not_three.1) [
-            | inl seven ↦ subst (λ (k : ℕ). Fronts command (k ∷ rest) found) (sym (eqb-true kind 7 seven.0))
-                (kind_sound 7 number number_at (λ (n : ℕ). asked.Look n) number_reads (λ x t. t) (λ _. refl) rest found are seven.1)
-            | inr none ↦ absurd (none-some found none.1)
+          | inr not_three ↦ elim (chosen (kind == 4) (parts_at (λ (b : Beat). asked.Beat b) beat_at rest) look (Some found) not_three.1) [
+            | inl four ↦ subst (λ (k : ℕ). Fronts command (k ∷ rest) found) (sym (eqb-true kind 4 four.0))
+                (kind_sound 4 beat beat_at (λ (b : Beat). asked.Beat b) beat_reads (λ x t. t) (λ _. refl) rest found are four.1)
+            | inr not_four ↦ elim (chosen (kind == 7) (parts_at (λ (n : ℕ). asked.Look n) number_at rest) None (Some found) not_four.1) [
+              | inl seven ↦ subst (λ (k : ℕ). Fronts command (k ∷ rest) found) (sym (eqb-true kind 7 seven.0))
+                  (kind_sound 7 number number_at (λ (n : ℕ). asked.Look n) number_reads (λ x t. t) (λ _. refl) rest found are seven.1)
+              | inr none ↦ absurd (none-some found none.1)
+            ]
           ]
         ]
       ]
@@ -156,6 +169,7 @@ unfolding command_at command_of
 command_found (asked.Admit event) rest fits = kind_complete admit admit_at (λ (a : Admitted). asked.Admit a) admit_reads event rest fits
 command_found (asked.Claim asks) rest fits = kind_complete claim claim_at (λ (c : Claim). asked.Claim c) claim_reads asks rest fits
 command_found (asked.Done report) rest fits = kind_complete done done_at (λ (d : Done). asked.Done d) done_reads report rest fits
+command_found (asked.Beat asks) rest fits = kind_complete beat beat_at (λ (b : Beat). asked.Beat b) beat_reads asks rest fits
 command_found (asked.Look run) rest fits = kind_complete number number_at (λ (n : ℕ). asked.Look n) number_reads run rest fits
 
 pub command_reads : Reads command command_at

@@ -122,7 +122,7 @@ begun x (f ∷ fs) gs is h = cc
 -- a longer body has a fault
 long_body : (b : List ℕ) → nat_le (length b) 65536 ≡ false → faults_of b ≡ [] → ⊥
 long_body b long h =
-    begun (Numbered TooLong) (event_faults b) (run_faults (event_of b).workflow.jobs)
+    begun (Numbered TooLong) (event_faults b) (run_faults (event_of b).workflow)
     (ap (λ t. if t then required NotJson event_faults_in (json_of b) else fault TooLong) long) h
 
 short_body : (b : List ℕ) → faults_of b ≡ [] → length b < 2 ^ 32

@@ -5,6 +5,7 @@ use Rattle.wf_value.specs.declared.outcome.Outcome.TheVariants as ended
 use Rattle.run_plan.specs.Admitted.{Admitted}
 use Rattle.run_plan.specs.PlanOf.{faults_of}
 use Rattle.run_plan.specs.SmallText.{is_short, is_delivery_byte, is_event_byte, is_runner_byte, is_label_byte}
+use Rattle.run_plan.specs.declared.command.Beat.{Beat}
 use Rattle.run_plan.specs.declared.command.Claim.{Claim}
 use Rattle.run_plan.specs.declared.command.Done.{Done}
 use Rattle.run_plan.specs.declared.command.Command.{Command}
@@ -59,12 +60,17 @@ claim = parts (λ (c : Claim). (c.runner, (c.number, c.labels))) (pair (small_te
 abbrev pub done : Format Done
 done = parts (λ (d : Done). (d.runner, (d.number, (d.lease, d.result)))) (pair (small_text is_runner_byte) (pair number (pair number outcome)))
 
+-- the runner and the lease
+abbrev pub beat : Format Beat
+beat = parts (λ b. (b.runner, b.lease)) (pair (small_text is_runner_byte) number)
+
 -- ---- commands and batches
 
 abbrev pub IsSpelled : Command → Type 0
 IsSpelled (asked.Admit event) = admit.Takes event
 IsSpelled (asked.Claim asks) = claim.Takes asks
 IsSpelled (asked.Done report) = done.Takes report
+IsSpelled (asked.Beat asks) = beat.Takes asks
 IsSpelled (asked.Look run) = number.Takes run
 
 -- the byte that says which command it is
@@ -72,6 +78,7 @@ abbrev pub kind_of : Command → ℕ
 kind_of (asked.Admit event) = 1
 kind_of (asked.Claim asks) = 2
 kind_of (asked.Done report) = 3
+kind_of (asked.Beat asks) = 4
 kind_of (asked.Look run) = 7
 
 -- what stands behind it
@@ -79,6 +86,7 @@ abbrev pub fields_of : Command → List ℕ
 fields_of (asked.Admit event) = admit.spelling event
 fields_of (asked.Claim asks) = claim.spelling asks
 fields_of (asked.Done report) = done.spelling report
+fields_of (asked.Beat asks) = beat.spelling asks
 fields_of (asked.Look run) = number.spelling run
 
 abbrev pub command_bytes : Command → List ℕ

@@ -4,6 +4,7 @@ use Rattle.wf_value.specs.declared.outcome.Outcome.{Outcome}
 use Rattle.wf_value.specs.declared.outcome.Outcome.TheVariants as outcome
 use Rattle.run_plan.specs.Admitted.{Admitted}
 use Rattle.run_plan.specs.SmallText.{is_short, is_delivery_byte, is_event_byte, is_runner_byte, is_label_byte}
+use Rattle.run_plan.specs.declared.command.Beat.{Beat}
 use Rattle.run_plan.specs.declared.command.Claim.{Claim}
 use Rattle.run_plan.specs.declared.command.Done.{Done}
 use Rattle.run_plan.specs.declared.command.Command.{Command}
@@ -42,14 +43,18 @@ unfoldable pub done_at : Reader Done
 done_at bytes = parts_at (λ (p : List ℕ × (ℕ × (ℕ × Outcome))). record { runner = p.0; number = p.1.0; lease = p.1.1.0; result = p.1.1.1 })
     (pair_at (small_text_at is_runner_byte) (pair_at number_at (pair_at number_at result_at))) bytes
 
+unfoldable pub beat_at : Reader Beat
+beat_at bytes = parts_at (λ (p : List ℕ × ℕ). record { runner = p.0; lease = p.1 }) (pair_at (small_text_at is_runner_byte) number_at) bytes
+
 -- what stands behind the byte that says which command it is
 unfoldable pub command_of : ℕ → Reader Command
 command_of kind rest =
     if kind == 1 then parts_at (λ (a : Admitted). asked.Admit a) admit_at rest
     else (if kind == 2 then parts_at (λ (c : Claim). asked.Claim c) claim_at rest
     else (if kind == 3 then parts_at (λ (d : Done). asked.Done d) done_at rest
+    else (if kind == 4 then parts_at (λ (b : Beat). asked.Beat b) beat_at rest
     else (if kind == 7 then parts_at (λ (n : ℕ). asked.Look n) number_at rest
-    else None)))
+    else None))))
 
 unfoldable pub command_at : Reader Command
 command_at [] = None

@@ -3,13 +3,13 @@ ghost use Rattle.wf_value.specs.RefusalText.{refusal_number};
 ghost use Rattle.table_text.specs.declared.not_read.NotRead.TheVariants.{NoSpelling};
 ghost use Rattle.table_text.specs.Commands.{is_faultless};
 ghost use Rattle.table_text.specs.Reading.{Finds, items_at, kept};
-ghost use Rattle.table_text.specs.ReadingCommands.{admit_at, batch_at, claim_at, command_at, command_of, done_at};
+ghost use Rattle.table_text.specs.ReadingCommands.{admit_at, batch_at, beat_at, claim_at, command_at, command_of, done_at};
 
 use crate::fields::{is_within, labels_at, number_at, result_at, small_text_at};
 use crate::front::{text_at, word_at};
 use crate::not_read::NotRead;
 use run_plan::{
-    Claim, Command, DeliveryForm, DeliveryId, Done, EventForm, EventName, Number, Prepared,
+    Beat, Claim, Command, DeliveryForm, DeliveryId, Done, EventForm, EventName, Number, Prepared,
     RunnerForm, prepare,
 };
 use std::alloc::Global;
@@ -85,6 +85,19 @@ fn done_at(alloc: Global, bytes: &[u8]) -> Result<(Done, &[u8]), NotRead>
     Ok((done, rest))
 }
 
+#[tactic(auto, unfolding(crate::specs::ReadingCommands::beat_at))]
+fn beat_at(alloc: Global, bytes: &[u8]) -> Result<(Beat, &[u8]), NotRead>
+    ensures { Finds (λ f. (f.0, f.1.now)) result (beat_at bytes.now) }
+{
+    let (runner, rest) = small_text_at::<RunnerForm>(alloc, bytes)?;
+    let (lease, rest) = number_at(rest)?;
+    let beat = Beat {
+        runner,
+        lease: Number::new(lease),
+    };
+    Ok((beat, rest))
+}
+
 /// The command of a kind, and what stands behind it.
 #[tactic(auto, unfolding(crate::specs::ReadingCommands::command_of))]
 fn command_of(alloc: Global, kind: u8, bytes: &[u8]) -> Result<(Command, &[u8]), NotRead>
@@ -102,6 +115,10 @@ fn command_of(alloc: Global, kind: u8, bytes: &[u8]) -> Result<(Command, &[u8]),
         3 => {
             let (done, rest) = done_at(alloc, bytes)?;
             Ok((Command::Done(done), rest))
+        }
+        4 => {
+            let (beat, rest) = beat_at(alloc, bytes)?;
+            Ok((Command::Beat(beat), rest))
         }
         7 => {
             let (run, rest) = number_at(bytes)?;

@@ -1,9 +1,9 @@
 ghost use Rattle.std.specs.Prelude.{◌≡◌, [], ◌∷◌, ◌++◌, ◌<◌, ◌^◌, length, flat_map, OnOk};
 ghost use Rattle.std.specs.List.{AllByRecursion};
-ghost use Rattle.table_text.specs.Commands.{IsSpelled, admit, body, claim, command_bytes, done, kind_of, labels, number, outcome_byte, small_text};
+ghost use Rattle.table_text.specs.Commands.{IsSpelled, admit, beat, body, claim, command_bytes, done, kind_of, labels, number, outcome_byte, small_text};
 ghost use Rattle.table_text.specs.Format.{text_bytes, word_bytes};
 
-use run_plan::{Claim, Command, Done, Form, Label, Labels, Number, Prepared, SmallText};
+use run_plan::{Beat, Claim, Command, Done, Form, Label, Labels, Number, Prepared, SmallText};
 use std::alloc::AllocError;
 use wf_value::Outcome;
 
@@ -108,6 +108,15 @@ fn push_done(out: &mut Vec<u8>, report: &Done) -> Result<(), AllocError>
     Ok(())
 }
 
+fn push_beat(out: &mut Vec<u8>, asks: &Beat) -> Result<(), AllocError>
+    ensures takes { OnOk result (beat.Takes asks.now) }
+    ensures bytes { OnOk result (out.new.items ≡ out.old.items ++ beat.spelling asks.now) }
+{
+    push_small_text(out, &asks.runner)?;
+    push_number(out, asks.lease)?;
+    Ok(())
+}
+
 /// Appends the byte that says which command it is.
 fn push_kind(out: &mut Vec<u8>, asked: &Command) -> Result<(), AllocError>
     ensures { OnOk result (out.new.items ≡ out.old.items ++ kind_of asked.now ∷ []) }
@@ -116,6 +125,7 @@ fn push_kind(out: &mut Vec<u8>, asked: &Command) -> Result<(), AllocError>
         Command::Admit(_) => out.extend_from_slice(&[1]),
         Command::Claim(_) => out.extend_from_slice(&[2]),
         Command::Done(_) => out.extend_from_slice(&[3]),
+        Command::Beat(_) => out.extend_from_slice(&[4]),
         Command::Look(_) => out.extend_from_slice(&[7]),
     }
 }
@@ -137,6 +147,10 @@ pub(crate) fn push_command(out: &mut Vec<u8>, asked: &Command) -> Result<(), All
         }
         Command::Done(report) => {
             push_done(out, report)?;
+            Ok(())
+        }
+        Command::Beat(asks) => {
+            push_beat(out, asks)?;
             Ok(())
         }
         Command::Look(run) => {

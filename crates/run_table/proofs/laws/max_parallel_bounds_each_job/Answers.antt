@@ -1,4 +1,3 @@
-use Rattle.run_table.specs.Histories.{after}
 use Rattle.run_table.specs.Step.{empty}
 use Rattle.run_table.proofs.ReachedTables.{after_is_sound}
 use Rattle.run_table.proofs.StepKeeps.{empty_is_sound}
