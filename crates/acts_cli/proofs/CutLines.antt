@@ -1,6 +1,6 @@
 -- The first line of a text.
 use Rattle.std.proofs.Common.{◌≡◌, ◌==◌, ◌∙◌, ℕ, ◌+◌, ◌<◌, ◌≤◌, List, [], ◌∷◌, length, take, drop, Bool, true, false, cond, Some, None}
-use Rattle.std.proofs.Common.{Option, refl, ap, arith}
+use Rattle.std.proofs.Common.{refl, ap, arith}
 use Rattle.std.proofs.Math.Dec.{ltb}
 use Rattle.std.specs.List.{All, position, position_or_len, slice_split, before_first, after_first}
 use Rattle.std.specs.Str.Lines.{lines, lines_of_parts, strip_carriage_return}

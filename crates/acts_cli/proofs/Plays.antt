@@ -1,24 +1,20 @@
 -- What a play writes, line by line.
-use Rattle.std.proofs.Common.{◌≡◌, ◌≢◌, ◌∙◌, ◌⊎◌, inl, inr, ℕ, ◌<◌, List, [], ◌∷◌, ◌++◌, length, take, drop, Bool, true, false, nat_eq, not}
-use Rattle.std.proofs.Common.{cond, filter, flat_map, Result, Ok, Err, OnErr, IfErr, ◌≤◌, refl, sym, ap, subst, append_assoc, append-nil}
-use Rattle.std.proofs.Common.{take-append-drop, arith}
+use Rattle.std.proofs.Common.{◌≡◌, ◌≢◌, ◌∙◌, ◌⊎◌, inl, inr, ℕ, List, [], ◌∷◌, ◌++◌, length, take, drop, true, false}
+use Rattle.std.proofs.Common.{cond, filter, Result, Ok, Err, OnErr, IfErr, ◌≤◌, refl, sym, ap, subst, append_assoc, append-nil}
+use Rattle.std.proofs.Common.{take-append-drop}
 use Rattle.std.specs.List.{All}
 use Rattle.std.specs.Str.Lines.{lines}
 use Rattle.std.proofs.lemmas.List.Elements.{All-head, All-tail}
 use Rattle.wf_value.specs.Gives.{Gives, no_memory}
 use Rattle.wf_value.specs.RefusalText.{refusal_text}
-use Rattle.wf_value.specs.declared.code.Code.{Code}
-use Rattle.wf_value.specs.declared.code.Code.TheVariants.{NoMemory}
 use Rattle.wf_value.specs.declared.refusal.Refusal.{Refusal}
-use Rattle.wf_value.specs.declared.refusal.Refusal.TheVariants.{Numbered, Cycle, Turn}
 use Rattle.run_plan.specs.declared.reply.Reply.{Reply}
 use Rattle.run_table.specs.Step.{empty}
 use Rattle.run_table.specs.TableState.{TableState}
 use Rattle.acts_cli.specs.Line.{onward}
 use Rattle.acts_cli.specs.AnyState.{outcome_text}
 use Rattle.acts_cli.specs.Answers.{has_bytes, script_lines, carried_out, table_after, answer_of, after_line, answers_from, printed}
-use Rattle.acts_cli.specs.Answers.{output_of}
-use Rattle.acts_cli.specs.Play.{IsAnswer, Answers, Plays, memory_refused, stream_failed, most_bytes, PlaysTo, Ends}
+use Rattle.acts_cli.specs.Play.{IsAnswer, Answers, Plays, memory_refused, stream_failed, most_bytes, Ends}
 
 -- ---- one line
 

@@ -1,5 +1,5 @@
 -- The definitions worked through on rows, by computation.
-use Rattle.std.proofs.Common.{◌≡◌, ℕ, List, [], ◌∷◌, ◌++◌, codes, Result, Ok, Err, refl}
+use Rattle.std.proofs.Common.{◌≡◌, [], ◌∷◌, ◌++◌, codes, Ok, Err, refl}
 use Rattle.wf_value.specs.RefusalText.{refusal_text}
 use Rattle.wf_value.specs.declared.code.Code.TheVariants.{NoRun}
 use Rattle.wf_value.specs.declared.refusal.Refusal.TheVariants.{Numbered, Turn}

@@ -1,5 +1,5 @@
 -- The answers of a script: one for each line that is not empty, each from the table that the lines before it left.
-use Rattle.std.specs.Prelude.{ℕ, List, [], ◌∷◌, ◌++◌, length, Bool, not, nat_eq, filter, flat_map, codes, Result}
+use Rattle.std.specs.Prelude.{ℕ, List, [], ◌∷◌, ◌++◌, length, Bool, not, nat_eq, filter, flat_map, Result}
 use Rattle.std.specs.Str.Lines.{lines}
 use Rattle.wf_value.specs.declared.refusal.Refusal.{Refusal}
 use Rattle.run_plan.specs.declared.reply.Reply.{Reply}

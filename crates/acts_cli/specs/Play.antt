@@ -3,7 +3,7 @@ use Rattle.std.specs.Prelude.{◌≡◌, ◌≢◌, ◌⊎◌, ℕ, ◌≤◌, �
 use Rattle.std.specs.List.{All}
 use Rattle.wf_value.specs.Gives.{no_memory}
 use Rattle.wf_value.specs.RefusalText.{refusal_text}
-use Rattle.wf_value.specs.declared.code.Code.TheVariants.{NoMemory, StreamFailed, InputTooLong}
+use Rattle.wf_value.specs.declared.code.Code.TheVariants.{StreamFailed, InputTooLong}
 use Rattle.wf_value.specs.declared.refusal.Refusal.{Refusal}
 use Rattle.wf_value.specs.declared.refusal.Refusal.TheVariants.{Numbered}
 use Rattle.run_table.specs.Step.{empty}

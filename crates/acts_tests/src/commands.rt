@@ -1,7 +1,8 @@
 //! Commands, made of their words. Words that make none are refused 75.
 
 use run_plan::{
-    Claim, Command, DeliveryId, Done, EventName, Labels, Number, Prepared, RunnerName, prepare,
+    Beat, Claim, Command, DeliveryId, Done, EventName, Labels, Number, Prepared, RunnerName,
+    prepare,
 };
 use std::alloc::Global;
 use wf_value::{Code, Outcome, Refusal};
@@ -12,6 +13,7 @@ pub enum Words<'a> {
     Admit(&'a str, &'a str),
     Claim(&'a str, &'a str, &'a str),
     Done(&'a str, &'a str, &'a str, Outcome),
+    Beat(&'a str, &'a str),
     Look(&'a str),
 }
 
@@ -79,6 +81,12 @@ pub fn done(
     })
 }
 
+pub fn beat(alloc: Global, name: &str, lease: &str) -> Result<Beat, Refusal> {
+    let lease = number(lease)?;
+    let runner = runner(alloc, name)?;
+    Ok(Beat { runner, lease })
+}
+
 pub fn command_of(alloc: Global, words: &Words<'_>) -> Result<Command, Refusal> {
     match words {
         Words::Admit(id, body) => Ok(Command::Admit(prepared(alloc, id, "push", body)?)),
@@ -86,6 +94,7 @@ pub fn command_of(alloc: Global, words: &Words<'_>) -> Result<Command, Refusal> 
         Words::Done(name, count, lease, outcome) => {
             Ok(Command::Done(done(alloc, name, count, lease, *outcome)?))
         }
+        Words::Beat(name, lease) => Ok(Command::Beat(beat(alloc, name, lease)?)),
         Words::Look(run) => Ok(Command::Look(number(run)?)),
     }
 }

@@ -9,13 +9,20 @@ use table_text::{read_batch, read_command, write_batch, write_command};
 use wf_value::{Outcome, Refusal, Same};
 
 /// Commands, and how many bytes each takes.
-const SIZES: [(Words<'static>, usize); 5] = [
+const SIZES: [(Words<'static>, usize); 6] = [
     (Words::Admit("d1", BODY), 100),
     (Words::Claim("r1", "1", "linux"), 24),
     (Words::Claim("r1", "999999999", "linux,x64"), 31),
     (Words::Done("r1", "2", "1", Outcome::Success), 16),
+    (Words::Beat("r1", "1"), 11),
     (Words::Look("1"), 5),
 ];
+
+/// `done r1 2 1 failure`.
+const FAILURE: &[u8] = &[3, 0, 0, 0, 2, b'r', b'1', 0, 0, 0, 2, 0, 0, 0, 1, 2];
+
+/// A batch of `look 1` three times.
+const THREE_LOOKS: &[u8] = &[0, 0, 0, 3, 7, 0, 0, 0, 1, 7, 0, 0, 0, 1, 7, 0, 0, 0, 1];
 
 /// What no command is spelled as.
 const NO_COMMANDS: [&[u8]; 11] = [
@@ -28,8 +35,12 @@ const NO_COMMANDS: [&[u8]; 11] = [
     &[7, 0x3B, 0x9A, 0xCA, 0],
     &[7, 0x40, 0, 0, 0],
     // a name whose length is one too high, and one too low
-    &[2, 0, 0, 0, 3, b'r', b'1', 0, 0, 0, 1, 0, 0, 0, 1, 0, 0, 0, 1, b'x'],
-    &[2, 0, 0, 0, 1, b'r', b'1', 0, 0, 0, 1, 0, 0, 0, 1, 0, 0, 0, 1, b'x'],
+    &[
+        2, 0, 0, 0, 3, b'r', b'1', 0, 0, 0, 1, 0, 0, 0, 1, 0, 0, 0, 1, b'x',
+    ],
+    &[
+        2, 0, 0, 0, 1, b'r', b'1', 0, 0, 0, 1, 0, 0, 0, 1, 0, 0, 0, 1, b'x',
+    ],
     // no label
     &[2, 0, 0, 0, 2, b'r', b'1', 0, 0, 0, 1, 0, 0, 0, 0],
     // no result has the numbers 0 and 4
@@ -83,14 +94,14 @@ fn what_is_written_has_its_length_and_is_read_again(rt: HostRuntime) {
 fn writes_bytes(rt: &impl Abort, alloc: Global) -> Result<(), Refusal> {
     let done = command_of(alloc, &Words::Done("r1", "2", "1", Outcome::Failure))?;
     let bytes = spelled(alloc, &done)?;
-    assert!(rt; bytes.as_slice() == [3, 0, 0, 0, 2, b'r', b'1', 0, 0, 0, 2, 0, 0, 0, 1, 2]);
+    assert!(rt; bytes.as_slice() == FAILURE);
     let mut commands = Vec::new(alloc);
     for _ in 0..3 {
         commands.push(command_of(alloc, &Words::Look("1"))?)?;
     }
     let mut batch = Vec::new(alloc);
     write_batch(alloc, &mut batch, commands.as_slice())?;
-    assert!(rt; batch.as_slice() == [0, 0, 0, 3, 7, 0, 0, 0, 1, 7, 0, 0, 0, 1, 7, 0, 0, 0, 1]);
+    assert!(rt; batch.as_slice() == THREE_LOOKS);
     match read_batch(alloc, batch.as_slice())? {
         Some((found, rest)) => assert!(rt; found.len() == 3 && rest.is_empty()),
         None => panic!(rt; "no batch"),

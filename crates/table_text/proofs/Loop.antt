@@ -1,6 +1,6 @@
 -- Reading values one behind the other, as a loop does.
 use Rattle.std.proofs.Common.{◌≡◌, ℕ, suc, ◌-◌, ◌+◌, ◌≤◌, ◌<◌, List, [], ◌∷◌, ◌++◌, sym, ◌∙◌, arith}
-use Rattle.std.specs.Prelude.{Option, Some, None}
+use Rattle.std.specs.Prelude.{Option, Some}
 use Rattle.table_text.specs.declared.not_read.NotRead.{NotRead}
 use Rattle.table_text.specs.declared.not_read.NotRead.TheVariants.{NoMemory, NoSpelling}
 use Rattle.table_text.specs.Reading.{Reader, Fails, items_at, with_front}

@@ -10,7 +10,7 @@ use Rattle.run_plan.specs.declared.command.Done.{Done}
 use Rattle.run_plan.specs.declared.command.Command.{Command}
 use Rattle.run_plan.specs.declared.command.Command.TheVariants as asked
 use Rattle.table_text.specs.Commands.{is_numbered, is_faultless}
-use Rattle.table_text.specs.Reading.{◌>>=◌, Reader, kept, word_at, text_at, only_at, pair_at, parts_at, counted_at}
+use Rattle.table_text.specs.Reading.{◌>>=◌, Reader, word_at, text_at, only_at, pair_at, parts_at, counted_at}
 
 unfoldable pub number_at : Reader ℕ
 number_at bytes = only_at is_numbered word_at bytes

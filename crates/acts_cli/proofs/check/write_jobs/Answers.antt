@@ -1,4 +1,4 @@
-use Rattle.std.proofs.Common.{◌≡◌, ◌<◌, ◌+◌, ◌++◌, drop, length, arith}
+use Rattle.std.proofs.Common.{◌<◌, ◌+◌, ◌++◌, drop, length, arith}
 use Rattle.std.proofs.KnownBytes.{Appends-trans}
 use Rattle.acts_cli.specs.Check.{job_lines, plan_lines}
 use Rattle.acts_cli.proofs.Checks.{one_job_more, within_job}

@@ -1,4 +1,4 @@
-use Rattle.std.proofs.Common.{◌≤◌, ◌++◌, ℕ, length, take, drop, min, arith, length-append, length-take, length-drop}
+use Rattle.std.proofs.Common.{◌++◌, take, arith, length-append, length-take}
 use Rattle.std.proofs.KnownBytes.{Consumes-trans}
 use Rattle.acts_cli.proofs.input.read_at_most.Goals as goal
 

@@ -1,4 +1,3 @@
-use Rattle.std.proofs.Common.{ℕ, List}
 use Rattle.std.proofs.KnownBytes.{Appends-nil}
 use Rattle.acts_cli.specs.AnyState.{outcome_text}
 use Rattle.acts_cli.proofs.Plays.{is_answer}

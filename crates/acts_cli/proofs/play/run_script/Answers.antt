@@ -1,4 +1,4 @@
-use Rattle.std.proofs.Common.{◌≤◌, ◌≡◌, ◌++◌, ℕ, List, length, arith, subst, Err}
+use Rattle.std.proofs.Common.{◌≤◌, ◌++◌, ℕ, List, length, arith, subst, Err}
 use Rattle.std.specs.Io.KnownBytes.{Appends}
 use Rattle.std.proofs.KnownBytes.{Consumes-whole, Appends-kept}
 use Rattle.acts_cli.specs.Play.{Plays, Ends, most_bytes}

@@ -1,4 +1,4 @@
-use Rattle.std.proofs.Common.{◌≡◌, ◌<◌, ◌^◌, ℕ, List, length, subst, sym}
+use Rattle.std.proofs.Common.{◌<◌, ◌^◌, ℕ, List, length, subst, sym}
 use Rattle.table_text.proofs.Known.{faultless_fits}
 use Rattle.table_text.proofs.push.push_body.Goals as goal
 
