@@ -62,9 +62,21 @@ beat_of fields =
     option_and_then (λ f. option_and_then (λ runner. option_map (λ lease. command.Beat (record { runner = runner; lease = lease }))
     (number_of f.1)) (runner_name_of f.0)) (at_space fields)
 
+-- `cancel RUN`
+abbrev pub cancel_of : List ℕ → Option Command
+cancel_of field = option_map (λ run. command.Cancel run) (number_of field)
+
+-- `lost RUNNER`
+abbrev pub lost_of : List ℕ → Option Command
+lost_of field = option_map (λ runner. command.Lost runner) (runner_name_of field)
+
 -- `look RUN`
 abbrev pub look_of : List ℕ → Option Command
 look_of field = option_map (λ run. command.Look run) (number_of field)
+
+-- `fetch RUN`
+abbrev pub fetch_of : List ℕ → Option Command
+fetch_of field = option_map (λ run. command.Fetch run) (number_of field)
 
 abbrev pub command_by : List ℕ → List ℕ → Result Command Refusal
 command_by word fields =
@@ -72,7 +84,10 @@ command_by word fields =
     else (if bytes_eq word (codes "claim") then ok_or (claim_of fields) not_a_line
     else (if bytes_eq word (codes "done") then ok_or (done_of fields) not_a_line
     else (if bytes_eq word (codes "beat") then ok_or (beat_of fields) not_a_line
-    else (if bytes_eq word (codes "look") then ok_or (look_of fields) not_a_line else Err not_a_line))))
+    else (if bytes_eq word (codes "cancel") then ok_or (cancel_of fields) not_a_line
+    else (if bytes_eq word (codes "lost") then ok_or (lost_of fields) not_a_line
+    else (if bytes_eq word (codes "look") then ok_or (look_of fields) not_a_line
+    else (if bytes_eq word (codes "fetch") then ok_or (fetch_of fields) not_a_line else Err not_a_line)))))))
 
 abbrev pub command_of : List ℕ → Result Command Refusal
 command_of line = option_map_or (λ p. command_by p.0 p.1) (at_space line) (Err not_a_line)

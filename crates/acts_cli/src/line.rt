@@ -1,6 +1,7 @@
 ghost use Rattle.std.specs.Prelude.{◌≡◌, Ok, Some, None, IfOk, IfErr, ok_or};
 ghost use Rattle.wf_value.specs.Gives.{Gives};
-ghost use Rattle.acts_cli.specs.Line.{not_a_line, admit_of, claim_of, outcome_of, done_of, beat_of, look_of, command_by, command_of};
+ghost use Rattle.acts_cli.specs.Line.{not_a_line, admit_of, claim_of, outcome_of, done_of, beat_of};
+ghost use Rattle.acts_cli.specs.Line.{cancel_of, lost_of, look_of, fetch_of, command_by, command_of};
 
 use crate::fields::{at_space, three_fields};
 use run_plan::{
@@ -75,10 +76,28 @@ fn beat_of(alloc: Global, fields: &[u8]) -> Result<Command, Refusal>
     }))
 }
 
+fn cancel_of(field: &[u8]) -> Result<Command, Refusal>
+    ensures { result ≡ ok_or (cancel_of field.now) not_a_line }
+{
+    Ok(Command::Cancel(spelled(Number::of(field))?))
+}
+
+fn lost_of(alloc: Global, field: &[u8]) -> Result<Command, Refusal>
+    ensures { Gives (λ c. c) result (ok_or (lost_of field.now) not_a_line) }
+{
+    Ok(Command::Lost(spelled(RunnerName::of(alloc, field)?)?))
+}
+
 fn look_of(field: &[u8]) -> Result<Command, Refusal>
     ensures { result ≡ ok_or (look_of field.now) not_a_line }
 {
     Ok(Command::Look(spelled(Number::of(field))?))
+}
+
+fn fetch_of(field: &[u8]) -> Result<Command, Refusal>
+    ensures { result ≡ ok_or (fetch_of field.now) not_a_line }
+{
+    Ok(Command::Fetch(spelled(Number::of(field))?))
 }
 
 fn command_by(alloc: Global, word: &[u8], fields: &[u8]) -> Result<Command, Refusal>
@@ -92,17 +111,23 @@ fn command_by(alloc: Global, word: &[u8], fields: &[u8]) -> Result<Command, Refu
         done_of(alloc, fields)
     } else if word == b"beat".as_slice() {
         beat_of(alloc, fields)
+    } else if word == b"cancel".as_slice() {
+        cancel_of(fields)
+    } else if word == b"lost".as_slice() {
+        lost_of(alloc, fields)
     } else if word == b"look".as_slice() {
         look_of(fields)
+    } else if word == b"fetch".as_slice() {
+        fetch_of(fields)
     } else {
         spelled(None)
     }
 }
 
 /// The command of a line: `admit DELIVERY EVENT BODY`, `claim RUNNER NUMBER LABELS`,
-/// `done RUNNER NUMBER LEASE RESULT`, `beat RUNNER LEASE` or `look RUN`, parted by one space. BODY is all that
-/// follows the third space. Every other line is refused 75, and a body with a fault with the first one's number: 10 to
-/// 12, 15 to 17 or 19 to 25. Want of memory is 50.
+/// `done RUNNER NUMBER LEASE RESULT`, `beat RUNNER LEASE`, `cancel RUN`, `lost RUNNER`, `look RUN` or `fetch RUN`,
+/// parted by one space. BODY is all that follows the third space. Every other line is refused 75, and a body with a
+/// fault with the first one's number: 10 to 12, 15 to 17 or 19 to 25. Want of memory is 50.
 pub fn command_of(alloc: Global, line: &[u8]) -> Result<Command, Refusal>
     ensures { Gives (λ c. c) result (command_of line.now) }
 {

@@ -1,5 +1,6 @@
 //! The rows of the product, read and written through `run_script`.
 
+mod cancels;
 mod checks;
 mod command_line;
 mod conditions;

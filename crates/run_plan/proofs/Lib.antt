@@ -1,4 +1,5 @@
 pub mod AsciiForms
+pub mod BodyText
 pub mod ComboTokens
 pub mod Faultless
 pub mod Jobs

@@ -1,5 +1,5 @@
 -- The printed replies.
-use Rattle.std.specs.Prelude.{ℕ, List, [], ◌∷◌, ◌++◌, Bool, true, false, codes}
+use Rattle.std.specs.Prelude.{ℕ, List, [], ◌∷◌, ◌++◌, length, Bool, true, false, codes}
 use Rattle.std.specs.Fmt.{decimal}
 use Rattle.serde_json.specs.Data.{Data, null, boolean, number, string, object, Members, no_members, member}
 use Rattle.serde_json.specs.Find.{of_integer}
@@ -35,6 +35,10 @@ lease_line lease run job leg combo =
 abbrev pub lease_text : Leased → List ℕ
 lease_text l = lease_line l.lease l.run l.job l.leg (combo_text l.combo)
 
+-- `body`, how many bytes there are, a line feed, and the bytes
+abbrev pub body_lines : List ℕ → List ℕ
+body_lines body = codes "body " ++ decimal (length body) ++ 10 ∷ body
+
 abbrev pub reply_text : Reply → List ℕ
 reply_text (reply.Created run) = codes "created " ++ decimal run
 reply_text (reply.Lease l) = lease_text l
@@ -43,6 +47,7 @@ reply_text reply.Ok = codes "ok"
 reply_text reply.Stop = codes "stop"
 reply_text reply.GoOn = codes "go on"
 reply_text (reply.Run view) = view
+reply_text (reply.Body body) = body_lines body
 reply_text (reply.Refused r) = refusal_text r
 
 -- whether a copy takes memory: only texts do
@@ -54,6 +59,7 @@ carries_text reply.Ok = false
 carries_text reply.Stop = false
 carries_text reply.GoOn = false
 carries_text (reply.Run view) = true
+carries_text (reply.Body body) = true
 carries_text (reply.Refused (Numbered code)) = false
 carries_text (reply.Refused (Cycle ids)) = true
 carries_text (reply.Refused (Turn last)) = false

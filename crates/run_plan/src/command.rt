@@ -39,8 +39,14 @@ pub enum Command {
     Claim(Claim),
     Done(Done),
     Beat(Beat),
+    /// Cancels the run of this id.
+    Cancel(Number),
+    /// A runner is lost, with the leg that it has.
+    Lost(RunnerName),
     /// Looks at the run of this id.
     Look(Number),
+    /// Asks for the admitted body of the run of this id.
+    Fetch(Number),
 }
 
 impl TryCopy for Command {
@@ -50,7 +56,10 @@ impl TryCopy for Command {
             Command::Claim(claim) => Ok(Command::Claim(claim.copy(alloc)?)),
             Command::Done(done) => Ok(Command::Done(done.copy(alloc)?)),
             Command::Beat(beat) => Ok(Command::Beat(beat.copy(alloc)?)),
+            Command::Cancel(run) => Ok(Command::Cancel(*run)),
+            Command::Lost(runner) => Ok(Command::Lost(runner.copy(alloc)?)),
             Command::Look(run) => Ok(Command::Look(*run)),
+            Command::Fetch(run) => Ok(Command::Fetch(*run)),
         }
     }
 }
@@ -62,7 +71,10 @@ impl Same for Command {
             (Command::Claim(one), Command::Claim(other)) => one.same(other),
             (Command::Done(one), Command::Done(other)) => one.same(other),
             (Command::Beat(one), Command::Beat(other)) => one.same(other),
+            (Command::Cancel(one), Command::Cancel(other)) => *one == *other,
+            (Command::Lost(one), Command::Lost(other)) => one.same(other),
             (Command::Look(one), Command::Look(other)) => *one == *other,
+            (Command::Fetch(one), Command::Fetch(other)) => *one == *other,
             _ => false,
         }
     }

@@ -1,5 +1,5 @@
 ghost use Rattle.std.specs.Prelude.{◌≡◌, ◌<◌, ◌≤◌, [], Err, Ok, false, length, option_copied};
-ghost use Rattle.std.specs.Str.{is_utf8};
+ghost use Rattle.std.specs.Str.{IsUtf8, is_utf8};
 ghost use Rattle.wf_value.specs.declared.code.Code.TheVariants.{NotJson, TooLong};
 ghost use Rattle.wf_value.specs.declared.refusal.Refusal.TheVariants.{Numbered};
 ghost use Rattle.wf_value.specs.Gives.{Gives};
@@ -84,6 +84,14 @@ impl Prepared {
         ensures faultless { faults_of self.now.body ≡ [] }
     {
         self.admission.body.as_slice()
+    }
+
+    /// The admitted bytes as the text that they are.
+    #[tactic(auto, using(crate::proofs::BodyText::body_is_text))]
+    pub fn body_text(&self) -> &str
+        ensures { result.now ≡ self.now.body }
+    {
+        text_of(self.body())
     }
 
     /// The repository of the event.
@@ -203,4 +211,15 @@ pub fn prepare(
     Ok(Prepared {
         admission: Arc::new(alloc, admission)?,
     })
+}
+
+/// The text of bytes that are known to be one.
+fn text_of(bytes: &[u8]) -> &str
+    requires { IsUtf8 bytes.now }
+    ensures { result.now ≡ bytes.now }
+{
+    match str::from_utf8(bytes) {
+        Ok(text) => text,
+        Err(_) => unreachable!(),
+    }
 }

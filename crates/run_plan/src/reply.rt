@@ -1,6 +1,6 @@
 ghost use Rattle.std.specs.Prelude.{◌≡◌, false, IfOk, Ok, string_bytes};
 ghost use Rattle.wf_value.specs.Gives.{Gives};
-ghost use Rattle.run_plan.specs.ReplyText.{carries_text, lease_line, lease_text, reply_text};
+ghost use Rattle.run_plan.specs.ReplyText.{body_lines, carries_text, lease_line, lease_text, reply_text};
 
 use crate::combo_text::text_of_combo;
 use crate::number::Number;
@@ -72,6 +72,14 @@ fn lease_line(
     format!(in alloc; "lease {lease} {run} {job} {leg} {combo}")
 }
 
+/// How long the body is, and the body.
+fn body_lines(alloc: Global, body: &str) -> Result<String, AllocError>
+    ensures { IfOk result (λ s. string_bytes s ≡ body_lines body.now) }
+{
+    let length = body.len();
+    format!(in alloc; "body {length}\n{body}")
+}
+
 /// What a command is answered.
 #[derive(Drop)]
 pub enum Reply {
@@ -86,7 +94,9 @@ pub enum Reply {
     GoOn,
     /// The view of a run, printed.
     Run(Chars),
-    /// 40, 42 to 45 and 48. The table is as it was.
+    /// The admitted body of a run.
+    Body(Chars),
+    /// 40 to 45 and 48. The table is as it was.
     Refused(Refusal),
 }
 
@@ -104,6 +114,7 @@ impl TryCopy for Reply {
             Reply::Stop => Ok(Reply::Stop),
             Reply::GoOn => Ok(Reply::GoOn),
             Reply::Run(view) => Ok(Reply::Run(view.copy(alloc)?)),
+            Reply::Body(body) => Ok(Reply::Body(body.copy(alloc)?)),
             Reply::Refused(refusal) => Ok(Reply::Refused(refusal.copy(alloc)?)),
         }
     }
@@ -119,6 +130,7 @@ impl Same for Reply {
             (Reply::Stop, Reply::Stop) => true,
             (Reply::GoOn, Reply::GoOn) => true,
             (Reply::Run(one), Reply::Run(other)) => one.same(other),
+            (Reply::Body(one), Reply::Body(other)) => one.same(other),
             (Reply::Refused(one), Reply::Refused(other)) => one.same(other),
             _ => false,
         }
@@ -141,6 +153,7 @@ impl Reply {
             Reply::Stop => Chars::from_str(alloc, "stop"),
             Reply::GoOn => Chars::from_str(alloc, "go on"),
             Reply::Run(view) => view.copy(alloc),
+            Reply::Body(body) => Ok(Chars::new(body_lines(alloc, body.as_str())?)),
             Reply::Refused(refusal) => refusal.text(alloc),
         }
     }

@@ -50,7 +50,9 @@ pub mod SkipsDue
 pub mod Sought
 pub mod StepKeeps
 pub mod StepRows
+pub mod StopDecided
 pub mod StopKeeps
+pub mod StoppedRuns
 pub mod Under
 pub mod ViewRows
 pub mod Walks

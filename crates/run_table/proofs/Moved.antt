@@ -15,7 +15,7 @@ some_same : {X : Type 0} (x y : X) → Some x ≡ Some y → x ≡ y
 some_same x y h = cc
 
 -- two changes that do the same where they are made
-changed_same : {X : Type 0} (xs : List X) (i : ℕ) (f g : X → X) → ((x : X) → slice_get xs i ≡ Some x → f x ≡ g x)
+pub changed_same : {X : Type 0} (xs : List X) (i : ℕ) (f g : X → X) → ((x : X) → slice_get xs i ≡ Some x → f x ≡ g x)
     → changed_at i f xs ≡ changed_at i g xs
 changed_same [] i f g same = refl
 changed_same (x ∷ xs) zero f g same = ap (λ w. w ∷ xs) (same x refl)
@@ -46,7 +46,7 @@ with_leg_read runs p x f at = with_leg_same runs p (λ _. f x) f (λ leg is. ap 
 nothing_there : (x y : LegState) → None ≡ Some x → y ≡ x
 nothing_there x y h = cc
 
-changed_none : {X : Type 0} (xs : List X) (i : ℕ) (f : X → X) → ((x : X) → slice_get xs i ≡ Some x → f x ≡ x) → xs ≡ changed_at i f xs
+pub changed_none : {X : Type 0} (xs : List X) (i : ℕ) (f : X → X) → ((x : X) → slice_get xs i ≡ Some x → f x ≡ x) → xs ≡ changed_at i f xs
 changed_none [] i f same = refl
 changed_none (x ∷ xs) zero f same = ap (λ w. w ∷ xs) (sym (same x refl))
 changed_none (x ∷ xs) (suc i) f same = ap (λ ws. x ∷ ws) (changed_none xs i f same)

@@ -1,10 +1,11 @@
 -- What a list of commands leaves: a sound table, and leases that were answers to claims.
-use Rattle.std.specs.Prelude.{◌≡◌, ◌⊎◌, ℕ, zero, suc, ◌+◌, List, [], ◌∷◌, ◌++◌, length, true, false, Option, Some, None}
+use Rattle.std.specs.Prelude.{◌≡◌, ◌⊎◌, ℕ, zero, suc, ◌+◌, ◌-◌, List, [], ◌∷◌, ◌++◌, length, true, false, Option, Some, None}
 use Rattle.std.specs.Prelude.{option_map, option_and_then, slice_get, if◌then◌else◌, refl}
 use Rattle.std.specs.Option.{option_map_or}
 use Rattle.std.proofs.Common.{arith, ap, sym, ◌∙◌, inl, inr}
 use Rattle.std.proofs.lemmas.Bool.{cases_eq}
 use Rattle.std.proofs.lemmas.Option.{slice_get_past}
+use Rattle.wf_value.specs.declared.code.Code.TheVariants.{LeaseNotHeld, NoRunner}
 use Rattle.wf_value.specs.declared.outcome.Outcome.{Outcome}
 use Rattle.run_plan.specs.Admitted.{Admitted}
 use Rattle.run_plan.specs.declared.command.Claim.{Claim as Claimed}
@@ -19,28 +20,29 @@ use Rattle.run_table.specs.FirstOf.{changed_at}
 use Rattle.run_table.specs.Fitting.{first_fit, place_of_lease}
 use Rattle.run_table.specs.Histories.{WasAnswered, after, replies}
 use Rattle.run_table.specs.Moves.{Step}
-use Rattle.run_table.specs.Places.{LegPlace, leg_at, with_job, with_leg}
+use Rattle.run_table.specs.Places.{LegPlace, leg_at, with_job, with_leg, with_run}
 use Rattle.run_table.specs.Rules.{leg_in_phase}
 use Rattle.run_table.specs.Sound.{IsSound}
 use Rattle.run_table.specs.Step.{empty, at_rest, unchanged, admission_answer, new_run, admitting, admitted, claim_answer, claiming_runner}
 use Rattle.run_table.specs.Step.{leased_leg, lease_at, leasing, serving_nothing, claiming, report_answer, reporting_runner}
 use Rattle.run_table.specs.Step.{with_ended, reporting, reported, stepped}
-use Rattle.run_table.specs.Stops.{after_end, stops_others, with_stopped_legs}
+use Rattle.run_table.specs.Step.{cancel_answer, cancelling, cancelled, losing, lost, refused, released}
+use Rattle.run_table.specs.Stops.{after_end, outcome_of_loss, stopped_run, stops_others, with_stopped_legs}
 use Rattle.run_table.specs.TableState.{LegState, JobState, RunState, TableState}
-use Rattle.run_table.specs.Turns.{with_runner}
+use Rattle.run_table.specs.Turns.{runner_named, with_runner}
 use Rattle.run_table.specs.declared.phases.LegPhase.TheVariants as leg
 use Rattle.run_table.proofs.AdmitKeeps.{admit_keeps, same_reads}
 use Rattle.run_table.proofs.ClaimKeeps.{fitting_leg, had_changes, leasing_keeps, serving_keeps}
 use Rattle.run_table.proofs.Found.{before_the_end}
-use Rattle.run_table.proofs.Kept.{IsKept, kept_from_sound}
+use Rattle.run_table.proofs.Kept.{IsKept, kept_from_sound, kept_settles}
 use Rattle.run_table.proofs.JobKeeps.{leg_in}
 use Rattle.run_table.proofs.LeaseReads.{none_is_not_some, place_or_another}
 use Rattle.run_table.proofs.LegReads.{had_at, had_in, had_in_job, had_from_leg}
-use Rattle.run_table.proofs.ReportKeeps.{report_keeps}
+use Rattle.run_table.proofs.ReportKeeps.{loss_keeps, report_keeps}
 use Rattle.run_table.proofs.RunFits.{admitted_at, plan_at_same}
 use Rattle.run_table.proofs.SettlingKeeps.{settling_settles}
-use Rattle.run_table.proofs.StepKeeps.{stepped_is_sound, empty_is_sound}
-use Rattle.run_table.proofs.StopKeeps.{same_reads as stopped_reads}
+use Rattle.run_table.proofs.StepKeeps.{empty_is_sound, run_to_cancel, stepped_is_sound}
+use Rattle.run_table.proofs.StopKeeps.{same_reads as stopped_reads, stopped_run_settles}
 
 pub after_is_sound : (t : TableState) (commands : List Command) → IsSound t → IsSound (after t commands)
 after_is_sound t [] sound = sound
@@ -227,12 +229,46 @@ report_reads t report s =
     (λ i a e. with_ended_keeps_events report.lease report.result i t.runs ∙ e)
     (λ p n e. inl (sym (with_ended_keeps_leases report.lease report.result p t.runs) ∙ e)))
 
+cancel_reads : (t : TableState) (id : ℕ) → IsSound t → Reads t (command.Cancel id) (cancelled t id)
+cancel_reads t id s =
+    either_reads t (command.Cancel id) (cancel_answer t id) (cancelling t id)
+    (λ none.
+    let found = run_to_cancel t id none in
+    let stop = stopped_run_settles t.runs (kept_from_sound t s).fit (id - 1) found.0 found.1 in
+    let next = with_run (id - 1) stopped_run t.runs in
+    rest_reads t (command.Cancel id) (record t { runs = next }) reply.Ok (kept_settles t next (kept_from_sound t s) stop)
+    (λ i a e. stop.stay.same_admitted i ∙ e) (λ p n e. inl (sym (stop.same_had p) ∙ e)))
+
+loss_reads : (t : TableState) (name : List ℕ) → IsSound t → Reads t (command.Lost name) (lost t name)
+loss_reads t name s =
+    let asked = command.Lost name in
+    elim (runner_named t.runners name) as
+    (λ o. runner_named t.runners name ≡ o → Reads t asked (option_map_or
+    (λ runner. option_map_or (losing t (released runner)) runner.holds (unchanged t (refused LeaseNotHeld))) o
+    (unchanged t (refused NoRunner)))) [
+      | None ↦ λ is. unchanged_reads t asked (refused NoRunner)
+      | Some runner ↦ λ is. elim (runner.holds) as
+          (λ h. runner.holds ≡ h → Reads t asked (option_map_or (losing t (released runner)) h (unchanged t (refused LeaseNotHeld)))) [
+            | None ↦ λ none. unchanged_reads t asked (refused LeaseNotHeld)
+            | Some lease ↦ λ holds.
+                let outcome = outcome_of_loss t.runs lease in
+                rest_reads t asked
+                (record t { runs = with_ended lease outcome t.runs; runners = with_runner t.runners (released runner) }) reply.Ok
+                (loss_keeps t name runner lease (kept_from_sound t s) is holds)
+                (λ i a e. with_ended_keeps_events lease outcome i t.runs ∙ e)
+                (λ p n e. inl (sym (with_ended_keeps_leases lease outcome p t.runs) ∙ e))
+          ] refl
+    ] refl
+
 step_reads : (t : TableState) (c : Command) → IsSound t → Reads t c (stepped t c)
 step_reads t (command.Admit event) s = admit_reads t event s
 step_reads t (command.Claim claim) s =
     either_reads t (command.Claim claim) (claim_answer t claim) (claiming t claim) (claiming_reads t claim s)
 step_reads t (command.Done report) s = report_reads t report s
 step_reads t (command.Beat beat) s = unchanged_reads t (command.Beat beat) (stepped t (command.Beat beat)).reply
+step_reads t (command.Cancel id) s = cancel_reads t id s
+step_reads t (command.Lost name) s = loss_reads t name s
+step_reads t (command.Fetch id) s = unchanged_reads t (command.Fetch id) (stepped t (command.Fetch id)).reply
 step_reads t (command.Look id) s = unchanged_reads t (command.Look id) (stepped t (command.Look id)).reply
 
 -- ---- what a list of commands leaves

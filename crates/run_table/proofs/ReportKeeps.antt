@@ -5,6 +5,7 @@ use Rattle.std.specs.List.{AllByRecursion}
 use Rattle.std.specs.Option.{option_map_or}
 use Rattle.std.proofs.Common.{ap, sym, ◌∙◌, subst, inl, inr}
 use Rattle.std.proofs.lemmas.Bool.{eqb-true, eq-eqb, true≢false}
+use Rattle.std.proofs.lemmas.Slice.Eq.{bytes_eq-Decides}
 use Rattle.wf_value.specs.declared.code.Code.TheVariants.{LeaseNotHeld}
 use Rattle.wf_value.specs.declared.outcome.Outcome.{Outcome}
 use Rattle.wf_value.specs.declared.outcome.Outcome.TheVariants as outcome
@@ -17,10 +18,10 @@ use Rattle.run_table.specs.Rules.{leg_in_phase, outcome_of}
 use Rattle.run_plan.specs.LastCommand.{is_last_report}
 use Rattle.run_table.specs.Sound.{LeaseFits, IsLastOf}
 use Rattle.run_table.specs.Parallel.{is_at_work}
-use Rattle.run_table.specs.Step.{refused, report_answer, reporting_runner, with_ended}
-use Rattle.run_table.specs.Stops.{after_end, stops_others, with_stopped_legs}
+use Rattle.run_table.specs.Step.{refused, released, report_answer, reporting_runner, with_ended}
+use Rattle.run_table.specs.Stops.{after_end, outcome_of_loss, stops_others, with_stopped_legs}
 use Rattle.run_table.specs.TableState.{LegState, JobState, RunState, RunnerState, TableState}
-use Rattle.run_table.specs.Turns.{runner_named, answer_of_turn, with_runner, holds_this}
+use Rattle.run_table.specs.Turns.{is_named, runner_named, answer_of_turn, with_runner, holds_this}
 use Rattle.run_table.specs.declared.phases.LegPhase.{LegPhase}
 use Rattle.run_table.specs.declared.phases.LegPhase.TheVariants as leg
 use Rattle.run_table.proofs.AdmitKeeps.{nothing_in_or}
@@ -226,3 +227,21 @@ report_keeps t report s none =
     (if holds_this report.lease runner then None else Some (refused LeaseNotHeld)) none in
     lease_ends t (reporting_runner report) report.lease report.result s
     (not_held (holds_this report.lease runner) (refused LeaseNotHeld) looked.1) refl (refl, refl) tt
+
+-- ---- a runner is lost
+
+pub loss_keeps : (t : TableState) (name : List ℕ) (runner : RunnerState) (lease : ℕ) → IsKept t → runner_named t.runners name ≡ Some runner
+    → runner.holds ≡ Some lease
+    → IsKept (record t {
+      runs = with_ended lease (outcome_of_loss t.runs lease) t.runs;
+      runners =
+          with_runner t.runners (released runner);
+    })
+loss_keeps t name runner lease s named holds =
+    let same : runner.name ≡ name = (bytes_eq-Decides runner.name name).0 (find_passes (is_named name) t.runners runner named) in
+    let is : runner_named t.runners runner.name ≡ Some runner = ap (runner_named t.runners) same ∙ named in
+    let held : holds_this lease (runner_named t.runners runner.name) ≡ true =
+    ap (holds_this lease) is ∙ ap (λ h. option_map_or (λ n. nat_eq n lease) h false) holds ∙ eq-eqb lease lease refl in
+    let at = put t.runners (released runner) in
+    lease_ends t (released runner) lease (outcome_of_loss t.runs lease) s held refl (s.lasts_are_own at.place runner (at.was ∙ is))
+    (s.kept_are_had at.place runner (at.was ∙ is))

@@ -105,7 +105,7 @@ made_reads : (f : LegState → Option ℕ) → f new_leg ≡ None → (may : Boo
 made_reads f new true planned stopping y none l = nothing_new f new planned l ∙ sym (nothing_there f y.legs l none)
 made_reads f new false planned stopping y none l = refl
 
-no_legs : (planned : ℕ) (gathered : JobResult) (phase : JobPhase) (legs : List LegState) → LegsFit planned gathered phase legs
+pub no_legs : (planned : ℕ) (gathered : JobResult) (phase : JobPhase) (legs : List LegState) → LegsFit planned gathered phase legs
     → phase ≡ job.Blocked → legs ≡ []
 no_legs planned gathered job.Blocked legs fits e = fits
 no_legs planned gathered job.Open legs fits e = cc

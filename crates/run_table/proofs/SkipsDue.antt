@@ -1,9 +1,10 @@
 -- Every step keeps what was decided of jobs, so it holds in each table that commands lead to.
-use Rattle.std.specs.Prelude.{◌≡◌, ℕ, ◌+◌, List, [], ◌∷◌, ◌++◌, length, Option, Some, None, option_map, option_and_then, slice_get}
+use Rattle.std.specs.Prelude.{◌≡◌, ℕ, ◌+◌, ◌-◌, List, [], ◌∷◌, ◌++◌, length, Option, Some, None, option_map, option_and_then, slice_get}
 use Rattle.std.specs.Prelude.{true, false, if◌then◌else◌, refl}
 use Rattle.std.specs.Option.{option_map_or}
 use Rattle.std.proofs.Common.{ap, sym, ◌∙◌, subst, inl, inr}
 use Rattle.std.proofs.lemmas.Bool.{cases_eq}
+use Rattle.wf_value.specs.declared.code.Code.TheVariants.{LeaseNotHeld, NoRunner}
 use Rattle.wf_value.specs.declared.outcome.Outcome.{Outcome}
 use Rattle.run_plan.specs.Admitted.{Admitted}
 use Rattle.run_plan.specs.PlanOf.{plan_of}
@@ -15,14 +16,16 @@ use Rattle.run_plan.specs.declared.reply.Reply.{Reply}
 use Rattle.run_table.specs.Fitting.{first_fit, place_of_lease}
 use Rattle.run_table.specs.Histories.{after}
 use Rattle.run_table.specs.Moves.{Step}
-use Rattle.run_table.specs.Places.{LegPlace, with_job, with_leg}
+use Rattle.run_table.specs.Places.{LegPlace, with_job, with_leg, with_run}
 use Rattle.run_table.specs.Rules.{leg_in_phase}
 use Rattle.run_table.specs.Sound.{IsSound}
 use Rattle.run_table.specs.Step.{empty, unchanged, admission_answer, new_run, admitting, admitted, claim_answer, leased_leg, leasing}
 use Rattle.run_table.specs.Step.{serving_nothing, claiming, claimed, report_answer, with_ended, reporting, reported, stepped}
+use Rattle.run_table.specs.Step.{cancel_answer, cancelling, cancelled, losing, lost, refused, released}
 use Rattle.run_table.specs.Skips.{SkipsAreDue}
-use Rattle.run_table.specs.Stops.{after_end, stops_others, with_stopped_legs}
+use Rattle.run_table.specs.Stops.{after_end, outcome_of_loss, stopped_run, stops_others, with_stopped_legs}
 use Rattle.run_table.specs.TableState.{JobState, RunState, TableState}
+use Rattle.run_table.specs.Turns.{runner_named}
 use Rattle.run_table.specs.declared.phases.LegPhase.TheVariants as leg
 use Rattle.run_table.proofs.AdmitKeeps.{admit_keeps, job_is_blocked}
 use Rattle.run_table.proofs.ClaimKeeps.{leasing_keeps}
@@ -31,9 +34,11 @@ use Rattle.run_table.proofs.Found.{at_the_end, before_the_end}
 use Rattle.run_table.proofs.JobKeeps.{job_in}
 use Rattle.run_table.proofs.Kept.{kept_from_sound}
 use Rattle.run_table.proofs.NeedsSettled.{result_in}
-use Rattle.run_table.proofs.ReportKeeps.{report_keeps}
+use Rattle.run_table.proofs.ReportKeeps.{loss_keeps, report_keeps}
 use Rattle.run_table.proofs.RunFits.{job_in_run}
-use Rattle.run_table.proofs.StepKeeps.{empty_is_sound, stepped_is_sound}
+use Rattle.run_table.proofs.StepKeeps.{empty_is_sound, run_to_cancel, stepped_is_sound}
+use Rattle.run_table.proofs.StopDecided.{stopped_decided}
+use Rattle.run_table.proofs.StopKeeps.{stopped_run_settles}
 
 -- ---- a new run
 
@@ -99,22 +104,52 @@ after_end_decided runs p o all =
       | false ↦ ended_decided
     ]
 
-ended_decided : (runs : List RunState) (report : Reported) (o : Option LegPlace) → Decided runs
-    → Decided (option_map_or (λ p. after_end p report.result runs) o runs)
-ended_decided runs report None all = all
-ended_decided runs report (Some p) all = after_end_decided runs p report.result all
+ended_decided : (runs : List RunState) (outcome : Outcome) (o : Option LegPlace) → Decided runs
+    → Decided (option_map_or (λ p. after_end p outcome runs) o runs)
+ended_decided runs outcome None all = all
+ended_decided runs outcome (Some p) all = after_end_decided runs p outcome all
 
 reported_decided : (t : TableState) (report : Reported) → IsSound t → Decided t.runs → Decided (reported t report).table.runs
 reported_decided t report s all =
     answered_or_changed t (report_answer t report) (reporting t report) all
     (λ none. settled_decided (with_ended report.lease report.result t.runs) (report_keeps t report (kept_from_sound t s) none).fit
-    (ended_decided t.runs report (place_of_lease t.runs report.lease) all))
+    (ended_decided t.runs report.result (place_of_lease t.runs report.lease) all))
+
+cancelled_decided : (t : TableState) (id : ℕ) → IsSound t → Decided t.runs → Decided (cancelled t id).table.runs
+cancelled_decided t id s all =
+    answered_or_changed t (cancel_answer t id) (cancelling t id) all
+    (λ none.
+    let found = run_to_cancel t id none in
+    let fit = (kept_from_sound t s).fit in
+    settled_decided (with_run (id - 1) stopped_run t.runs) (stopped_run_settles t.runs fit (id - 1) found.0 found.1).stay.fit
+    (stopped_decided t.runs fit all (id - 1) found.0 found.1))
+
+lost_decided : (t : TableState) (name : List ℕ) → IsSound t → Decided t.runs → Decided (lost t name).table.runs
+lost_decided t name s all =
+    elim (runner_named t.runners name) as
+    (λ o. runner_named t.runners name ≡ o → Decided (option_map_or
+    (λ runner. option_map_or (losing t (released runner)) runner.holds (unchanged t (refused LeaseNotHeld))) o
+    (unchanged t (refused NoRunner))).table.runs) [
+      | None ↦ λ is. all
+      | Some runner ↦ λ is. elim (runner.holds) as
+          (λ h. runner.holds ≡ h
+          → Decided (option_map_or (losing t (released runner)) h (unchanged t (refused LeaseNotHeld))).table.runs) [
+            | None ↦ λ none. all
+            | Some lease ↦ λ holds.
+                let outcome = outcome_of_loss t.runs lease in
+                settled_decided (with_ended lease outcome t.runs) (loss_keeps t name runner lease (kept_from_sound t s) is holds).fit
+                (ended_decided t.runs outcome (place_of_lease t.runs lease) all)
+          ] refl
+    ] refl
 
 stepped_decided : (t : TableState) (c : Command) → IsSound t → Decided t.runs → Decided (stepped t c).table.runs
 stepped_decided t (command.Admit event) s all = admitted_decided t event s all
 stepped_decided t (command.Claim claim) s all = claimed_decided t claim s all
 stepped_decided t (command.Done report) s all = reported_decided t report s all
 stepped_decided t (command.Beat beat) s all = all
+stepped_decided t (command.Cancel id) s all = cancelled_decided t id s all
+stepped_decided t (command.Lost name) s all = lost_decided t name s all
+stepped_decided t (command.Fetch id) s all = all
 stepped_decided t (command.Look id) s all = all
 
 -- ---- all commands

@@ -1,7 +1,8 @@
 -- Every step keeps what every table keeps, and the empty table keeps it.
-use Rattle.std.specs.Prelude.{◌≡◌, ◌+◌, [], ◌∷◌, ◌++◌, Option, Some, None, refl}
+use Rattle.std.specs.Prelude.{◌≡◌, ℕ, ◌+◌, ◌-◌, List, [], ◌∷◌, ◌++◌, Option, Some, None, refl}
 use Rattle.std.specs.Option.{option_map_or}
-use Rattle.std.proofs.Common.{arith}
+use Rattle.std.proofs.Common.{arith, ap, sym, ◌∙◌}
+use Rattle.wf_value.specs.declared.code.Code.TheVariants.{LeaseNotHeld, NoRun, NoRunner}
 use Rattle.run_plan.specs.Admitted.{Admitted}
 use Rattle.run_plan.specs.declared.command.Claim.{Claim as Claimed}
 use Rattle.run_plan.specs.declared.command.Done.{Done as Reported}
@@ -10,18 +11,21 @@ use Rattle.run_plan.specs.declared.command.Command.TheVariants as command
 use Rattle.run_plan.specs.declared.reply.Reply.{Reply}
 use Rattle.run_table.specs.Fitting.{first_fit}
 use Rattle.run_table.specs.Moves.{Step}
-use Rattle.run_table.specs.Places.{LegPlace, with_leg}
+use Rattle.run_table.specs.Places.{LegPlace, run_at, with_leg, with_run}
 use Rattle.run_table.specs.Sound.{IsSound}
 use Rattle.run_table.specs.Step.{empty, unchanged, admission_answer, new_run, admitting, admitted, claim_answer, claiming_runner}
 use Rattle.run_table.specs.Step.{leased_leg, lease_at, leasing, serving_nothing, claiming, claimed, report_answer, reporting_runner}
+use Rattle.run_table.specs.Step.{answer_of_run, cancel_answer, cancelling, cancelled, losing, lost, refused, released}
+use Rattle.run_table.specs.Stops.{outcome_of_loss, stopped_run}
 use Rattle.run_table.specs.Step.{with_ended, reporting, reported, stepped, step}
-use Rattle.run_table.specs.TableState.{TableState}
-use Rattle.run_table.specs.Turns.{with_runner}
+use Rattle.run_table.specs.TableState.{RunState, TableState}
+use Rattle.run_table.specs.Turns.{runner_named, with_runner}
 use Rattle.run_plan.specs.declared.last_command.ClaimReply.TheVariants as given
 use Rattle.run_table.proofs.AdmitKeeps.{admit_keeps}
 use Rattle.run_table.proofs.ClaimKeeps.{serving_keeps, leasing_keeps}
-use Rattle.run_table.proofs.Kept.{kept_from_sound, rest_is_sound}
-use Rattle.run_table.proofs.ReportKeeps.{report_keeps}
+use Rattle.run_table.proofs.Kept.{kept_from_sound, kept_settles, rest_is_sound}
+use Rattle.run_table.proofs.ReportKeeps.{loss_keeps, report_keeps}
+use Rattle.run_table.proofs.StopKeeps.{stopped_run_settles}
 
 -- a command is answered from the table as it is, or changes it
 answered_or_changed : (t : TableState) (answer : Option Reply) (change : Step) → IsSound t → (answer ≡ None → IsSound change.table)
@@ -65,11 +69,54 @@ reported_is_sound t report s =
     (record t { runs = with_ended report.lease report.result t.runs; runners = with_runner t.runners (reporting_runner report) })
     (report_keeps t report (kept_from_sound t s) none))
 
+-- a run is there where its cancel has no answer yet
+run_there : (o : Option RunState) → option_map_or (λ (x : RunState). answer_of_run x.phase x.stopping) o (Some (refused NoRun)) ≡ None
+    → (x : RunState) × (o ≡ Some x)
+run_there None none = cc
+run_there (Some x) none = (x, refl)
+
+pub run_to_cancel : (t : TableState) (id : ℕ) → cancel_answer t id ≡ None → (x : RunState) × (run_at t.runs (id - 1) ≡ Some x)
+run_to_cancel t id none = run_there (run_at t.runs (id - 1)) none
+
+cancelled_is_sound : (t : TableState) (id : ℕ) → IsSound t → IsSound (cancelled t id).table
+cancelled_is_sound t id s = answered_or_changed t (cancel_answer t id) (cancelling t id) s stopped_is_sound
+  where
+    stopped_is_sound : cancel_answer t id ≡ None → IsSound (cancelling t id).table
+    stopped_is_sound none =
+        let found = run_to_cancel t id none in
+        let next = with_run (id - 1) stopped_run t.runs in
+        rest_is_sound (record t { runs = next })
+        (kept_settles t next (kept_from_sound t s)
+        (stopped_run_settles t.runs (kept_from_sound t s).fit (id - 1) found.0 found.1))
+
+lost_is_sound : (t : TableState) (name : List ℕ) → IsSound t → IsSound (lost t name).table
+lost_is_sound t name s =
+    elim (runner_named t.runners name) as
+    (λ o. runner_named t.runners name ≡ o → IsSound (option_map_or
+    (λ runner. option_map_or (losing t (released runner)) runner.holds (unchanged t (refused LeaseNotHeld))) o
+    (unchanged t (refused NoRunner))).table) [
+      | None ↦ λ is. s
+      | Some runner ↦ λ is. elim (runner.holds) as
+          (λ h. runner.holds ≡ h → IsSound (option_map_or (losing t (released runner)) h (unchanged t (refused LeaseNotHeld))).table) [
+            | None ↦ λ none. s
+            | Some lease ↦ λ holds. rest_is_sound
+                (record t {
+                  runs = with_ended lease (outcome_of_loss t.runs lease) t.runs;
+                  runners =
+                      with_runner t.runners (released runner);
+                })
+                (loss_keeps t name runner lease (kept_from_sound t s) is holds)
+          ] refl
+    ] refl
+
 pub stepped_is_sound : (t : TableState) (c : Command) → IsSound t → IsSound (stepped t c).table
 stepped_is_sound t (command.Admit event) s = admitted_is_sound t event s
 stepped_is_sound t (command.Claim claim) s = claimed_is_sound t claim s
 stepped_is_sound t (command.Done report) s = reported_is_sound t report s
 stepped_is_sound t (command.Beat beat) s = s
+stepped_is_sound t (command.Cancel id) s = cancelled_is_sound t id s
+stepped_is_sound t (command.Lost name) s = lost_is_sound t name s
+stepped_is_sound t (command.Fetch id) s = s
 stepped_is_sound t (command.Look id) s = s
 
 pub step_keeps : (t : TableState) (c : Command) → IsSound t → IsSound (step t c).0

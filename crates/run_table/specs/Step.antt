@@ -1,13 +1,14 @@
 -- One step of the table: what a command is answered, and the table after it. A command is either answered from
 -- the table as it is, which then stays: the refusals, in the order of their checks, a delivery that is known, a
 -- command that is repeated, what a runner asks, and what is looked at. Or it changes the table, which settles then.
-use Rattle.std.specs.Prelude.{ℕ, ◌+◌, ◌&&◌, List, [], ◌∷◌, ◌++◌, map, length, Bool, false, not, is_some, nat_le, Option, Some, None}
+use Rattle.std.specs.Prelude.{ℕ, ◌+◌, ◌-◌, ◌&&◌, List, [], ◌∷◌, ◌++◌, map, length, Bool, false, not, is_some, nat_le, Option, Some, None}
 use Rattle.std.specs.Prelude.{option_map, if◌then◌else◌}
 use Rattle.std.specs.List.{position}
 use Rattle.std.specs.Option.{option_or, option_map_or}
 use Rattle.std.specs.Str.{bytes_eq}
 use Rattle.wf_value.specs.declared.code.Code.{Code}
 use Rattle.wf_value.specs.declared.code.Code.TheVariants.{HasLease, LeaseNotHeld, LastCounter, NoRun, NoRunner}
+use Rattle.wf_value.specs.declared.code.Code.TheVariants.{RunCompleted}
 use Rattle.wf_value.specs.declared.refusal.Refusal.TheVariants.{Numbered}
 use Rattle.wf_value.specs.declared.outcome.Outcome.{Outcome}
 use Rattle.run_plan.specs.Admitted.{Admitted}
@@ -24,9 +25,9 @@ use Rattle.run_plan.specs.declared.reply.Reply.{Reply}
 use Rattle.run_plan.specs.declared.reply.Reply.TheVariants as reply
 use Rattle.run_table.specs.Fitting.{first_fit, is_told_to_stop, place_of_lease}
 use Rattle.run_table.specs.Moves.{Step}
-use Rattle.run_table.specs.Places.{LegPlace, with_leg}
+use Rattle.run_table.specs.Places.{LegPlace, run_at, with_leg, with_run}
 use Rattle.run_table.specs.Settling.{settled}
-use Rattle.run_table.specs.Stops.{after_end}
+use Rattle.run_table.specs.Stops.{after_end, outcome_of_loss, stopped_run}
 use Rattle.run_table.specs.TableState.{LegState, JobState, RunState, RunnerState, TableState}
 use Rattle.run_table.specs.Turns.{runner_named, answer_of_turn, with_runner, holds_lease, holds_this}
 use Rattle.run_table.specs.ViewText.{Seen, seen_of, seen_text}
@@ -36,6 +37,7 @@ use Rattle.run_plan.specs.declared.last_command.ClaimReply.{ClaimReply}
 use Rattle.run_plan.specs.declared.last_command.ClaimReply.TheVariants as given
 use Rattle.run_table.specs.declared.phases.LegPhase.TheVariants as leg
 use Rattle.run_table.specs.declared.phases.JobPhase.TheVariants as job
+use Rattle.run_table.specs.declared.phases.RunPhase.{RunPhase}
 use Rattle.run_table.specs.declared.phases.RunPhase.TheVariants as run
 
 -- the table without runs and runners
@@ -165,6 +167,53 @@ beat_answer t beat =
     then (if is_told_to_stop t.runs beat.lease then reply.Stop else reply.GoOn)
     else refused LeaseNotHeld) (runner_named t.runners beat.runner) (refused NoRunner)
 
+-- ---- cancel
+
+abbrev pub answer_of_run : RunPhase → Bool → Option Reply
+answer_of_run run.Waiting stopping = None
+answer_of_run run.Live stopping = if stopping then Some reply.Ok else None
+answer_of_run run.Ended stopping = Some (refused RunCompleted)
+
+-- a run that is stopping already stays; ids count from 1
+abbrev pub cancel_answer : TableState → ℕ → Option Reply
+cancel_answer t id = option_map_or (λ run. answer_of_run run.phase run.stopping) (run_at t.runs (id - 1)) (Some (refused NoRun))
+
+abbrev pub cancelling : TableState → ℕ → Step
+cancelling t id = at_rest (record t { runs = with_run (id - 1) stopped_run t.runs }) reply.Ok
+
+abbrev pub cancelled : TableState → ℕ → Step
+cancelled t id = option_map_or (unchanged t) (cancel_answer t id) (cancelling t id)
+
+-- ---- lost
+
+abbrev pub loss_answer : TableState → List ℕ → Option Reply
+loss_answer t name =
+    option_map_or (λ runner. if is_some runner.holds then None else Some (refused LeaseNotHeld)) (runner_named t.runners name)
+    (Some (refused NoRunner))
+
+-- the runner holds no lease any more; its last command stays, with the kept reply
+abbrev pub released : RunnerState → RunnerState
+released runner = record runner { holds = None }
+
+-- the leg of the lease ends, and its runner is put in its own place
+abbrev pub losing : TableState → RunnerState → ℕ → Step
+losing t runner lease =
+    at_rest (record t {
+      runs = with_ended lease (outcome_of_loss t.runs lease) t.runs;
+      runners =
+          with_runner t.runners runner;
+    }) reply.Ok
+
+abbrev pub lost : TableState → List ℕ → Step
+lost t name =
+    option_map_or (λ runner. option_map_or (losing t (released runner)) runner.holds (unchanged t (refused LeaseNotHeld)))
+    (runner_named t.runners name) (unchanged t (refused NoRunner))
+
+-- ---- fetch
+
+abbrev pub fetch_answer : TableState → ℕ → Reply
+fetch_answer t id = option_map_or (λ run. reply.Body run.admitted.body) (run_at t.runs (id - 1)) (refused NoRun)
+
 -- ---- look
 
 -- what is seen of the run of an id
@@ -181,6 +230,9 @@ stepped t (command.Admit event) = admitted t event
 stepped t (command.Claim claim) = claimed t claim
 stepped t (command.Done report) = reported t report
 stepped t (command.Beat beat) = unchanged t (beat_answer t beat)
+stepped t (command.Cancel id) = cancelled t id
+stepped t (command.Lost name) = lost t name
+stepped t (command.Fetch id) = unchanged t (fetch_answer t id)
 stepped t (command.Look id) = unchanged t (look_answer t id)
 
 -- the table after the command, and its reply
@@ -198,6 +250,9 @@ answered t (command.Admit event) = admission_answer t event
 answered t (command.Claim claim) = claim_answer t claim
 answered t (command.Done report) = report_answer t report
 answered t (command.Beat beat) = Some (beat_answer t beat)
+answered t (command.Cancel id) = cancel_answer t id
+answered t (command.Lost name) = loss_answer t name
+answered t (command.Fetch id) = Some (fetch_answer t id)
 answered t (command.Look id) = Some (look_answer t id)
 
 -- whether it holds no text, so that no memory is needed for it

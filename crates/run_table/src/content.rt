@@ -1,24 +1,28 @@
-ghost use Rattle.std.specs.Prelude.{◌≡◌, ◌<◌, ◌+◌, true, length, Ok, OnErr, IsOk, is_some, Some};
+ghost use Rattle.std.specs.Prelude.{◌≡◌, ◌<◌, ◌+◌, ◌-◌, true, length, Ok, OnErr, IsOk, is_some, Some};
 ghost use Rattle.std.specs.Option.{option_map_or};
 ghost use Rattle.wf_value.specs.declared.code.Code.TheVariants.{LastCounter};
 ghost use Rattle.wf_value.specs.Gives.{Gives};
-ghost use Rattle.run_table.specs.Step.{admission_answer, admitted, admitting, answered, beat_answer, claim_answer};
+ghost use Rattle.run_table.specs.Step.{admission_answer, admitted, admitting, answer_of_run, answered, beat_answer};
+ghost use Rattle.run_table.specs.Step.{cancel_answer, cancelled, claim_answer, fetch_answer, losing, loss_answer, lost};
 ghost use Rattle.run_table.specs.Step.{claimed, claiming, empty, is_free};
 ghost use Rattle.run_table.specs.Step.{last_number, lease_answer, lease_at, leasing, look_answer, outcome, refused, report_answer};
 ghost use Rattle.run_table.specs.Step.{reported, reporting, seen, serving_nothing, step, unchanged};
 
-use crate::fit::{first_fit, is_told_to_stop};
+use crate::fit::{first_fit, is_told_to_stop, outcome_of_loss};
 use crate::leg::Leg;
+use crate::phases::RunPhase;
 use crate::place::LegPlace;
 use crate::run::Run;
 use crate::runner::{Runner, holds_lease, holds_this, put_runner, runner_named};
 use crate::runs::{MOST_RUNS, Runs};
 use crate::turns::{answer_to_claim, answer_to_report};
 use crate::view::{RunView, look};
-use run_plan::{Beat, Claim, ClaimReply, Command, Done, Lease, Number, Prepared, Reply};
+use run_plan::{
+    Beat, Claim, ClaimReply, Command, Done, Lease, Number, Prepared, Reply, RunnerName,
+};
 use std::alloc::Global;
 use std::marker::Model;
-use wf_value::{Code, Refusal, TryCopy, copy_items};
+use wf_value::{Chars, Code, Refusal, TryCopy, copy_items};
 
 /// What a table holds: the last lease that was given, the runs and the runners.
 #[derive(Drop)]
@@ -48,7 +52,7 @@ impl Content {
         }
     }
 
-    /// Carries out a command, settles, and answers its reply. Refusals of the table, 40, 42 to 45 and 48,
+    /// Carries out a command, settles, and answers its reply. Refusals of the table, 40 to 45 and 48,
     /// are replies. The error is 50 alone, and the table is then as it was. What is answered from
     /// the table as it is, without a text, is answered memory or not.
     pub(crate) fn step(&mut self, alloc: Global, command: &Command) -> Result<Reply, Refusal>
@@ -61,7 +65,10 @@ impl Content {
             Command::Claim(claim) => self.claim(alloc, claim),
             Command::Done(report) => self.report(alloc, report),
             Command::Beat(beat) => Ok(self.beat(beat)),
+            Command::Cancel(id) => Ok(self.cancel(*id)),
+            Command::Lost(runner) => self.lose(alloc, runner),
             Command::Look(id) => self.show(alloc, *id),
+            Command::Fetch(id) => self.fetch(alloc, *id),
         }
     }
 
@@ -201,6 +208,73 @@ impl Content {
         }
     }
 
+    // ---- cancel
+
+    /// The run is stopped. It takes no memory.
+    fn cancel(&mut self, id: Number) -> Reply
+        ensures { (self.new, result) ≡ outcome (cancelled self.old id) }
+    {
+        if let Some(reply) = self.answer_to_cancel(id) {
+            return reply;
+        }
+        self.runs.stop(place_of(id));
+        self.runs.settle();
+        Reply::Ok
+    }
+
+    fn answer_to_cancel(&self, id: Number) -> Option<Reply>
+        ensures { result ≡ cancel_answer self.now id }
+    {
+        match self.runs.as_slice().get(place_of(id)) {
+            Some(run) => answer_of_run(run.phase(), run.is_stopping()),
+            None => Some(refused(Code::NoRun)),
+        }
+    }
+
+    // ---- lost
+
+    fn lose(&mut self, alloc: Global, name: &RunnerName) -> Result<Reply, Refusal>
+        ensures step { Gives (λ reply. (self.new, reply)) result (Ok (outcome (lost self.old name.now))) }
+        ensures err { OnErr result (self.new ≡ self.old) }
+        ensures answers { is_free (loss_answer self.old name.now) ≡ true → IsOk result }
+    {
+        match runner_named(&self.runners, name) {
+            Some(runner) => match runner.holds {
+                Some(lease) => {
+                    let runner = runner.released(alloc)?;
+                    self.end_lost(runner, lease)
+                }
+                None => Ok(refused(Code::LeaseNotHeld)),
+            },
+            None => Ok(refused(Code::NoRunner)),
+        }
+    }
+
+    /// The leg of the lease ends. The runner had it, and is released.
+    fn end_lost(&mut self, runner: Runner, lease: Number) -> Result<Reply, Refusal>
+        ensures step { Gives (λ reply. (self.new, reply)) result (Ok (outcome (losing self.old runner lease))) }
+        ensures err { OnErr result (self.new ≡ self.old) }
+    {
+        put_runner(&mut self.runners, runner)?;
+        let outcome = outcome_of_loss(lease, &self.runs);
+        self.runs.end(lease, outcome);
+        self.runs.settle();
+        Ok(Reply::Ok)
+    }
+
+    // ---- fetch
+
+    fn fetch(&self, alloc: Global, id: Number) -> Result<Reply, Refusal>
+        ensures gives { Gives (λ reply. reply) result (Ok (fetch_answer self.now id)) }
+        ensures answers { is_free (Some (fetch_answer self.now id)) ≡ true → IsOk result }
+    {
+        let Some(run) = self.runs.as_slice().get(place_of(id)) else {
+            return Ok(refused(Code::NoRun));
+        };
+        let body = Chars::from_str(alloc, run.prepared().body_text())?;
+        Ok(Reply::Body(body))
+    }
+
     // ---- look
 
     fn show(&self, alloc: Global, id: Number) -> Result<Reply, Refusal>
@@ -246,6 +320,24 @@ fn id_of(place: usize) -> Number
     ensures { result ≡ place + 1 }
 {
     Number::new(place as u32 + 1)
+}
+
+/// The place of the run of an id.
+fn place_of(id: Number) -> usize
+    ensures { result ≡ id - 1 }
+{
+    id.get() as usize - 1
+}
+
+fn answer_of_run(phase: RunPhase, stopping: bool) -> Option<Reply>
+    ensures { result ≡ answer_of_run phase stopping }
+{
+    match phase {
+        RunPhase::Waiting => None,
+        RunPhase::Live if stopping => Some(Reply::Ok),
+        RunPhase::Live => None,
+        RunPhase::Ended => Some(refused(Code::RunCompleted)),
+    }
 }
 
 /// What a runner is told of the leg that it gets.

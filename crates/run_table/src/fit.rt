@@ -8,6 +8,7 @@ ghost use Rattle.run_table.specs.Fitting.{first_fit, has_lease, is_ready, is_ser
 ghost use Rattle.run_table.specs.Fitting.{place_of_lease};
 ghost use Rattle.run_table.specs.Parallel.{has_room};
 ghost use Rattle.run_table.specs.Places.{leg_at};
+ghost use Rattle.run_table.specs.Stops.{outcome_of_loss};
 ghost use Rattle.run_table.specs.WithinRun.{fit_in_job, fit_in_jobs, lease_in_job, lease_in_jobs, lease_in_run, served_in_job};
 
 use crate::job::Job;
@@ -16,6 +17,7 @@ use crate::place::LegPlace;
 use crate::run::Run;
 use crate::runs::Runs;
 use run_plan::{Label, Number};
+use wf_value::Outcome;
 
 /// Whether the leg is ready and asks for no label that these lack.
 fn fits(labels: &[Label], runs: &Runs, place: LegPlace, leg: &Leg) -> bool
@@ -165,6 +167,17 @@ pub fn is_told_to_stop(lease: Number, runs: &Runs) -> bool
     match place_of_lease(lease, runs.as_slice()) {
         Some(place) => is_stopping_at(runs, place),
         None => false,
+    }
+}
+
+/// How the leg of a lease ends whose runner is lost.
+pub fn outcome_of_loss(lease: Number, runs: &Runs) -> Outcome
+    ensures { result ≡ outcome_of_loss runs.now lease }
+{
+    if is_told_to_stop(lease, runs) {
+        Outcome::Cancelled
+    } else {
+        Outcome::Failure
     }
 }
 

@@ -1,6 +1,5 @@
-ghost use Rattle.std.specs.Prelude.{◌≡◌, None, Ok, is_some, map, option_map, slice_get};
+ghost use Rattle.std.specs.Prelude.{◌≡◌, ◌&&◌, None, Ok, is_some, length, map, not, option_map, slice_get, true};
 ghost use Rattle.std.specs.List.{slice_index_or};
-ghost use Rattle.std.specs.Option.{option_map_or};
 ghost use Rattle.wf_value.specs.Gives.{Gives};
 ghost use Rattle.run_plan.specs.PlanOf.{plan_of};
 ghost use Rattle.run_table.specs.FirstOf.{changed_at};
@@ -8,7 +7,8 @@ ghost use Rattle.run_table.specs.Rules.{opened, settled_as, run_in_phase};
 ghost use Rattle.run_table.specs.Settling.{legs_in_plan};
 ghost use Rattle.run_table.specs.Step.{is_delivered_as, new_run};
 ghost use Rattle.run_table.specs.JobResults.{results_so_far};
-ghost use Rattle.run_table.specs.Stops.{with_stopped_legs};
+ghost use Rattle.run_table.specs.Stops.{cancelled, is_open_at, stopped_run, told_to_stop, with_job_stopped};
+ghost use Rattle.run_table.specs.Stops.{with_jobs_stopped, with_stopped_legs};
 ghost use Rattle.run_table.specs.WithinRun.{condition_in, may_run_in, needs_settled_in};
 ghost use Rattle.run_table.specs.Words.{all_have_results};
 
@@ -89,6 +89,12 @@ impl Run {
         self.jobs.as_slice()
     }
 
+    fn job_count(&self) -> usize
+        ensures { result ≡ length self.now.jobs }
+    {
+        self.jobs.len()
+    }
+
     pub(crate) fn job(&self, j: usize) -> Option<&Job>
         ensures { option_map (λ job. job.now.state) result ≡ slice_get self.now.jobs j }
     {
@@ -164,6 +170,85 @@ impl Run {
         if j < self.jobs.len() {
             let job = &mut self.jobs[j];
             job.stop_legs();
+        }
+    }
+
+    /// The run is stopped: a waiting one ends, and a live one is told to stop.
+    pub(crate) fn stop(&mut self)
+        ensures { self.new ≡ stopped_run self.old }
+    {
+        match self.phase() {
+            RunPhase::Waiting => self.cancel(),
+            RunPhase::Live => {
+                if !self.is_stopping() {
+                    self.tell_to_stop();
+                }
+            }
+            RunPhase::Ended => {}
+        }
+    }
+
+    /// A run that has not begun ends, and all its jobs settle as cancelled.
+    fn cancel(&mut self)
+        ensures { self.new ≡ cancelled self.old }
+    {
+        self.settle_all(JobResult::Cancelled);
+        self.set_phase(RunPhase::Ended);
+    }
+
+    /// All jobs settle with the same result.
+    fn settle_all(&mut self, settled: JobResult)
+        ensures { self.new ≡ record self.old { jobs = map (settled_as settled) self.old.jobs } }
+    {
+        for j in 0..self.job_count() {
+            self.settle_job(j, settled);
+        }
+    }
+
+    fn tell_to_stop(&mut self)
+        ensures { self.new ≡ told_to_stop self.old }
+    {
+        self.set_stopping();
+        self.stop_jobs();
+    }
+
+    fn set_stopping(&mut self)
+        ensures { self.new ≡ record self.old { stopping = true } }
+    {
+        self.stopping = true;
+    }
+
+    /// The legs of each open job whose condition is false are stopped.
+    fn stop_jobs(&mut self)
+        ensures { self.new ≡ with_jobs_stopped self.old }
+    {
+        for j in 0..self.job_count() {
+            self.stop_job(j);
+        }
+    }
+
+    /// The legs of the job at a place are stopped, where it is open though its condition is false.
+    fn stop_job(&mut self, j: usize)
+        ensures { self.new ≡ with_job_stopped j self.old }
+    {
+        if self.is_to_stop(j) {
+            self.stop_legs(j);
+        }
+    }
+
+    /// Whether the job at a place is open though its condition is false.
+    fn is_to_stop(&self, j: usize) -> bool
+        ensures { result ≡ (is_open_at self.now j && not (may_run_in self.now j)) }
+    {
+        self.is_open_at(j) && !self.may_run(j)
+    }
+
+    fn is_open_at(&self, j: usize) -> bool
+        ensures { result ≡ is_open_at self.now j }
+    {
+        match self.job(j) {
+            Some(job) => job.phase().is_open(),
+            None => false,
         }
     }
 

@@ -28,7 +28,7 @@ impl Model for Runner {
 }
 
 impl Runner {
-    ghost use Rattle.run_table.specs.Step.{claiming_runner, reporting_runner};
+    ghost use Rattle.run_table.specs.Step.{claiming_runner, released, reporting_runner};
 
     /// What is kept of a runner after its claim.
     pub(crate) fn claiming(
@@ -55,6 +55,18 @@ impl Runner {
             name: report.runner.copy(alloc)?,
             number: report.number,
             last: LastCommand::Done(report.copy(alloc)?),
+            holds: None,
+        })
+    }
+
+    /// The runner, which holds no lease any more.
+    pub(crate) fn released(&self, alloc: Global) -> Result<Self, Refusal>
+        ensures { Gives (λ r. r) result (Ok (released self.now)) }
+    {
+        Ok(Runner {
+            name: self.name.copy(alloc)?,
+            number: self.number,
+            last: self.last.copy(alloc)?,
             holds: None,
         })
     }

@@ -14,7 +14,7 @@ ghost use Rattle.run_table.specs.RunNumber.{events, run_number, same_workflow};
 ghost use Rattle.run_table.specs.Settling.{first_place, first_rule, settled};
 ghost use Rattle.run_table.specs.Parallel.{most_at_work};
 ghost use Rattle.run_table.specs.Step.{is_delivered_as, with_ended};
-ghost use Rattle.run_table.specs.Stops.{after_end, fails_fast, stops_others, with_stopped_legs};
+ghost use Rattle.run_table.specs.Stops.{after_end, fails_fast, stopped_run, stops_others, with_stopped_legs};
 ghost use Rattle.run_table.specs.WithinRun.{failing, leg_place, next_leg};
 ghost use Rattle.run_table.specs.Words.{combo_at, is_stopping, job_id, passes_over, planned_legs};
 
@@ -214,6 +214,16 @@ impl Runs {
         if r < self.runs.len() {
             let run = &mut self.runs[r];
             run.settle_job(j, settled);
+        }
+    }
+
+    /// The run is stopped, if there is one at the place.
+    pub(crate) fn stop(&mut self, r: usize)
+        ensures { self.new ≡ with_run r stopped_run self.old }
+    {
+        if r < self.runs.len() {
+            let run = &mut self.runs[r];
+            run.stop();
         }
     }
 

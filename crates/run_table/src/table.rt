@@ -37,7 +37,7 @@ impl Table {
         }
     }
 
-    /// Carries out a command, settles, and answers its reply. Refusals of the table, 40, 42 to 45 and 48,
+    /// Carries out a command, settles, and answers its reply. Refusals of the table, 40 to 45 and 48,
     /// are replies. The error is 50 alone, and the table is then as it was. What is answered from
     /// the table as it is, without a text, is answered memory or not.
     pub fn step(&mut self, alloc: Global, command: &Command) -> Result<Reply, Refusal>

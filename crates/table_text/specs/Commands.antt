@@ -71,7 +71,10 @@ IsSpelled (asked.Admit event) = admit.Takes event
 IsSpelled (asked.Claim asks) = claim.Takes asks
 IsSpelled (asked.Done report) = done.Takes report
 IsSpelled (asked.Beat asks) = beat.Takes asks
+IsSpelled (asked.Cancel run) = number.Takes run
+IsSpelled (asked.Lost runner) = (small_text is_runner_byte).Takes runner
 IsSpelled (asked.Look run) = number.Takes run
+IsSpelled (asked.Fetch run) = number.Takes run
 
 -- the byte that says which command it is
 abbrev pub kind_of : Command → ℕ
@@ -79,7 +82,10 @@ kind_of (asked.Admit event) = 1
 kind_of (asked.Claim asks) = 2
 kind_of (asked.Done report) = 3
 kind_of (asked.Beat asks) = 4
+kind_of (asked.Cancel run) = 5
+kind_of (asked.Lost runner) = 6
 kind_of (asked.Look run) = 7
+kind_of (asked.Fetch run) = 8
 
 -- what stands behind it
 abbrev pub fields_of : Command → List ℕ
@@ -87,7 +93,10 @@ fields_of (asked.Admit event) = admit.spelling event
 fields_of (asked.Claim asks) = claim.spelling asks
 fields_of (asked.Done report) = done.spelling report
 fields_of (asked.Beat asks) = beat.spelling asks
+fields_of (asked.Cancel run) = number.spelling run
+fields_of (asked.Lost runner) = (small_text is_runner_byte).spelling runner
 fields_of (asked.Look run) = number.spelling run
+fields_of (asked.Fetch run) = number.spelling run
 
 abbrev pub command_bytes : Command → List ℕ
 command_bytes c = kind_of c ∷ fields_of c

@@ -53,8 +53,11 @@ command_of kind rest =
     else (if kind == 2 then parts_at (λ (c : Claim). asked.Claim c) claim_at rest
     else (if kind == 3 then parts_at (λ (d : Done). asked.Done d) done_at rest
     else (if kind == 4 then parts_at (λ (b : Beat). asked.Beat b) beat_at rest
+    else (if kind == 5 then parts_at (λ (n : ℕ). asked.Cancel n) number_at rest
+    else (if kind == 6 then parts_at (λ (r : List ℕ). asked.Lost r) (small_text_at is_runner_byte) rest
     else (if kind == 7 then parts_at (λ (n : ℕ). asked.Look n) number_at rest
-    else None))))
+    else (if kind == 8 then parts_at (λ (n : ℕ). asked.Fetch n) number_at rest
+    else None)))))))
 
 unfoldable pub command_at : Reader Command
 command_at [] = None

@@ -120,9 +120,21 @@ fn command_of(alloc: Global, kind: u8, bytes: &[u8]) -> Result<(Command, &[u8]),
             let (beat, rest) = beat_at(alloc, bytes)?;
             Ok((Command::Beat(beat), rest))
         }
+        5 => {
+            let (run, rest) = number_at(bytes)?;
+            Ok((Command::Cancel(Number::new(run)), rest))
+        }
+        6 => {
+            let (runner, rest) = small_text_at::<RunnerForm>(alloc, bytes)?;
+            Ok((Command::Lost(runner), rest))
+        }
         7 => {
             let (run, rest) = number_at(bytes)?;
             Ok((Command::Look(Number::new(run)), rest))
+        }
+        8 => {
+            let (run, rest) = number_at(bytes)?;
+            Ok((Command::Fetch(Number::new(run)), rest))
         }
         _ => Err(NotRead::NoSpelling),
     }

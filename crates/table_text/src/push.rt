@@ -126,7 +126,10 @@ fn push_kind(out: &mut Vec<u8>, asked: &Command) -> Result<(), AllocError>
         Command::Claim(_) => out.extend_from_slice(&[2]),
         Command::Done(_) => out.extend_from_slice(&[3]),
         Command::Beat(_) => out.extend_from_slice(&[4]),
+        Command::Cancel(_) => out.extend_from_slice(&[5]),
+        Command::Lost(_) => out.extend_from_slice(&[6]),
         Command::Look(_) => out.extend_from_slice(&[7]),
+        Command::Fetch(_) => out.extend_from_slice(&[8]),
     }
 }
 
@@ -153,7 +156,11 @@ pub(crate) fn push_command(out: &mut Vec<u8>, asked: &Command) -> Result<(), All
             push_beat(out, asks)?;
             Ok(())
         }
-        Command::Look(run) => {
+        Command::Lost(runner) => {
+            push_small_text(out, runner)?;
+            Ok(())
+        }
+        Command::Cancel(run) | Command::Look(run) | Command::Fetch(run) => {
             push_number(out, *run)?;
             Ok(())
         }
