@@ -139,8 +139,7 @@ const EXPLANATIONS: [Explanation; 28] = [
     Explanation {
         number: "41",
         meaning: "the run has completed, so it can't be cancelled",
-        input: "the line: cancel 1, after run 1 has completed (while cancel is not read yet, it is \
-            refused 75)",
+        input: "the line: cancel 1, after run 1 has completed",
         remedy: "nothing needs to be done; look at the run for its conclusion",
     },
     Explanation {

@@ -102,7 +102,7 @@ const ROWS: [(&str, &str); 12] = [
     ),
     (
         "cancel 1\nlost r1\nfetch 1\ncommit",
-        "refused 75\nrefused 75\nrefused 75\nrefused 75\n",
+        "refused 40\nrefused 45\nrefused 40\nrefused 75\n",
     ),
 ];
 

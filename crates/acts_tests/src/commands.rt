@@ -7,14 +7,17 @@ use run_plan::{
 use std::alloc::Global;
 use wf_value::{Code, Outcome, Refusal};
 
-/// A command in words: the delivery and the body of a `push`, or what a runner sends, or a run.
+/// A command in words: the delivery and the body of a `push`, or what a runner sends, or a runner, or a run.
 #[derive(Drop)]
 pub enum Words<'a> {
     Admit(&'a str, &'a str),
     Claim(&'a str, &'a str, &'a str),
     Done(&'a str, &'a str, &'a str, Outcome),
     Beat(&'a str, &'a str),
+    Cancel(&'a str),
+    Lost(&'a str),
     Look(&'a str),
+    Fetch(&'a str),
 }
 
 /// A value that has to be there.
@@ -95,6 +98,9 @@ pub fn command_of(alloc: Global, words: &Words<'_>) -> Result<Command, Refusal> 
             Ok(Command::Done(done(alloc, name, count, lease, *outcome)?))
         }
         Words::Beat(name, lease) => Ok(Command::Beat(beat(alloc, name, lease)?)),
+        Words::Cancel(run) => Ok(Command::Cancel(number(run)?)),
+        Words::Lost(name) => Ok(Command::Lost(runner(alloc, name)?)),
         Words::Look(run) => Ok(Command::Look(number(run)?)),
+        Words::Fetch(run) => Ok(Command::Fetch(number(run)?)),
     }
 }

@@ -24,6 +24,8 @@ mod run_plan_tests;
 #[cfg(test)]
 mod run_table_tests;
 #[cfg(test)]
+mod table_text_tests;
+#[cfg(test)]
 mod values;
 #[cfg(test)]
 mod wf_expr_tests;

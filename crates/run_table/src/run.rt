@@ -2,6 +2,7 @@ ghost use Rattle.std.specs.Prelude.{◌≡◌, ◌&&◌, None, Ok, is_some, leng
 ghost use Rattle.std.specs.List.{slice_index_or};
 ghost use Rattle.wf_value.specs.Gives.{Gives};
 ghost use Rattle.run_plan.specs.PlanOf.{plan_of};
+ghost use Rattle.run_table.specs.Cells.{blocked_cells, states};
 ghost use Rattle.run_table.specs.FirstOf.{changed_at};
 ghost use Rattle.run_table.specs.Rules.{opened, settled_as, run_in_phase};
 ghost use Rattle.run_table.specs.Settling.{legs_in_plan};
@@ -44,8 +45,6 @@ impl Model for Run {
 }
 
 impl Run {
-    ghost use Rattle.run_table.specs.Cells.{states};
-
     /// A run that is waiting, with all its jobs blocked.
     pub(crate) fn of_event(alloc: Global, prepared: &Prepared) -> Result<Self, Refusal>
         ensures { Gives (λ r. r) result (Ok (new_run prepared.now)) }
@@ -277,8 +276,6 @@ impl TryCopy for Run {
     }
 }
 
-ghost use Rattle.run_table.specs.Cells.{blocked_cells};
-
 /// The jobs of a plan, all blocked, each with room for its legs.
 fn blocked_jobs(alloc: Global, plan: &[PlannedJob]) -> Result<Vec<Job>, Refusal>
     ensures { Gives (λ jobs. jobs.items) result (Ok (map blocked_cells plan.now)) }
@@ -289,8 +286,6 @@ fn blocked_jobs(alloc: Global, plan: &[PlannedJob]) -> Result<Vec<Job>, Refusal>
     }
     Ok(jobs)
 }
-
-ghost use Rattle.run_table.specs.Cells.{states};
 
 /// Whether the jobs at these places have all settled.
 fn have_settled(jobs: &[Job], places: &[usize]) -> bool

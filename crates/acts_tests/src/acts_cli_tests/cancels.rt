@@ -31,15 +31,20 @@ const CANCELLED_BEFORE_A_CLAIM: [Row; 4] = [
     ("cancel 1", "refused 41"),
 ];
 
-const LOST: [Row; 8] = [
+/// A lost runner keeps its last command with the reply, and may go on.
+const LOST: [Row; 12] = [
     ("lost r1", "refused 45"),
     ("claim r1 1 linux", "lease 1 1 build 0 {}"),
+    ("claim r2 1 linux", "nothing"),
+    ("lost r2", "refused 44"),
     ("lost r1", "ok"),
     ("lost r1", "refused 44"),
+    ("claim r1 1 linux", "lease 1 1 build 0 {}"),
     ("done r1 2 1 success", "refused 44"),
     ("claim r1 2 linux", "nothing"),
     ("beat r1 1", "refused 44"),
     ("look 1", "run 1 1 completed failure build:failure(failure)"),
+    ("cancel 1", "refused 41"),
 ];
 
 /// The leg of a lost runner that was told to stop is cancelled.
@@ -87,22 +92,77 @@ const EACH_CONDITION: &str = concat!(
     r#""true":{"runs-on":"x","needs":"a","if":true}}}"#,
 );
 
-/// A leg whose condition still holds goes on. What is decided afterwards is cancelled where its condition does not hold.
-const CONDITIONS_AFTER_A_CANCEL: [Row; 5] = [
+/// What the run is once `a` has failed in it after a cancel.
+const ALWAYS_AND_CANCELLED_GO_ON: &str = concat!(
+    "run 1 1 in_progress - a:failure(failure) always:open(ready) cancelled:open(ready) failure:cancelled() ",
+    "false:cancelled() none:cancelled() not-cancelled:cancelled() true:cancelled()",
+);
+
+/// A leg whose condition still holds goes on. What is decided afterwards is cancelled where its condition does not hold. A
+/// second cancel changes nothing, and legs that are ready are claimed after it.
+const CONDITIONS_AFTER_A_CANCEL: [Row; 13] = [
     ("claim r1 1 linux", "lease 1 1 a 0 {}"),
     ("cancel 1", "ok"),
     ("beat r1 1", "go on"),
     ("done r1 2 1 failure", "ok"),
+    ("look 1", ALWAYS_AND_CANCELLED_GO_ON),
+    ("cancel 1", "ok"),
+    ("look 1", ALWAYS_AND_CANCELLED_GO_ON),
+    ("claim r1 3 x", "lease 2 1 always 0 {}"),
+    ("claim r2 1 x", "lease 3 1 cancelled 0 {}"),
+    ("beat r2 3", "go on"),
+    ("done r1 4 2 success", "ok"),
+    ("done r2 2 3 success", "ok"),
     (
         "look 1",
         concat!(
-            "run 1 1 in_progress - a:failure(failure) always:open(ready) cancelled:open(ready) failure:cancelled() ",
-            "false:cancelled() none:cancelled() not-cancelled:cancelled() true:cancelled()",
+            "run 1 1 completed failure a:failure(failure) always:success(success) cancelled:success(success) ",
+            "failure:cancelled() false:cancelled() none:cancelled() not-cancelled:cancelled() true:cancelled()",
         ),
     ),
 ];
 
-/// Fail-fast goes by the phase of the legs, and so does what a lost runner's leg ends as.
+/// Jobs at work when their run is cancelled, each with a leg that is ready too.
+const AT_WORK: &str = concat!(
+    r#"{"jobs":{"always":{"runs-on":"a","if":"always()","strategy":{"matrix":{"n":[0,1]}}},"#,
+    r#""none":{"runs-on":"n","strategy":{"matrix":{"n":[0,1]}}},"#,
+    r#""not-cancelled":{"runs-on":"c","if":"!cancelled()","strategy":{"matrix":{"n":[0,1]}}}}}"#,
+);
+
+/// The legs of the jobs whose conditions hold no more are stopped: the one at work is told so, and the one that no runner has
+/// ends. Another run goes on.
+const JOBS_AT_WORK: [Row; 12] = [
+    ("claim r1 1 a", r#"lease 1 1 always 0 {"n":0}"#),
+    ("claim r2 1 n", r#"lease 2 1 none 0 {"n":0}"#),
+    ("claim r3 1 c", r#"lease 3 1 not-cancelled 0 {"n":0}"#),
+    (
+        concat!(
+            r#"admit d2 push {"repo":"o/r","path":"ci.json","workflow":"#,
+            r#"{"jobs":{"build":{"runs-on":"n"}}}}"#,
+        ),
+        "created 2",
+    ),
+    ("cancel 1", "ok"),
+    (
+        "look 1",
+        "run 1 1 in_progress - always:open(running,ready) none:open(stopping,cancelled) not-cancelled:open(stopping,cancelled)",
+    ),
+    ("look 2", "run 2 2 queued - build:open(ready)"),
+    ("beat r1 1", "go on"),
+    ("beat r3 3", "stop"),
+    ("done r2 2 2 success", "ok"),
+    ("lost r3", "ok"),
+    (
+        "look 1",
+        concat!(
+            "run 1 1 in_progress - always:open(running,ready) none:cancelled(success,cancelled) ",
+            "not-cancelled:cancelled(cancelled,cancelled)",
+        ),
+    ),
+];
+
+/// A leg that fails since its runner is lost stops the others of its job, as any failure does. What the leg of the next lost
+/// runner ends as goes by that leg's own phase, though nobody cancelled the run.
 const TWO_AND_A_LOST_ONE: [Row; 6] = [
     ("claim r0 1 linux", r#"lease 1 1 m 0 {"n":0}"#),
     ("claim r1 1 linux", r#"lease 2 1 m 1 {"n":1}"#),
@@ -131,6 +191,29 @@ const ALWAYS: &str = r#"{"jobs":{"a":{"runs-on":"linux","if":"always()"}}}"#;
 fn runs_of_more(rt: HostRuntime) -> Result<(), Fail> {
     let alloc = rt.alloc();
     expect_rows(&rt, alloc, EACH_CONDITION, &CONDITIONS_AFTER_A_CANCEL)?;
+    expect_rows(&rt, alloc, AT_WORK, &JOBS_AT_WORK)?;
     expect_rows(&rt, alloc, THREE, &TWO_AND_A_LOST_ONE)?;
     expect_rows(&rt, alloc, ALWAYS, &LOST_UNDER_ALWAYS)
+}
+
+const NO_LINES: [Row; 14] = [
+    ("cancel", "refused 75"),
+    ("cancel ", "refused 75"),
+    ("cancel 0", "refused 75"),
+    ("cancel 01", "refused 75"),
+    ("cancel 1 ", "refused 75"),
+    ("cancel 1000000000", "refused 75"),
+    ("cancel 999999999", "refused 40"),
+    ("lost", "refused 75"),
+    ("lost ", "refused 75"),
+    ("lost r,1", "refused 75"),
+    ("lost r1 1", "refused 75"),
+    ("fetch", "refused 75"),
+    ("fetch r1", "refused 75"),
+    ("fetch 1 1", "refused 75"),
+];
+
+#[test]
+fn lines_that_are_none(rt: HostRuntime) -> Result<(), Fail> {
+    expect_rows(&rt, rt.alloc(), BUILD, &NO_LINES)
 }

@@ -198,19 +198,19 @@ fn legs_and_their_runners(rt: HostRuntime) -> Result<(), Fail> {
 
 const BUILD: &str = r#"{"jobs":{"build":{"runs-on":"linux"}}}"#;
 
-/// A beat changes nothing, and takes no number of its runner's.
+/// A beat changes nothing, and takes no number of its runner's. Names of runners compare with their case.
 const BEATS: [Row; 12] = [
     ("beat r9 1", "refused 45"),
     ("claim r9 1 gpu", "nothing"),
     ("beat r9 1", "refused 44"),
-    ("claim r1 1 linux", "lease 1 1 build 0 {}"),
-    ("beat r1 1", "go on"),
-    ("beat r1 2", "refused 44"),
+    ("claim first 1 linux", "lease 1 1 build 0 {}"),
+    ("beat first 1", "go on"),
+    ("beat first 2", "refused 44"),
     ("beat r9 1", "refused 44"),
-    ("beat R1 1", "refused 45"),
-    ("done r1 2 1 success", "ok"),
-    ("beat r1 1", "refused 44"),
-    ("done r1 2 1 success", "ok"),
+    ("beat First 1", "refused 45"),
+    ("done first 2 1 success", "ok"),
+    ("beat first 1", "refused 44"),
+    ("done first 2 1 success", "ok"),
     ("look 1", "run 1 1 completed success build:success(success)"),
 ];
 

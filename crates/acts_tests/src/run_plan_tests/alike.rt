@@ -18,7 +18,7 @@ const EVENTS: [(&str, &str, &str); 4] = [
 ];
 
 /// Other commands, of which no two are the same.
-const COMMANDS: [Words<'static>; 12] = [
+const COMMANDS: [Words<'static>; 20] = [
     Words::Claim("r1", "1", "linux,x64"),
     Words::Claim("r2", "1", "linux,x64"),
     Words::Claim("r1", "2", "linux,x64"),
@@ -29,8 +29,16 @@ const COMMANDS: [Words<'static>; 12] = [
     Words::Done("r1", "2", "1", Outcome::Success),
     Words::Done("r1", "1", "2", Outcome::Success),
     Words::Done("r1", "1", "1", Outcome::Failure),
+    Words::Beat("r1", "1"),
+    Words::Beat("r1", "2"),
+    Words::Cancel("1"),
+    Words::Cancel("2"),
+    Words::Lost("r1"),
+    Words::Lost("r2"),
     Words::Look("1"),
     Words::Look("2"),
+    Words::Fetch("1"),
+    Words::Fetch("2"),
 ];
 
 fn push_admits(alloc: Global, commands: &mut Vec<Command>) -> Result<(), Refusal> {

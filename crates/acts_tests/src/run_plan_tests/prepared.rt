@@ -56,6 +56,7 @@ fn expect_first(rt: &impl Abort, event: &Prepared) {
     expect_names(rt, event);
     expect_workflow(rt, event);
     assert!(rt; event.body() == BODY.as_bytes());
+    assert!(rt; event.body_text() == BODY);
     expect_only_job(rt, event.plan().as_slice(), "build", &["linux"]);
 }
 

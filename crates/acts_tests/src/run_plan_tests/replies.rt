@@ -14,7 +14,7 @@ type Pairs = &'static [(&'static str, Given)];
 const FIRST: Leased = ("1", "2", "b", 0, &[]);
 
 /// The printed text of each reply, of which no two are the same.
-const PRINTED: [&str; 22] = [
+const PRINTED: [&str; 27] = [
     "created 1",
     "created 999999999",
     "lease 1 2 b 0 {}",
@@ -29,8 +29,13 @@ const PRINTED: [&str; 22] = [
     "lease 1 2 b 0 {\"Z\":false,\"a\":16}",
     "run 1 1 queued - build:open(ready)",
     "run 1 1 completed success build:success(success)",
+    "body 0\n",
+    "body 11\n{\"a\":\n\"é\"}",
+    "body 34\nrun 1 1 queued - build:open(ready)",
     "nothing",
     "ok",
+    "stop",
+    "go on",
     "refused 40",
     "refused 42",
     "refused 43 0",
@@ -63,6 +68,13 @@ const LEASES: [Leased; 10] = [
 const VIEWS: [&str; 2] = [
     "run 1 1 queued - build:open(ready)",
     "run 1 1 completed success build:success(success)",
+];
+
+/// The second has eleven bytes, and ten characters. The third is one of the views.
+const BODIES: [&str; 3] = [
+    "",
+    "{\"a\":\n\"é\"}",
+    "run 1 1 queued - build:open(ready)",
 ];
 
 const CYCLES: [[&str; 2]; 2] = [["a", "b"], ["a", "c"]];
@@ -108,6 +120,21 @@ fn push_views(alloc: Global, replies: &mut Vec<Reply>) -> Result<(), Refusal> {
     Ok(())
 }
 
+fn push_bodies(alloc: Global, replies: &mut Vec<Reply>) -> Result<(), Refusal> {
+    for body in BODIES {
+        replies.push(Reply::Body(Chars::from_str(alloc, body)?))?;
+    }
+    Ok(())
+}
+
+fn push_words(replies: &mut Vec<Reply>) -> Result<(), Refusal> {
+    replies.push(Reply::Nothing)?;
+    replies.push(Reply::Ok)?;
+    replies.push(Reply::Stop)?;
+    replies.push(Reply::GoOn)?;
+    Ok(())
+}
+
 fn push_refused(replies: &mut Vec<Reply>) -> Result<(), Refusal> {
     for code in [Code::NoRun, Code::HasLease] {
         replies.push(Reply::Refused(Refusal::Numbered(code)))?;
@@ -131,8 +158,8 @@ fn replies(alloc: Global) -> Result<Vec<Reply>, Refusal> {
     push_created(&mut replies)?;
     push_leases(alloc, &mut replies)?;
     push_views(alloc, &mut replies)?;
-    replies.push(Reply::Nothing)?;
-    replies.push(Reply::Ok)?;
+    push_bodies(alloc, &mut replies)?;
+    push_words(&mut replies)?;
     push_refused(&mut replies)?;
     push_cycles(alloc, &mut replies)?;
     Ok(replies)

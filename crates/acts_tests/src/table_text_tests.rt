@@ -1,0 +1,206 @@
+//! The stored bytes of commands and of batches. The expected ones are those of the format, worked out by hand.
+
+use crate::commands::{Words, command_of};
+use crate::run_plan_tests::{BODY, expect_twice};
+use run_plan::Command;
+use std::alloc::Global;
+use std::process::Abort;
+use table_text::{read_batch, read_command, write_batch, write_command};
+use wf_value::{Outcome, Refusal, Same, same_items};
+
+/// Commands, and how many bytes each takes.
+const SIZES: [(Words<'static>, usize); 9] = [
+    (Words::Admit("d1", BODY), 100),
+    (Words::Claim("r1", "1", "linux"), 24),
+    (Words::Claim("r1", "999999999", "linux,x64"), 31),
+    (Words::Done("r1", "2", "1", Outcome::Success), 16),
+    (Words::Beat("r1", "1"), 11),
+    (Words::Cancel("1"), 5),
+    (Words::Lost("r1"), 7),
+    (Words::Look("1"), 5),
+    (Words::Fetch("1"), 5),
+];
+
+/// Commands, and the bytes of each. 999,999,999 is 3B 9A C9 FF, and 258 is 00 00 01 02.
+const BYTES: [(Words<'static>, &[u8]); 6] = [
+    (
+        Words::Done("r1", "2", "1", Outcome::Failure),
+        &[3, 0, 0, 0, 2, b'r', b'1', 0, 0, 0, 2, 0, 0, 0, 1, 2],
+    ),
+    (Words::Cancel("1"), &[5, 0, 0, 0, 1]),
+    (Words::Cancel("999999999"), &[5, 0x3B, 0x9A, 0xC9, 0xFF]),
+    (Words::Lost("r1"), &[6, 0, 0, 0, 2, b'r', b'1']),
+    (Words::Look("1"), &[7, 0, 0, 0, 1]),
+    (Words::Fetch("258"), &[8, 0, 0, 1, 2]),
+];
+
+/// `cancel 1`, `lost r1` and `fetch 1`.
+const THREE: [Words<'static>; 3] = [Words::Cancel("1"), Words::Lost("r1"), Words::Fetch("1")];
+
+/// The batch of these three.
+const BATCH_OF_THREE: &[u8] = &[
+    0, 0, 0, 3, 5, 0, 0, 0, 1, 6, 0, 0, 0, 2, b'r', b'1', 8, 0, 0, 0, 1,
+];
+
+/// What no command is spelled as.
+const NO_COMMANDS: [&[u8]; 18] = [
+    // nothing, commands of no kind, and too few bytes
+    &[],
+    &[0, 0, 0, 0, 1],
+    &[9, 0, 0, 0, 1],
+    &[7, 0, 0, 0],
+    &[5, 0, 0, 0],
+    &[6, 0, 0, 0, 2, b'r'],
+    // run 0, the empty name, and a name with a slash
+    &[5, 0, 0, 0, 0],
+    &[8, 0, 0, 0, 0],
+    &[6, 0, 0, 0, 0],
+    &[6, 0, 0, 0, 2, b'r', b'/'],
+    // the numbers 0 and 1,000,000,000, and 64 with its least significant byte first
+    &[7, 0, 0, 0, 0],
+    &[7, 0x3B, 0x9A, 0xCA, 0],
+    &[7, 0x40, 0, 0, 0],
+    // a name whose length is one too high, and one too low
+    &[
+        2, 0, 0, 0, 3, b'r', b'1', 0, 0, 0, 1, 0, 0, 0, 1, 0, 0, 0, 1, b'x',
+    ],
+    &[
+        2, 0, 0, 0, 1, b'r', b'1', 0, 0, 0, 1, 0, 0, 0, 1, 0, 0, 0, 1, b'x',
+    ],
+    // no label
+    &[2, 0, 0, 0, 2, b'r', b'1', 0, 0, 0, 1, 0, 0, 0, 0],
+    // no result has the numbers 0 and 4
+    &[3, 0, 0, 0, 2, b'r', b'1', 0, 0, 0, 2, 0, 0, 0, 1, 0],
+    &[3, 0, 0, 0, 2, b'r', b'1', 0, 0, 0, 2, 0, 0, 0, 1, 4],
+];
+
+fn spelled(alloc: Global, command: &Command) -> Result<Vec<u8>, Refusal> {
+    let mut bytes = Vec::new(alloc);
+    write_command(alloc, &mut bytes, command)?;
+    Ok(bytes)
+}
+
+/// That the bytes begin with the command, and that one byte is left behind it.
+fn expect_command(
+    rt: &impl Abort,
+    alloc: Global,
+    bytes: &[u8],
+    command: &Command,
+) -> Result<(), Refusal> {
+    match read_command(alloc, bytes)? {
+        Some((found, rest)) => {
+            assert!(rt; found.same(command));
+            assert!(rt; rest.len() == 1);
+        }
+        None => panic!(rt; "no command"),
+    }
+    Ok(())
+}
+
+fn reads_what_is_written(rt: &impl Abort, alloc: Global) -> Result<(), Refusal> {
+    for (words, size) in &SIZES {
+        let command = command_of(alloc, words)?;
+        let mut bytes = spelled(alloc, &command)?;
+        assert!(rt; bytes.len() == *size);
+        bytes.push(0)?;
+        expect_command(rt, alloc, bytes.as_slice(), &command)?;
+    }
+    Ok(())
+}
+
+#[test]
+fn what_is_written_has_its_length_and_is_read_again(rt: HostRuntime) {
+    expect_twice(
+        &rt,
+        reads_what_is_written(&rt, rt.alloc()),
+        reads_what_is_written(&rt, rt.alloc()),
+    );
+}
+
+fn writes_commands(rt: &impl Abort, alloc: Global) -> Result<(), Refusal> {
+    for (words, want) in &BYTES {
+        let bytes = spelled(alloc, &command_of(alloc, words)?)?;
+        assert!(rt; bytes.as_slice() == *want);
+    }
+    Ok(())
+}
+
+fn three_commands(alloc: Global) -> Result<Vec<Command>, Refusal> {
+    let mut commands = Vec::new(alloc);
+    for words in &THREE {
+        commands.push(command_of(alloc, words)?)?;
+    }
+    Ok(commands)
+}
+
+/// That the commands are read from the bytes, and nothing is left behind them.
+fn expect_batch(
+    rt: &impl Abort,
+    alloc: Global,
+    bytes: &[u8],
+    commands: &[Command],
+) -> Result<(), Refusal> {
+    match read_batch(alloc, bytes)? {
+        Some((found, rest)) => {
+            assert!(rt; same_items(found.as_slice(), commands));
+            assert!(rt; rest.is_empty());
+        }
+        None => panic!(rt; "no batch"),
+    }
+    Ok(())
+}
+
+fn writes_a_batch(rt: &impl Abort, alloc: Global) -> Result<(), Refusal> {
+    let commands = three_commands(alloc)?;
+    assert!(rt; commands.len() == 3);
+    let mut batch = Vec::new(alloc);
+    write_batch(alloc, &mut batch, commands.as_slice())?;
+    assert!(rt; batch.as_slice() == BATCH_OF_THREE);
+    expect_batch(rt, alloc, batch.as_slice(), commands.as_slice())
+}
+
+fn writes_bytes(rt: &impl Abort, alloc: Global) -> Result<(), Refusal> {
+    writes_commands(rt, alloc)?;
+    writes_a_batch(rt, alloc)
+}
+
+#[test]
+fn bytes_are_those_of_the_format(rt: HostRuntime) {
+    expect_twice(
+        &rt,
+        writes_bytes(&rt, rt.alloc()),
+        writes_bytes(&rt, rt.alloc()),
+    );
+}
+
+/// A claim whose labels are so many times `x`.
+fn claim_of_labels(alloc: Global, count: u8) -> Result<Vec<u8>, Refusal> {
+    let mut bytes = Vec::new(alloc);
+    bytes.extend_from_slice(&[2, 0, 0, 0, 2, b'r', b'1', 0, 0, 0, 1, 0, 0, 0, count])?;
+    for _ in 0..count {
+        bytes.extend_from_slice(&[0, 0, 0, 1, b'x'])?;
+    }
+    Ok(bytes)
+}
+
+fn reads_no_second_spelling(rt: &impl Abort, alloc: Global) -> Result<(), Refusal> {
+    for bytes in NO_COMMANDS {
+        assert!(rt; read_command(alloc, bytes)?.is_none());
+    }
+    let most = claim_of_labels(alloc, 16)?;
+    assert!(rt; read_command(alloc, most.as_slice())?.is_some());
+    let over = claim_of_labels(alloc, 17)?;
+    assert!(rt; read_command(alloc, over.as_slice())?.is_none());
+    assert!(rt; read_batch(alloc, &[0, 0, 0, 0])?.is_none());
+    assert!(rt; read_batch(alloc, &[0, 0, 0, 2, 7, 0, 0, 0, 1])?.is_none());
+    Ok(())
+}
+
+#[test]
+fn second_spellings_are_none(rt: HostRuntime) {
+    expect_twice(
+        &rt,
+        reads_no_second_spelling(&rt, rt.alloc()),
+        reads_no_second_spelling(&rt, rt.alloc()),
+    );
+}
