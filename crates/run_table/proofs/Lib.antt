@@ -1,6 +1,7 @@
 pub mod AdmitKeeps
 pub mod AtWork
 pub mod AncestorsSettled
+mod CancelRows
 pub mod Changed
 pub mod ClaimKeeps
 mod ContextRows

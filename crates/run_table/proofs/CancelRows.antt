@@ -1,0 +1,106 @@
+-- What cancel, lost and fetch make of tables that are written out, by computation.
+use Rattle.std.specs.Prelude.{◌≡◌, ℕ, List, [], ◌∷◌, Bool, Some, None, true, false, codes, refl}
+use Rattle.wf_value.specs.declared.code.Code.TheVariants.{LeaseNotHeld, NoRun, NoRunner, RunCompleted}
+use Rattle.wf_value.specs.declared.outcome.JobResult.TheVariants as result
+use Rattle.wf_value.specs.declared.outcome.Outcome.TheVariants as outcome
+use Rattle.run_plan.specs.declared.command.Claim.{Claim as Claimed}
+use Rattle.run_plan.specs.declared.command.Command.TheVariants as command
+use Rattle.run_plan.specs.declared.reply.Reply.TheVariants as reply
+use Rattle.run_plan.specs.declared.last_command.ClaimReply.TheVariants as given
+use Rattle.run_table.specs.Step.{step, empty, blocked_job, claiming_runner, refused}
+use Rattle.run_table.specs.Stops.{outcome_of_loss, stopped_run, stopped_where}
+use Rattle.run_table.specs.TableState.{LegState, JobState, RunState, RunnerState, TableState}
+use Rattle.run_table.specs.declared.phases.LegPhase.{LegPhase}
+use Rattle.run_table.specs.declared.phases.LegPhase.TheVariants as leg
+use Rattle.run_table.specs.declared.phases.JobPhase.TheVariants as job
+use Rattle.run_table.specs.declared.phases.RunPhase.{RunPhase}
+use Rattle.run_table.specs.declared.phases.RunPhase.TheVariants as run
+
+abbrev run_of : RunPhase → Bool → List JobState → RunState
+run_of phase stopping jobs =
+    record { admitted = record { delivery = codes "d1"; event = codes "push"; body = codes "{}" }; phase = phase; stopping = stopping; jobs = jobs }
+
+abbrev open_job : List LegState → JobState
+open_job legs = record { phase = job.Open; legs = legs }
+
+abbrev cancelled_job : JobState
+cancelled_job = record { phase = job.Settled result.Cancelled; legs = [] }
+
+abbrev unclaimed : LegPhase → LegState
+unclaimed phase = record { phase = phase; lease = None }
+
+abbrev claimed : LegPhase → LegState
+claimed phase = record { phase = phase; lease = Some 1 }
+
+-- a waiting run ends, all its jobs cancelled, and its flag is not set
+waiting_run_ends : stopped_run (run_of run.Waiting false (blocked_job ∷ blocked_job ∷ []))
+    ≡ run_of run.Ended false (cancelled_job ∷ cancelled_job ∷ [])
+waiting_run_ends = refl
+
+-- a run that is stopping already stays, also one that has a ready leg of a job whose condition is false
+stopping_run_stays : stopped_run (run_of run.Live true (open_job (unclaimed leg.Ready ∷ []) ∷ []))
+    ≡ run_of run.Live true (open_job (unclaimed leg.Ready ∷ []) ∷ [])
+stopping_run_stays = refl
+
+ended_run_stays : stopped_run (run_of run.Ended false (cancelled_job ∷ [])) ≡ run_of run.Ended false (cancelled_job ∷ [])
+ended_run_stays = refl
+
+-- of an open job whose condition is false the legs that no runner has end, and the running ones are told to stop
+legs_of_a_stopped_job : stopped_where true (open_job
+    (unclaimed leg.New ∷ unclaimed leg.Waiting ∷ unclaimed leg.Ready ∷ claimed leg.Running ∷ claimed leg.Stopping ∷ claimed (leg.Ended outcome.Failure) ∷ []))
+    ≡ open_job (unclaimed (leg.Ended outcome.Cancelled) ∷ unclaimed (leg.Ended outcome.Cancelled) ∷ unclaimed (leg.Ended outcome.Cancelled)
+    ∷ claimed leg.Stopping ∷ claimed leg.Stopping ∷ claimed (leg.Ended outcome.Failure) ∷ [])
+legs_of_a_stopped_job = refl
+
+-- a blocked one waits for its decision, and one whose condition holds goes on
+blocked_job_stays : stopped_where true blocked_job ≡ blocked_job
+blocked_job_stays = refl
+
+job_goes_on : stopped_where false (open_job (unclaimed leg.Ready ∷ claimed leg.Running ∷ [])) ≡ open_job (unclaimed leg.Ready ∷ claimed leg.Running ∷ [])
+job_goes_on = refl
+
+abbrev table_of : RunState → List RunnerState → TableState
+table_of one runners = record { last_lease = 1; runs = one ∷ []; runners = runners }
+
+cancel_of_no_run : step empty (command.Cancel 1) ≡ (empty, refused NoRun)
+cancel_of_no_run = refl
+
+cancel_of_an_ended_run : step (table_of (run_of run.Ended false []) []) (command.Cancel 1) ≡ (table_of (run_of run.Ended false []) [], refused RunCompleted)
+cancel_of_an_ended_run = refl
+
+cancel_of_a_stopping_run : step (table_of (run_of run.Live true (open_job (claimed leg.Stopping ∷ []) ∷ [])) []) (command.Cancel 1)
+    ≡ (table_of (run_of run.Live true (open_job (claimed leg.Stopping ∷ []) ∷ [])) [], reply.Ok)
+cancel_of_a_stopping_run = refl
+
+cancel_of_a_waiting_run : step (table_of (run_of run.Waiting false (blocked_job ∷ [])) []) (command.Cancel 1)
+    ≡ (table_of (run_of run.Ended false (cancelled_job ∷ [])) [], reply.Ok)
+cancel_of_a_waiting_run = refl
+
+-- how the leg of a lost runner ends goes by the leg, whatever its run was told
+running_leg_is_lost : outcome_of_loss (run_of run.Live false (open_job (claimed leg.Running ∷ []) ∷ []) ∷ []) 1 ≡ outcome.Failure
+running_leg_is_lost = refl
+
+stopping_leg_is_lost : outcome_of_loss (run_of run.Live false (open_job (claimed leg.Stopping ∷ []) ∷ []) ∷ []) 1 ≡ outcome.Cancelled
+stopping_leg_is_lost = refl
+
+running_leg_of_a_stopping_run_is_lost : outcome_of_loss (run_of run.Live true (open_job (claimed leg.Running ∷ []) ∷ []) ∷ []) 1 ≡ outcome.Failure
+running_leg_of_a_stopping_run_is_lost = refl
+
+abbrev claim_of_one : Claimed
+claim_of_one = record { runner = codes "r1"; number = 1; labels = codes "linux" ∷ [] }
+
+abbrev idle : RunnerState
+idle = claiming_runner claim_of_one None given.Nothing
+
+loss_of_no_runner : step empty (command.Lost (codes "r1")) ≡ (empty, refused NoRunner)
+loss_of_no_runner = refl
+
+loss_of_an_idle_runner : step (table_of (run_of run.Ended false []) (idle ∷ [])) (command.Lost (codes "r1"))
+    ≡ (table_of (run_of run.Ended false []) (idle ∷ []), refused LeaseNotHeld)
+loss_of_an_idle_runner = refl
+
+fetched : step (table_of (run_of run.Ended false []) []) (command.Fetch 1) ≡ (table_of (run_of run.Ended false []) [], reply.Body (codes "{}"))
+fetched = refl
+
+fetch_of_no_run : step (table_of (run_of run.Ended false []) []) (command.Fetch 2) ≡ (table_of (run_of run.Ended false []) [], refused NoRun)
+fetch_of_no_run = refl
