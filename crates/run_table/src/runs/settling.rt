@@ -1,21 +1,20 @@
 //! Settling: one rule after another, until none applies.
 
-ghost use Rattle.std.specs.Prelude.{◌≡◌, ◌<◌, false, Some, None, IfSome};
-ghost use Rattle.std.specs.Prelude.{option_and_then, ◌^◌, filter_map};
+ghost use Rattle.std.specs.Prelude.{◌≡◌, ◌<◌, ◌^◌, false, if◌then◌else◌, is_some, Some, None, IfSome, option_and_then, filter_map};
 ghost use Rattle.std.specs.List.{list_any};
 ghost use Rattle.std.specs.Option.{option_map_or};
 ghost use Rattle.needs_graph.specs.Results.{fails_job, gathered, is_cancelled};
 ghost use Rattle.run_table.specs.FirstOf.{first_some, placed};
+ghost use Rattle.run_table.specs.LookAgain.{RestBefore, at_job_again, look_again};
 ghost use Rattle.run_table.specs.Places.{job_at, leg_at, run_at, with_job};
-ghost use Rattle.run_table.specs.Rules.{closing_rule, decided, leg_end, leg_rule, outcome_of, rule_at};
-ghost use Rattle.run_table.specs.Rules.{may_run, whole_rule};
-ghost use Rattle.run_table.specs.Settling.{first_place, first_rule, settled};
+ghost use Rattle.run_table.specs.Rules.{closing_rule, decided, leg_end, leg_rule, may_run, outcome_of, rule_at, whole_rule};
+ghost use Rattle.run_table.specs.Settling.{first_rule, settled};
 ghost use Rattle.run_table.specs.WithinRun.{failing, next_leg};
 ghost use Rattle.run_table.specs.Words.{is_stopping};
 
 use crate::first_place::{first_place, has_settled_jobs};
 use crate::leg::Leg;
-use crate::place::{LegPlace, Place};
+use crate::place::{JobPlace, LegPlace, Place};
 use crate::runs::Runs;
 use wf_value::JobResult;
 
@@ -24,27 +23,49 @@ impl Runs {
     pub(crate) fn settle(&mut self)
         ensures { self.new ≡ settled self.old }
     {
-        while self.take_first_rule() {}
+        let mut from = JobPlace { run: 0, job: 0 };
+        while let Some(next) = self.take_first_rule(from) {
+            from = next;
+        }
     }
 
-    /// The first place where a rule applies.
-    fn first_place(&self) -> Option<Place>
-        ensures { result ≡ first_place self.now }
+    /// Takes the rule at the first place where one applies, and says from where the next is to be looked for.
+    fn take_first_rule(&mut self, from: JobPlace) -> Option<JobPlace>
+        requires { RestBefore self.old from }
+        ensures took { first_rule self.old ≡ (if is_some result then Some self.new else None) }
+        ensures kept { is_some result ≡ false → self.new ≡ self.old }
+        ensures rest { IfSome result (λ next. RestBefore self.new next) }
     {
-        first_place(&self.runs)
-    }
-
-    /// Takes the rule at the first place where one applies, and says whether there was one.
-    fn take_first_rule(&mut self) -> bool
-        ensures took { first_rule self.old ≡ (if result then Some self.new else None) }
-        ensures kept { result ≡ false → self.new ≡ self.old }
-    {
-        match self.first_place() {
+        match first_place(&self.runs, from) {
             Some(place) => {
                 self.take_rule(place);
-                true
+                Some(self.look_again(&place))
             }
-            None => false,
+            None => None,
+        }
+    }
+
+    /// From where to look for the next rule, after the one at the place: none has become due before.
+    fn look_again(&self, place: &Place) -> JobPlace
+        ensures { result ≡ look_again self.now place.now }
+    {
+        match place {
+            Place::Opening(r, j) => self.at_job_again(*r, *j),
+            Place::AtLeg(leg) => self.at_job_again(leg.run, leg.job),
+            Place::Closing(r, j) => self.at_job_again(*r, *j),
+            Place::Whole(r) => JobPlace { run: *r, job: 0 },
+        }
+    }
+
+    fn at_job_again(&self, r: usize, j: usize) -> JobPlace
+        ensures { result ≡ at_job_again self.now r j }
+    {
+        match self.runs.get(r) {
+            Some(run) => JobPlace {
+                run: r,
+                job: run.job_again(j),
+            },
+            None => JobPlace { run: r, job: j },
         }
     }
 
