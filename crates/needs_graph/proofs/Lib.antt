@@ -1,5 +1,6 @@
 pub mod AncestorResults
 pub mod Closure
+pub mod Dependents
 pub mod GraphFacts
 pub mod GraphRows
 pub mod HasAncestor

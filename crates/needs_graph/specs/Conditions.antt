@@ -7,6 +7,8 @@ use Rattle.wf_value.specs.declared.condition.Condition.TheVariants.{Success, Fai
 use Rattle.wf_value.specs.declared.outcome.JobResult.{JobResult}
 use Rattle.wf_value.specs.declared.outcome.JobResult.TheVariants as job
 use Rattle.needs_graph.specs.Ancestors.{ancestors_of}
+use Rattle.needs_graph.specs.declared.conditions.Asked.{Asked}
+use Rattle.needs_graph.specs.declared.conditions.Asked.TheVariants.{Nothing, AllSucceeded, AnyFailed}
 
 -- a job without a result has neither succeeded nor failed
 abbrev pub has_succeeded : Option JobResult → Bool
@@ -25,6 +27,12 @@ condition_value Always results stopping = true
 condition_value Cancelled results stopping = stopping
 condition_value NotCancelled results stopping = not stopping
 condition_value Never results stopping = false
+
+-- the answer to what a condition asks of the results of all ancestors
+abbrev pub asked_value : Asked → List (Option JobResult) → Bool
+asked_value (Nothing value) results = value
+asked_value AllSucceeded results = list_all has_succeeded results
+asked_value AnyFailed results = list_any has_failed results
 
 -- the results of the jobs at those places, among the results of all jobs
 abbrev pub results_at : List (Option JobResult) → List ℕ → List (Option JobResult)

@@ -1,7 +1,7 @@
 ghost use Rattle.std.specs.Prelude.{◌≡◌, List, None, Option, map};
 ghost use Rattle.std.specs.List.{list_all, list_any, slice_index_or};
 ghost use Rattle.wf_value.specs.declared.outcome.JobResult.{JobResult};
-ghost use Rattle.needs_graph.specs.Conditions.{condition_value, has_failed, has_succeeded};
+ghost use Rattle.needs_graph.specs.Conditions.{asked_value, condition_value, has_failed, has_succeeded};
 
 use crate::ended::HasResult;
 use wf_value::{Condition, JobResult};
@@ -12,12 +12,11 @@ use wf_value::{Condition, JobResult};
 pub fn decide(condition: Condition, results: &[Option<JobResult>], stopping: bool) -> bool
     ensures { result ≡ condition_value condition results.now stopping }
 {
-    holds(
-        condition,
-        all_succeeded(results),
-        any_failed(results),
-        stopping,
-    )
+    match asked_by(condition, stopping) {
+        Asked::Nothing(value) => value,
+        Asked::AllSucceeded => all_succeeded(results),
+        Asked::AnyFailed => any_failed(results),
+    }
 }
 
 fn all_succeeded(results: &[Option<JobResult>]) -> bool
@@ -32,23 +31,26 @@ fn any_failed(results: &[Option<JobResult>]) -> bool
     results.iter().any(|r| has_failed(*r))
 }
 
-/// Whether the condition holds where that is known of the ancestors' results.
-pub(crate) fn holds(
-    condition: Condition,
-    all_succeeded: bool,
-    any_failed: bool,
-    stopping: bool,
-) -> bool
-    ensures { (results : List (Option JobResult)) → all_succeeded ≡ list_all has_succeeded results
-        → any_failed ≡ list_any has_failed results → result ≡ condition_value condition results stopping }
+/// What a condition asks of the results of a job's ancestors.
+#[derive(Clone, Copy)]
+pub(crate) enum Asked {
+    /// Nothing: it holds, or does not, whatever they are.
+    Nothing(bool),
+    AllSucceeded,
+    AnyFailed,
+}
+
+/// What is left to be asked once it is known whether the run is stopping.
+pub(crate) fn asked_by(condition: Condition, stopping: bool) -> Asked
+    ensures { (results : List (Option JobResult)) → asked_value result results ≡ condition_value condition results stopping }
 {
     match condition {
-        Condition::Success => !stopping && all_succeeded,
-        Condition::Failure => !stopping && any_failed,
-        Condition::Always => true,
-        Condition::Cancelled => stopping,
-        Condition::NotCancelled => !stopping,
-        Condition::Never => false,
+        Condition::Success if !stopping => Asked::AllSucceeded,
+        Condition::Failure if !stopping => Asked::AnyFailed,
+        Condition::Success | Condition::Failure | Condition::Never => Asked::Nothing(false),
+        Condition::Always => Asked::Nothing(true),
+        Condition::Cancelled => Asked::Nothing(stopping),
+        Condition::NotCancelled => Asked::Nothing(!stopping),
     }
 }
 

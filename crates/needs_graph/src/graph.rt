@@ -1,4 +1,4 @@
-ghost use Rattle.std.specs.Prelude.{◌≡◌, ◌≢◌, ◌↔◌, ◌<◌, ◌&&◌, not, IsTrue, None, Ok, All, Contains, length, map, ℕ};
+ghost use Rattle.std.specs.Prelude.{◌≡◌, ◌≢◌, ◌↔◌, ◌<◌, ◌&&◌, not, IsTrue, None, Ok, All, Contains, length, map, slice_get, ℕ};
 ghost use Rattle.std.specs.List.{list_all, list_any, slice_index_or};
 ghost use Rattle.wf_value.specs.Gives.{Gives};
 ghost use Rattle.needs_graph.specs.Ancestors.{needs_at, is_ancestor, dependents_of, HasWalk};
@@ -6,7 +6,7 @@ ghost use Rattle.needs_graph.specs.Conditions.{ancestor_results, condition_value
 ghost use Rattle.needs_graph.specs.Needs.{ids_rise, needs_of, graph_of};
 ghost use Rattle.needs_graph.specs.Rows.{own_ids};
 
-use crate::conditions::{has_failed, has_succeeded, holds, result_at};
+use crate::conditions::{Asked, asked_by, has_failed, has_succeeded, result_at};
 use crate::ended::HasResult;
 use crate::job_needs::JobNeeds;
 use crate::job_set::{JobSet, set_has};
@@ -86,6 +86,16 @@ impl Graph {
         self.dependents.as_slice()[job].as_slice()
     }
 
+    /// The first of the jobs that need a job directly.
+    pub fn first_dependent(&self, job: usize) -> Option<usize>
+        ensures { result ≡ slice_get (dependents_of self.now job) 0 }
+    {
+        match self.dependents.as_slice().get(job) {
+            Some(dependents) => dependents.as_slice().first().copied(),
+            None => None,
+        }
+    }
+
     /// Whether the other job is an ancestor of the job: at the end of a walk of one or more needs
     /// from it.
     pub fn has_ancestor(&self, job: usize, other: usize) -> bool
@@ -109,9 +119,11 @@ impl Graph {
     ) -> bool
         ensures { result ≡ condition_value condition (ancestor_results self.now (map J.job_result jobs.now) job) stopping }
     {
-        let all_succeeded = self.all_ancestors_succeeded(job, jobs);
-        let any_failed = self.any_ancestor_failed(job, jobs);
-        holds(condition, all_succeeded, any_failed, stopping)
+        match asked_by(condition, stopping) {
+            Asked::Nothing(value) => value,
+            Asked::AllSucceeded => self.all_ancestors_succeeded(job, jobs),
+            Asked::AnyFailed => self.any_ancestor_failed(job, jobs),
+        }
     }
 
     fn all_ancestors_succeeded<J: HasResult>(&self, job: usize, jobs: &[J]) -> bool

@@ -4,10 +4,12 @@ use Rattle.std.specs.Prelude.{is_some, Option, Some, None, option_and_then, slic
 use Rattle.std.specs.List.{enumerate_from, AllByRecursion}
 use Rattle.std.specs.Option.{option_or}
 use Rattle.std.proofs.Common.{arith, ap, subst, sym, ◌∙◌, get_or}
-use Rattle.std.proofs.lemmas.Option.{slice_get-get_or}
+use Rattle.std.proofs.lemmas.Option.{slice_get-get_or, slice_get-map}
 use Rattle.std.proofs.lemmas.List.Folds.{find-append}
 use Rattle.run_table.specs.FirstOf.{first_some, placed}
+pub use Rattle.run_table.specs.LookAgain.{ask, NoneBefore}
 use Rattle.run_table.proofs.Found.{all_weaken, placed_get}
+use Rattle.run_table.proofs.Optional.{and_then-option_map}
 
 -- ---- two questions with the same answers
 
@@ -53,13 +55,6 @@ find-map test place (x ∷ xs) =
     ]
 
 -- ---- place by place
-
--- what the question answers at a place
-abbrev pub ask : {X Y : Type 0} → (ℕ → X → Option Y) → List X → ℕ → Option Y
-ask f xs i = option_and_then (f i) (slice_get xs i)
-
-abbrev pub NoneBefore : {X Y : Type 0} → (ℕ → X → Option Y) → List X → ℕ → Type 0
-NoneBefore f xs i = (k : ℕ) → k < i → ask f xs k ≡ None
 
 found_from : {X Y : Type 0} (f : ℕ → X → Option Y) (xs : List X) (n i : ℕ) (y : Y)
     → ((k : ℕ) → k < i → option_and_then (f (n + k)) (slice_get xs k) ≡ None) → option_and_then (f (n + i)) (slice_get xs i) ≡ Some y
@@ -119,3 +114,61 @@ pub answer_passed : {X Y : Type 0} (f : ℕ → X → Option Y) (xs : List X) (i
     → o ≡ f i x → is_some o ≡ false → ask f xs i ≡ None
 answer_passed f xs i x None lt is h none = ask_read f xs i x lt ∙ ap (f i) (sym is) ∙ sym h
 answer_passed f xs i x (Some y) lt is h none = cc
+
+-- ---- where the first answer comes from
+
+-- the place of the first answer, counted from n
+record FirstFrom {X Y : Type 0} (f : ℕ → X → Option Y) (n : ℕ) (xs : List X) (y : Y) : Type 0 where
+  at : ℕ
+  before : (k : ℕ) → k < at → option_and_then (f (n + k)) (slice_get xs k) ≡ None
+  here : option_and_then (f (n + at)) (slice_get xs at) ≡ Some y
+
+none_behind : {X Y : Type 0} (f : ℕ → X → Option Y) (n : ℕ) (x : X) (xs : List X) (i : ℕ) → f n x ≡ None
+    → ((k : ℕ) → k < i → option_and_then (f ((n + 1) + k)) (slice_get xs k) ≡ None) → (k : ℕ) → k < suc i
+    → option_and_then (f (n + k)) (slice_get (x ∷ xs) k) ≡ None
+none_behind f n x xs i now rest zero lt = let at : n ≡ n + 0 = omega arith in subst (λ m. f m x ≡ None) at now
+none_behind f n x xs i now rest (suc k) lt =
+    let at : (n + 1) + k ≡ n + suc k = omega arith in
+    subst (λ m. option_and_then (f m) (slice_get xs k) ≡ None) at (rest k (omega arith))
+
+first_from : {X Y : Type 0} (f : ℕ → X → Option Y) (n : ℕ) (xs : List X) (y : Y)
+    → first_some (λ e. f e.0 e.1) (enumerate_from n xs) ≡ Some y → FirstFrom f n xs y
+first_from f n [] y e = cc
+first_from f n (x ∷ xs) y e =
+    elim (f n x) as
+    (λ o. f n x ≡ o → option_or o (first_some (λ e. f e.0 e.1) (enumerate_from (n + 1) xs)) ≡ Some y → FirstFrom f n (x ∷ xs) y) [
+      | None ↦ λ is e.
+          let later = first_from f (n + 1) xs y e in
+          let at : (n + 1) + later.at ≡ n + suc later.at = omega arith in
+          record {
+            at = suc later.at;
+            before = none_behind f n x xs later.at is later.before;
+            here = subst (λ m. option_and_then (f m) (slice_get xs later.at) ≡ Some y) at later.here;
+          }
+      | Some z ↦ λ is e.
+          let at : n ≡ n + 0 = omega arith in
+          record { at = 0; before = (λ k lt. absurd (omega arith)); here = subst (λ m. f m x ≡ Some y) at (is ∙ e) }
+    ] refl e
+
+-- the first answer in a list, with the place of it
+pub record FirstAt {X Y : Type 0} (f : ℕ → X → Option Y) (xs : List X) (y : Y) : Type 0 where
+  pub at : ℕ
+  pub before : NoneBefore f xs at
+  pub here : ask f xs at ≡ Some y
+
+pub first_at : {X Y : Type 0} (f : ℕ → X → Option Y) (xs : List X) (y : Y) → first_some (λ e. f e.0 e.1) (placed xs) ≡ Some y
+    → FirstAt f xs y
+first_at f xs y e =
+    let first = first_from f 0 xs y e in
+    let from_zero : (k : ℕ) → 0 + k ≡ k = λ k. omega arith in
+    record {
+      at = first.at;
+      before = (λ k lt. subst (λ m. option_and_then (f m) (slice_get xs k) ≡ None) (from_zero k) (first.before k lt));
+      here = subst (λ m. option_and_then (f m) (slice_get xs first.at) ≡ Some y) (from_zero first.at) first.here;
+    }
+
+-- where the elements are changed ones
+pub none_before-map : {X Y Z : Type 0} (f : ℕ → Y → Option Z) (h : X → Y) (xs : List X) (i : ℕ) → NoneBefore f (map h xs) i
+    → NoneBefore (λ k x. f k (h x)) xs i
+none_before-map f h xs i before k lt =
+    sym (ap (option_and_then (f k)) (slice_get-map h xs k) ∙ and_then-option_map (f k) h (slice_get xs k)) ∙ before k lt

@@ -33,6 +33,7 @@ pub mod LegFacts
 pub mod LegReads
 pub mod ListWalk
 pub mod LivePlaces
+pub mod LookedAgain
 pub mod Lowered
 pub mod Moved
 pub mod NeedsSettled

@@ -69,7 +69,7 @@ result_in run j = option_and_then (λ y. settled_result y.phase) (slice_get run.
 abbrev pub result_so_far : List RunState → ℕ → ℕ → Option JobResult
 result_so_far runs r j = option_and_then (λ run. result_in run j) (run_at runs r)
 
-result_among : (jobs : List JobState) (j : ℕ)
+pub result_among : (jobs : List JobState) (j : ℕ)
     → slice_index_or (results_so_far jobs) j None ≡ option_and_then (λ (y : JobState). settled_result y.phase) (slice_get jobs j)
 result_among [] j = refl
 result_among (y ∷ ys) zero = refl

@@ -9,6 +9,7 @@ pub mod Groups
 pub mod Histories
 pub mod JobResults
 pub mod LegContext
+pub mod LookAgain
 pub mod Moves
 pub mod Parallel
 pub mod Places

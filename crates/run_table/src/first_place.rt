@@ -3,6 +3,7 @@
 ghost use Rattle.std.specs.Prelude.{◌≡◌};
 ghost use Rattle.std.specs.List.{list_all, position};
 ghost use Rattle.run_table.specs.Cells.{states};
+ghost use Rattle.run_table.specs.LookAgain.{JobsRestBefore, NoneBefore, RestBefore};
 ghost use Rattle.run_table.specs.Rules.{is_settled};
 ghost use Rattle.run_table.specs.Settling.{first_place};
 ghost use Rattle.run_table.specs.WithinRun.{first_in_job, first_in_jobs, first_in_run, first_of_open, first_of_whole, goes_on};
@@ -10,7 +11,7 @@ ghost use Rattle.run_table.specs.WithinRun.{first_in_job, first_in_jobs, first_i
 use crate::job::Job;
 use crate::leg::Leg;
 use crate::phases::RunPhase;
-use crate::place::{LegPlace, Place};
+use crate::place::{JobPlace, LegPlace, Place};
 use crate::run::Run;
 
 fn leg_that_goes_on(legs: &[Leg]) -> Option<usize>
@@ -44,10 +45,12 @@ fn first_in_job(r: usize, run: &Run, j: usize, job: &Job) -> Option<Place>
     first_of_open(r, j, job)
 }
 
-fn first_in_jobs(r: usize, run: &Run, jobs: &[Job]) -> Option<Place>
+/// None of the jobs before the one at `from` has a rule.
+fn first_in_jobs(r: usize, run: &Run, jobs: &[Job], from: usize) -> Option<Place>
+    requires { NoneBefore (first_in_job r run.now) (states jobs.now) from }
     ensures { result ≡ first_in_jobs r run.now (states jobs.now) }
 {
-    for j in 0..jobs.len() {
+    for j in from..jobs.len() {
         let job = &jobs[j];
         let place = first_in_job(r, run, j, job);
         if place.is_some() {
@@ -80,11 +83,12 @@ fn first_of_whole(r: usize, run: &Run) -> Option<Place>
     }
 }
 
-fn first_in_run(r: usize, run: &Run) -> Option<Place>
+fn first_in_run(r: usize, run: &Run, from: usize) -> Option<Place>
+    requires { JobsRestBefore r run.now from }
     ensures { result ≡ first_in_run r run.now }
 {
     if run.phase().is_live() {
-        let place = first_in_jobs(r, run, run.jobs());
+        let place = first_in_jobs(r, run, run.jobs(), from);
         if place.is_some() {
             return place;
         }
@@ -92,13 +96,15 @@ fn first_in_run(r: usize, run: &Run) -> Option<Place>
     first_of_whole(r, run)
 }
 
-/// The first place where a rule applies.
-pub fn first_place(runs: &[Run]) -> Option<Place>
+/// The first place where a rule applies, where none does before the one given.
+pub fn first_place(runs: &[Run], from: JobPlace) -> Option<Place>
+    requires { RestBefore runs.now from }
     ensures { result ≡ first_place runs.now }
 {
-    for r in 0..runs.len() {
+    for r in from.run..runs.len() {
         let run = &runs[r];
-        let place = first_in_run(r, run);
+        let first = if r == from.run { from.job } else { 0 };
+        let place = first_in_run(r, run, first);
         if place.is_some() {
             return place;
         }

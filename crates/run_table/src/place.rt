@@ -18,6 +18,13 @@ impl Model for LegPlace {
     ghost inverse = { λ p. record { run = p.run; job = p.job; leg = p.leg } };
 }
 
+/// The place of a job: of its run in the table, and its own in the run, each from 0.
+#[derive(Clone, Copy)]
+pub struct JobPlace {
+    pub run: usize,
+    pub job: usize,
+}
+
 /// Where settling looks for a rule.
 #[derive(Clone, Copy)]
 pub enum Place {

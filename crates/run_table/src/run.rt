@@ -4,6 +4,7 @@ ghost use Rattle.wf_value.specs.Gives.{Gives};
 ghost use Rattle.run_plan.specs.PlanOf.{plan_of};
 ghost use Rattle.run_table.specs.Cells.{blocked_cells, states};
 ghost use Rattle.run_table.specs.FirstOf.{changed_at};
+ghost use Rattle.run_table.specs.LookAgain.{job_again};
 ghost use Rattle.run_table.specs.Rules.{opened, settled_as, run_in_phase};
 ghost use Rattle.run_table.specs.Settling.{legs_in_plan};
 ghost use Rattle.run_table.specs.Step.{is_delivered_as, new_run};
@@ -106,6 +107,19 @@ impl Run {
     {
         let graph = self.prepared.plan().graph();
         j >= graph.job_count() || have_settled(self.jobs(), graph.needs(j))
+    }
+
+    /// Where settling looks again after a rule at the job: at the job itself, or once it has settled at the first that needs it.
+    pub(crate) fn job_again(&self, j: usize) -> usize
+        ensures { result ≡ job_again self.now j }
+    {
+        if !is_settled_at(self.jobs(), j) {
+            return j;
+        }
+        match self.prepared.plan().graph().first_dependent(j) {
+            Some(first) => j.min(first),
+            None => j,
+        }
     }
 
     fn planned(&self, j: usize) -> Option<&PlannedJob>

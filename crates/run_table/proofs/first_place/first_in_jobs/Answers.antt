@@ -2,8 +2,11 @@ use Rattle.std.proofs.Common.{arith, sym, ◌∙◌, below_more, ◌≡◌, true
 use Rattle.std.specs.Prelude.{is_some}
 use Rattle.run_table.specs.Cells.{JobCells}
 use Rattle.run_table.specs.WithinRun.{first_in_job}
-use Rattle.run_table.proofs.Firsts.{answer_found, answer_passed, none_found, first_placed-map}
+use Rattle.run_table.proofs.Firsts.{answer_found, answer_passed, none_before-map, none_found, first_placed-map}
 use Rattle.run_table.proofs.first_place.first_in_jobs.Goals as goal
+
+pub loop-j-init : goal.loop-j-init
+loop-j-init c = none_before-map (first_in_job c.args.r c.args.run.now) (λ (x : JobCells). x.state) c.args.jobs.now c.args.from c.requires
 
 pub returns-then-is_some : goal.returns-then-is_some
 returns-then-is_some c =

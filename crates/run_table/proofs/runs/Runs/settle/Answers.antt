@@ -1,20 +1,18 @@
-use Rattle.std.proofs.Common.{ap, sym, ◌∙◌}
-use Rattle.std.specs.Prelude.{Some, None, if◌then◌else◌}
+use Rattle.std.specs.Prelude.{Some, None, IfSome, is_some, if◌then◌else◌}
+use Rattle.std.proofs.Common.{ap, subst, sym, ◌∙◌}
+use Rattle.run_table.specs.LookAgain.{RestBefore}
 use Rattle.run_table.proofs.Lowered.{first_rule_lowers}
-use Rattle.run_table.proofs.Rests.{settled_after_rule, settled_at_rest}
+use Rattle.run_table.proofs.Rests.{settled_after_rule}
 use Rattle.run_table.proofs.runs.Runs.settle.Goals as goal
 
-pub loop-smaller : goal.loop-smaller
-loop-smaller c =
-    let took = c.take_first_rule.ensures.took ∙ ap (λ b. if b then Some c.take_first_rule.new.self else None) c.loop-test.true in
-    first_rule_lowers c.loop.self c.take_first_rule.new.self took
+pub loop-next-smaller : goal.loop-next-smaller
+loop-next-smaller c =
+    let took = c.take_first_rule.ensures.took ∙ ap (λ o. if is_some o then Some c.take_first_rule.new.self else None) c.in-Some.is in
+    first_rule_lowers c.loop-next.self c.take_first_rule.new.self took
 
-pub loop-preserved : goal.loop-preserved
-loop-preserved c =
-    let took = c.take_first_rule.ensures.took ∙ ap (λ b. if b then Some c.take_first_rule.new.self else None) c.loop-test.true in
-    sym (settled_after_rule c.loop.self c.take_first_rule.new.self took) ∙ c.loop.invariant
-
-pub returns : goal.returns
-returns c =
-    let none = c.take_first_rule.ensures.took ∙ ap (λ b. if b then Some c.take_first_rule.new.self else None) c.loop-test.false in
-    c.take_first_rule.ensures.kept c.loop-test.false ∙ sym (settled_at_rest c.loop.self none) ∙ c.loop.invariant
+pub loop-next-preserved : goal.loop-next-preserved
+loop-next-preserved c =
+    let took = c.take_first_rule.ensures.took ∙ ap (λ o. if is_some o then Some c.take_first_rule.new.self else None) c.in-Some.is in (
+      sym (settled_after_rule c.loop-next.self c.take_first_rule.new.self took) ∙ c.loop-next.invariant.0,
+      subst (λ o. IfSome o (λ next. RestBefore c.take_first_rule.new.self next)) c.in-Some.is c.take_first_rule.ensures.rest,
+    )

@@ -1,0 +1,52 @@
+-- Where settling looks for its next rule, once it has taken one: no rule applies before.
+use Rattle.std.specs.Prelude.{◌≡◌, ℕ, ◌<◌, min, List, Bool, true, is_some, Option, Some, None, option_and_then, slice_get, if◌then◌else◌}
+use Rattle.std.specs.List.{slice_index_or}
+use Rattle.std.specs.Option.{option_map_or}
+use Rattle.needs_graph.specs.Ancestors.{dependents_of}
+use Rattle.run_table.specs.JobResults.{needs_in, results_so_far}
+use Rattle.run_table.specs.Places.{run_at}
+use Rattle.run_table.specs.Rules.{is_live}
+use Rattle.run_table.specs.TableState.{RunState}
+use Rattle.run_table.specs.WithinRun.{first_in_job, first_in_run}
+use Rattle.run_table.specs.declared.place.JobPlace.{JobPlace}
+use Rattle.run_table.specs.declared.place.Place.{Place}
+use Rattle.run_table.specs.declared.place.Place.TheVariants.{Opening, AtLeg, Closing, Whole}
+
+-- ---- no rule applies before
+
+-- what a question answers of the element at a place of a list
+abbrev pub ask : {X Y : Type 0} → (ℕ → X → Option Y) → List X → ℕ → Option Y
+ask f xs i = option_and_then (f i) (slice_get xs i)
+
+-- nothing at the places before
+abbrev pub NoneBefore : {X Y : Type 0} → (ℕ → X → Option Y) → List X → ℕ → Type 0
+NoneBefore f xs i = (k : ℕ) → k < i → ask f xs k ≡ None
+
+-- in a live run no rule applies at a job before
+abbrev pub JobsRestBefore : ℕ → RunState → ℕ → Type 0
+JobsRestBefore r run j = is_live run.phase ≡ true → NoneBefore (first_in_job r run) run.jobs j
+
+-- none applies in a run before, and none in the place's own run at a job before
+abbrev pub RestBefore : List RunState → JobPlace → Type 0
+RestBefore runs p =
+    NoneBefore first_in_run runs p.run × ((run : RunState) → run_at runs p.run ≡ Some run → JobsRestBefore p.run run p.job)
+
+-- ---- where to look again
+
+-- whether the job at a place of a run has settled
+abbrev pub has_settled : RunState → ℕ → Bool
+has_settled run j = is_some (slice_index_or (results_so_far run.jobs) j None)
+
+-- after a rule at a job: the job itself, or the first that needs it directly, where it has settled and that comes before
+abbrev pub job_again : RunState → ℕ → ℕ
+job_again run j = if has_settled run j then option_map_or (min j) (slice_get (dependents_of (needs_in run) j) 0) j else j
+
+abbrev pub at_job_again : List RunState → ℕ → ℕ → JobPlace
+at_job_again runs r j = record { run = r; job = option_map_or (λ run. job_again run j) (run_at runs r) j }
+
+-- after the rule at a place, from the runs as it leaves them; after one of the run itself: its first job
+abbrev pub look_again : List RunState → Place → JobPlace
+look_again runs (Opening r j) = at_job_again runs r j
+look_again runs (AtLeg p) = at_job_again runs p.run p.job
+look_again runs (Closing r j) = at_job_again runs r j
+look_again runs (Whole r) = record { run = r; job = 0 }

@@ -1,0 +1,198 @@
+//! Settling: one rule after another, until none applies.
+
+ghost use Rattle.std.specs.Prelude.{◌≡◌, ◌<◌, ◌^◌, false, if◌then◌else◌, is_some, Some, None, IfSome, option_and_then, filter_map};
+ghost use Rattle.std.specs.List.{list_any};
+ghost use Rattle.std.specs.Option.{option_map_or};
+ghost use Rattle.needs_graph.specs.Results.{fails_job, gathered, is_cancelled};
+ghost use Rattle.run_table.specs.FirstOf.{first_some, placed};
+ghost use Rattle.run_table.specs.LookAgain.{RestBefore, at_job_again, look_again};
+ghost use Rattle.run_table.specs.Places.{job_at, leg_at, run_at, with_job};
+ghost use Rattle.run_table.specs.Rules.{closing_rule, decided, leg_end, leg_rule, may_run, outcome_of, rule_at, whole_rule};
+ghost use Rattle.run_table.specs.Settling.{first_rule, settled};
+ghost use Rattle.run_table.specs.WithinRun.{failing, next_leg};
+ghost use Rattle.run_table.specs.Words.{is_stopping};
+
+use crate::first_place::{first_place, has_settled_jobs};
+use crate::leg::Leg;
+use crate::place::{JobPlace, LegPlace, Place};
+use crate::runs::Runs;
+use wf_value::JobResult;
+
+impl Runs {
+    /// Takes one rule after another, until none applies.
+    pub(crate) fn settle(&mut self)
+        ensures { self.new ≡ settled self.old }
+    {
+        let mut from = JobPlace { run: 0, job: 0 };
+        while let Some(next) = self.take_first_rule(from) {
+            from = next;
+        }
+    }
+
+    /// Takes the rule at the first place where one applies, and says from where the next is to be looked for.
+    fn take_first_rule(&mut self, from: JobPlace) -> Option<JobPlace>
+        requires { RestBefore self.old from }
+        ensures took { first_rule self.old ≡ (if is_some result then Some self.new else None) }
+        ensures kept { is_some result ≡ false → self.new ≡ self.old }
+        ensures rest { IfSome result (λ next. RestBefore self.new next) }
+    {
+        match first_place(&self.runs, from) {
+            Some(place) => {
+                self.take_rule(place);
+                Some(self.look_again(&place))
+            }
+            None => None,
+        }
+    }
+
+    /// From where to look for the next rule, after the one at the place: none has become due before.
+    fn look_again(&self, place: &Place) -> JobPlace
+        ensures { result ≡ look_again self.now place.now }
+    {
+        match place {
+            Place::Opening(r, j) => self.at_job_again(*r, *j),
+            Place::AtLeg(leg) => self.at_job_again(leg.run, leg.job),
+            Place::Closing(r, j) => self.at_job_again(*r, *j),
+            Place::Whole(r) => JobPlace { run: *r, job: 0 },
+        }
+    }
+
+    fn at_job_again(&self, r: usize, j: usize) -> JobPlace
+        ensures { result ≡ at_job_again self.now r j }
+    {
+        match self.runs.get(r) {
+            Some(run) => JobPlace {
+                run: r,
+                job: run.job_again(j),
+            },
+            None => JobPlace { run: r, job: j },
+        }
+    }
+
+    /// Takes the rule at a place, where one applies.
+    fn take_rule(&mut self, place: Place)
+        ensures { IfSome (rule_at self.old place) (λ next. self.new ≡ next) }
+    {
+        match place {
+            Place::Opening(r, j) => self.decide(r, j),
+            Place::AtLeg(leg) => self.move_leg(leg),
+            Place::Closing(r, j) => self.close(r, j),
+            Place::Whole(r) => self.move_run(r),
+        }
+    }
+
+    /// Opens the job where its condition holds, else settles it.
+    fn decide(&mut self, r: usize, j: usize)
+        ensures { self.new ≡ with_job r j (decided self.old r j) self.old }
+    {
+        let stopping = self.is_stopping(r);
+        if self.may_run(r, j) {
+            self.open_job(r, j);
+        } else if stopping {
+            self.settle_job(r, j, JobResult::Cancelled);
+        } else {
+            self.settle_job(r, j, JobResult::Skipped);
+        }
+    }
+
+    /// Whether the condition of the job holds.
+    fn may_run(&self, r: usize, j: usize) -> bool
+        ensures { result ≡ may_run self.now r j }
+    {
+        match self.runs.get(r) {
+            Some(run) => run.may_run(j),
+            None => false,
+        }
+    }
+
+    fn is_stopping(&self, r: usize) -> bool
+        ensures { result ≡ is_stopping self.now r }
+    {
+        match self.runs.get(r) {
+            Some(run) => run.is_stopping(),
+            None => false,
+        }
+    }
+
+    fn next_leg(&self, place: LegPlace) -> Option<Leg>
+        ensures { result ≡ option_and_then next_leg (leg_at self.now place) }
+    {
+        self.leg(place)?.next()
+    }
+
+    /// The leg goes on to its next phase, where it has one.
+    fn move_leg(&mut self, place: LegPlace)
+        ensures { IfSome (option_and_then (leg_rule self.old place) (leg_at self.old place)) (λ next. self.new ≡ next) }
+    {
+        if let Some(leg) = self.next_leg(place) {
+            self.set_leg(place.run, place.job, place.leg, leg);
+        }
+    }
+
+    /// The open job settles with its result, where its legs have ended.
+    fn close(&mut self, r: usize, j: usize)
+        ensures { IfSome (option_and_then (closing_rule self.old r j) (job_at self.old r j)) (λ next. self.new ≡ next) }
+    {
+        if let Some(job) = self.job(r, j) {
+            let settled = self.result(r, j, job.legs());
+            self.settle_job(r, j, settled);
+        }
+    }
+
+    /// The result of a job from its legs, as far as they have ended: a failure where a leg failed and is
+    /// not passed over, else cancelled where a leg was, else a success.
+    fn result(&self, r: usize, j: usize, legs: &[Leg]) -> JobResult
+        ensures { result ≡ gathered (filter_map (leg_end self.now r j) (placed legs.now)) }
+    {
+        if self.failing_leg(r, j, legs).is_some() {
+            JobResult::Failure
+        } else if any_was_cancelled(legs) {
+            JobResult::Cancelled
+        } else {
+            JobResult::Success
+        }
+    }
+
+    /// Whether the leg fails its job.
+    fn fails_job(&self, place: LegPlace, leg: &Leg) -> bool
+        requires leg { place.leg < 2 ^ 63 }
+        ensures { result ≡ option_map_or fails_job (leg_end self.now place.run place.job (place.leg, leg.now)) false }
+    {
+        leg.has_failed() && !self.passes_over(place)
+    }
+
+    /// The first leg that fails its job.
+    fn failing_leg(&self, r: usize, j: usize, legs: &[Leg]) -> Option<usize>
+        ensures { result ≡ first_some (failing self.now r j) (placed legs.now) }
+    {
+        for l in 0..legs.len() {
+            let place = LegPlace {
+                run: r,
+                job: j,
+                leg: l,
+            };
+            let leg = &legs[l];
+            if self.fails_job(place, leg) {
+                return Some(l);
+            }
+        }
+        None
+    }
+
+    /// The run goes on to its next phase, where it has one.
+    fn move_run(&mut self, r: usize)
+        ensures { IfSome (option_and_then (whole_rule self.old r) (run_at self.old r)) (λ next. self.new ≡ next) }
+    {
+        if let Some(run) = self.runs.get(r) {
+            if let Some(phase) = run.phase().next(has_settled_jobs(run)) {
+                self.set_run_phase(r, phase);
+            }
+        }
+    }
+}
+
+fn any_was_cancelled(legs: &[Leg]) -> bool
+    ensures { result ≡ list_any (λ leg. option_map_or is_cancelled (outcome_of leg.phase) false) legs.now }
+{
+    legs.iter().any(|leg| leg.was_cancelled())
+}
