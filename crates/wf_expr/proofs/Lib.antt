@@ -1,5 +1,7 @@
+pub mod BoundLemmas
 pub mod ComparisonLemmas
 pub mod Complete
+pub mod FlagLemmas
 pub mod NameLemmas
 pub mod OpeningLemmas
 pub mod OutcomeLemmas
