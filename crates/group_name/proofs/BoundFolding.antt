@@ -1,8 +1,7 @@
 -- A bound name without its case gives the group of its text by any results.
 use Rattle.std.proofs.Common.{◌≡◌, ℕ, ◌<◌, ◌≤◌, List, [], ◌∷◌, ◌++◌, length, None, Some, arith, codes, encode_utf8_all, IsUtf8, refl, sym, ap, ap₂, subst, ◌∙◌}
-use Rattle.std.specs.Prelude.{◌≢◌, ◌↔◌, IsTrue, IsSome, Option, map}
+use Rattle.std.specs.Prelude.{◌≢◌, ◌↔◌, IsSome, Option, map}
 use Rattle.std.proofs.lemmas.Str.{IsUtf8-append, IsUtf8-nil, chars-nil, chars-append, chars_from_encodes, encodes-append, encodes-chars}
-use Rattle.std.specs.List.{flat_map}
 use Rattle.std.specs.Option.{option_map_or}
 use Rattle.std.specs.Str.{chars}
 use lib.Utf8.{encode}
@@ -14,7 +13,7 @@ use Rattle.wf_expr.specs.declared.bound.BoundPiece.{BoundPiece}
 use Rattle.caseless.specs.Caseless.{default_case_fold}
 use Rattle.caseless.proofs.CaselessLemmas.{default_case_fold-append, default_case_fold-cons, default_case_fold-nil, full_fold-none, full_fold-some}
 use Rattle.caseless.proofs.Computing.{caseless}
-use Rattle.group_name.specs.BoundGroup.{AreTexts, BoundName, bound_group, folded_piece, folded_text, group_at, group_of_folded}
+use Rattle.group_name.specs.BoundGroup.{AreTexts, BoundName, folded_piece, folded_text, group_at, group_of_folded}
 use Rattle.group_name.specs.Group.{Group, folded_name, group_of}
 use Rattle.group_name.proofs.Folding.{same_bytes}
 

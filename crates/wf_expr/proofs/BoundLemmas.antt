@@ -1,6 +1,5 @@
 -- A template that was bound has the text of its value.
-use Rattle.std.proofs.Common.{◌≡◌, ◌↔◌, ◌⊎◌, ℕ, ◌+◌, ◌<◌, Bool, true, false, cond, List, [], ◌∷◌, ◌++◌, length, get_or, refl, ap, ap₂, sym, ◌∙◌}
-use Rattle.std.proofs.Common.{arith, inl, inr, append_assoc}
+use Rattle.std.proofs.Common.{◌≡◌, ℕ, Bool, true, false, cond, List, [], ◌∷◌, ◌++◌, refl, ap, ap₂, sym, ◌∙◌}
 use Rattle.std.specs.Prelude.{Option, None, Some, map, filter_map, find, unwrap_or}
 use Rattle.std.proofs.Math.Path.{fun_ext}
 use Rattle.std.specs.List.{cons_option, flat_map}
@@ -10,11 +9,11 @@ use Rattle.wf_value.specs.Words.{result_word}
 use Rattle.wf_value.specs.declared.outcome.JobResult.{JobResult}
 use Rattle.wf_value.specs.declared.outcome.JobResult.TheVariants as result
 use Rattle.wf_value.specs.declared.scalar.Scalar.{Scalar}
-use Rattle.wf_value.specs.declared.scalar.Scalar.TheVariants.{Null, Truth, Whole, Text}
+use Rattle.wf_value.specs.declared.scalar.Scalar.TheVariants.{Text}
 use Rattle.wf_expr.specs.Bound.{Results, NeedOf, HasResults, no_results, with_results, result_value, first_result, bound_piece_text, bound_text}
 use Rattle.wf_expr.specs.Bound.{need_of_operand, before_true, asked_needs, bound_piece, bound_of}
 use Rattle.wf_expr.specs.ContextValue.{Values}
-use Rattle.wf_expr.specs.TemplateValue.{operand_value, first_true, last_or, expression_value, piece_text, template_value}
+use Rattle.wf_expr.specs.TemplateValue.{operand_value, first_true, last_or, piece_text, template_value}
 use Rattle.wf_expr.specs.declared.bound.BoundPiece.{BoundPiece}
 use Rattle.wf_expr.specs.declared.piece.Operand.{Operand}
 use Rattle.wf_expr.specs.declared.piece.Operand.TheVariants.{Quoted, Reference}
@@ -25,9 +24,9 @@ use Rattle.wf_expr.proofs.ComparisonLemmas.{value-text}
 -- the first true value of a longer list
 first-step : (other v : Scalar) (vs : List Scalar) → first_true other (v ∷ vs) ≡ cond (is_truthy v) v (first_true v vs)
 first-step other v vs = elim (is_truthy v) as (λ b. unwrap_or (cond b (Some v) (find is_truthy vs)) (last_or v vs) ≡ cond b v (first_true v vs)) [
-    true ↦ refl
+  | true ↦ refl
   | false ↦ refl
-  ]
+]
 
 -- a word is true
 word-true : (r : JobResult) → is_truthy (Text (result_word r)) ≡ true
@@ -43,13 +42,13 @@ Stands results v w (Some need) = (v ≡ unwrap_or (result_value (results need)) 
 
 reference-stands : (known : Values) (need_of : NeedOf) (results : Results) (path : List (List ℕ)) (o : Option ℕ) → need_of path ≡ o
     → Stands results (unwrap_or (with_results known need_of results path) (Text []))
-        (unwrap_or (with_results known need_of no_results path) (Text [])) o
+    (unwrap_or (with_results known need_of no_results path) (Text [])) o
 reference-stands known need_of results path None e = rw e refl
 reference-stands known need_of results path (Some need) e = (rw e refl, rw e refl)
 
 stands : (known : Values) (need_of : NeedOf) (results : Results) (operand : Operand)
     → Stands results (operand_value (with_results known need_of results) operand)
-        (operand_value (with_results known need_of no_results) operand) (need_of_operand need_of operand)
+    (operand_value (with_results known need_of no_results) operand) (need_of_operand need_of operand)
 stands known need_of results (Quoted text) = refl
 stands known need_of results (Reference path) = reference-stands known need_of results path (need_of path) refl
 

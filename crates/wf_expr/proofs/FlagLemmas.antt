@@ -1,5 +1,5 @@
 -- A flag is set by the text `true`: no whole number has that text.
-use Rattle.std.proofs.Common.{◌≡◌, ◌↔◌, ◌⊎◌, ℕ, ◌%◌, ◌/◌, ◌==◌, ◌<◌, Bool, true, false, cond, nat_lt, List, [], ◌∷◌, refl, ap, sym, ◌∙◌, subst}
+use Rattle.std.proofs.Common.{◌≡◌, ◌↔◌, ℕ, ◌%◌, ◌/◌, ◌==◌, ◌<◌, true, false, cond, List, [], ◌∷◌, refl, ap, subst}
 use Rattle.std.proofs.Common.{arith, inl, inr, codes, zero, suc}
 use Rattle.std.proofs.lemmas.Nat.{mod_below}
 use Rattle.std.specs.Prelude.{pos, negsuc, ℤ}
@@ -22,8 +22,8 @@ onto-low zero n acc low = low
 onto-low (suc k) n acc low =
     let more : AreLow (digit_glyph false (n % 10) ∷ acc) = (glyph-low (n % 10) (mod_below n 10 (omega arith)), low) in
     elim (n / 10 == 0) as (λ b. AreLow (cond b (digit_glyph false (n % 10) ∷ acc) (digits_onto k 10 false (n / 10) (digit_glyph false (n % 10) ∷ acc)))) [
-      true ↦ more
-    | false ↦ onto-low k (n / 10) (digit_glyph false (n % 10) ∷ acc) more
+      | true ↦ more
+      | false ↦ onto-low k (n / 10) (digit_glyph false (n % 10) ∷ acc) more
     ]
 
 decimal-low : (n : ℕ) → AreLow (decimal n)

@@ -1,4 +1,5 @@
 pub mod BoundLemmas
+mod BoundRows
 pub mod ComparisonLemmas
 pub mod Complete
 pub mod FlagLemmas

@@ -1,7 +1,7 @@
 -- Templates whose references to the results of needs are left open, while every other one has been looked up. GitHub Docs,
 -- "Contexts reference" (needs context), and "Evaluate expressions in workflows and actions" (Operators). That they are split so
 -- is own: a result is known only once the job that is needed has ended.
-use Rattle.std.specs.Prelude.{◌≡◌, ℕ, List, [], ◌∷◌, Bool, Option, None, Some, map, filter_map, if◌then◌else◌}
+use Rattle.std.specs.Prelude.{◌≡◌, ℕ, List, [], ◌∷◌, Option, None, map, filter_map, if◌then◌else◌}
 use Rattle.std.specs.List.{flat_map}
 use Rattle.std.specs.Option.{option_map, option_map_or, option_or}
 use Rattle.wf_value.specs.ScalarValue.{is_truthy}

@@ -97,20 +97,16 @@ impl BoundTemplate {
         ensures { IsTrue result ↔
             (bound_text (R.result_of results.now) self.now ≡ bound_text (S.result_of other_results.now) other.now) }
     {
-        are_same(
-            Unread::new(b"", self.pieces(), results),
-            Unread::new(b"", other.pieces(), other_results),
-        )
+        let text = Unread::new(b"", self.pieces(), results);
+        are_same(text, Unread::new(b"", other.pieces(), other_results))
     }
 
     /// Whether the text by the results sets a flag: whether it is `true`.
     pub fn sets_flag<R: NeedResults>(&self, results: &R) -> bool
         ensures { IsTrue result ↔ (bound_text (R.result_of results.now) self.now ≡ codes "true") }
     {
-        are_same(
-            Unread::new(b"", self.pieces(), results),
-            Unread::new(b"true", &[], results),
-        )
+        let text = Unread::new(b"", self.pieces(), results);
+        are_same(text, Unread::new(b"true", &[], results))
     }
 }
 

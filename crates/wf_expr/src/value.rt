@@ -58,7 +58,11 @@ fn push_scalar(text: &mut String, value: ScalarView<'_>) -> Result<(), Refusal>
 }
 
 /// Adds the text of a piece.
-pub(crate) fn push_piece<C: Context>(text: &mut String, piece: &Piece, context: &C) -> Result<(), Refusal>
+pub(crate) fn push_piece<C: Context>(
+    text: &mut String,
+    piece: &Piece,
+    context: &C,
+) -> Result<(), Refusal>
     ensures ok { OnOk result (string_bytes text.new ≡ string_bytes text.old ++ piece_text (C.values context.now) piece.now) }
     ensures memory { IfErr result (λ e. e ≡ no_memory) }
 {
