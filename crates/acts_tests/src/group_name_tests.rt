@@ -1,10 +1,11 @@
 //! Which names mean one concurrency group: rows of CaseFolding.txt of the Unicode Character Database, 18.0,
 //! with status C or F.
 
-use group_name::GroupKey;
+use crate::wf_expr_tests::binding::{Ended, FAILED, NONE, bound_of};
+use group_name::{BoundGroup, GroupKey};
 use std::alloc::Global;
 use std::process::Abort;
-use wf_value::{Same, TryCopy};
+use wf_value::{Refusal, Same, TryCopy};
 
 /// A repository and a name.
 type Named = (&'static str, &'static str);
@@ -57,4 +58,48 @@ fn copies_a_group(rt: HostRuntime) {
     let made = group(&rt, rt.alloc(), ("o/r", "Prod"));
     let copy = made.copy(rt.alloc()).expect(&rt, "memory");
     assert!(rt; copy.same(&made));
+}
+
+/// The group of a template in a repository, as it is bound.
+fn bound_group(alloc: Global, named: Named) -> Result<BoundGroup, Refusal> {
+    let name = bound_of(alloc, named.1)?;
+    BoundGroup::of(alloc, named.0, &name)
+}
+
+/// Two names, the results of the first, and whether it names the group that the second names without results.
+const BOUND: [(Named, Named, Ended, bool); 8] = [
+    (("o/r", "Straße"), ("o/r", "STRASSE"), NONE, true),
+    (("o/r", "A${{ 'bc' }}"), ("o/r", "${{ 'aB' }}C"), NONE, true),
+    (("o/r", "D-${{ needs.a.result }}"), ("o/r", "d-FAILURE"), FAILED, true),
+    (("o/r", "D-${{ needs.a.result }}"), ("o/r", "d-FAILURE"), NONE, false),
+    (("o/r", "${{ needs.a.result || 'X' }}"), ("o/r", "x"), NONE, true),
+    (("o/r", "prod"), ("O/R", "prod"), NONE, false),
+    (("o/r", "prod"), ("o/r", "prod2"), NONE, false),
+    (("o/r", "${{ needs.a.result }}"), ("o/r", ""), NONE, false),
+];
+
+#[test]
+fn compares_bound_groups(rt: HostRuntime) {
+    for (named, other, ended, same) in &BOUND {
+        let group = bound_group(rt.alloc(), *named).expect(&rt, named.1);
+        let other = bound_group(rt.alloc(), *other).expect(&rt, named.1);
+        assert!(rt; group.same(ended, &other, &NONE) == *same, "{}", named.1);
+    }
+}
+
+#[test]
+fn bound_name_has_a_group_where_it_has_a_text(rt: HostRuntime) {
+    let name = "${{ needs.a.result }}";
+    let group = bound_group(rt.alloc(), ("o/r", name)).expect(&rt, name);
+    assert!(rt; group.has_group(&FAILED));
+    assert!(rt; !group.has_group(&NONE));
+}
+
+#[test]
+fn copies_a_bound_group(rt: HostRuntime) {
+    let name = "D-${{ needs.a.result }}";
+    let group = bound_group(rt.alloc(), ("o/r", name)).expect(&rt, name);
+    let copy = group.copy(rt.alloc()).expect(&rt, name);
+    assert!(rt; copy.same(&FAILED, &group, &FAILED));
+    assert!(rt; !copy.same(&FAILED, &group, &NONE));
 }

@@ -1,5 +1,6 @@
 //! Templates and their values.
 
+pub mod binding;
 mod reading;
 mod values;
 

@@ -30,7 +30,7 @@ kept_group repository name kept text filled same folds = group_of_name repositor
     ∙ ap₂ (λ r f. Some (record { repository = r; folded = f })) same folds
 
 -- texts that spell the same characters are the same
-same_bytes : (one other : List ℕ) → IsUtf8 one → IsUtf8 other → chars one ≡ chars other → one ≡ other
+pub same_bytes : (one other : List ℕ) → IsUtf8 one → IsUtf8 other → chars one ≡ chars other → one ≡ other
 same_bytes one other utf8 other_utf8 same = sym (encodes-chars one utf8) ∙ ap encode_utf8_all same ∙ encodes-chars other other_utf8
 
 -- two groups are one where they are kept as the same repository and the same text

@@ -1,1 +1,2 @@
+mod BoundFolding
 mod Folding

@@ -64,7 +64,7 @@ impl GroupKey {
 }
 
 /// A name without its case.
-fn folded(alloc: Global, name: &str) -> Result<Chars, Refusal>
+pub(crate) fn folded(alloc: Global, name: &str) -> Result<Chars, Refusal>
     ensures gives { Gives chars result (Ok (folded_name name.now)) }
     ensures utf8 { IfOk result IsUtf8 }
 {

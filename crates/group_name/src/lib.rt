@@ -1,8 +1,10 @@
 //! Which names mean one concurrency group. GitHub Docs, "Control the concurrency of workflows and jobs".
 #![tactic(auto)]
 
+mod bound_group;
 mod group_key;
 pub mod laws;
 mod order;
 
+pub use bound_group::BoundGroup;
 pub use group_key::GroupKey;

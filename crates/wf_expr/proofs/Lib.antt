@@ -1,5 +1,8 @@
+pub mod BoundLemmas
+mod BoundRows
 pub mod ComparisonLemmas
 pub mod Complete
+pub mod FlagLemmas
 pub mod NameLemmas
 pub mod OpeningLemmas
 pub mod OutcomeLemmas

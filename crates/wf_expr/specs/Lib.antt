@@ -1,3 +1,4 @@
+pub mod Bound
 pub mod Comparison
 pub mod ContextValue
 pub mod Faults

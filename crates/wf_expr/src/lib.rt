@@ -2,6 +2,8 @@
 //! expressions in workflows and actions" and "Contexts reference".
 #![tactic(auto)]
 
+mod bind;
+mod bound;
 mod case;
 mod comparison;
 mod context;
@@ -13,15 +15,20 @@ mod place;
 mod profile;
 mod properties;
 mod reader;
+mod results;
 mod scalar_view;
 mod template;
+mod unread;
 mod value;
 
+pub use bind::flag_is_set_by_the_text_true;
+pub use bound::{BoundPiece, BoundTemplate};
 pub use context::{Context, Over};
 pub use flag::is_flag_set;
 pub use grammar::{spells_one_template, template_of_is_the_grammars};
 pub use piece::{Operand, Piece};
 pub use place::Place;
 pub use properties::Properties;
+pub use results::{NeedResults, Needs};
 pub use scalar_view::ScalarView;
 pub use template::Template;

@@ -13,7 +13,7 @@ use std::alloc::Global;
 use wf_value::{Chars, Refusal};
 
 /// The value of an operand; of a path that the context has no value for, the empty text.
-fn operand_value<'a, C: Context>(operand: &'a Operand, context: &'a C) -> ScalarView<'a>
+pub(crate) fn operand_value<'a, C: Context>(operand: &'a Operand, context: &'a C) -> ScalarView<'a>
     ensures { shown result ≡ operand_value (C.values context.now) operand.now }
 {
     match operand {
@@ -58,7 +58,11 @@ fn push_scalar(text: &mut String, value: ScalarView<'_>) -> Result<(), Refusal>
 }
 
 /// Adds the text of a piece.
-fn push_piece<C: Context>(text: &mut String, piece: &Piece, context: &C) -> Result<(), Refusal>
+pub(crate) fn push_piece<C: Context>(
+    text: &mut String,
+    piece: &Piece,
+    context: &C,
+) -> Result<(), Refusal>
     ensures ok { OnOk result (string_bytes text.new ≡ string_bytes text.old ++ piece_text (C.values context.now) piece.now) }
     ensures memory { IfErr result (λ e. e ≡ no_memory) }
 {

@@ -1,0 +1,102 @@
+ghost use Rattle.std.specs.Prelude.{◌≡◌, ◌↔◌, IsTrue, IsSome, IsUtf8, map, Ok, IfOk};
+ghost use Rattle.group_name.specs.BoundGroup.{AreTexts, bound_group, folded_piece, group_at};
+ghost use Rattle.group_name.specs.Group.{group_of};
+ghost use Rattle.wf_expr.specs.Bound.{Results, bound_text};
+ghost use Rattle.wf_value.specs.Gives.{Gives};
+
+use crate::group_key::folded;
+use std::alloc::Global;
+use std::marker::Model;
+use wf_expr::{BoundPiece, BoundTemplate, NeedResults};
+use wf_value::{Chars, Refusal, Same, TryCopy};
+
+/// The name of a concurrency group in a repository, without its case, where it was bound before the
+/// results of needs were known: by these it names a group, or none. A contract sees the repository's
+/// bytes and the name's pieces.
+#[derive(Drop)]
+pub struct BoundGroup {
+    repository: Chars,
+    name: BoundTemplate,
+}
+
+impl Model for BoundGroup {
+    ghost use Rattle.group_name.specs.BoundGroup.{AreTexts, BoundName, coded_name};
+
+    ghost Value = { BoundName };
+
+    ghost coded = { coded_name };
+
+    ghost view = { λ g. record { repository = g.repository; pieces = g.name } };
+
+    ghost invariant = { λ g. AreTexts g.name };
+}
+
+/// A piece without the case of its text.
+fn folded_piece(alloc: Global, piece: &BoundPiece) -> Result<BoundPiece, Refusal>
+    ensures gives { Gives (λ p. p) result (Ok (folded_piece piece.now)) }
+    ensures utf8 { IfOk result (λ p. IsUtf8 p.otherwise × IsUtf8 piece.now.otherwise) }
+{
+    Ok(BoundPiece {
+        needs: piece.needs.copy(alloc)?,
+        otherwise: folded(alloc, piece.otherwise.as_str())?,
+    })
+}
+
+fn folded_pieces(alloc: Global, pieces: &[BoundPiece]) -> Result<Vec<BoundPiece>, Refusal>
+    ensures gives { Gives (λ v. v.items) result (Ok (map folded_piece pieces.now)) }
+    ensures utf8 { IfOk result (λ v. AreTexts v.items × AreTexts pieces.now) }
+{
+    let mut folded = Vec::with_capacity(alloc, pieces.len())?;
+    for piece in pieces {
+        folded.push(folded_piece(alloc, piece)?)?;
+    }
+    Ok(folded)
+}
+
+impl BoundGroup {
+    /// The group that a bound name means in a repository, whatever the results will be. Its `Err` is 50
+    /// alone. GitHub Docs, "Control the concurrency of workflows and jobs".
+    pub fn of(alloc: Global, repository: &str, name: &BoundTemplate) -> Result<Self, Refusal>
+        ensures gives { Gives (λ g. g) result (Ok (bound_group repository.now name.now)) }
+        ensures group { IfOk result (λ g. (results : Results)
+            → group_at results g ≡ group_of repository.now (bound_text results name.now)) }
+    {
+        let pieces = folded_pieces(alloc, name.pieces())?;
+        Ok(BoundGroup {
+            repository: Chars::from_str(alloc, repository)?,
+            name: BoundTemplate::new(pieces),
+        })
+    }
+
+    /// Whether there is a group by the results: whether the name is not empty. It takes no memory.
+    pub fn has_group<R: NeedResults>(&self, results: &R) -> bool
+        ensures { IsTrue result ↔ IsSome (group_at (R.result_of results.now) self.now) }
+    {
+        self.name.has_text(results)
+    }
+
+    /// Whether there is a group by the results, and it is that of another name by its own. It takes no
+    /// memory.
+    pub fn same<R: NeedResults, S: NeedResults>(
+        &self,
+        results: &R,
+        other: &Self,
+        other_results: &S,
+    ) -> bool
+        ensures { IsTrue result ↔ (IsSome (group_at (R.result_of results.now) self.now)
+            × (group_at (R.result_of results.now) self.now ≡ group_at (S.result_of other_results.now) other.now)) }
+    {
+        self.has_group(results)
+            && self.repository.same(&other.repository)
+            && self.name.is_same_text(results, &other.name, other_results)
+    }
+}
+
+impl TryCopy for BoundGroup {
+    fn copy(&self, alloc: Global) -> Result<Self, Refusal> {
+        Ok(BoundGroup {
+            repository: self.repository.copy(alloc)?,
+            name: self.name.copy(alloc)?,
+        })
+    }
+}

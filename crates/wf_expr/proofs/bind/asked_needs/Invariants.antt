@@ -1,0 +1,10 @@
+use Rattle.std.proofs.Common.{◌≡◌, ◌++◌, drop}
+use Rattle.wf_expr.specs.Bound.{asked_needs}
+use Rattle.wf_expr.proofs.bind.asked_needs.Given as goal
+
+-- the needs so far and those that the operands that are left ask are those that all of them ask
+abbrev pub invariant-loop-operand : goal.invariant-loop-operand
+invariant-loop-operand g l =
+    let values = g.C.Context.values l.known.context.now in
+    let need_of = g.N.Needs.need_of l.known.needs.now in
+    l.asked.items ++ asked_needs values need_of (drop l.operand-index l.operands) ≡ asked_needs values need_of l.operands

@@ -1,0 +1,119 @@
+ghost use Rattle.std.specs.Prelude.{◌≡◌, ◌≢◌, ◌↔◌, [], IsTrue, codes};
+ghost use Rattle.wf_expr.specs.Bound.{bound_piece_text, bound_text, first_result};
+
+use crate::results::NeedResults;
+use crate::unread::{Unread, are_same};
+use std::alloc::Global;
+use std::marker::Model;
+use wf_value::{Chars, JobResult, Refusal, Sequence, TryCopy};
+
+/// A piece of a template that was bound: the needs whose results it asks for in turn, by their
+/// numbers, and the text that stands where none of them has a result.
+#[derive(Drop)]
+pub struct BoundPiece {
+    pub needs: Sequence<usize>,
+    pub otherwise: Chars,
+}
+
+/// The result of the first of these needs that has one.
+fn first_result<R: NeedResults>(needs: &[usize], results: &R) -> Option<JobResult>
+    ensures { result ≡ first_result (R.result_of results.now) needs.now }
+{
+    for need in needs {
+        if let Some(result) = results.result_of(*need) {
+            return Some(result);
+        }
+    }
+    None
+}
+
+impl BoundPiece {
+    /// The text of the piece by the results.
+    pub(crate) fn text<R: NeedResults>(&self, results: &R) -> &str
+        ensures { result.now ≡ bound_piece_text (R.result_of results.now) self.now }
+    {
+        match first_result(self.needs.as_slice(), results) {
+            Some(result) => result.word(),
+            None => self.otherwise.as_str(),
+        }
+    }
+}
+
+impl TryCopy for BoundPiece {
+    fn copy(&self, alloc: Global) -> Result<Self, Refusal> {
+        Ok(BoundPiece {
+            needs: self.needs.copy(alloc)?,
+            otherwise: self.otherwise.copy(alloc)?,
+        })
+    }
+}
+
+/// A template in which all but the results of needs has been looked up, so that its text is known
+/// by them without memory. A contract sees the list of its pieces.
+#[derive(Drop)]
+pub struct BoundTemplate {
+    pieces: Sequence<BoundPiece>,
+}
+
+impl Model for BoundTemplate {
+    ghost use Rattle.std.specs.Prelude.{List};
+    ghost use Rattle.wf_expr.specs.declared.bound.BoundPiece.{BoundPiece};
+
+    ghost Value = { List BoundPiece };
+
+    ghost view = { λ t. t.pieces };
+}
+
+impl BoundTemplate {
+    /// The template of a `Vec`, which is moved and not copied.
+    pub fn new(pieces: Vec<BoundPiece>) -> Self
+        ensures { result ≡ pieces.items }
+    {
+        BoundTemplate {
+            pieces: Sequence::new(pieces),
+        }
+    }
+
+    pub fn pieces(&self) -> &[BoundPiece]
+        ensures { result.now ≡ self.now }
+    {
+        self.pieces.as_slice()
+    }
+
+    /// Whether the text by the results is not empty.
+    pub fn has_text<R: NeedResults>(&self, results: &R) -> bool
+        ensures { IsTrue result ↔ (bound_text (R.result_of results.now) self.now ≢ []) }
+    {
+        Unread::new(b"", self.pieces(), results).next().is_some()
+    }
+
+    /// Whether the text by the results is that of another template by its own.
+    pub fn is_same_text<R: NeedResults, S: NeedResults>(
+        &self,
+        results: &R,
+        other: &Self,
+        other_results: &S,
+    ) -> bool
+        ensures { IsTrue result ↔
+            (bound_text (R.result_of results.now) self.now ≡ bound_text (S.result_of other_results.now) other.now) }
+    {
+        let text = Unread::new(b"", self.pieces(), results);
+        are_same(text, Unread::new(b"", other.pieces(), other_results))
+    }
+
+    /// Whether the text by the results sets a flag: whether it is `true`.
+    pub fn sets_flag<R: NeedResults>(&self, results: &R) -> bool
+        ensures { IsTrue result ↔ (bound_text (R.result_of results.now) self.now ≡ codes "true") }
+    {
+        let text = Unread::new(b"", self.pieces(), results);
+        are_same(text, Unread::new(b"true", &[], results))
+    }
+}
+
+impl TryCopy for BoundTemplate {
+    fn copy(&self, alloc: Global) -> Result<Self, Refusal> {
+        Ok(BoundTemplate {
+            pieces: self.pieces.copy(alloc)?,
+        })
+    }
+}
