@@ -125,16 +125,19 @@ long_body b long h =
     begun (Numbered TooLong) (event_faults b) (run_faults (event_of b).workflow)
     (ap (λ t. if t then required NotJson event_faults_in (json_of b) else fault TooLong) long) h
 
-short_body : (b : List ℕ) → faults_of b ≡ [] → length b < 2 ^ 32
+-- it has 65,536 bytes at most
+pub short_body : (b : List ℕ) → faults_of b ≡ [] → length b ≤ 65536
 short_body b h = elim (cases_Bool (nat_le (length b) 65536)) [
-  | inl short ↦ (let most : length b ≤ 65536 = leb-true (length b) 65536 short in omega (arith, most))
+  | inl short ↦ leb-true (length b) 65536 short
   | inr long ↦ absurd (long_body b long h)
 ]
 
 -- a body in which nothing is wrong is one that a length can tell
 pub faultless_fits : (b : List ℕ) → faults_of b ≡ [] → (length b < 2 ^ 32) × (is_faultless b ≡ true)
 unfolding is_faultless
-faultless_fits b h = (short_body b h, ap (λ fs. are_none fs) h)
+faultless_fits b h =
+    let most = short_body b h in
+    (omega (arith, most), ap (λ fs. are_none fs) h)
 
 given_none : {X : Type 0} (fs : List Refusal) (x z : X) → unless_faulty fs x ≡ Ok z → (are_none fs ≡ true) × (x ≡ z)
 given_none [] x z h = (refl, cc)

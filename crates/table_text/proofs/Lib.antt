@@ -1,5 +1,8 @@
 pub mod Bytes
 pub mod CommandReaders
+pub mod FormReaders
 pub mod Known
+pub mod LengthLaws
+mod LengthRows
 pub mod Loop
 pub mod Readers

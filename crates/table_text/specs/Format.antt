@@ -1,5 +1,5 @@
 -- Formats of bytes: which values have a spelling, and which one that is. Own: there is no public source.
-use Rattle.std.specs.Prelude.{◌≡◌, ℕ, ◌<◌, ◌≤◌, ◌^◌, List, ◌++◌, length, flat_map, Bool, IsTrue, Option, Some, None}
+use Rattle.std.specs.Prelude.{◌≡◌, ℕ, ◌<◌, ◌≤◌, ◌^◌, List, [], ◌∷◌, ◌++◌, length, flat_map, Bool, IsTrue, Option, Some, None}
 use Rattle.std.specs.List.{AllByRecursion}
 use Rattle.std.specs.Int.{to_be_bytes, w32}
 
@@ -67,3 +67,15 @@ counted least most item = record {
   Takes = λ xs. (least ≤ length xs) × (length xs ≤ most) × AllByRecursion item.Takes xs;
   spelling = λ xs. word_bytes (length xs) ++ flat_map item.spelling xs;
 }
+
+-- a number in one byte
+abbrev pub byte : Format ℕ
+byte = record { Takes = λ n. n < 256; spelling = λ n. n ∷ [] }
+
+-- one value, and behind it another, whose format goes by the first
+abbrev pub follow : {A B : Type 0} → Format A → (A → Format B) → Format (A × B)
+follow first second = record { Takes = λ p. first.Takes p.0 × (second p.0).Takes p.1; spelling = λ p. first.spelling p.0 ++ (second p.0).spelling p.1 }
+
+-- just so many values, one behind the other, without a count
+abbrev pub row : {A : Type 0} → ℕ → Format A → Format (List A)
+row n item = record { Takes = λ xs. (length xs ≡ n) × AllByRecursion item.Takes xs; spelling = λ xs. flat_map item.spelling xs }

@@ -1,4 +1,5 @@
 pub mod Commands
 pub mod Format
+pub mod Lengths
 pub mod Reading
 pub mod ReadingCommands

@@ -55,3 +55,14 @@ with_front front (Some xs) = Some (front ++ xs.0, xs.1)
 
 abbrev pub counted_at : {A : Type 0} → ℕ → ℕ → Reader A → Reader (List A)
 counted_at least most item bytes = word_at bytes >>= (λ n. if nat_le least n.0 && nat_le n.0 most then items_at item n.0 n.1 else None)
+
+unfoldable pub byte_at : Reader ℕ
+byte_at [] = None
+byte_at (b ∷ rest) = Some (b, rest)
+
+-- what has these parts, where something has
+abbrev pub some_at : {A B : Type 0} → (A → Option B) → Reader A → Reader B
+some_at whole_of at bytes = at bytes >>= (λ a. whole_of a.0 >>= (λ b. Some (b, a.1)))
+
+abbrev pub follow_at : {A B : Type 0} → Reader A → (A → Reader B) → Reader (A × B)
+follow_at first second bytes = first bytes >>= (λ a. second a.0 a.1 >>= (λ b. Some ((a.0, b.0), b.1)))

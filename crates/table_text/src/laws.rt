@@ -1,7 +1,10 @@
-//! Laws of the spellings of commands and of batches.
+//! Laws of the spellings of commands and of batches, and of their lengths.
 
+ghost use Rattle.std.specs.Prelude.{◌≡◌, List};
+ghost use Rattle.run_plan.specs.declared.command.Command.{Command};
 ghost use Rattle.table_text.specs.Commands.{batch, command};
 ghost use Rattle.table_text.specs.Format.{HasOneSpelling, NoneBeginsAnother};
+ghost use Rattle.table_text.specs.Lengths.{batch_length, command_length, length_of};
 
 /// No spelling of a command begins another.
 pub fn no_command_begins_another()
@@ -21,4 +24,14 @@ pub fn no_batch_begins_another()
 /// Each batch that has a spelling has one.
 pub fn each_batch_has_one_spelling()
     ensures { HasOneSpelling batch }
+{}
+
+/// A command is spelled in one byte and those of its fields: four for a number, one for a result, and four more than it has for a text.
+pub fn a_command_has_the_bytes_of_its_fields()
+    ensures { (c : Command) → length_of command c ≡ command_length c }
+{}
+
+/// A batch is spelled in four bytes and those of its commands.
+pub fn a_batch_has_four_bytes_and_those_of_its_commands()
+    ensures { (commands : List Command) → length_of batch commands ≡ batch_length commands }
 {}

@@ -5,10 +5,12 @@ mod command_at;
 mod fields;
 mod front;
 pub mod laws;
+mod lengths;
 mod not_read;
 mod push;
 mod read;
 mod write;
 
+pub use lengths::{batch_length, command_length};
 pub use read::{read_batch, read_command};
 pub use write::{write_batch, write_command};

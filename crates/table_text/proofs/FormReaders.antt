@@ -1,0 +1,81 @@
+-- What finds one byte, values that others stand for, values that go by those before them, and a row of them.
+use Rattle.std.proofs.Common.{◌≡◌, ℕ, List, [], ◌∷◌, ◌++◌, refl, sym, ◌∙◌, ap, subst, append_assoc}
+use Rattle.std.specs.Prelude.{Option, Some}
+use Rattle.std.proofs.lemmas.Option.{same_Some, none-some}
+use Rattle.table_text.specs.Format.{Format, byte, follow, parts, row}
+use Rattle.table_text.specs.Reading.{◌>>=◌, Reader, byte_at, follow_at, items_at, some_at}
+use Rattle.table_text.proofs.Bytes.{AreBytes, AreBytes-drop}
+use Rattle.table_text.proofs.Readers.{Fronts, Reads, bind_some, some_bind, items_sound, items_complete}
+
+byte_sound : (bytes : List ℕ) (found : ℕ × List ℕ) → AreBytes bytes → byte_at bytes ≡ Some found → Fronts byte bytes found
+unfolding byte_at
+byte_sound [] found are h = absurd (none-some found h)
+byte_sound (b ∷ rest) found are h =
+    subst (λ (q : ℕ × List ℕ). Fronts byte (b ∷ rest) q) (same_Some (b, rest) found h) (record {
+      takes = are 0;
+      split = refl;
+      rest = AreBytes-drop 1 (b ∷ rest) are;
+    })
+
+pub byte_reads : Reads byte byte_at
+unfolding byte_at
+byte_reads = record { sound = byte_sound; complete = λ b rest fits. refl }
+
+-- where each value is found from its parts, and no other has them
+pub some_reads : {A B : Type 0} (parts_of : B → A) (whole_of : A → Option B) (format : Format A) (at : Reader A) → ((b : B) → whole_of (parts_of b) ≡ Some b)
+    → ((a : A) (b : B) → whole_of a ≡ Some b → parts_of b ≡ a) → Reads format at → Reads (parts parts_of format) (some_at whole_of at)
+some_reads {A} {B} parts_of whole_of format at there back reads = record {
+  sound = λ bytes found are h.
+      let step = bind_some (at bytes) (λ a. whole_of a.0 >>= (λ b. Some (b, a.1))) found h in
+      let a = step.0 in
+      let front = reads.sound bytes a are step.1 in
+      let next = bind_some (whole_of a.0) (λ b. Some (b, a.1)) found step.2 in
+      let b = next.0 in
+      let same : parts_of b ≡ a.0 = back a.0 b next.1 in
+      subst (λ (q : B × List ℕ). Fronts (parts parts_of format) bytes q) (same_Some (b, a.1) found next.2) (record {
+        takes = subst format.Takes (sym same) front.takes;
+        split = front.split ∙ ap (λ x. format.spelling x ++ a.1) (sym same);
+        rest = front.rest;
+      });
+  complete = λ b rest fits.
+      some_bind (at (format.spelling (parts_of b) ++ rest)) (λ a. whole_of a.0 >>= (λ c. Some (c, a.1))) (parts_of b, rest) (reads.complete (parts_of b) rest fits)
+      ∙ some_bind (whole_of (parts_of b)) (λ c. Some (c, rest)) b (there b);
+}
+
+pub follow_reads : {A B : Type 0} (first : Format A) (second : A → Format B) (first_at : Reader A) (second_at : A → Reader B) → Reads first first_at
+    → ((a : A) → Reads (second a) (second_at a)) → Reads (follow first second) (follow_at first_at second_at)
+follow_reads {A} {B} first second first_at second_at one other = record {
+  sound = λ bytes found are h.
+      let step = bind_some (first_at bytes) (λ a. second_at a.0 a.1 >>= (λ b. Some ((a.0, b.0), b.1))) found h in
+      let a = step.0 in
+      let front = one.sound bytes a are step.1 in
+      let next = bind_some (second_at a.0 a.1) (λ b. Some ((a.0, b.0), b.1)) found step.2 in
+      let b = next.0 in
+      let behind = (other a.0).sound a.1 b front.rest next.1 in
+      subst (λ (q : (A × B) × List ℕ). Fronts (follow first second) bytes q) (same_Some ((a.0, b.0), b.1) found next.2) (record {
+        takes = (front.takes, behind.takes);
+        split = front.split
+            ∙ ap (λ (l : List ℕ). first.spelling a.0 ++ l) behind.split
+            ∙ sym (append_assoc (first.spelling a.0) ((second a.0).spelling b.0) b.1);
+        rest = behind.rest;
+      });
+  complete = λ p rest fits.
+      let behind : List ℕ = (second p.0).spelling p.1 ++ rest in
+      ap (follow_at first_at second_at) (append_assoc (first.spelling p.0) ((second p.0).spelling p.1) rest)
+      ∙ some_bind (first_at (first.spelling p.0 ++ behind)) (λ a. second_at a.0 a.1 >>= (λ b. Some ((a.0, b.0), b.1))) (p.0, behind)
+      (one.complete p.0 behind fits.0)
+      ∙ some_bind (second_at p.0 behind) (λ b. Some ((p.0, b.0), b.1)) (p.1, rest) ((other p.0).complete p.1 rest fits.1);
+}
+
+pub row_reads : {A : Type 0} (n : ℕ) (format : Format A) (at : Reader A) → Reads format at → Reads (row n format) (items_at at n)
+row_reads {A} n format at reads = record {
+  sound = λ bytes found are h.
+      let items = items_sound format at reads n bytes found are h in
+      record {
+        takes = (items.many, items.takes);
+        split = items.split;
+        rest = items.rest;
+      };
+  complete = λ xs rest fits.
+      ap (λ k. items_at at k ((row n format).spelling xs ++ rest)) (sym fits.0) ∙ items_complete format at reads xs rest fits.1;
+}

@@ -1,0 +1,94 @@
+-- The length of a spelling is the sum over its fields.
+use Rattle.std.proofs.Common.{◌≡◌, ℕ, suc, ◌+◌, ◌<◌, ◌≤◌, List, [], ◌∷◌, ◌++◌, length, take, get_or, refl, sym, ◌∙◌, ap, arith, length-append}
+use Rattle.std.specs.Prelude.{Bool, true, flat_map, sum_by, nat_le}
+use Rattle.std.specs.List.{list_all}
+use Rattle.std.proofs.lemmas.Bool.{leb-true}
+use Rattle.std.proofs.lemmas.List.Concat.{length-flat_map}
+use Rattle.std.proofs.lemmas.List.Sums.{sum_by-cons, sum_by_more}
+use Rattle.wf_value.specs.declared.outcome.Outcome.{Outcome}
+use Rattle.run_plan.specs.SmallText.{is_of_short_length, is_short}
+use Rattle.run_plan.specs.declared.command.Command.{Command}
+use Rattle.run_plan.specs.declared.command.Command.TheVariants as asked
+use Rattle.table_text.specs.Commands.{batch, command, command_bytes, labels, outcome_byte}
+use Rattle.table_text.specs.Format.{text_bytes, word_bytes}
+use Rattle.table_text.specs.Lengths.{batch_length, command_length, length_of, text_length, texts_length}
+use Rattle.table_text.proofs.Readers.{both}
+
+pub length_word : (n : ℕ) → length (word_bytes n) ≡ 4
+unfolding word_bytes
+length_word n = refl
+
+pub length_text : (t : List ℕ) → length (text_bytes t) ≡ text_length t
+unfolding text_bytes
+length_text t = length-append (word_bytes (length t)) t ∙ ap (λ n. n + length t) (length_word (length t))
+
+-- two parts, one behind the other
+pub length_two : (a b : List ℕ) (m n : ℕ) → length a ≡ m → length b ≡ n → length (a ++ b) ≡ m + n
+length_two a b m n one two = length-append a b ∙ ap (λ k. k + length b) one ∙ ap (λ k. m + k) two
+
+pub sum_same : {X : Type 0} (f g : X → ℕ) (xs : List X) → ((x : X) → f x ≡ g x) → sum_by f xs ≡ sum_by g xs
+sum_same f g [] same = refl
+sum_same f g (x ∷ xs) same =
+    sum_by-cons f x xs ∙ ap (λ k. k + sum_by f xs) (same x) ∙ ap (λ k. g x + k) (sum_same f g xs same) ∙ sym (sum_by-cons g x xs)
+
+-- the sum so far, and what is counted of one value more
+pub sum_more : {X : Type 0} (f : X → ℕ) (xs : List X) (i : ℕ) (d x : X) (total more : ℕ) → i < length xs → x ≡ get_or xs i d → total ≡ sum_by f (take i xs)
+    → more ≡ f x → total + more ≡ sum_by f (take (i + 1) xs)
+sum_more f xs i d x total more below is so_far one =
+    let next : sum_by f (take (i + 1) xs) ≡ sum_by f (take i xs) + f (get_or xs i d) = sum_by_more f xs i d below in
+    ap (λ n. n + more) so_far ∙ ap (λ n. sum_by f (take i xs) + n) (one ∙ ap f is) ∙ sym next
+
+-- values of one format behind their count
+pub length_counted : {X : Type 0} (f : X → List ℕ) (g : X → ℕ) (xs : List X) → ((x : X) → length (f x) ≡ g x)
+    → length (word_bytes (length xs) ++ flat_map f xs) ≡ 4 + sum_by g xs
+length_counted f g xs same =
+    length_two (word_bytes (length xs)) (flat_map f xs) 4 (sum_by g xs) (length_word (length xs))
+    (length-flat_map f xs ∙ sum_same (λ x. length (f x)) g xs same)
+
+pub length_labels : (texts : List (List ℕ)) → length (labels.spelling texts) ≡ texts_length texts
+length_labels texts = length_counted text_bytes text_length texts length_text
+
+-- the byte that stands before others
+behind_one : (bytes : List ℕ) {n : ℕ} → length bytes ≡ n → suc (length bytes) ≡ 1 + n
+behind_one bytes h = omega (arith, h)
+
+length_outcome : (r : Outcome) → length (outcome_byte r ∷ []) ≡ 1
+length_outcome r = refl
+
+pub length_command : (c : Command) → length_of command c ≡ command_length c
+length_command (asked.Admit event) =
+    behind_one _
+    (length_two (text_bytes event.delivery) (text_bytes event.event ++ text_bytes event.body) (text_length event.delivery)
+    (text_length event.event + text_length event.body) (length_text event.delivery)
+    (length_two (text_bytes event.event) (text_bytes event.body) (text_length event.event) (text_length event.body) (length_text event.event) (length_text event.body))
+    ∙ omega arith)
+length_command (asked.Claim asks) =
+    behind_one _
+    (length_two (text_bytes asks.runner) (word_bytes asks.number ++ labels.spelling asks.labels) (text_length asks.runner)
+    (4 + texts_length asks.labels) (length_text asks.runner)
+    (length_two (word_bytes asks.number) (labels.spelling asks.labels) 4 (texts_length asks.labels) (length_word asks.number) (length_labels asks.labels))
+    ∙ omega arith)
+length_command (asked.Done report) =
+    behind_one _
+    (length_two (text_bytes report.runner) (word_bytes report.number ++ (word_bytes report.lease ++ outcome_byte report.result ∷ [])) (text_length report.runner)
+    (4 + (4 + 1)) (length_text report.runner)
+    (length_two (word_bytes report.number) (word_bytes report.lease ++ outcome_byte report.result ∷ []) 4 (4 + 1) (length_word report.number)
+    (length_two (word_bytes report.lease) (outcome_byte report.result ∷ []) 4 1 (length_word report.lease) (length_outcome report.result)))
+    ∙ omega arith)
+length_command (asked.Beat asks) =
+    behind_one _ (length_two (text_bytes asks.runner) (word_bytes asks.lease) (text_length asks.runner) 4 (length_text asks.runner) (length_word asks.lease))
+length_command (asked.Cancel run) = behind_one _ (length_word run)
+length_command (asked.Lost runner) = behind_one _ (length_text runner)
+length_command (asked.Look run) = behind_one _ (length_word run)
+length_command (asked.Fetch run) = behind_one _ (length_word run)
+
+pub length_batch : (commands : List Command) → length_of batch commands ≡ batch_length commands
+length_batch commands = length_counted command_bytes command_length commands length_command
+
+-- ---- how long the fields may be
+
+pub short_length : (kind : ℕ → Bool) (t : List ℕ) → is_short kind t ≡ true → length t ≤ 64
+short_length kind t h =
+    let parts = both (is_of_short_length t) (list_all kind t) h in
+    let range = both (nat_le 1 (length t)) (nat_le (length t) 64) parts.0 in
+    leb-true (length t) 64 range.1

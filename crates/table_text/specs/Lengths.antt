@@ -1,0 +1,36 @@
+-- How many bytes a value is spelled in, as a sum over its fields. Own: there is no public source.
+use Rattle.std.specs.Prelude.{ℕ, ◌+◌, List, length, sum_by}
+use Rattle.run_plan.specs.declared.command.Command.{Command}
+use Rattle.run_plan.specs.declared.command.Command.TheVariants as asked
+use Rattle.table_text.specs.Format.{Format}
+
+-- the bytes of the spelling, counted
+abbrev pub length_of : {A : Type 0} → Format A → A → ℕ
+length_of format x = length (format.spelling x)
+
+-- four bytes tell the length of a text
+abbrev pub text_length : List ℕ → ℕ
+text_length t = 4 + length t
+
+-- four bytes tell the count, and then each text
+abbrev pub texts_length : List (List ℕ) → ℕ
+texts_length texts = 4 + sum_by text_length texts
+
+-- a number has four bytes, and a result one
+abbrev pub fields_length : Command → ℕ
+fields_length (asked.Admit event) = text_length event.delivery + text_length event.event + text_length event.body
+fields_length (asked.Claim asks) = text_length asks.runner + 4 + texts_length asks.labels
+fields_length (asked.Done report) = text_length report.runner + 4 + 4 + 1
+fields_length (asked.Beat asks) = text_length asks.runner + 4
+fields_length (asked.Cancel run) = 4
+fields_length (asked.Lost runner) = text_length runner
+fields_length (asked.Look run) = 4
+fields_length (asked.Fetch run) = 4
+
+-- one byte says which command it is
+abbrev pub command_length : Command → ℕ
+command_length c = 1 + fields_length c
+
+-- four bytes tell the count, and then each command
+abbrev pub batch_length : List Command → ℕ
+batch_length commands = 4 + sum_by command_length commands

@@ -1,0 +1,119 @@
+//! How many bytes a spelling has, before it is written.
+
+ghost use Rattle.std.specs.Prelude.{◌≡◌, ◌≤◌, ◌*◌, length, sum_by};
+ghost use Rattle.run_plan.specs.declared.command.Command.TheVariants as asked_for;
+ghost use Rattle.table_text.specs.Commands.{batch, command};
+ghost use Rattle.table_text.specs.Lengths.{command_length, fields_length, length_of, text_length, texts_length};
+
+use run_plan::{Beat, Claim, Command, Done, Form, Label, Labels, Prepared, SmallText};
+
+/// The bytes of a number, of a length and of a count.
+const WORD: u64 = 4;
+
+fn small_text_length<F: Form>(text: &SmallText<F>) -> u64
+    ensures length { result ≡ text_length text.now }
+    ensures most { result ≤ 68 }
+{
+    WORD + text.as_str().len() as u64
+}
+
+/// The bytes of each label, and the length before each.
+fn label_list_length(list: &[Label]) -> u64
+    requires { length list.now ≤ 16 }
+    ensures length { result ≡ sum_by text_length list.now }
+    ensures most { result ≤ 1088 }
+{
+    let mut total = 0;
+    for label in list {
+        total += small_text_length(label);
+    }
+    total
+}
+
+fn labels_length(labels: &Labels) -> u64
+    ensures length { result ≡ texts_length labels.now }
+    ensures most { result ≤ 1092 }
+{
+    WORD + label_list_length(labels.as_slice())
+}
+
+/// The bytes of the admitted body and of its length.
+fn body_length(event: &Prepared) -> u64
+    ensures length { result ≡ text_length event.now.body }
+    ensures most { result ≤ 65540 }
+{
+    WORD + event.body().len() as u64
+}
+
+fn admit_length(event: &Prepared) -> u64
+    ensures length { result ≡ fields_length (asked_for.Admit event.now) }
+    ensures most { result ≤ 65676 }
+{
+    small_text_length(event.delivery()) + small_text_length(event.event()) + body_length(event)
+}
+
+fn claim_length(asks: &Claim) -> u64
+    ensures length { result ≡ fields_length (asked_for.Claim asks.now) }
+    ensures most { result ≤ 1164 }
+{
+    small_text_length(&asks.runner) + WORD + labels_length(&asks.labels)
+}
+
+fn done_length(report: &Done) -> u64
+    ensures length { result ≡ fields_length (asked_for.Done report.now) }
+    ensures most { result ≤ 77 }
+{
+    small_text_length(&report.runner) + WORD + WORD + 1
+}
+
+fn beat_length(asks: &Beat) -> u64
+    ensures length { result ≡ fields_length (asked_for.Beat asks.now) }
+    ensures most { result ≤ 72 }
+{
+    small_text_length(&asks.runner) + WORD
+}
+
+/// The bytes behind the one that says which command it is.
+fn fields_length(asked: &Command) -> u64
+    ensures length { result ≡ fields_length asked.now }
+    ensures most { result ≤ 65676 }
+{
+    match asked {
+        Command::Admit(event) => admit_length(event),
+        Command::Claim(asks) => claim_length(asks),
+        Command::Done(report) => done_length(report),
+        Command::Beat(asks) => beat_length(asks),
+        Command::Lost(runner) => small_text_length(runner),
+        Command::Cancel(_) | Command::Look(_) | Command::Fetch(_) => WORD,
+    }
+}
+
+/// How many bytes the spelling of a command has: 65,677 at most.
+pub fn command_length(asked: &Command) -> u64
+    ensures length { result ≡ length_of command asked.now }
+    ensures most { result ≤ 65677 }
+{
+    1 + fields_length(asked)
+}
+
+/// How many bytes the spelling of a batch has.
+#[tactic(auto, using(crate::proofs::LengthLaws::length_batch))]
+pub fn batch_length(commands: &[Command]) -> u64
+    requires { length commands.now ≤ 4294967295 }
+    ensures { result ≡ length_of batch commands.now }
+{
+    WORD + commands_length(commands)
+}
+
+/// The bytes of each command.
+fn commands_length(commands: &[Command]) -> u64
+    requires { length commands.now ≤ 4294967295 }
+    ensures length { result ≡ sum_by command_length commands.now }
+    ensures most { result ≤ 4294967295 * 65677 }
+{
+    let mut total = 0;
+    for asked in commands {
+        total += command_length(asked);
+    }
+    total
+}
