@@ -4,6 +4,7 @@ mod over_files;
 mod scripted_files;
 mod sending;
 
+use crate::holds::holds;
 use act_disk::{Call, Disk, DiskFault, Fill, FuseDisk, MemoryDisk, grow_to, write_synced};
 use std::alloc::Global;
 use std::process::Abort;
@@ -22,9 +23,9 @@ pub type Row = (Ask, bool, u64, u64);
 /// Makes the calls, through the disk's trait.
 pub fn play<D: Disk>(rt: &impl Abort, disk: &mut D, rows: &[Row]) {
     for (place, (ask, succeeds, faults, len)) in rows.iter().enumerate() {
-        assert!(rt; is_answered(disk, ask) == *succeeds, "row {place}");
-        assert!(rt; disk.faults() == *faults, "row {place}");
-        assert!(rt; disk.len() == *len, "row {place}");
+        holds!(rt; is_answered(disk, ask) == *succeeds, place);
+        holds!(rt; disk.faults() == *faults, place);
+        holds!(rt; disk.len() == *len, place);
     }
 }
 
@@ -64,8 +65,8 @@ fn holding(rt: &impl Abort, alloc: Global, bytes: &[u8]) -> MemoryDisk {
 
 /// What a disk in memory holds, and how many calls it has noted.
 fn expect_held(rt: &impl Abort, disk: &MemoryDisk, bytes: &[u8], calls: usize) {
-    assert!(rt; disk.bytes() == bytes);
-    assert!(rt; disk.calls().len() == calls);
+    holds!(rt; disk.bytes() == bytes);
+    holds!(rt; disk.calls().len() == calls);
 }
 
 const KEPT: [Row; 4] = [
@@ -78,7 +79,7 @@ const KEPT: [Row; 4] = [
 #[test]
 fn memory_keeps_bytes_and_calls(rt: HostRuntime) {
     let mut disk = MemoryDisk::new(rt.alloc());
-    assert!(rt; disk.len() == 0 && disk.faults() == 0);
+    holds!(rt; disk.len() == 0 && disk.faults() == 0);
     play(&rt, &mut disk, &KEPT);
     expect_held(&rt, &disk, b"abXYef", 3);
     expect_calls(&rt, disk.calls());
@@ -92,10 +93,10 @@ fn is_write(call: &Call, place: u64, want: &[u8]) -> bool {
 }
 
 fn expect_calls(rt: &impl Abort, calls: &[Call]) {
-    assert!(rt; calls.len() == 3);
-    assert!(rt; is_write(&calls[0], 0, b"abcdef"));
-    assert!(rt; matches!(&calls[1], Call::Sync));
-    assert!(rt; is_write(&calls[2], 2, b"XY"));
+    holds!(rt; calls.len() == 3);
+    holds!(rt; is_write(&calls[0], 0, b"abcdef"));
+    holds!(rt; matches!(&calls[1], Call::Sync));
+    holds!(rt; is_write(&calls[2], 2, b"XY"));
 }
 
 const REFUSED_A_GROWTH: [Row; 2] = [
@@ -166,9 +167,9 @@ const IMAGES: [(u64, Fill, &[u8]); 24] = [
 
 fn expect_image(rt: &impl Abort, alloc: Global, disk: &MemoryDisk, row: (u64, Fill, &[u8])) {
     let (call, fill, want) = row;
-    assert!(rt; (call as usize) < disk.calls().len());
+    holds!(rt; (call as usize) < disk.calls().len());
     let image = disk.image(alloc, call, fill).expect(rt, "an image");
-    assert!(rt; image.faults() == 0);
+    holds!(rt; image.faults() == 0);
     expect_held(rt, &image, want, 0);
 }
 
@@ -176,7 +177,7 @@ fn expect_image(rt: &impl Abort, alloc: Global, disk: &MemoryDisk, row: (u64, Fi
 fn images_are_those_by_hand(rt: HostRuntime) {
     let mut disk = holding(&rt, rt.alloc(), FIRST);
     play(&rt, &mut disk, &WRITTEN);
-    assert!(rt; disk.calls().len() == 6);
+    holds!(rt; disk.calls().len() == 6);
     for row in IMAGES {
         expect_image(&rt, rt.alloc(), &disk, row);
     }
@@ -206,7 +207,7 @@ fn expect_inside(
 ) {
     play(rt, &mut disk, rows);
     let inner = disk.into_inner();
-    assert!(rt; inner.faults() == 0);
+    holds!(rt; inner.faults() == 0);
     expect_held(rt, &inner, bytes, calls);
 }
 
@@ -231,8 +232,8 @@ const WRITE_SYNCED: [(u64, Fill, &[u8]); 2] = [
 #[test]
 fn write_and_sync_are_two_calls(rt: HostRuntime) {
     let mut disk = holding(&rt, rt.alloc(), &[0; 6]);
-    assert!(rt; disk.faults() == 0);
-    assert!(rt; write_synced(&mut disk, 1, b"abc").is_ok());
+    holds!(rt; disk.faults() == 0);
+    holds!(rt; write_synced(&mut disk, 1, b"abc").is_ok());
     expect_held(&rt, &disk, &[0, 97, 98, 99, 0, 0], 2);
     for row in WRITE_SYNCED {
         expect_image(&rt, rt.alloc(), &disk, row);
@@ -242,25 +243,25 @@ fn write_and_sync_are_two_calls(rt: HostRuntime) {
 #[test]
 fn fault_is_refusal_51(rt: HostRuntime) {
     let refusal: Refusal = DiskFault.into();
-    assert!(rt; refusal.number() == 51);
+    holds!(rt; refusal.number() == 51);
 }
 
 /// Grows the disk, whose length is 5,000 then, with zeros at its end.
 fn expect_grown(rt: &impl Abort, disk: &mut MemoryDisk, len: u64) {
-    assert!(rt; disk.faults() == 0);
-    assert!(rt; grow_to(disk, len).is_ok());
+    holds!(rt; disk.faults() == 0);
+    holds!(rt; grow_to(disk, len).is_ok());
     expect_zero_at_last(rt, disk.bytes());
 }
 
 fn expect_zero_at_last(rt: &impl Abort, bytes: &[u8]) {
-    assert!(rt; bytes.len() == 5000);
-    assert!(rt; bytes[4999] == 0);
+    holds!(rt; bytes.len() == 5000);
+    holds!(rt; bytes[4999] == 0);
 }
 
 #[test]
 fn disk_grows_by_zeros(rt: HostRuntime) {
     let mut disk = holding(&rt, rt.alloc(), b"abc");
     expect_grown(&rt, &mut disk, 5000);
-    assert!(rt; disk.calls().len() == 2);
+    holds!(rt; disk.calls().len() == 2);
     expect_grown(&rt, &mut disk, 4);
 }

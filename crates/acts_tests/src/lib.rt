@@ -16,6 +16,8 @@ mod group_book_tests;
 #[cfg(test)]
 mod group_name_tests;
 #[cfg(test)]
+mod holds;
+#[cfg(test)]
 mod matrix_expand_tests;
 #[cfg(test)]
 mod needs_graph_tests;

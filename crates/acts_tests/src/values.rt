@@ -1,5 +1,6 @@
 //! Values of the tests, made of what a constant can have. A value that can't be is refused 75.
 
+use crate::holds::holds;
 use std::alloc::Global;
 use std::process::Abort;
 use wf_value::{Chars, Code, Combo, Refusal, Same, Scalar, TryCopy};
@@ -63,7 +64,7 @@ pub fn combo(alloc: Global, given: &[(&str, Given)]) -> Result<Combo, Refusal> {
 /// That the value is the same as the one at its place, and as no other.
 fn expect_at<T: Same>(rt: &impl Abort, value: &T, values: &[T], place: usize) {
     for (other, one) in values.iter().enumerate() {
-        assert!(rt; value.same(one) == (other == place), "{place} {other}");
+        holds!(rt; value.same(one) == (other == place), format_args!("{place} {other}"));
     }
 }
 

@@ -1,5 +1,6 @@
 //! Scalars, texts, lists and refusals.
 
+use crate::holds::holds;
 use crate::values::{Given, expect_apart, pairs, scalar, scalars, texts};
 use std::alloc::Global;
 use std::process::Abort;
@@ -40,9 +41,9 @@ const PRINTED: [(Given, bool, &str); 9] = [
 fn truth_and_text(rt: HostRuntime) {
     for (given, truthy, printed) in &PRINTED {
         let scalar = scalar(rt.alloc(), given).expect(&rt, "a scalar");
-        assert!(rt; scalar.truthy() == *truthy, "{printed}");
+        holds!(rt; scalar.truthy() == *truthy, printed);
         let text = scalar.text(rt.alloc()).expect(&rt, "a text");
-        assert!(rt; text.as_str() == *printed, "{printed}");
+        holds!(rt; text.as_str() == *printed, printed);
     }
 }
 
@@ -51,11 +52,11 @@ fn cycle(alloc: Global, ids: &[&str]) -> Result<Refusal, Refusal> {
 }
 
 fn expect_printed(rt: &impl Abort, alloc: Global, refusal: &Refusal, number: u64, printed: &str) {
-    assert!(rt; refusal.number() == number, "{printed}");
+    holds!(rt; refusal.number() == number, printed);
     let text = refusal.text(alloc).expect(rt, "a text");
-    assert!(rt; text.as_str() == printed, "{printed}");
+    holds!(rt; text.as_str() == printed, printed);
     let shown = format!(in alloc; "{refusal}").expect(rt, "a text");
-    assert!(rt; shown.as_str() == printed, "{printed}");
+    holds!(rt; shown.as_str() == printed, printed);
 }
 
 #[test]
@@ -104,12 +105,9 @@ const NAMES: [(&[&str], bool); 5] = [
 fn tells_the_order_of_names(rt: HostRuntime) {
     for (row, (names, expected)) in NAMES.iter().enumerate() {
         let variables = variables(rt.alloc(), names).expect(&rt, "variables");
-        assert!(rt;
-            Matrix::names_rise(variables.as_slice()) == *expected,
-            "row {row}"
-        );
+        holds!(rt; Matrix::names_rise(variables.as_slice()) == *expected, row);
         let rises = rise_in_pairs(rt.alloc(), names).expect(&rt, "pairs");
-        assert!(rt; rises == *expected, "row {row}");
+        holds!(rt; rises == *expected, row);
     }
 }
 
@@ -118,16 +116,16 @@ fn texts_come_back(rt: HostRuntime) {
     let alloc = rt.alloc();
     let chars = Chars::new(String::from_str(alloc, "build").expect(&rt, "a text"));
     let copy = chars.copy(alloc).expect(&rt, "a copy");
-    assert!(rt; chars.same(&copy));
-    assert!(rt; chars.into_string().as_str() == "build");
+    holds!(rt; chars.same(&copy));
+    holds!(rt; chars.into_string().as_str() == "build");
 }
 
 #[test]
 fn lists_come_back(rt: HostRuntime) {
     let ids = Sequence::new(texts(rt.alloc(), &["build", ""]).expect(&rt, "texts"));
-    assert!(rt; ids.len() == 2 && !ids.is_empty() && ids.as_slice().len() == 2);
-    assert!(rt; ids.into_vec().len() == 2);
-    assert!(rt; Combo::new(rt.alloc()).is_empty());
+    holds!(rt; ids.len() == 2 && !ids.is_empty() && ids.as_slice().len() == 2);
+    holds!(rt; ids.into_vec().len() == 2);
+    holds!(rt; Combo::new(rt.alloc()).is_empty());
 }
 
 /// Lists, of which no two are the same.
@@ -144,10 +142,7 @@ fn lists(alloc: Global) -> Result<Vec<Sequence<Chars>>, Refusal> {
 /// That the items are those of the list at this place, and of no other.
 fn expect_items(rt: &impl Abort, lists: &[Sequence<Chars>], items: &[Chars], place: usize) {
     for (other, list) in lists.iter().enumerate() {
-        assert!(rt;
-            same_items(items, list.as_slice()) == (other == place),
-            "{place} {other}"
-        );
+        holds!(rt; same_items(items, list.as_slice()) == (other == place), format_args!("{place} {other}"));
     }
 }
 
@@ -166,10 +161,10 @@ const PAIRS: [(&str, Given); 2] = [("a", Given::Null), ("b", Given::Null)];
 #[test]
 fn pairs_are_copied(rt: HostRuntime) {
     let pairs = pairs(rt.alloc(), &PAIRS).expect(&rt, "pairs");
-    assert!(rt; Combo::names_rise(pairs.as_slice()));
+    holds!(rt; Combo::names_rise(pairs.as_slice()));
     let pairs = Combo::from_pairs(pairs);
-    assert!(rt; pairs.copy(rt.alloc()).expect(&rt, "a copy").same(&pairs));
-    assert!(rt; !pairs.same(&Combo::new(rt.alloc())));
+    holds!(rt; pairs.copy(rt.alloc()).expect(&rt, "a copy").same(&pairs));
+    holds!(rt; !pairs.same(&Combo::new(rt.alloc())));
 }
 
 /// The lists `[n, n + 1]` for 0, 1 and 2.
@@ -185,10 +180,10 @@ fn lists_of_two(alloc: Global) -> Result<Sequence<Sequence<usize>>, Refusal> {
 fn numbers_and_lists_of_lists_are_copied(rt: HostRuntime) {
     let rows = lists_of_two(rt.alloc()).expect(&rt, "lists");
     let copy = rows.copy(rt.alloc()).expect(&rt, "a copy");
-    assert!(rt; copy.same(&rows));
-    assert!(rt; copy.as_slice().len() == 3);
-    assert!(rt; copy.as_slice()[2].as_slice() == [2, 3].as_slice());
-    assert!(rt; 7u64.copy(rt.alloc()).expect(&rt, "a copy").same(&7));
+    holds!(rt; copy.same(&rows));
+    holds!(rt; copy.as_slice().len() == 3);
+    holds!(rt; copy.as_slice()[2].as_slice() == [2, 3].as_slice());
+    holds!(rt; 7u64.copy(rt.alloc()).expect(&rt, "a copy").same(&7));
 }
 
 /// Refusals, of which no two are the same.
@@ -228,9 +223,9 @@ const RESULTS: [(JobResult, &str); 4] = [
 #[test]
 fn words_of_results(rt: HostRuntime) {
     for (outcome, word) in OUTCOMES {
-        assert!(rt; outcome.word() == word, "{word}");
+        holds!(rt; outcome.word() == word, word);
     }
     for (result, word) in RESULTS {
-        assert!(rt; result.word() == word, "{word}");
+        holds!(rt; result.word() == word, word);
     }
 }

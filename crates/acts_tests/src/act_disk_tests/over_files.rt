@@ -1,6 +1,7 @@
 //! Disks over files of the system.
 
 use crate::act_disk_tests::{Ask, Row, play};
+use crate::holds::holds;
 use act_disk::{Disk, Empty, FileDisk, HostFile};
 use std::alloc::Global;
 use std::fs;
@@ -24,8 +25,8 @@ fn play_opened(rt: &impl Abort, opened: Result<RealDisk, Refusal>, len: u64, row
 }
 
 fn expect_opened(rt: &impl Abort, disk: &RealDisk, len: u64) {
-    assert!(rt; disk.len() == len);
-    assert!(rt; disk.faults() == 0);
+    holds!(rt; disk.len() == len);
+    holds!(rt; disk.faults() == 0);
 }
 
 /// A folder of this name with nothing in it.
@@ -40,11 +41,11 @@ fn remove_folder<R: Abort + Alloc + Files>(rt: &R, folder: &str) {
 
 fn expect_file<R: Abort + Alloc<A = Global> + Files>(rt: &R, path: &str, bytes: &[u8]) {
     let found = fs::read(rt, path).expect(rt, "a file");
-    assert!(rt; found.as_slice() == bytes);
+    holds!(rt; found.as_slice() == bytes);
 }
 
 fn expect_61<R: Abort + Files<File = File>>(rt: &R, path: &str) {
-    assert!(rt; is_61(&RealDisk::open(rt, path)));
+    holds!(rt; is_61(&RealDisk::open(rt, path)));
 }
 
 fn play_created<R: Abort + Files<File = File>>(rt: &R, path: &str, len: u64, rows: &[Row]) {
@@ -124,6 +125,6 @@ const NO_FILES: [&str; 3] = ["/tmp", "/dev/null/disk", "/proc/sys/kernel/osrelea
 fn file_that_cannot_be_opened_is_61(rt: HostRuntime) {
     for path in &NO_FILES {
         expect_61(&rt, path);
-        assert!(rt; is_61(&RealDisk::create(&rt, path)));
+        holds!(rt; is_61(&RealDisk::create(&rt, path)));
     }
 }

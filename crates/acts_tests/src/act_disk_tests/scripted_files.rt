@@ -1,6 +1,7 @@
 //! Disks over files whose calls go as a script says.
 
 use crate::act_disk_tests::{Ask, Row, play};
+use crate::holds::holds;
 use act_disk::{FileDisk, ScriptedFile, Turn};
 use std::alloc::Global;
 use std::process::Abort;
@@ -21,7 +22,7 @@ fn expect_turns(
 ) -> ScriptedFile {
     play(rt, &mut disk, rows);
     let file = disk.into_file();
-    assert!(rt; file.turns() == turns);
+    holds!(rt; file.turns() == turns);
     file
 }
 
@@ -46,15 +47,15 @@ const WRITTEN_AND_READ: [Row; 3] = [
 fn short_calls_are_gone_on_from(rt: HostRuntime) {
     let disk = scripted(&rt, rt.alloc(), &TURNS);
     let file = expect_turns(&rt, disk, &WRITTEN_AND_READ, 7);
-    assert!(rt; file.bytes() == b"abcdef".as_slice());
+    holds!(rt; file.bytes() == b"abcdef".as_slice());
 }
 
 /// The turns, with two more that are interrupted at this place.
 fn interrupted_at(rt: &impl Abort, alloc: Global, place: usize) -> FileDisk<ScriptedFile> {
     let mut script = TURNS.to_vec(alloc).expect(rt, "turns");
     for _ in 0..2 {
-        assert!(rt; place <= script.len());
-        assert!(rt; script.insert(place, Turn::Interrupted).is_ok());
+        holds!(rt; place <= script.len());
+        holds!(rt; script.insert(place, Turn::Interrupted).is_ok());
     }
     scripted(rt, alloc, &script)
 }
@@ -64,14 +65,14 @@ fn interrupted_calls_are_made_again(rt: HostRuntime) {
     for place in 0..TURNS.len() {
         let disk = interrupted_at(&rt, rt.alloc(), place);
         let file = expect_turns(&rt, disk, &WRITTEN_AND_READ, 9);
-        assert!(rt; file.bytes() == b"abcdef".as_slice());
+        holds!(rt; file.bytes() == b"abcdef".as_slice());
     }
 }
 
 /// The turns, the one at this place failing.
 fn failing_at(rt: &impl Abort, alloc: Global, place: usize) -> FileDisk<ScriptedFile> {
     let mut script = TURNS;
-    assert!(rt; place < script.len());
+    holds!(rt; place < script.len());
     script[place] = Turn::Failed;
     scripted(rt, alloc, &script)
 }
@@ -80,7 +81,7 @@ fn failing_at(rt: &impl Abort, alloc: Global, place: usize) -> FileDisk<Scripted
 fn length_that_fails_is_61(rt: HostRuntime) {
     let turns = [Turn::Failed].to_vec(rt.alloc()).expect(&rt, "turns");
     let opened = FileDisk::over(ScriptedFile::new(rt.alloc(), turns));
-    assert!(rt; matches!(opened, Err(Refusal::Numbered(Code::StreamFailed))));
+    holds!(rt; matches!(opened, Err(Refusal::Numbered(Code::StreamFailed))));
 }
 
 // A write that fails, with the file this long, and what is asked after it.
@@ -152,7 +153,7 @@ const NOT_GROWN: [Row; 1] = [(Ask::Write(3, b""), false, 1, 0)];
 fn write_of_no_bytes_past_the_end_grows(rt: HostRuntime) {
     let mut disk = scripted(&rt, rt.alloc(), &[Turn::Whole, Turn::Interrupted]);
     play(&rt, &mut disk, &GROWN);
-    assert!(rt; disk.into_file().bytes() == [0, 0, 0].as_slice());
+    holds!(rt; disk.into_file().bytes() == [0, 0, 0].as_slice());
     let mut disk = scripted(&rt, rt.alloc(), &[Turn::Whole, Turn::Failed]);
     play(&rt, &mut disk, &NOT_GROWN);
 }

@@ -1,5 +1,6 @@
 //! Disks can be handed to another thread, and stand behind a lock that threads share.
 
+use crate::holds::holds;
 use act_disk::{Disk, Empty, FileDisk, FuseDisk, HostFile, MemoryDisk, ScriptedFile};
 use std::process::Abort;
 use std::sync::Mutex;
@@ -17,7 +18,7 @@ fn disks_can_be_sent(rt: HostRuntime) {
     let alloc = rt.alloc();
     let disk = sent(FuseDisk::once(MemoryDisk::new(alloc), 0));
     let inner = sent(disk.into_inner());
-    assert!(rt; inner.faults() == 0);
+    holds!(rt; inner.faults() == 0);
     shared(&Mutex::new(inner));
 }
 
