@@ -1,7 +1,7 @@
 -- Every step keeps what every table keeps, and the empty table keeps it.
 use Rattle.std.specs.Prelude.{◌≡◌, ℕ, ◌+◌, ◌-◌, List, [], ◌∷◌, ◌++◌, Option, Some, None, refl}
 use Rattle.std.specs.Option.{option_map_or}
-use Rattle.std.proofs.Common.{arith, ap, sym, ◌∙◌}
+use Rattle.std.proofs.Common.{arith}
 use Rattle.wf_value.specs.declared.code.Code.TheVariants.{LeaseNotHeld, NoRun, NoRunner}
 use Rattle.run_plan.specs.Admitted.{Admitted}
 use Rattle.run_plan.specs.declared.command.Claim.{Claim as Claimed}

@@ -1,19 +1,18 @@
 -- What the stop of a run makes of its jobs, one after another.
-use Rattle.std.specs.Prelude.{◌≡◌, ℕ, zero, suc, ◌+◌, ◌≤◌, ◌&&◌, List, [], ◌∷◌, map, length, not, Bool, true, false, Option, Some, None}
+use Rattle.std.specs.Prelude.{◌≡◌, ℕ, zero, suc, ◌+◌, ◌≤◌, ◌&&◌, List, [], ◌∷◌, map, length, not, Bool, true, false, Some}
 use Rattle.std.specs.Prelude.{slice_get, if◌then◌else◌, refl}
 use Rattle.std.specs.List.{enumerate_from}
 use Rattle.std.specs.Option.{option_map_or}
 use Rattle.std.proofs.Common.{arith, ap, sym, ◌∙◌}
 use Rattle.wf_value.specs.declared.outcome.JobResult.{JobResult}
 use Rattle.needs_graph.specs.Conditions.{condition_value, ancestor_results as results_of_ancestors}
-use Rattle.run_table.specs.FirstOf.{changed_at, placed}
+use Rattle.run_table.specs.FirstOf.{changed_at}
 use Rattle.run_table.specs.Rules.{is_open, settled_as}
-use Rattle.run_table.specs.Stops.{cancelled, is_open_at, stopped_in, stopped_run, stopped_where, told_to_stop, with_job_stopped, with_jobs_stopped}
+use Rattle.run_table.specs.Stops.{is_open_at, stopped_in, stopped_run, stopped_where, told_to_stop, with_job_stopped, with_jobs_stopped}
 use Rattle.run_table.specs.Stops.{with_stopped_legs}
 use Rattle.run_table.specs.TableState.{JobState, RunState}
 use Rattle.run_table.specs.WithinRun.{condition_in, may_run_in}
-use Rattle.run_table.specs.JobResults.{needs_in, results_so_far, settled_result}
-use Rattle.run_table.specs.declared.phases.RunPhase.{RunPhase}
+use Rattle.run_table.specs.JobResults.{needs_in, settled_result}
 use Rattle.run_table.specs.declared.phases.RunPhase.TheVariants as run
 use Rattle.run_table.proofs.Moved.{changed_none, changed_same}
 

@@ -5,7 +5,7 @@ ghost use Rattle.wf_value.specs.Gives.{Gives};
 ghost use Rattle.run_table.specs.Step.{admission_answer, admitted, admitting, answer_of_run, answered, beat_answer};
 ghost use Rattle.run_table.specs.Step.{cancel_answer, cancelled, claim_answer, fetch_answer, losing, loss_answer, lost};
 ghost use Rattle.run_table.specs.Step.{claimed, claiming, empty, is_free};
-ghost use Rattle.run_table.specs.Step.{last_number, lease_answer, lease_at, leasing, look_answer, outcome, refused, report_answer};
+ghost use Rattle.run_table.specs.Step.{lease_answer, lease_at, leasing, look_answer, outcome, refused, report_answer};
 ghost use Rattle.run_table.specs.Step.{reported, reporting, seen, serving_nothing, step, unchanged};
 
 use crate::fit::{first_fit, is_told_to_stop, outcome_of_loss};

@@ -1,7 +1,7 @@
-ghost use Rattle.std.specs.Prelude.{◌≡◌, [], nat_eq, find, Ok, None, Some, option_map, OnErr, IsOk, false};
+ghost use Rattle.std.specs.Prelude.{◌≡◌, find, Ok, None, Some, option_map, OnErr, false};
 ghost use Rattle.std.specs.List.{position};
 ghost use Rattle.wf_value.specs.Gives.{Gives};
-ghost use Rattle.run_table.specs.Turns.{holds_lease, holds_this, is_named, number_of, runner_named, with_runner};
+ghost use Rattle.run_table.specs.Turns.{holds_lease, holds_this, is_named, runner_named, with_runner};
 
 use run_plan::{Claim, ClaimReply, Done, LastCommand, Number, RunnerName};
 use std::alloc::Global;

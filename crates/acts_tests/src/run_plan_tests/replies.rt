@@ -71,11 +71,7 @@ const VIEWS: [&str; 2] = [
 ];
 
 /// The second has eleven bytes, and ten characters. The third is one of the views.
-const BODIES: [&str; 3] = [
-    "",
-    "{\"a\":\n\"é\"}",
-    "run 1 1 queued - build:open(ready)",
-];
+const BODIES: [&str; 3] = ["", "{\"a\":\n\"é\"}", "run 1 1 queued - build:open(ready)"];
 
 const CYCLES: [[&str; 2]; 2] = [["a", "b"], ["a", "c"]];
 
