@@ -1,13 +1,15 @@
 -- Whether a test holds of the result of one of a job's ancestors.
 use Rattle.std.proofs.Common.{◌≡◌, ℕ, zero, suc, ◌+◌, ◌<◌, List, [], ◌∷◌, Bool, true, false, None, Option, cond, not, ◌||◌, ◌&&◌, length}
 use Rattle.std.proofs.Common.{get_or, map, refl, ap, ◌∙◌, arith}
-use Rattle.std.specs.List.{list_all, list_any, filter, range_with_len}
-use Rattle.std.proofs.lemmas.Bool.{and_parts}
-use Rattle.std.proofs.lemmas.List.Folds.{list_any_at}
+use Rattle.std.specs.List.{Contains, list_all, list_any, filter, range_with_len}
+use Rattle.std.proofs.lemmas.Bool.{and_from, and_parts}
+use Rattle.std.proofs.lemmas.List.{get_or_default}
+use Rattle.std.proofs.lemmas.List.Folds.{Any-from_list_any, list_any_at}
 use Rattle.wf_value.specs.declared.outcome.JobResult.{JobResult}
-use Rattle.needs_graph.specs.Ancestors.{is_ancestor, ancestors_of}
+use Rattle.needs_graph.specs.Ancestors.{IsClosed, is_ancestor, ancestors_of, needs_at}
 use Rattle.needs_graph.specs.Conditions.{ancestor_results}
 use Rattle.needs_graph.proofs.Members.{Has, Contains-from_Has}
+use Rattle.needs_graph.proofs.Walks.{is_ancestor-from_walk}
 use Rattle.needs_graph.proofs.PlaceLists.{Has-filter_range_from}
 
 -- all pass where none fails
@@ -53,3 +55,11 @@ module _ (needs : List (List ℕ)) (results : List (Option JobResult)) (job : �
       list_any-map test (λ other. get_or results other None) (ancestors_of needs job)
       ∙ one_passes (λ other. test (get_or results other None)) (ancestors_of needs job) other
       (Has-filter_range_from (is_ancestor needs job) (length needs) other below parts.0) parts.1
+
+  -- a job that is needed directly is an ancestor
+  pub holds_of_need : IsClosed needs → list_any (λ need. test (get_or results need None)) (needs_at needs job) ≡ true
+      → list_any test (ancestor_results needs results job) ≡ true
+  holds_of_need within h =
+      let a = Any-from_list_any (λ need. test (get_or results need None)) (needs_at needs job) h in
+      let needed : Contains (needs_at needs job) a.1 = (a.0, a.2, get_or_default (needs_at needs job) a.0 _ a.1 a.2 ∙ a.3) in
+      holds_of_one a.1 (within job a.1 needed) (and_from _ _ (is_ancestor-from_walk needs within job a.1 ([], needed)) a.4)

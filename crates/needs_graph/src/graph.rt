@@ -1,4 +1,4 @@
-ghost use Rattle.std.specs.Prelude.{◌≡◌, ◌≢◌, ◌↔◌, ◌<◌, ◌&&◌, not, IsTrue, None, Ok, All, Contains, length, map, slice_get, ℕ};
+ghost use Rattle.std.specs.Prelude.{◌≡◌, ◌≢◌, ◌↔◌, ◌<◌, ◌&&◌, not, false, IsTrue, None, Ok, All, Contains, length, map, slice_get, ℕ};
 ghost use Rattle.std.specs.List.{list_all, list_any, slice_index_or};
 ghost use Rattle.wf_value.specs.Gives.{Gives};
 ghost use Rattle.needs_graph.specs.Ancestors.{needs_at, is_ancestor, dependents_of, HasWalk};
@@ -129,6 +129,9 @@ impl Graph {
     fn all_ancestors_succeeded<J: HasResult>(&self, job: usize, jobs: &[J]) -> bool
         ensures { result ≡ list_all has_succeeded (ancestor_results self.now (map J.job_result jobs.now) job) }
     {
+        if self.need_lacks_success(job, jobs) {
+            return false;
+        }
         for other in 0..self.job_count() {
             if self.ancestor_lacks_success(job, other, jobs) {
                 return false;
@@ -146,6 +149,16 @@ impl Graph {
             }
         }
         false
+    }
+
+    /// Whether a job that the job needs directly has not succeeded: then not all of its ancestors have.
+    fn need_lacks_success<J: HasResult>(&self, job: usize, jobs: &[J]) -> bool
+        ensures { IsTrue result → list_all has_succeeded (ancestor_results self.now (map J.job_result jobs.now) job) ≡ false }
+    {
+        match self.needs.as_slice().get(job) {
+            Some(needs) => any_lacks_success(needs.as_slice(), jobs),
+            None => false,
+        }
     }
 
     /// Whether the other job is an ancestor of the job, and has not succeeded.
@@ -173,6 +186,13 @@ impl TryCopy for Graph {
             dependents: self.dependents.copy(alloc)?,
         })
     }
+}
+
+/// Whether one of the jobs at these places has not succeeded.
+fn any_lacks_success<J: HasResult>(places: &[usize], jobs: &[J]) -> bool
+    ensures { result ≡ list_any (λ place. not (has_succeeded (slice_index_or (map J.job_result jobs.now) place None))) places.now }
+{
+    places.iter().any(|place| !has_succeeded(result_at(jobs, *place)))
 }
 
 /// The ids of the jobs that reach themselves, in order.
