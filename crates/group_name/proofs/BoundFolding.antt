@@ -1,5 +1,6 @@
 -- A bound name without its case gives the group of its text by any results.
-use Rattle.std.proofs.Common.{◌≡◌, ℕ, ◌<◌, ◌≤◌, List, [], ◌∷◌, ◌++◌, length, None, Some, arith, codes, encode_utf8_all, IsUtf8, refl, sym, ap, ap₂, subst, ◌∙◌}
+use Rattle.std.proofs.Common.{◌≡◌, ℕ, ◌<◌, ◌≤◌, List, [], ◌∷◌, ◌++◌, length, None, Some, arith, codes, encode_utf8_all, IsUtf8}
+use Rattle.std.proofs.Common.{refl, sym, ap, ap₂, subst, ◌∙◌}
 use Rattle.std.specs.Prelude.{◌≢◌, ◌↔◌, IsSome, Option, map}
 use Rattle.std.proofs.lemmas.Str.{IsUtf8-append, IsUtf8-nil, chars-nil, chars-append, chars_from_encodes, encodes-append, encodes-chars}
 use Rattle.std.specs.Option.{option_map_or}
@@ -11,7 +12,8 @@ use Rattle.wf_value.specs.declared.outcome.JobResult.TheVariants as result
 use Rattle.wf_expr.specs.Bound.{Results, first_result, bound_piece_text, bound_text}
 use Rattle.wf_expr.specs.declared.bound.BoundPiece.{BoundPiece}
 use Rattle.caseless.specs.Caseless.{default_case_fold}
-use Rattle.caseless.proofs.CaselessLemmas.{default_case_fold-append, default_case_fold-cons, default_case_fold-nil, full_fold-none, full_fold-some}
+use Rattle.caseless.proofs.CaselessLemmas.{default_case_fold-append, default_case_fold-cons, default_case_fold-nil}
+use Rattle.caseless.proofs.CaselessLemmas.{full_fold-none, full_fold-some}
 use Rattle.caseless.proofs.Computing.{caseless}
 use Rattle.group_name.specs.BoundGroup.{AreTexts, BoundName, folded_piece, folded_text, group_at, group_of_folded}
 use Rattle.group_name.specs.Group.{Group, folded_name, group_of}
@@ -25,7 +27,8 @@ folded-nil = ap (λ cs. encode_utf8_all (default_case_fold cs)) chars-nil ∙ ap
 folded-append : (xs ys : List ℕ) → IsUtf8 xs → folded_text (xs ++ ys) ≡ folded_text xs ++ folded_text ys
 folded-append xs ys utf8 =
     ap (λ cs. encode_utf8_all (default_case_fold cs)) (chars-append xs ys utf8)
-    ∙ (ap encode_utf8_all (default_case_fold-append (chars xs) (chars ys)) ∙ encodes-append (default_case_fold (chars xs)) (default_case_fold (chars ys)))
+    ∙ (ap encode_utf8_all (default_case_fold-append (chars xs) (chars ys))
+    ∙ encodes-append (default_case_fold (chars xs)) (default_case_fold (chars ys)))
 
 -- the words of results have no case
 folded-word : (r : JobResult) → folded_text (result_word r) ≡ result_word r
@@ -50,7 +53,8 @@ first-of-fold c (t ∷ ts) more none some = λ e. let no : t ∷ (ts ++ more) �
 
 fold-some : (cs : List ℕ) → cs ≢ [] → default_case_fold cs ≢ []
 fold-some [] some = absurd (some refl)
-fold-some (c ∷ cs) some = λ e. first-of-fold c _ (default_case_fold cs) (full_fold-none c _ refl) (full_fold-some c _ refl) (sym (default_case_fold-cons c cs) ∙ e)
+fold-some (c ∷ cs) some = λ e.
+    first-of-fold c _ (default_case_fold cs) (full_fold-none c _ refl) (full_fold-some c _ refl) (sym (default_case_fold-cons c cs) ∙ e)
 
 chars-some : (b : ℕ) (bs : List ℕ) → IsUtf8 (b ∷ bs) → chars (b ∷ bs) ≢ []
 chars-some b bs utf8 = λ e. let same : [] ≡ b ∷ bs = ap encode_utf8_all (sym e) ∙ encodes-chars (b ∷ bs) utf8 in cc
@@ -103,8 +107,8 @@ folded-group repository (b ∷ bs) utf8 folded =
     ∙ ap (λ cs. Some (record { repository = repository; folded = cs })) (sym (spelled-fold (b ∷ bs) folded))
 
 -- what is kept of a name means the group of its text, by any results
-pub group-when-bound : (repository kept : List ℕ) (pieces kept_pieces : List BoundPiece) → repository ≡ kept → map folded_piece pieces ≡ kept_pieces
-    → AreTexts pieces → AreTexts kept_pieces → (results : Results)
+pub group-when-bound : (repository kept : List ℕ) (pieces kept_pieces : List BoundPiece) → repository ≡ kept
+    → map folded_piece pieces ≡ kept_pieces → AreTexts pieces → AreTexts kept_pieces → (results : Results)
     → group_of_folded kept (bound_text results kept_pieces) ≡ group_of repository (bound_text results pieces)
 group-when-bound repository kept pieces kept_pieces same are texts kept_texts results =
     let folded = sym (ap (bound_text results) are) ∙ text-folded results pieces texts in
@@ -127,7 +131,8 @@ pub same-at : {name other : BoundName} {repository other_repository : List ℕ} 
     → AreTexts pieces → AreTexts other_pieces → repository ≡ other_repository → IsSome (group_at results name)
     → (bound_text results pieces ≡ bound_text other_results other_pieces)
     ↔ (IsSome (group_at results name) × (group_at results name ≡ group_at other_results other))
-same-at {name} {other} {repository} {other_repository} {pieces} {other_pieces} results other_results is other_is texts other_texts same some =
+same-at {name} {other} {repository} {other_repository} {pieces} {other_pieces} results other_results is other_is texts other_texts same
+    some =
     let here = ap (group_at results) is in
     let there = ap (group_at other_results) other_is in (
       (λ e. (some, sym here ∙ (ap₂ group_of_folded same e ∙ there))),
@@ -146,7 +151,3 @@ pub piece-kept : (piece : BoundPiece) (needs text : List ℕ) → piece.needs �
     → folded_piece piece ≡ record { needs = needs; otherwise = text }
 piece-kept piece needs text same spells utf8 =
     ap₂ (λ n t. record { needs = n; otherwise = t }) same (folded-kept piece.otherwise text spells utf8)
-
-pub one-text-more : (pieces : List BoundPiece) (piece : BoundPiece) → AreTexts pieces → IsUtf8 piece.otherwise → AreTexts (pieces ++ piece ∷ [])
-one-text-more [] piece texts text = (text, tt)
-one-text-more (p ∷ ps) piece (first, texts) text = (first, one-text-more ps piece texts text)

@@ -10,7 +10,8 @@ use Rattle.wf_value.specs.declared.outcome.JobResult.{JobResult}
 use Rattle.wf_value.specs.declared.outcome.JobResult.TheVariants as result
 use Rattle.wf_value.specs.declared.scalar.Scalar.{Scalar}
 use Rattle.wf_value.specs.declared.scalar.Scalar.TheVariants.{Text}
-use Rattle.wf_expr.specs.Bound.{Results, NeedOf, HasResults, no_results, with_results, result_value, first_result, bound_piece_text, bound_text}
+use Rattle.wf_expr.specs.Bound.{Results, NeedOf, HasResults, no_results, with_results, result_value}
+use Rattle.wf_expr.specs.Bound.{first_result, bound_piece_text, bound_text}
 use Rattle.wf_expr.specs.Bound.{need_of_operand, before_true, asked_needs, bound_piece, bound_of}
 use Rattle.wf_expr.specs.ContextValue.{Values}
 use Rattle.wf_expr.specs.TemplateValue.{operand_value, first_true, last_or, piece_text, template_value}
@@ -23,7 +24,8 @@ use Rattle.wf_expr.proofs.ComparisonLemmas.{value-text}
 
 -- the first true value of a longer list
 first-step : (other v : Scalar) (vs : List Scalar) → first_true other (v ∷ vs) ≡ cond (is_truthy v) v (first_true v vs)
-first-step other v vs = elim (is_truthy v) as (λ b. unwrap_or (cond b (Some v) (find is_truthy vs)) (last_or v vs) ≡ cond b v (first_true v vs)) [
+first-step other v vs =
+    elim (is_truthy v) as (λ b. unwrap_or (cond b (Some v) (find is_truthy vs)) (last_or v vs) ≡ cond b v (first_true v vs)) [
   | true ↦ refl
   | false ↦ refl
 ]
@@ -65,8 +67,8 @@ after-known : (results : Results) (needs : List ℕ) (vs ws : List Scalar) → L
 after-known results needs vs ws alike w true = refl
 after-known results needs vs ws alike w false = alike w
 
-after-need : (results : Results) (needs : List ℕ) (vs ws : List Scalar) → LeadAlike results needs vs ws → (other : Scalar) (o : Option JobResult)
-    → scalar_text (first_true other (unwrap_or (result_value o) (Text []) ∷ vs))
+after-need : (results : Results) (needs : List ℕ) (vs ws : List Scalar) → LeadAlike results needs vs ws
+    → (other : Scalar) (o : Option JobResult) → scalar_text (first_true other (unwrap_or (result_value o) (Text []) ∷ vs))
     ≡ option_map_or result_word (option_or o (first_result results needs)) (scalar_text (first_true (Text []) ws))
 after-need results needs vs ws alike other None = alike (Text [])
 after-need results needs vs ws alike other (Some result.Success) = refl
@@ -76,16 +78,19 @@ after-need results needs vs ws alike other (Some result.Skipped) = refl
 
 one-more : (results : Results) (needs : List ℕ) (vs ws : List Scalar) → LeadAlike results needs vs ws → (v w : Scalar) (o : Option ℕ)
     → Stands results v w o → (other : Scalar) → scalar_text (first_true other (v ∷ vs))
-    ≡ option_map_or result_word (first_result results (cond (is_truthy w) [] (cons_option o needs))) (scalar_text (first_true other (w ∷ ws)))
+    ≡ option_map_or result_word (first_result results (cond (is_truthy w) [] (cons_option o needs)))
+    (scalar_text (first_true other (w ∷ ws)))
 one-more results needs vs ws alike v w None same other =
     ap (λ u. scalar_text (first_true other (u ∷ vs))) same
     ∙ (ap scalar_text (first-step other w vs)
     ∙ (after-known results needs vs ws alike w (is_truthy w)
-    ∙ ap (λ u. option_map_or result_word (first_result results (cond (is_truthy w) [] needs)) (scalar_text u)) (sym (first-step other w ws))))
+    ∙ ap (λ u. option_map_or result_word (first_result results (cond (is_truthy w) [] needs)) (scalar_text u))
+    (sym (first-step other w ws))))
 one-more results needs vs ws alike v w (Some need) (is, empty) other =
     ap (λ u. scalar_text (first_true other (u ∷ vs))) is
     ∙ (after-need results needs vs ws alike other (results need)
-    ∙ ap (λ u. option_map_or result_word (first_result results (cond (is_truthy u) [] (need ∷ needs))) (scalar_text (first_true other (u ∷ ws))))
+    ∙ ap (λ u. option_map_or result_word (first_result results (cond (is_truthy u) [] (need ∷ needs)))
+    (scalar_text (first_true other (u ∷ ws))))
     (sym empty))
 
 -- ---- operands, pieces and templates
@@ -99,9 +104,11 @@ asked-if need_of o os false = refl
 -- the needs that one operand more asks
 pub asked-step : (known : Values) (need_of : NeedOf) (o : Operand) (os : List Operand)
     → asked_needs known need_of (o ∷ os)
-    ≡ cond (is_truthy (operand_value (with_results known need_of no_results) o)) [] (cons_option (need_of_operand need_of o) (asked_needs known need_of os))
+    ≡ cond (is_truthy (operand_value (with_results known need_of no_results) o)) []
+    (cons_option (need_of_operand need_of o) (asked_needs known need_of os))
 asked-step known need_of o os =
-    asked-if need_of o (before_true (with_results known need_of no_results) os) (is_truthy (operand_value (with_results known need_of no_results) o))
+    asked-if need_of o (before_true (with_results known need_of no_results) os)
+    (is_truthy (operand_value (with_results known need_of no_results) o))
 
 operands-text : (known : Values) (need_of : NeedOf) (results : Results) (operands : List Operand)
     → LeadAlike results (asked_needs known need_of operands) (map (operand_value (with_results known need_of results)) operands)
@@ -110,8 +117,8 @@ operands-text known need_of results [] other = refl
 operands-text known need_of results (o ∷ os) other =
     let by_results = operand_value (with_results known need_of results) in
     let is_known = operand_value (with_results known need_of no_results) in
-    one-more results (asked_needs known need_of os) (map by_results os) (map is_known os) (operands-text known need_of results os) (by_results o)
-    (is_known o) (need_of_operand need_of o) (stands known need_of results o) other
+    one-more results (asked_needs known need_of os) (map by_results os) (map is_known os) (operands-text known need_of results os)
+    (by_results o) (is_known o) (need_of_operand need_of o) (stands known need_of results o) other
     ∙ ap (λ needs. option_map_or result_word (first_result results needs) (scalar_text (first_true other (map is_known (o ∷ os)))))
     (sym (asked-step known need_of o os))
 
@@ -127,14 +134,15 @@ pieces-text known need_of results (p ∷ ps) =
     ap₂ (λ x y. x ++ y) (piece-text known need_of results p) (pieces-text known need_of results ps)
 
 bound-value : (known : Values) (need_of : NeedOf) (pieces : List Piece) (results : Results) (values : Values)
-    → HasResults known need_of results values → scalar_text (template_value values pieces) ≡ bound_text results (bound_of known need_of pieces)
+    → HasResults known need_of results values
+    → scalar_text (template_value values pieces) ≡ bound_text results (bound_of known need_of pieces)
 bound-value known need_of pieces results values has =
     ap (λ v. scalar_text (template_value v pieces)) (fun_ext has)
     ∙ (value-text (with_results known need_of results) pieces ∙ pieces-text known need_of results pieces)
 
 -- by any results, the text of a template's value is that of what was bound
-pub text-when-bound : (known : Values) (need_of : NeedOf) (pieces : List Piece) (bound : List BoundPiece) → bound_of known need_of pieces ≡ bound
-    → (results : Results) (values : Values) → HasResults known need_of results values
+pub text-when-bound : (known : Values) (need_of : NeedOf) (pieces : List Piece) (bound : List BoundPiece)
+    → bound_of known need_of pieces ≡ bound → (results : Results) (values : Values) → HasResults known need_of results values
     → scalar_text (template_value values pieces) ≡ bound_text results bound
 text-when-bound known need_of pieces bound is results values has =
     bound-value known need_of pieces results values has ∙ ap (bound_text results) is

@@ -1,7 +1,7 @@
 -- What is bound of templates, worked through from the definitions alone: an operand that is known to be true ends a choice, one
 -- that is known to be false is passed over, and the last one stands where no other is true.
 use Rattle.std.proofs.Common.{◌≡◌, ◌==◌, ℕ, List, [], ◌∷◌, refl, false}
-use Rattle.std.specs.Prelude.{Option, None, Some, codes, find}
+use Rattle.std.specs.Prelude.{Option, codes, find}
 use Rattle.std.specs.Cmp.Lexicographic.{pointwise}
 use Rattle.std.specs.Option.{option_map}
 use Rattle.std.specs.Str.{bytes_eq}
@@ -11,7 +11,6 @@ use Rattle.wf_value.specs.declared.scalar.Scalar.TheVariants.{Null, Truth, Text}
 use Rattle.wf_expr.specs.Bound.{NeedOf, Results, bound_of, bound_text, with_results}
 use Rattle.wf_expr.specs.ContextValue.{Values}
 use Rattle.wf_expr.specs.TemplateValue.{template_value}
-use Rattle.wf_expr.specs.declared.bound.BoundPiece.{BoundPiece}
 use Rattle.wf_expr.specs.declared.piece.Operand.{Operand}
 use Rattle.wf_expr.specs.declared.piece.Operand.TheVariants.{Quoted, Reference}
 use Rattle.wf_expr.specs.declared.piece.Piece.{Piece}

@@ -21,7 +21,8 @@ onto-low : (k n : ℕ) (acc : List ℕ) → AreLow acc → AreLow (digits_onto k
 onto-low zero n acc low = low
 onto-low (suc k) n acc low =
     let more : AreLow (digit_glyph false (n % 10) ∷ acc) = (glyph-low (n % 10) (mod_below n 10 (omega arith)), low) in
-    elim (n / 10 == 0) as (λ b. AreLow (cond b (digit_glyph false (n % 10) ∷ acc) (digits_onto k 10 false (n / 10) (digit_glyph false (n % 10) ∷ acc)))) [
+    let digit = digit_glyph false (n % 10) in
+    elim (n / 10 == 0) as (λ b. AreLow (cond b (digit ∷ acc) (digits_onto k 10 false (n / 10) (digit ∷ acc)))) [
       | true ↦ more
       | false ↦ onto-low k (n / 10) (digit_glyph false (n % 10) ∷ acc) more
     ]
