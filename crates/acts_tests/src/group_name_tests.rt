@@ -70,9 +70,24 @@ fn bound_group(alloc: Global, named: Named) -> Result<BoundGroup, Refusal> {
 const BOUND: [(Named, Named, Ended, bool); 8] = [
     (("o/r", "Straße"), ("o/r", "STRASSE"), NONE, true),
     (("o/r", "A${{ 'bc' }}"), ("o/r", "${{ 'aB' }}C"), NONE, true),
-    (("o/r", "D-${{ needs.a.result }}"), ("o/r", "d-FAILURE"), FAILED, true),
-    (("o/r", "D-${{ needs.a.result }}"), ("o/r", "d-FAILURE"), NONE, false),
-    (("o/r", "${{ needs.a.result || 'X' }}"), ("o/r", "x"), NONE, true),
+    (
+        ("o/r", "D-${{ needs.a.result }}"),
+        ("o/r", "d-FAILURE"),
+        FAILED,
+        true,
+    ),
+    (
+        ("o/r", "D-${{ needs.a.result }}"),
+        ("o/r", "d-FAILURE"),
+        NONE,
+        false,
+    ),
+    (
+        ("o/r", "${{ needs.a.result || 'X' }}"),
+        ("o/r", "x"),
+        NONE,
+        true,
+    ),
     (("o/r", "prod"), ("O/R", "prod"), NONE, false),
     (("o/r", "prod"), ("o/r", "prod2"), NONE, false),
     (("o/r", "${{ needs.a.result }}"), ("o/r", ""), NONE, false),

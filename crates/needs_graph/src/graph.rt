@@ -192,7 +192,9 @@ impl TryCopy for Graph {
 fn any_lacks_success<J: HasResult>(places: &[usize], jobs: &[J]) -> bool
     ensures { result ≡ list_any (λ place. not (has_succeeded (slice_index_or (map J.job_result jobs.now) place None))) places.now }
 {
-    places.iter().any(|place| !has_succeeded(result_at(jobs, *place)))
+    places
+        .iter()
+        .any(|place| !has_succeeded(result_at(jobs, *place)))
 }
 
 /// The ids of the jobs that reach themselves, in order.

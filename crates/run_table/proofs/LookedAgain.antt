@@ -115,8 +115,11 @@ changes_job runs next r j (Opening s k) at is =
     let from = from_and_then (opening_rule runs s k) (job_at runs s k) next is in
     let made = if_some (is_blocked from.value.phase && needs_have_settled runs s k)
     (with_job s k (decided runs s k) runs) next from.gives in
-    record { change = decided runs s k; is = ap (λ a. with_job a j (decided runs s k) runs) (sym at.0)
-        ∙ ap (λ b. with_job s b (decided runs s k) runs) (sym at.1) ∙ made.1 }
+    record {
+      change = decided runs s k;
+      is = ap (λ a. with_job a j (decided runs s k) runs) (sym at.0)
+          ∙ ap (λ b. with_job s b (decided runs s k) runs) (sym at.1) ∙ made.1;
+    }
 changes_job runs next r j (AtLeg p) at is =
     let from = from_and_then (leg_rule runs p) (leg_at runs p) next is in
     let made = from_map (λ phase. with_leg p (leg_in_phase phase) runs) (next_leg_phase from.value.phase) next from.gives in

@@ -26,9 +26,9 @@ use Rattle.wf_expr.proofs.ComparisonLemmas.{value-text}
 first-step : (other v : Scalar) (vs : List Scalar) → first_true other (v ∷ vs) ≡ cond (is_truthy v) v (first_true v vs)
 first-step other v vs =
     elim (is_truthy v) as (λ b. unwrap_or (cond b (Some v) (find is_truthy vs)) (last_or v vs) ≡ cond b v (first_true v vs)) [
-  | true ↦ refl
-  | false ↦ refl
-]
+      | true ↦ refl
+      | false ↦ refl
+    ]
 
 -- a word is true
 word-true : (r : JobResult) → is_truthy (Text (result_word r)) ≡ true

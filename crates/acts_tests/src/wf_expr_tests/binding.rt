@@ -79,14 +79,42 @@ const ROWS: [(&str, Ended, &str); 14] = [
     ("${{ needs.a.result }}", FAILED, "failure"),
     ("${{ needs.bb.result }}", FAILED, ""),
     ("${{ needs.ccc.result || 'x' }}", BOTH, "x"),
-    ("x-${{ needs.a.result || needs.bb.result || 'none' }}", NONE, "x-none"),
-    ("x-${{ needs.a.result || needs.bb.result || 'none' }}", SKIPPED, "x-skipped"),
-    ("x-${{ needs.a.result || needs.bb.result || 'none' }}", BOTH, "x-cancelled"),
-    ("${{ needs.a.result }}${{ needs.bb.result }}", BOTH, "cancelledsuccess"),
-    ("${{ inputs.no || needs.a.result || inputs.none }}", NONE, ""),
-    ("${{ inputs.no || needs.a.result || inputs.none }}", FAILED, "failure"),
+    (
+        "x-${{ needs.a.result || needs.bb.result || 'none' }}",
+        NONE,
+        "x-none",
+    ),
+    (
+        "x-${{ needs.a.result || needs.bb.result || 'none' }}",
+        SKIPPED,
+        "x-skipped",
+    ),
+    (
+        "x-${{ needs.a.result || needs.bb.result || 'none' }}",
+        BOTH,
+        "x-cancelled",
+    ),
+    (
+        "${{ needs.a.result }}${{ needs.bb.result }}",
+        BOTH,
+        "cancelledsuccess",
+    ),
+    (
+        "${{ inputs.no || needs.a.result || inputs.none }}",
+        NONE,
+        "",
+    ),
+    (
+        "${{ inputs.no || needs.a.result || inputs.none }}",
+        FAILED,
+        "failure",
+    ),
     ("${{ needs.a.result || inputs.no }}", NONE, "false"),
-    ("${{ needs.bb.result || github.run_id || needs.a.result }}", FAILED, "1"),
+    (
+        "${{ needs.bb.result || github.run_id || needs.a.result }}",
+        FAILED,
+        "1",
+    ),
 ];
 
 fn expect_text(rt: &impl Abort, alloc: Global, row: &(&str, Ended, &str)) {
