@@ -10,7 +10,7 @@ use wf_value::{Chars, JobResult, Refusal, TryCopy, copy_items};
 struct ByLength;
 
 impl Needs for ByLength {
-    ghost use Rattle.std.specs.Prelude.{◌==◌, length, None, Some, if◌then◌else◌};
+    ghost use Rattle.std.specs.Prelude.{◌==◌, [], length, None, Some, if◌then◌else◌};
     ghost use Rattle.std.specs.List.{slice_index_or};
 
     ghost need_of = { λ _ path. if length path == 3 then Some (length (slice_index_or path 1 [])) else None };
