@@ -127,7 +127,7 @@ fn command_by(alloc: Global, word: &[u8], fields: &[u8]) -> Result<Command, Refu
 /// The command of a line: `admit DELIVERY EVENT BODY`, `claim RUNNER NUMBER LABELS`,
 /// `done RUNNER NUMBER LEASE RESULT`, `beat RUNNER LEASE`, `cancel RUN`, `lost RUNNER`, `look RUN` or `fetch RUN`,
 /// parted by one space. BODY is all that follows the third space. Every other line is refused 75, and a body with a
-/// fault with the first one's number: 10 to 12, 15 to 17 or 19 to 25. Want of memory is 50.
+/// fault with the first one's number: 10 to 26. Want of memory is 50.
 pub fn command_of(alloc: Global, line: &[u8]) -> Result<Command, Refusal>
     ensures { Gives (λ c. c) result (command_of line.now) }
 {
