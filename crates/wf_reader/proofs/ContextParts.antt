@@ -18,7 +18,7 @@ use Rattle.wf_reader.specs.Contexts.{ContextObjects, contexts_in}
 abbrev pub is_name : List ℕ → String Global → Bool
 is_name name = is_at (λ k. slice_cmp nat_cmp name (string_bytes k))
 
-taken : (name : List ℕ) (es : List Entry) (o : Option Value) → o ≡ lookup (is_name name) es
+pub taken : (name : List ℕ) (es : List Entry) (o : Option Value) → o ≡ lookup (is_name name) es
     → option_map view o ≡ get_member name (members_view es)
 taken name es o is = ap (option_map view) is ∙ view-lookup name es
 
@@ -59,3 +59,18 @@ taken_in_turn es fs gs github inputs vars g without_github i without_inputs v =
     ∙ inputs_stay (codes "inputs") (apart (codes "inputs") (codes "github") refl))
     ∙ ap (objects (get_member (codes "github") (members_view es)) (get_member (codes "inputs") (members_view es))) (
     taken (codes "vars") gs vars v ∙ vars_stay ∙ inputs_stay (codes "vars") (apart (codes "vars") (codes "github") refl))
+
+-- the workflow behind the three
+pub taken_behind : (es fs gs hs : List Entry) (workflow : Option Value)
+    → fs ≡ remove_entry (is_name (codes "github")) es → gs ≡ remove_entry (is_name (codes "inputs")) fs
+    → hs ≡ remove_entry (is_name (codes "vars")) gs → workflow ≡ lookup (is_name (codes "workflow")) hs
+    → option_map view workflow ≡ get_member (codes "workflow") (members_view es)
+taken_behind es fs gs hs workflow without_github without_inputs without_vars w =
+    let stays = λ (name : List ℕ) (ks ls : List Entry) (differ : bytes_eq (codes "workflow") name ≡ false)
+    (without : ls ≡ remove_entry (is_name name) ks).
+    ap (λ x. get_member (codes "workflow") (members_view x)) without
+    ∙ others_stay (codes "workflow") name ks (apart (codes "workflow") name differ) in
+    taken (codes "workflow") hs workflow w
+    ∙ stays (codes "vars") gs hs refl without_vars
+    ∙ stays (codes "inputs") fs gs refl without_inputs
+    ∙ stays (codes "github") es fs refl without_github

@@ -1,5 +1,6 @@
-ghost use Rattle.std.specs.Prelude.{◌≡◌, option_map};
+ghost use Rattle.std.specs.Prelude.{◌≡◌, codes, option_map};
 ghost use Rattle.serde_json.specs.Data.{object};
+ghost use Rattle.serde_json.specs.Find.{get};
 ghost use Rattle.serde_json.specs.View.{view, members_view};
 ghost use Rattle.wf_expr.specs.ScalarView.{shown};
 ghost use Rattle.wf_reader.specs.Contexts.{contexts_in, context_named, scalar_at, sent_value};
@@ -33,32 +34,38 @@ impl Model for Contexts {
 }
 
 impl Contexts {
-    /// Those of an envelope, which are taken out of it and not copied.
-    pub fn of_envelope(envelope: Value) -> Contexts
-        ensures { result ≡ contexts_in (view envelope) }
+    /// Those of an envelope, and the envelope's workflow, which are taken out of it and not copied.
+    pub fn and_workflow(envelope: Value) -> (Contexts, Option<Value>)
+        ensures contexts { result.0 ≡ contexts_in (view envelope) }
+        ensures workflow { option_map (λ v. view v) result.1 ≡ get (codes "workflow") (view envelope) }
     {
         match envelope {
-            Value::Object(members) => Contexts::of_members(members),
-            _ => Contexts {
-                github: None,
-                inputs: None,
-                vars: None,
-            },
+            Value::Object(members) => Contexts::and_workflow_of(members),
+            _ => {
+                let contexts = Contexts {
+                    github: None,
+                    inputs: None,
+                    vars: None,
+                };
+                (contexts, None)
+            }
         }
     }
 
     /// Those of an envelope's members.
-    fn of_members(mut members: Map<String, Value>) -> Contexts
-        ensures { result ≡ contexts_in (object (members_view members.entries)) }
+    fn and_workflow_of(mut members: Map<String, Value>) -> (Contexts, Option<Value>)
+        ensures contexts { result.0 ≡ contexts_in (object (members_view members.entries)) }
+        ensures workflow { option_map (λ v. view v) result.1 ≡ get (codes "workflow") (object (members_view members.entries)) }
     {
         let github = members.remove("github");
         let inputs = members.remove("inputs");
         let vars = members.remove("vars");
-        Contexts {
+        let contexts = Contexts {
             github,
             inputs,
             vars,
-        }
+        };
+        (contexts, members.remove("workflow"))
     }
 
     /// The context of a name.

@@ -1,13 +1,12 @@
-ghost use Rattle.std.specs.Prelude.{◌≡◌, ◌<◌, ◌≤◌, codes, length, false, Err};
+ghost use Rattle.std.specs.Prelude.{◌≡◌, ◌<◌, ◌≤◌, length, option_map, unwrap_or, false, Err};
 ghost use Rattle.std.specs.Str.{is_utf8};
-ghost use Rattle.serde_json.specs.Find.{get};
+ghost use Rattle.serde_json.specs.Data.{null};
 ghost use Rattle.serde_json.specs.View.{view};
 ghost use Rattle.wf_value.specs.Gives.{Gives};
 ghost use Rattle.wf_reader.specs.Event.{event_faults_in, event_in, event_faults, event_of};
 ghost use Rattle.wf_value.specs.declared.code.Code.TheVariants.{NotJson, TooLong, WrongKind};
 ghost use Rattle.wf_value.specs.declared.refusal.Refusal.TheVariants.{Numbered};
 ghost use Rattle.wf_reader.specs.Faults.{unless_faulty, required};
-ghost use Rattle.wf_reader.specs.Json.{member_at};
 ghost use Rattle.wf_reader.specs.Workflow.{workflow_faults_in, workflow_in};
 
 use crate::body::read_body;
@@ -33,14 +32,12 @@ pub struct Event {
 /// The contexts of an event, in the order of the checks. GitHub Docs, "Contexts".
 const CONTEXTS: [&str; 3] = ["github", "inputs", "vars"];
 
-/// The workflow in an envelope.
-fn read_inner(alloc: Global, envelope: &Value) -> Result<Workflow, Refusal>
-    ensures { Gives (λ w. w) result
-        (unless_faulty
-        (required WrongKind workflow_faults_in (get (codes "workflow") (view envelope.now)))
-        (workflow_in (member_at (codes "workflow") (view envelope.now)))) }
+/// The workflow of an envelope.
+fn read_inner(alloc: Global, workflow: Option<Value>) -> Result<Workflow, Refusal>
+    ensures { let given = option_map (λ v. view v) workflow in Gives (λ w. w) result
+        (unless_faulty (required WrongKind workflow_faults_in given) (workflow_in (unwrap_or given null))) }
 {
-    match envelope.get("workflow") {
+    match workflow {
         Some(value) => workflow_in(alloc, value),
         None => Err(wrong_kind()),
     }
@@ -57,11 +54,12 @@ fn event_in(alloc: Global, value: Value) -> Result<Event, Refusal>
     let repo = read_filled_text(alloc, &value, "repo")?;
     let path = read_filled_text(alloc, &value, "path")?;
     check_contexts(&value, &CONTEXTS)?;
-    let workflow = read_inner(alloc, &value)?;
+    let (contexts, workflow) = Contexts::and_workflow(value);
+    let workflow = read_inner(alloc, workflow)?;
     Ok(Event {
         repo,
         path,
-        contexts: Contexts::of_envelope(value),
+        contexts,
         workflow,
     })
 }

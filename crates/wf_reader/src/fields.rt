@@ -1,4 +1,5 @@
 ghost use Rattle.std.specs.Prelude.{◌≡◌, flat_map, option_map, option_and_then};
+ghost use Rattle.serde_json.specs.Data.{object};
 ghost use Rattle.serde_json.specs.Find.{get, as_object};
 ghost use Rattle.serde_json.specs.View.{view, members_view};
 ghost use Rattle.wf_value.specs.Gives.{Gives};
@@ -19,12 +20,42 @@ pub fn wrong_kind() -> Refusal
     Refusal::Numbered(Code::WrongKind)
 }
 
-/// The members of a member that is an object.
-pub fn members_at<'v>(object: &'v Value, name: &str) -> Option<&'v Map<String, Value>>
-    ensures { option_map (λ m. members_view m.now.entries) result
-        ≡ option_and_then as_object (get name.now (view object.now)) }
+/// The value of a name, taken out of the members and not copied.
+fn taken_of(mut members: Map<String, Value>, name: &str) -> Option<Value>
+    ensures { option_map (λ v. view v) result ≡ get name.now (object (members_view members.entries)) }
 {
-    object.get(name).and_then(Value::as_object)
+    members.remove(name)
+}
+
+/// A member, taken out of its object and not copied.
+fn taken_member(object: Value, name: &str) -> Option<Value>
+    ensures { option_map (λ v. view v) result ≡ get name.now (view object) }
+{
+    match object {
+        Value::Object(members) => taken_of(members, name),
+        _ => None,
+    }
+}
+
+/// The members of a value that is an object.
+fn members_in(value: Value) -> Option<Map<String, Value>>
+    ensures { option_map (λ m. members_view m.entries) result ≡ as_object (view value) }
+{
+    match value {
+        Value::Object(members) => Some(members),
+        _ => None,
+    }
+}
+
+/// The members of a member that is an object, taken out of it and not copied.
+pub fn taken_members(object: Value, name: &str) -> Option<Map<String, Value>>
+    ensures { option_map (λ m. members_view m.entries) result
+        ≡ option_and_then as_object (get name.now (view object)) }
+{
+    match taken_member(object, name) {
+        Some(member) => members_in(member),
+        None => None,
+    }
 }
 
 /// Refuses a member that is left out, whatever its value (16).

@@ -11,7 +11,7 @@ ghost use Rattle.wf_reader.specs.Workflow.{jobs_faults, workflow_faults_in, work
 
 use crate::body::read_body;
 use crate::concurrency::{Concurrency, read_concurrency};
-use crate::fields::{members_at, read_text, wrong_kind};
+use crate::fields::{read_text, taken_members, wrong_kind};
 use crate::job::{Job, read_job};
 use crate::jobs::Jobs;
 use serde_json::{Map, Value};
@@ -33,26 +33,26 @@ pub struct Workflow {
     pub jobs: Jobs,
 }
 
-/// Each job, up to the first fault.
-fn read_each(alloc: Global, members: &Map<String, Value>) -> Result<Jobs, Refusal>
+/// Each job, up to the first fault. What it was read from is let go before the next one is read.
+fn read_each(alloc: Global, members: Map<String, Value>) -> Result<Jobs, Refusal>
     ensures { Gives (λ j. j) result
-        (unless_faulty (flat_map (λ e. job_faults (string_bytes e.0, view e.1)) members.now.entries)
-        (map (λ e. job_of (string_bytes e.0, view e.1)) members.now.entries)) }
+        (unless_faulty (flat_map (λ e. job_faults (string_bytes e.0, view e.1)) members.entries)
+        (map (λ e. job_of (string_bytes e.0, view e.1)) members.entries)) }
 {
     let mut jobs = Vec::with_capacity(alloc, members.len())?;
     for (id, value) in members {
-        jobs.push(read_job(alloc, id.as_str(), value)?)?;
+        jobs.push(read_job(alloc, id.as_str(), &value)?)?;
     }
     Ok(Jobs::new(jobs))
 }
 
 /// The jobs of a workflow: no object, or one without a member, is 11, and over 256 are 23.
-fn read_jobs(alloc: Global, workflow: &Value) -> Result<Jobs, Refusal>
+fn read_jobs(alloc: Global, workflow: Value) -> Result<Jobs, Refusal>
     ensures { Gives (λ j. j) result
-        (unless_faulty (jobs_faults (members_of (member_at (codes "jobs") (view workflow.now))))
-        (map job_of (members_of (member_at (codes "jobs") (view workflow.now))))) }
+        (unless_faulty (jobs_faults (members_of (member_at (codes "jobs") (view workflow))))
+        (map job_of (members_of (member_at (codes "jobs") (view workflow))))) }
 {
-    let Some(members) = members_at(workflow, "jobs") else {
+    let Some(members) = taken_members(workflow, "jobs") else {
         return Err(wrong_kind());
     };
     if members.is_empty() {
@@ -66,15 +66,15 @@ fn read_jobs(alloc: Global, workflow: &Value) -> Result<Jobs, Refusal>
 
 /// The workflow of a value, or the first of its faults.
 #[tactic(auto, using(crate::proofs::InTurn::no_fault, crate::proofs::InTurn::same_value))]
-pub fn workflow_in(alloc: Global, value: &Value) -> Result<Workflow, Refusal>
+pub fn workflow_in(alloc: Global, value: Value) -> Result<Workflow, Refusal>
     ensures { Gives (λ w. w) result
-        (unless_faulty (workflow_faults_in (view value.now)) (workflow_in (view value.now))) }
+        (unless_faulty (workflow_faults_in (view value)) (workflow_in (view value))) }
 {
     if !value.is_object() {
         return Err(wrong_kind());
     }
-    let name = read_text(alloc, value, "name")?;
-    let concurrency = read_concurrency(alloc, value, Place::Workflow)?;
+    let name = read_text(alloc, &value, "name")?;
+    let concurrency = read_concurrency(alloc, &value, Place::Workflow)?;
     let jobs = read_jobs(alloc, value)?;
     Ok(Workflow {
         name,
@@ -96,5 +96,5 @@ pub fn read_workflow(alloc: Global, bytes: &[u8]) -> Result<Workflow, Refusal>
         → result ≡ Err (Numbered NotJson) }
 {
     let value = read_body(alloc, bytes)?;
-    workflow_in(alloc, &value)
+    workflow_in(alloc, value)
 }

@@ -8,7 +8,7 @@ use Rattle.wf_reader.specs.Workflow.{workflow_faults_in}
 use Rattle.wf_value.proofs.PassedOn.{passed_on}
 use Rattle.wf_reader.proofs.InTurn.{first_decides, skip, same_value}
 use Rattle.wf_reader.proofs.JobFaults.{inside_object}
-use Rattle.wf_reader.proofs.EventParts.{past_texts, event_made}
+use Rattle.wf_reader.proofs.EventParts.{past_texts, event_made, of_given}
 use Rattle.wf_reader.proofs.event.event_in.Goals as goal
 
 pub returns-in_err-repo : goal.returns-in_err-repo
@@ -43,15 +43,17 @@ returns-in_err-workflow c =
     c.in_err-workflow.ensures (λ refused.
     past_texts d _ _ _ _ _ _ c.if-not-is_object.ensures c.in_ok-repo.ensures c.in_ok-path.ensures (
     skip (contexts_faults d) _ _ _ _ _ (sym c.in_ok-check_contexts.ensures) (
-    first_decides (required WrongKind workflow_faults_in (get (codes "workflow") d)) _ _ _ _ refused)))
+    first_decides (required WrongKind workflow_faults_in (get (codes "workflow") d)) _ _ _ _ (
+    of_given _ _ _ c.and_workflow-contexts.ensures.workflow refused))))
 
 pub returns : goal.returns
 returns c =
     let d = view c.args.value in
+    let read = of_given _ _ _ c.and_workflow-contexts.ensures.workflow c.in_ok-workflow.ensures in
     past_texts d _ _ _ _ _ _ c.if-not-is_object.ensures c.in_ok-repo.ensures c.in_ok-path.ensures (
     skip (contexts_faults d) _ _ _ _ _ (sym c.in_ok-check_contexts.ensures) (
-    skip (required WrongKind workflow_faults_in (get (codes "workflow") d)) _ _ _ _ _ c.in_ok-workflow.ensures (
+    skip (required WrongKind workflow_faults_in (get (codes "workflow") d)) _ _ _ _ _ read (
     ap Ok (event_made d _ _ _ _ (same_value (required WrongKind filled_text_faults (get (codes "repo") d)) _ _ c.in_ok-repo.ensures)
     (same_value (required WrongKind filled_text_faults (get (codes "path") d)) _ _ c.in_ok-path.ensures)
-    (sym c.of_envelope.ensures)
-    (same_value (required WrongKind workflow_faults_in (get (codes "workflow") d)) _ _ c.in_ok-workflow.ensures)))))
+    (sym c.and_workflow-contexts.ensures.contexts)
+    (same_value (required WrongKind workflow_faults_in (get (codes "workflow") d)) _ _ read)))))

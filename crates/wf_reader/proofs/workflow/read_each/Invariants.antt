@@ -6,8 +6,8 @@ use Rattle.wf_reader.proofs.workflow.read_each.Given as goal
 -- the members so far have no fault and have given their jobs
 abbrev pub invariant-loop-id : goal.invariant-loop-id
 invariant-loop-id l = record {
-  left : flat_map (λ e. job_faults (string_bytes e.0, view e.1)) l.members.entries ≡ flat_map
+  left : flat_map (λ e. job_faults (string_bytes e.0, view e.1)) l.fn.members.entries ≡ flat_map
       (λ e. job_faults (string_bytes e.0, view e.1)) l.id-iterator;
   done : l.jobs.items ++ map (λ e. job_of (string_bytes e.0, view e.1)) l.id-iterator ≡ map
-      (λ e. job_of (string_bytes e.0, view e.1)) l.members.entries;
+      (λ e. job_of (string_bytes e.0, view e.1)) l.fn.members.entries;
 }

@@ -12,9 +12,17 @@ use Rattle.wf_reader.proofs.JobFaults.{inside_object}
 use Rattle.wf_reader.proofs.WorkflowParts.{workflow_made}
 use Rattle.wf_reader.proofs.workflow.workflow_in.Goals as goal
 
+pub returns-in_err-name : goal.returns-in_err-name
+returns-in_err-name c =
+    let d = view c.args.value in
+    passed_on _ _ _ _ c.in_err-name.field-0.0 c.from_residual.ensures.1
+    c.in_err-name.ensures (λ refused.
+    inside_object inside_workflow d _ _ c.if-not-is_object.ensures (
+    first_decides (optional text_faults (get (codes "name") d)) _ _ _ _ refused))
+
 pub returns-in_err-concurrency : goal.returns-in_err-concurrency
 returns-in_err-concurrency c =
-    let d = view c.args.value.now in
+    let d = view c.args.value in
     passed_on _ _ _ _ c.in_err-concurrency.field-0.0 c.from_residual-in_err-concurrency.ensures.1
     c.in_err-concurrency.ensures (λ refused.
     inside_object inside_workflow d _ _ c.if-not-is_object.ensures (
@@ -23,7 +31,7 @@ returns-in_err-concurrency c =
 
 pub returns-in_err-jobs : goal.returns-in_err-jobs
 returns-in_err-jobs c =
-    let d = view c.args.value.now in
+    let d = view c.args.value in
     passed_on _ _ _ _ c.in_err-jobs.field-0.0 c.from_residual-in_err-jobs.ensures.1
     c.in_err-jobs.ensures (λ refused.
     inside_object inside_workflow d _ _ c.if-not-is_object.ensures (
@@ -33,7 +41,7 @@ returns-in_err-jobs c =
 
 pub returns : goal.returns
 returns c =
-    let d = view c.args.value.now in
+    let d = view c.args.value in
     inside_object inside_workflow d _ _ c.if-not-is_object.ensures (
     skip (optional text_faults (get (codes "name") d)) _ _ _ _ _ c.in_ok-name.ensures (
     skip (optional (concurrency_faults place.Workflow) (get (codes "concurrency") d)) _ _ _ _ _ c.in_ok-concurrency.ensures (
