@@ -34,6 +34,10 @@ pub both_ok : {T E : Type 0} (r : Result T E) {P Q R : Type 0} → OnOk r P → 
 both_ok (Ok x) p q weaker = weaker p q
 both_ok (Err e) p q weaker = _
 
+pub three_ok : {T E : Type 0} (r : Result T E) {P Q R S : Type 0} → OnOk r P → OnOk r Q → OnOk r R → (P → Q → R → S) → OnOk r S
+three_ok (Ok x) p q t weaker = weaker p q t
+three_ok (Err e) p q t weaker = _
+
 module _ {D : Type 0} (moment : D → ℕ) (images_since : D → ℕ → List ℕ → Type 0)
     (images : D → List ℕ → Type 0) (gate : ℕ) (bytes : List ℕ) where
   -- after the record's write and its sync

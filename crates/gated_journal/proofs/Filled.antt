@@ -31,7 +31,7 @@ parted : (behind rest : List ℕ) (head : Head) (bodies : List (List ℕ)) → b
 parted behind rest head bodies is =
     ap (λ (l : List ℕ). 0xA5 ∷ l) (is ∙ append_assoc (head_bytes head ++ record_bytes bodies) (0 ∷ []) rest)
 
-would_of : (area text : List ℕ) (head : Head) (bodies : List (List ℕ)) → 1 ≤ length area → Holds area 1 text
+pub would_of : (area text : List ℕ) (head : Head) (bodies : List (List ℕ)) → 1 ≤ length area → Holds area 1 text
     → text ≡ behind_gate head bodies → Fits head bodies → WouldRead area head bodies
 would_of [] text head bodies some held is fits = absurd (omega (arith, some))
 would_of (gate ∷ behind) text head bodies some held is fits =

@@ -1,19 +1,22 @@
 mod Areas
 mod Choosing
 mod ClosedGate
-mod Composed
+pub mod Composed
 mod CutOff
 mod Filled
 mod Frames
+mod Fronts
 mod Gates
-mod Grown
+pub mod Grown
 mod Heads
+mod Laying
 mod Loaded
 mod Moves
-mod OneReading
-mod Parting
+pub mod OneReading
+pub mod Parting
 mod Recording
 mod Scanning
 mod Scans
 mod TwoAreas
 mod Ways
+mod Whole

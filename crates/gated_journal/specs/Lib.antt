@@ -8,3 +8,4 @@ pub mod ScannedHead
 pub mod Spelled
 pub mod Turning
 pub mod TwoAreas
+pub mod Whole

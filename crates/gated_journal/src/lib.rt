@@ -4,9 +4,12 @@
 mod append;
 mod area;
 mod area_call;
+mod chosen;
 mod gate;
+mod grow;
 mod head;
 pub mod laws;
+mod made;
 mod places;
 mod read;
 mod record;
@@ -19,8 +22,10 @@ mod turning;
 
 pub use area::Area;
 pub use area_call::AreaCall;
+pub use chosen::{Chosen, choose};
 pub use gate::Gate;
 pub use head::AreaHead;
+pub use made::make_areas;
 pub use record::Record;
 pub use records::record_at;
 pub use scanned::{ScannedArea, scan};

@@ -8,6 +8,25 @@ use crate::scanned::{ScannedArea, scan};
 use act_disk::{Disk, DiskFault};
 
 impl Area {
+    /// Fills the buffer with the area's bytes. No image comes, and none goes.
+    pub fn read<D: Disk>(&self, disk: &mut D, bytes: &mut [u8]) -> Result<(), DiskFault>
+        requires countable { D.fault_count disk.old < u64.MAX }
+        requires whole { length bytes.old ≡ self.now.len }
+        requires within { self.now.start + self.now.len ≤ D.size disk.old }
+        ensures bytes { OnOk result (D.honest disk.new → bytes.new ≡ part self.now.start self.now.len (D.seen disk.old)) }
+        ensures images { D.honest disk.new → SameImages (D.images disk.old) (D.images disk.new) }
+        ensures any_moment { D.honest disk.new
+            → EachSince D.moment D.images_since disk.old disk.new (D.images disk.old) }
+        ensures seen { D.honest disk.new → D.seen disk.new ≡ D.seen disk.old }
+        ensures size { D.size disk.new ≡ D.size disk.old }
+        ensures calls { D.calls disk.new ≡ D.calls disk.old + 1 }
+        ensures faults { CountsFault result (D.fault_count disk.old) (D.fault_count disk.new) }
+        ensures honest { D.honest disk.new → D.honest disk.old }
+        ensures length { length bytes.new ≡ length bytes.old }
+    {
+        disk.read(self.start, bytes)
+    }
+
     /// Syncs, and then fills the buffer with the area's bytes.
     ///
     /// What was read is what a stop leaves from then on. No image comes to those from before.

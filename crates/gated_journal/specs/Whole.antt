@@ -1,0 +1,47 @@
+-- A disk that has two areas and no byte more.
+use Rattle.std.specs.Prelude.{◌≡◌, ◌⊎◌, ℕ, ◌+◌, List, [], ◌∷◌, ◌++◌, length, Option, Some, None}
+use Rattle.act_disk.specs.Images.{Holds}
+use Rattle.gated_journal.specs.Choice.{newer}
+use Rattle.gated_journal.specs.Layout.{Head}
+use Rattle.gated_journal.specs.TwoAreas.{area_on, other, standing, IsGate, Stands}
+use Rattle.gated_journal.specs.declared.chosen.Chosen.{Chosen}
+use Rattle.gated_journal.specs.declared.gate.Gate.{Gate}
+use Rattle.gated_journal.specs.declared.gate.Gate.TheVariants.{Open, Closed}
+use Rattle.gated_journal.specs.declared.side.Side.{Side}
+use Rattle.gated_journal.specs.declared.side.Side.TheVariants.{First, Second}
+
+-- It stands so, and ends where its second area does.
+pub record StandsWhole (len : ℕ) (side : Side) (gate : Gate) (disk : List ℕ) (head : Head) (bodies : List (List ℕ)) : Type 0 where
+  pub stands : Stands len side gate disk head bodies
+  pub whole : length disk ≡ len + len
+
+-- at each moment of an append: with the bodies before it, or with these and the new one
+abbrev pub WholeOrGrew : ℕ → Side → Gate → Head → List (List ℕ) → List ℕ → List ℕ → Type 0
+WholeOrGrew len side gate head bodies body disk =
+    StandsWhole len side gate disk head bodies ⊎ StandsWhole len side gate disk head (bodies ++ body ∷ [])
+
+-- The one that stands was found, with the gate of the other one, or that none stands.
+abbrev pub IsChosen : ℕ → Option Chosen → List ℕ → Type 0
+IsChosen len None disk = standing len disk ≡ None
+IsChosen len (Some chosen) disk =
+    (standing len disk ≡ Some chosen.side) × IsGate chosen.other (area_on len (other chosen.side) disk)
+
+-- the gate of an area with this generation where it is open
+abbrev pub gate_of : Option ℕ → Gate
+gate_of (Some generation) = Open
+gate_of None = Closed
+
+-- of the areas with these generations where their gates are open
+abbrev pub beside : Option ℕ → Option ℕ → Side → Option ℕ
+beside first second First = second
+beside first second Second = first
+
+abbrev pub StandsBetween : Option ℕ → Option ℕ → Option Chosen → Type 0
+StandsBetween first second None = newer first second ≡ None
+StandsBetween first second (Some chosen) = (newer first second ≡ Some chosen.side) × (chosen.other ≡ gate_of (beside first second chosen.side))
+
+-- Two areas without an open gate: the first begins with these bytes.
+pub record AreLaid (len : ℕ) (front disk : List ℕ) : Type 0 where
+  pub whole : length disk ≡ len + len
+  pub front_is : Holds disk 0 front
+  pub other_gate : Holds disk len (0 ∷ [])

@@ -1,0 +1,116 @@
+ghost use Rattle.std.specs.Prelude.{◌≡◌, ◌+◌, ◌<◌, ◌≤◌, ◌^◌, ℕ, List, length, OnOk, IfOk};
+ghost use Rattle.act_disk.specs.Images.{SameImages, Only, EachSince, CountsFault};
+ghost use Rattle.gated_journal.specs.Choice.{newer, open_generation, part};
+ghost use Rattle.gated_journal.specs.Whole.{IsChosen, StandsBetween, gate_of};
+
+use crate::append::OPEN;
+use crate::area::Area;
+use crate::gate::Gate;
+use crate::side::Side;
+use act_disk::{Disk, DiskFault};
+
+/// The area of a disk that stands, and how the gate of the other one is.
+#[derive(Clone, Copy)]
+pub struct Chosen {
+    pub side: Side,
+    pub other: Gate,
+}
+
+/// How many bytes tell the generation of an area: its gate, its version, and the generation in eight.
+const FRONT: usize = 10;
+
+/// The generation, where the gate is open.
+fn generation_of(front: &[u8; 10]) -> Option<u64>
+    ensures { result ≡ open_generation front.now }
+{
+    if front[0] != OPEN {
+        return None;
+    }
+    Some(u64::from_be_bytes([
+        front[2], front[3], front[4], front[5], front[6], front[7], front[8], front[9],
+    ]))
+}
+
+/// Of areas with these generations where their gates are open.
+fn chosen_of(first: Option<u64>, second: Option<u64>) -> Option<Chosen>
+    ensures { StandsBetween first second result }
+{
+    let side = Side::newer(first, second)?;
+    let other = match side {
+        Side::First => gate_of(second),
+        Side::Second => gate_of(first),
+    };
+    Some(Chosen { side, other })
+}
+
+/// The gate of an area that has this generation where it is open.
+fn gate_of(generation: Option<u64>) -> Gate
+    ensures { result ≡ gate_of generation }
+{
+    match generation {
+        Some(_) => Gate::Open,
+        None => Gate::Closed,
+    }
+}
+
+/// Syncs, and reads the generation of the first area, where its gate is open.
+fn first_generation<D: Disk>(disk: &mut D) -> Result<Option<u64>, DiskFault>
+    requires countable { D.fault_count disk.old < u64.MAX }
+    requires within { 10 ≤ D.size disk.old }
+    ensures generation { IfOk result (λ found. D.honest disk.new → found ≡ open_generation (part 0 10 (D.seen disk.old))) }
+    ensures stable { OnOk result (D.honest disk.new → Only (D.seen disk.old) (D.images disk.new)) }
+    ensures any_moment { D.honest disk.new
+        → EachSince D.moment D.images_since disk.old disk.new (D.images disk.old) }
+    ensures seen { D.honest disk.new → D.seen disk.new ≡ D.seen disk.old }
+    ensures size { D.size disk.new ≡ D.size disk.old }
+    ensures calls { D.calls disk.new ≤ D.calls disk.old + 2 }
+    ensures faults { CountsFault result (D.fault_count disk.old) (D.fault_count disk.new) }
+    ensures honest { D.honest disk.new → D.honest disk.old }
+{
+    let mut front = [0; FRONT];
+    let area = Area { start: 0, len: 10 };
+    area.read_synced(disk, &mut front)?;
+    Ok(generation_of(&front))
+}
+
+/// Reads the generation of the area that begins at `start`, where its gate is open. No image comes.
+fn generation_at<D: Disk>(disk: &mut D, start: u64) -> Result<Option<u64>, DiskFault>
+    requires countable { D.fault_count disk.old < u64.MAX }
+    requires within { start + 10 ≤ D.size disk.old }
+    ensures generation { IfOk result (λ found. D.honest disk.new → found ≡ open_generation (part start 10 (D.seen disk.old))) }
+    ensures images { D.honest disk.new → SameImages (D.images disk.old) (D.images disk.new) }
+    ensures any_moment { D.honest disk.new
+        → EachSince D.moment D.images_since disk.old disk.new (D.images disk.old) }
+    ensures seen { D.honest disk.new → D.seen disk.new ≡ D.seen disk.old }
+    ensures size { D.size disk.new ≡ D.size disk.old }
+    ensures calls { D.calls disk.new ≡ D.calls disk.old + 1 }
+    ensures faults { CountsFault result (D.fault_count disk.old) (D.fault_count disk.new) }
+    ensures honest { D.honest disk.new → D.honest disk.old }
+{
+    let mut front = [0; FRONT];
+    let area = Area { start, len: 10 };
+    area.read(disk, &mut front)?;
+    Ok(generation_of(&front))
+}
+
+/// Syncs, and finds which of the two areas of a disk stands, each `len` long, and how the gate of the other one is.
+///
+/// What was found is so in what a stop leaves from then on. No image comes to those from before.
+pub fn choose<D: Disk>(disk: &mut D, len: u64) -> Result<Option<Chosen>, DiskFault>
+    requires countable { D.fault_count disk.old < u64.MAX }
+    requires within { len + len ≤ D.size disk.old }
+    requires long { 10 ≤ len }
+    ensures found { IfOk result (λ found. D.honest disk.new → IsChosen len found (D.seen disk.old)) }
+    ensures stable { OnOk result (D.honest disk.new → Only (D.seen disk.old) (D.images disk.new)) }
+    ensures any_moment { D.honest disk.new
+        → EachSince D.moment D.images_since disk.old disk.new (D.images disk.old) }
+    ensures seen { D.honest disk.new → D.seen disk.new ≡ D.seen disk.old }
+    ensures size { D.size disk.new ≡ D.size disk.old }
+    ensures calls { D.calls disk.new ≤ D.calls disk.old + 3 }
+    ensures faults { CountsFault result (D.fault_count disk.old) (D.fault_count disk.new) }
+    ensures honest { D.honest disk.new → D.honest disk.old }
+{
+    let first = first_generation(disk)?;
+    let second = generation_at(disk, len)?;
+    Ok(chosen_of(first, second))
+}

@@ -1,0 +1,33 @@
+ghost use Rattle.std.specs.Prelude.{◌≡◌, ◌↔◌, ◌+◌, ◌<◌, ◌≤◌, ◌^◌, ℕ, List, [], ◌∷◌, ◌++◌, length, OnOk};
+ghost use Rattle.act_disk.specs.Images.{EachSince, CountsFault};
+ghost use Rattle.gated_journal.specs.Appends.{record_of};
+ghost use Rattle.gated_journal.specs.Layout.{Head, opened};
+ghost use Rattle.gated_journal.specs.Whole.{StandsWhole, WholeOrGrew};
+
+use crate::append::append_behind;
+use crate::gate::Gate;
+use crate::standing::Standing;
+use act_disk::{Disk, DiskFault};
+
+impl Standing {
+    /// Appends to the area that stands on a disk of two areas, whose first closed gate is at `at`. The bytes are
+    /// a record: its body behind its length, and a closed gate. The disk stays as long as it is.
+    pub fn grow<D: Disk>(&self, disk: &mut D, at: u64, bytes: &[u8]) -> Result<(), DiskFault>
+        requires countable { D.fault_count disk.old < u64.MAX }
+        requires addressed { self.now.len + self.now.len < 2 ^ 64 }
+        requires fits { at + (length bytes.now + 1) ≤ self.now.len }
+        ensures any_moment { (gate : Gate) (head : Head) (bodies : List (List ℕ)) (body : List ℕ) → D.honest disk.old
+            → ((c : List ℕ) → D.images disk.old c → StandsWhole self.now.len self.now.side gate c head bodies)
+            → at ≡ length (opened head bodies) → bytes.now ≡ record_of body → length body < 2 ^ 32
+            → EachSince D.moment D.images_since disk.old disk.new (WholeOrGrew self.now.len self.now.side gate head bodies body) }
+        ensures grown { OnOk result ((gate : Gate) (head : Head) (bodies : List (List ℕ)) (body : List ℕ) → D.honest disk.old
+            → ((c : List ℕ) → D.images disk.old c → StandsWhole self.now.len self.now.side gate c head bodies)
+            → at ≡ length (opened head bodies) → bytes.now ≡ record_of body → length body < 2 ^ 32
+            → (c : List ℕ) → D.images disk.new c → StandsWhole self.now.len self.now.side gate c head (bodies ++ body ∷ [])) }
+        ensures calls { D.calls disk.new ≤ D.calls disk.old + 4 }
+        ensures faults { CountsFault result (D.fault_count disk.old) (D.fault_count disk.new) }
+        ensures honest { D.honest disk.new ↔ D.honest disk.old }
+    {
+        append_behind(disk, self.side.start(self.len) + at, bytes)
+    }
+}
