@@ -51,6 +51,7 @@ pub mod SettlingKeeps
 pub mod SkipsDue
 pub mod Sought
 pub mod StepKeeps
+pub mod Storable
 pub mod StepRows
 pub mod StopDecided
 pub mod StopKeeps

@@ -20,6 +20,7 @@ pub mod Skips
 pub mod Sound
 pub mod Step
 pub mod Stops
+pub mod Stored
 pub mod TableState
 pub mod Turns
 pub mod ViewText

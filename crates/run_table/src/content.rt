@@ -52,6 +52,24 @@ impl Content {
         }
     }
 
+    pub(crate) fn last_lease(&self) -> u32
+        ensures { result ≡ self.now.last_lease }
+    {
+        self.last_lease
+    }
+
+    pub(crate) fn runs(&self) -> &[Run]
+        ensures { result.now ≡ self.now.runs }
+    {
+        self.runs.as_slice()
+    }
+
+    pub(crate) fn runners(&self) -> &[Runner]
+        ensures { result.now ≡ self.now.runners }
+    {
+        self.runners.as_slice()
+    }
+
     /// Carries out a command, settles, and answers its reply. Refusals of the table, 40 to 45 and 48,
     /// are replies. The error is 50 alone, and the table is then as it was. What is answered from
     /// the table as it is, without a text, is answered memory or not.

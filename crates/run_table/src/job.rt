@@ -44,13 +44,13 @@ impl Job {
         })
     }
 
-    pub(crate) fn phase(&self) -> JobPhase
+    pub fn phase(&self) -> JobPhase
         ensures { result ≡ self.now.state.phase }
     {
         self.phase
     }
 
-    pub(crate) fn legs(&self) -> &[Leg]
+    pub fn legs(&self) -> &[Leg]
         ensures { result.now ≡ self.now.state.legs }
     {
         let count = if self.has_legs { self.room.len() } else { 0 };

@@ -59,7 +59,7 @@ impl Run {
         })
     }
 
-    pub(crate) fn prepared(&self) -> &Prepared
+    pub fn prepared(&self) -> &Prepared
         ensures { result.now ≡ self.now.admitted }
     {
         &self.prepared
@@ -71,19 +71,19 @@ impl Run {
         self.prepared.delivery().as_str() == delivery.as_str()
     }
 
-    pub(crate) fn phase(&self) -> RunPhase
+    pub fn phase(&self) -> RunPhase
         ensures { result ≡ self.now.phase }
     {
         self.phase
     }
 
-    pub(crate) fn is_stopping(&self) -> bool
+    pub fn is_stopping(&self) -> bool
         ensures { result ≡ self.now.stopping }
     {
         self.stopping
     }
 
-    pub(crate) fn jobs(&self) -> &[Job]
+    pub fn jobs(&self) -> &[Job]
         ensures { states result.now ≡ self.now.jobs }
     {
         self.jobs.as_slice()

@@ -1,9 +1,12 @@
-ghost use Rattle.std.specs.Prelude.{◌≡◌, true, Ok, OnErr, IsOk};
+ghost use Rattle.std.specs.Prelude.{◌≡◌, ◌≤◌, true, Ok, OnErr, IsOk};
 ghost use Rattle.wf_value.specs.Gives.{Gives};
 ghost use Rattle.run_table.specs.Sound.{IsSound};
+ghost use Rattle.run_table.specs.Stored.{IsStorable};
 ghost use Rattle.run_table.specs.Step.{answered, empty, is_free, seen, step};
 
 use crate::content::Content;
+use crate::run::Run;
+use crate::runner::Runner;
 use crate::view::RunView;
 use run_plan::{Command, Number, Reply};
 use std::alloc::Global;
@@ -54,6 +57,30 @@ impl Table {
         ensures sound { IsSound self.now }
     {
         self.content.look(run)
+    }
+
+    /// The last lease that was given, 0 where none was. It takes no memory.
+    pub fn last_lease(&self) -> u32
+        ensures lease { result ≡ self.now.last_lease }
+        ensures most { result ≤ 999999999 }
+    {
+        self.content.last_lease()
+    }
+
+    /// The runs, in the order of their ids. It takes no memory.
+    #[tactic(auto, using(crate::proofs::Storable::storable))]
+    pub fn runs(&self) -> &[Run]
+        ensures runs { result.now ≡ self.now.runs }
+        ensures storable { IsStorable self.now.runs }
+    {
+        self.content.runs()
+    }
+
+    /// The runners. It takes no memory.
+    pub fn runners(&self) -> &[Runner]
+        ensures { result.now ≡ self.now.runners }
+    {
+        self.content.runners()
     }
 }
 
