@@ -6,12 +6,13 @@ use Rattle.std.proofs.lemmas.Bool.{leb-true}
 use Rattle.std.proofs.lemmas.List.Concat.{length-flat_map}
 use Rattle.std.proofs.lemmas.List.Sums.{sum_by-cons, sum_by_more}
 use Rattle.wf_value.specs.declared.outcome.Outcome.{Outcome}
+use Rattle.run_plan.specs.Admitted.{Admitted}
 use Rattle.run_plan.specs.SmallText.{is_of_short_length, is_short}
 use Rattle.run_plan.specs.declared.command.Command.{Command}
 use Rattle.run_plan.specs.declared.command.Command.TheVariants as asked
-use Rattle.table_text.specs.Commands.{batch, command, command_bytes, labels, outcome_byte}
+use Rattle.table_text.specs.Commands.{admit, batch, command, command_bytes, labels, outcome_byte}
 use Rattle.table_text.specs.Format.{text_bytes, word_bytes}
-use Rattle.table_text.specs.Lengths.{batch_length, command_length, length_of, text_length, texts_length}
+use Rattle.table_text.specs.Lengths.{batch_length, command_length, fields_length, length_of, text_length, texts_length}
 use Rattle.table_text.proofs.Readers.{both}
 
 pub length_word : (n : ℕ) → length (word_bytes n) ≡ 4
@@ -49,19 +50,22 @@ pub length_labels : (texts : List (List ℕ)) → length (labels.spelling texts)
 length_labels texts = length_counted text_bytes text_length texts length_text
 
 -- the byte that stands before others
-behind_one : (bytes : List ℕ) {n : ℕ} → length bytes ≡ n → suc (length bytes) ≡ 1 + n
+pub behind_one : (bytes : List ℕ) {n : ℕ} → length bytes ≡ n → suc (length bytes) ≡ 1 + n
 behind_one bytes h = omega (arith, h)
 
 length_outcome : (r : Outcome) → length (outcome_byte r ∷ []) ≡ 1
 length_outcome r = refl
 
-pub length_command : (c : Command) → length_of command c ≡ command_length c
-length_command (asked.Admit event) =
-    behind_one _
-    (length_two (text_bytes event.delivery) (text_bytes event.event ++ text_bytes event.body) (text_length event.delivery)
+-- what stands behind the byte of an admission
+pub length_admit : (event : Admitted) → length (admit.spelling event) ≡ fields_length (asked.Admit event)
+length_admit event =
+    length_two (text_bytes event.delivery) (text_bytes event.event ++ text_bytes event.body) (text_length event.delivery)
     (text_length event.event + text_length event.body) (length_text event.delivery)
     (length_two (text_bytes event.event) (text_bytes event.body) (text_length event.event) (text_length event.body) (length_text event.event) (length_text event.body))
-    ∙ omega arith)
+    ∙ omega arith
+
+pub length_command : (c : Command) → length_of command c ≡ command_length c
+length_command (asked.Admit event) = behind_one _ (length_admit event)
 length_command (asked.Claim asks) =
     behind_one _
     (length_two (text_bytes asks.runner) (word_bytes asks.number ++ labels.spelling asks.labels) (text_length asks.runner)

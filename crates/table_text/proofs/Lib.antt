@@ -6,3 +6,7 @@ pub mod LengthLaws
 mod LengthRows
 pub mod Loop
 pub mod Readers
+pub mod TableKnown
+pub mod TableLengthLaws
+pub mod TableReaders
+mod TableRows

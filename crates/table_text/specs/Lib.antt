@@ -3,3 +3,7 @@ pub mod Format
 pub mod Lengths
 pub mod Reading
 pub mod ReadingCommands
+pub mod ReadingTables
+pub mod TableLengths
+pub mod Tables
+pub mod Writing

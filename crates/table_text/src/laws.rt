@@ -1,10 +1,13 @@
-//! Laws of the spellings of commands and of batches, and of their lengths.
+//! Laws of the spellings of commands, of batches and of tables, and of their lengths.
 
 ghost use Rattle.std.specs.Prelude.{◌≡◌, List};
 ghost use Rattle.run_plan.specs.declared.command.Command.{Command};
 ghost use Rattle.table_text.specs.Commands.{batch, command};
 ghost use Rattle.table_text.specs.Format.{HasOneSpelling, NoneBeginsAnother};
 ghost use Rattle.table_text.specs.Lengths.{batch_length, command_length, length_of};
+ghost use Rattle.run_table.specs.Stored.{StoredTable};
+ghost use Rattle.table_text.specs.TableLengths.{table_length};
+ghost use Rattle.table_text.specs.Tables.{table};
 
 /// No spelling of a command begins another.
 pub fn no_command_begins_another()
@@ -34,4 +37,19 @@ pub fn a_command_has_the_bytes_of_its_fields()
 /// A batch is spelled in four bytes and those of its commands.
 pub fn a_batch_has_four_bytes_and_those_of_its_commands()
     ensures { (commands : List Command) → length_of batch commands ≡ batch_length commands }
+{}
+
+/// No spelling of a table begins another.
+pub fn no_table_begins_another()
+    ensures { NoneBeginsAnother table }
+{}
+
+/// Each table that has a spelling has one.
+pub fn each_table_has_one_spelling()
+    ensures { HasOneSpelling table }
+{}
+
+/// A table is spelled in the bytes of its fields: the empty one in twelve.
+pub fn a_table_has_the_bytes_of_its_fields()
+    ensures { (t : StoredTable) → length_of table t ≡ table_length t }
 {}

@@ -1,4 +1,4 @@
-//! The stored bytes of commands and of batches of them, both ways.
+//! The stored bytes of commands and of batches of them, both ways, and of tables.
 #![tactic(auto)]
 
 mod command_at;
@@ -8,9 +8,10 @@ pub mod laws;
 mod lengths;
 mod not_read;
 mod push;
+mod push_table;
 mod read;
 mod write;
 
 pub use lengths::{batch_length, command_length};
 pub use read::{read_batch, read_command};
-pub use write::{write_batch, write_command};
+pub use write::{write_batch, write_command, write_table};

@@ -25,14 +25,14 @@ fn push_text(out: &mut Vec<u8>, text: &[u8]) -> Result<(), AllocError>
     out.extend_from_slice(text)
 }
 
-fn push_number(out: &mut Vec<u8>, value: Number) -> Result<(), AllocError>
+pub(crate) fn push_number(out: &mut Vec<u8>, value: Number) -> Result<(), AllocError>
     ensures takes { number.Takes value }
     ensures bytes { OnOk result (out.new.items ≡ out.old.items ++ word_bytes value) }
 {
     push_word(out, value.get())
 }
 
-fn push_small_text<F: Form>(out: &mut Vec<u8>, text: &SmallText<F>) -> Result<(), AllocError>
+pub(crate) fn push_small_text<F: Form>(out: &mut Vec<u8>, text: &SmallText<F>) -> Result<(), AllocError>
     ensures takes { (small_text F.allows).Takes text.now }
     ensures bytes { OnOk result (out.new.items ≡ out.old.items ++ text_bytes text.now) }
 {
@@ -77,7 +77,7 @@ fn push_body(out: &mut Vec<u8>, event: &Prepared) -> Result<(), AllocError>
     push_text(out, event.body())
 }
 
-fn push_admit(out: &mut Vec<u8>, event: &Prepared) -> Result<(), AllocError>
+pub(crate) fn push_admit(out: &mut Vec<u8>, event: &Prepared) -> Result<(), AllocError>
     ensures takes { OnOk result (admit.Takes event.now) }
     ensures bytes { OnOk result (out.new.items ≡ out.old.items ++ admit.spelling event.now) }
 {
@@ -87,7 +87,7 @@ fn push_admit(out: &mut Vec<u8>, event: &Prepared) -> Result<(), AllocError>
     Ok(())
 }
 
-fn push_claim(out: &mut Vec<u8>, asks: &Claim) -> Result<(), AllocError>
+pub(crate) fn push_claim(out: &mut Vec<u8>, asks: &Claim) -> Result<(), AllocError>
     ensures takes { OnOk result (claim.Takes asks.now) }
     ensures bytes { OnOk result (out.new.items ≡ out.old.items ++ claim.spelling asks.now) }
 {
@@ -97,7 +97,7 @@ fn push_claim(out: &mut Vec<u8>, asks: &Claim) -> Result<(), AllocError>
     Ok(())
 }
 
-fn push_done(out: &mut Vec<u8>, report: &Done) -> Result<(), AllocError>
+pub(crate) fn push_done(out: &mut Vec<u8>, report: &Done) -> Result<(), AllocError>
     ensures takes { OnOk result (done.Takes report.now) }
     ensures bytes { OnOk result (out.new.items ≡ out.old.items ++ done.spelling report.now) }
 {

@@ -1,0 +1,80 @@
+-- The length of a table's spelling is the sum over its fields.
+use Rattle.std.proofs.Common.{◌≡◌, ℕ, ◌+◌, ◌*◌, List, [], ◌∷◌, ◌++◌, length, refl, sym, ◌∙◌, ap, arith}
+use Rattle.std.specs.Prelude.{Bool, flat_map, sum_by, Option, Some, None}
+use Rattle.std.proofs.lemmas.List.Concat.{length-flat_map}
+use Rattle.std.proofs.lemmas.List.Sums.{sum_by-cons}
+use Rattle.run_plan.specs.Admitted.{Admitted}
+use Rattle.run_plan.specs.declared.command.Command.TheVariants as asked
+use Rattle.run_table.specs.Stored.{StoredRunner, StoredTable}
+use Rattle.run_table.specs.TableState.{LegState, JobState, RunState}
+use Rattle.run_table.specs.declared.parts.LastParts.{LastParts}
+use Rattle.run_table.specs.declared.parts.LastParts.TheVariants as last
+use Rattle.table_text.specs.Commands.{admit, command_bytes}
+use Rattle.table_text.specs.Format.{text_bytes, word_bytes}
+use Rattle.table_text.specs.Lengths.{command_length, fields_length, length_of, text_length}
+use Rattle.table_text.specs.TableLengths.{job_length, last_length, run_length, runner_length, table_length}
+use Rattle.table_text.specs.Tables.{flag_byte, job, job_byte, kept, kept_parts, last_command, last_parts, lease, leg, leg_byte, run, run_byte, runner, table}
+use Rattle.table_text.specs.Tables.Kept.{nothing, leased, done}
+use Rattle.table_text.proofs.LengthLaws.{behind_one, length_admit, length_command, length_counted, length_text, length_two, length_word, sum_same}
+
+length_leg : (l : LegState) → length_of leg l ≡ 5
+length_leg l = behind_one (lease.spelling l.lease) (length_lease l.lease) ∙ omega arith
+  where
+    length_lease : (o : Option ℕ) → length (lease.spelling o) ≡ 4
+    length_lease o = length_word _
+
+-- each of the legs has five
+five_each : (legs : List LegState) → sum_by (λ (l : LegState). 5) legs ≡ 5 * length legs
+five_each [] = refl
+five_each (l ∷ ls) =
+    let more = sum_by-cons (λ (l : LegState). 5) l ls in
+    let before = five_each ls in
+    omega (arith, more, before)
+
+length_job : (j : JobState) → length_of job j ≡ job_length j
+length_job j =
+    let legs = length_counted leg.spelling (λ (l : LegState). 5) j.legs length_leg in
+    let five = five_each j.legs in
+    behind_one (word_bytes (length j.legs) ++ flat_map leg.spelling j.legs) legs ∙ omega (arith, five)
+
+length_run : (r : RunState) → length_of run r ≡ run_length r
+length_run r =
+    let jobs : length (flat_map job.spelling r.jobs) ≡ sum_by job_length r.jobs =
+    length-flat_map job.spelling r.jobs ∙ sum_same (λ j. length (job.spelling j)) job_length r.jobs length_job in
+    length_two (admit.spelling r.admitted) (run_byte r.phase ∷ flag_byte r.stopping ∷ flat_map job.spelling r.jobs) (fields_length (asked.Admit r.admitted))
+    (1 + (1 + sum_by job_length r.jobs)) (length_admit r.admitted)
+    (behind_one (flag_byte r.stopping ∷ flat_map job.spelling r.jobs) (behind_one (flat_map job.spelling r.jobs) jobs))
+    ∙ omega arith
+
+length_last : (l : LastParts) → length_of last_command l ≡ last_length l
+length_last (last.Claim claim None) =
+    length_two (command_bytes (asked.Claim claim)) (kept.spelling nothing) (command_length (asked.Claim claim)) 5 (length_command (asked.Claim claim)) (length_kept 0 0)
+    ∙ omega arith
+  where
+    length_kept : (b n : ℕ) → length (b ∷ word_bytes n) ≡ 5
+    length_kept b n = behind_one (word_bytes n) (length_word n) ∙ omega arith
+length_last (last.Claim claim (Some n)) =
+    length_two (command_bytes (asked.Claim claim)) (kept.spelling (leased n)) (command_length (asked.Claim claim)) 5 (length_command (asked.Claim claim))
+    (behind_one (word_bytes n) (length_word n) ∙ omega arith)
+    ∙ omega arith
+length_last (last.Done report) =
+    length_two (command_bytes (asked.Done report)) (kept.spelling done) (command_length (asked.Done report)) 5 (length_command (asked.Done report))
+    (behind_one (word_bytes 0) (length_word 0) ∙ omega arith)
+    ∙ omega arith
+
+length_runner : (r : StoredRunner) → length_of runner r ≡ runner_length r
+length_runner r =
+    length_two (text_bytes r.name) (word_bytes r.number ++ (last_command.spelling r.last ++ lease.spelling r.holds)) (text_length r.name)
+    (4 + (last_length r.last + 4)) (length_text r.name)
+    (length_two (word_bytes r.number) (last_command.spelling r.last ++ lease.spelling r.holds) 4 (last_length r.last + 4) (length_word r.number)
+    (length_two (last_command.spelling r.last) (lease.spelling r.holds) (last_length r.last) 4 (length_last r.last) (length_word _)))
+    ∙ omega arith
+
+pub length_table : (t : StoredTable) → length_of table t ≡ table_length t
+length_table t =
+    let runs = length_counted run.spelling run_length t.runs length_run in
+    let runners = length_counted runner.spelling runner_length t.runners length_runner in
+    length_two (word_bytes t.last_lease) _ 4 ((4 + sum_by run_length t.runs) + (4 + sum_by runner_length t.runners)) (length_word t.last_lease)
+    (length_two (word_bytes (length t.runs) ++ flat_map run.spelling t.runs) (word_bytes (length t.runners) ++ flat_map runner.spelling t.runners)
+    (4 + sum_by run_length t.runs) (4 + sum_by runner_length t.runners) runs runners)
+    ∙ omega arith

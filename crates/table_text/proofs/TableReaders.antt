@@ -1,0 +1,290 @@
+-- What reading of tables finds is what is spelled there, and nothing else.
+use Rattle.std.proofs.Common.{◌≡◌, inl, inr, ℕ, ◌≤◌, ◌<◌, ◌^◌, List, [], ◌∷◌, ◌++◌, refl, sym, ◌∙◌, ap, subst, arith}
+use Rattle.std.specs.Prelude.{◌==◌, ◌&&◌, Bool, true, false, not, nat_eq, nat_le, find, Option, Some, None, if◌then◌else◌}
+use Rattle.std.proofs.lemmas.Bool.{eqb-true, leb-true, cases_Bool}
+use Rattle.std.proofs.lemmas.Option.{same_Some, none-some, cond_some}
+use Rattle.wf_value.specs.declared.outcome.JobResult.TheVariants as result
+use Rattle.wf_value.specs.declared.outcome.Outcome.TheVariants as outcome
+use Rattle.run_plan.specs.Admitted.{Admitted}
+use Rattle.run_plan.specs.SmallText.{is_runner_byte}
+use Rattle.run_plan.specs.declared.command.Claim.{Claim}
+use Rattle.run_plan.specs.declared.command.Done.{Done}
+use Rattle.run_plan.specs.declared.command.Command.{Command}
+use Rattle.run_plan.specs.declared.command.Command.TheVariants as asked
+use Rattle.run_table.specs.Stored.{StoredRunner, StoredTable, is_new}
+use Rattle.run_table.specs.TableState.{LegState, JobState, RunState}
+use Rattle.run_table.specs.declared.parts.LastParts.{LastParts}
+use Rattle.run_table.specs.declared.parts.LastParts.TheVariants as last
+use Rattle.run_table.specs.declared.phases.JobPhase.{JobPhase}
+use Rattle.run_table.specs.declared.phases.JobPhase.TheVariants as job_phase
+use Rattle.run_table.specs.declared.phases.LegPhase.{LegPhase}
+use Rattle.run_table.specs.declared.phases.LegPhase.TheVariants as leg_phase
+use Rattle.run_table.specs.declared.phases.RunPhase.{RunPhase}
+use Rattle.run_table.specs.declared.phases.RunPhase.TheVariants as run_phase
+use Rattle.table_text.specs.Commands.{admit, command, is_numbered, number, small_text}
+use Rattle.table_text.specs.Format.{Format, byte, counted, follow, only, pair, parts, row, word, word_bytes}
+use Rattle.table_text.specs.Reading.{◌>>=◌, Reader, byte_at, counted_at, follow_at, items_at, only_at, pair_at, parts_at, some_at, word_at}
+use Rattle.table_text.specs.ReadingCommands.{admit_at, command_at, number_at, small_text_at}
+use Rattle.table_text.specs.ReadingTables.{course_at, flag_at, job_at, job_phase_at, job_phases, kept_at, kept_of, last_at, last_lease_at, last_of, last_with, lease_at}
+use Rattle.table_text.specs.ReadingTables.{claim_with, lease_of, leg_at, leg_phase_at, leg_phases, of_byte, report_with, run_at, run_phase_at, run_phases, runner_at, runners_at, runs_at}
+use Rattle.table_text.specs.ReadingTables.{table_at, with_lease, without_lease}
+use Rattle.table_text.specs.Tables.{IsLease, Kept, flag_byte, is_last_lease, job, job_byte, jobs_planned, kept, kept_parts, last_command, last_parts, lease}
+use Rattle.table_text.specs.Tables.{lease_word, leg, leg_byte, names_rise, run, run_byte, runner, table}
+use Rattle.table_text.specs.Tables.Kept.{nothing, leased, done}
+use Rattle.table_text.proofs.Bytes.{AreBytes, AreBytes-drop}
+use Rattle.table_text.proofs.CommandReaders.{admit_reads, chosen, command_reads, number_reads, small_text_reads}
+use Rattle.table_text.proofs.FormReaders.{byte_reads, follow_reads, row_reads, some_reads}
+use Rattle.table_text.proofs.Readers.{Fronts, Reads, bind_some, both, counted_reads, only_reads, pair_reads, parts_reads, some_bind, word_reads}
+
+-- ---- leases
+
+lease_sound : (n : ℕ) (l : Option ℕ) → n < 2 ^ 32 → lease_of n ≡ Some l → IsLease l × (n ≡ lease_word l)
+lease_sound n l fits h =
+    let other : Option (Option ℕ) = if is_numbered n then Some (Some n) else None in
+    elim (chosen (n == 0) (Some None) other (Some l) h) [
+      | inl none ↦ subst (λ (q : Option ℕ). IsLease q × (n ≡ lease_word q)) (same_Some None l none.1) (tt, eqb-true n 0 none.0)
+      | inr some ↦ (let by = cond_some (is_numbered n) (Some n) l some.1 in
+          subst (λ (q : Option ℕ). IsLease q × (n ≡ lease_word q)) by.1 ((fits, by.0), refl))
+    ]
+
+not_zero : (n : ℕ) → is_numbered n ≡ true → (n == 0) ≡ false
+not_zero n h =
+    let range = both (nat_le 1 n) (nat_le n 999999999) h in
+    let low : 1 ≤ n = leb-true 1 n range.0 in
+    elim (cases_Bool (n == 0)) [
+      | inl zero ↦ (let e : n ≡ 0 = eqb-true n 0 zero in absurd (omega (arith, e, low)))
+      | inr other ↦ other
+    ]
+
+lease_found : (l : Option ℕ) → IsLease l → lease_of (lease_word l) ≡ Some l
+lease_found None fits = refl
+lease_found (Some n) fits =
+    ap (λ b. if b then Some None else (if is_numbered n then Some (Some n) else None)) (not_zero n fits.1)
+    ∙ ap (λ b. if b then Some (Some n) else None) fits.1
+
+lease_fits : (l : Option ℕ) → IsLease l → lease_word l < 2 ^ 32
+lease_fits None fits = omega arith
+lease_fits (Some n) fits = fits.0
+
+pub lease_reads : Reads lease lease_at
+unfolding lease_at
+lease_reads = record {
+  sound = λ bytes found are h.
+      let step = bind_some (word_at bytes) (λ a. lease_of a.0 >>= (λ b. Some (b, a.1))) found h in
+      let a = step.0 in
+      let front = word_reads.sound bytes a are step.1 in
+      let next = bind_some (lease_of a.0) (λ b. Some (b, a.1)) found step.2 in
+      let l = next.0 in
+      let is = lease_sound a.0 l front.takes next.1 in
+      subst (λ (q : Option ℕ × List ℕ). Fronts lease bytes q) (same_Some (l, a.1) found next.2) (record {
+        takes = is.0;
+        split = front.split ∙ ap (λ n. word_bytes n ++ a.1) is.1;
+        rest = front.rest;
+      });
+  complete = λ l rest fits.
+      some_bind (word_at (word_bytes (lease_word l) ++ rest)) (λ a. lease_of a.0 >>= (λ b. Some (b, a.1))) (lease_word l, rest)
+      (word_reads.complete (lease_word l) rest (lease_fits l fits))
+      ∙ some_bind (lease_of (lease_word l)) (λ b. Some (b, rest)) l (lease_found l fits);
+}
+
+-- ---- values in one byte
+
+found_passes : {X : Type 0} (test : X → Bool) (xs : List X) (x : X) → find test xs ≡ Some x → test x ≡ true
+found_passes test [] x h = absurd (none-some x h)
+found_passes {X} test (y ∷ ys) x h = elim (chosen (test y) (Some y) (find test ys) (Some x) h) [
+  | inl one ↦ subst (λ (z : X). test z ≡ true) (same_Some y x one.1) one.0
+  | inr other ↦ found_passes test ys x other.1
+]
+
+byte_of_found : {A : Type 0} (code : A → ℕ) (values : List A) (b : ℕ) (x : A) → of_byte code values b ≡ Some x → code x ≡ b
+byte_of_found code values b x h = sym (eqb-true b (code x) (found_passes (λ y. b == code y) values x h))
+
+one_byte_reads : {A : Type 0} (code : A → ℕ) (values : List A) → ((x : A) → of_byte code values (code x) ≡ Some x)
+    → Reads (parts code byte) (some_at (of_byte code values) byte_at)
+one_byte_reads code values there = some_reads code (of_byte code values) byte byte_at there (byte_of_found code values) byte_reads
+
+leg_phase_there : (p : LegPhase) → of_byte leg_byte leg_phases (leg_byte p) ≡ Some p
+leg_phase_there leg_phase.New = refl
+leg_phase_there leg_phase.Waiting = refl
+leg_phase_there leg_phase.Ready = refl
+leg_phase_there leg_phase.Running = refl
+leg_phase_there leg_phase.Stopping = refl
+leg_phase_there (leg_phase.Ended outcome.Success) = refl
+leg_phase_there (leg_phase.Ended outcome.Failure) = refl
+leg_phase_there (leg_phase.Ended outcome.Cancelled) = refl
+
+job_phase_there : (p : JobPhase) → of_byte job_byte job_phases (job_byte p) ≡ Some p
+job_phase_there job_phase.Blocked = refl
+job_phase_there job_phase.Open = refl
+job_phase_there (job_phase.Settled result.Success) = refl
+job_phase_there (job_phase.Settled result.Failure) = refl
+job_phase_there (job_phase.Settled result.Cancelled) = refl
+job_phase_there (job_phase.Settled result.Skipped) = refl
+
+run_phase_there : (p : RunPhase) → of_byte run_byte run_phases (run_byte p) ≡ Some p
+run_phase_there run_phase.Waiting = refl
+run_phase_there run_phase.Live = refl
+run_phase_there run_phase.Ended = refl
+
+flag_there : (flag : Bool) → of_byte flag_byte (false ∷ true ∷ []) (flag_byte flag) ≡ Some flag
+flag_there false = refl
+flag_there true = refl
+
+pub leg_phase_reads : Reads (only (λ p. not (is_new p)) (parts leg_byte byte)) leg_phase_at
+unfolding leg_phase_at
+leg_phase_reads =
+    only_reads (λ p. not (is_new p)) (parts leg_byte byte) (some_at (of_byte leg_byte leg_phases) byte_at)
+    (one_byte_reads leg_byte leg_phases leg_phase_there)
+
+pub job_phase_reads : Reads (parts job_byte byte) job_phase_at
+unfolding job_phase_at
+job_phase_reads = one_byte_reads job_byte job_phases job_phase_there
+
+pub run_phase_reads : Reads (parts run_byte byte) run_phase_at
+unfolding run_phase_at
+run_phase_reads = one_byte_reads run_byte run_phases run_phase_there
+
+pub flag_reads : Reads (parts flag_byte byte) flag_at
+unfolding flag_at
+flag_reads = one_byte_reads flag_byte (false ∷ true ∷ []) flag_there
+
+-- ---- runs
+
+pub leg_reads : Reads leg leg_at
+unfolding leg_at
+leg_reads =
+    parts_reads (λ (l : LegState). (l.phase, l.lease)) (λ (p : LegPhase × Option ℕ). record { phase = p.0; lease = p.1 })
+    (pair (only (λ p. not (is_new p)) (parts leg_byte byte)) lease) (pair_at leg_phase_at lease_at) (λ _. refl) (λ _. refl)
+    (pair_reads (only (λ p. not (is_new p)) (parts leg_byte byte)) lease leg_phase_at lease_at leg_phase_reads lease_reads)
+
+pub job_reads : Reads job job_at
+unfolding job_at
+job_reads =
+    parts_reads (λ (j : JobState). (j.phase, j.legs)) (λ (p : JobPhase × List LegState). record { phase = p.0; legs = p.1 })
+    (pair (parts job_byte byte) (counted 0 4294967295 leg)) (pair_at job_phase_at (counted_at 0 4294967295 leg_at)) (λ _. refl) (λ _. refl)
+    (pair_reads (parts job_byte byte) (counted 0 4294967295 leg) job_phase_at (counted_at 0 4294967295 leg_at) job_phase_reads
+    (counted_reads 0 4294967295 leg leg_at (omega arith) leg_reads))
+
+-- the format of what stands behind an event
+abbrev course : Admitted → Format (RunPhase × (Bool × List JobState))
+course a = pair (parts run_byte byte) (pair (parts flag_byte byte) (row (jobs_planned a) job))
+
+course_reads : (a : Admitted) → Reads (course a) (course_at a)
+unfolding course_at
+course_reads a =
+    pair_reads (parts run_byte byte) (pair (parts flag_byte byte) (row (jobs_planned a) job)) run_phase_at (pair_at flag_at (items_at job_at (jobs_planned a)))
+    run_phase_reads
+    (pair_reads (parts flag_byte byte) (row (jobs_planned a) job) flag_at (items_at job_at (jobs_planned a)) flag_reads
+    (row_reads (jobs_planned a) job job_at job_reads))
+
+pub run_reads : Reads run run_at
+unfolding run_at
+run_reads =
+    parts_reads (λ (r : RunState). (r.admitted, (r.phase, (r.stopping, r.jobs))))
+    (λ (p : Admitted × (RunPhase × (Bool × List JobState))). record { admitted = p.0; phase = p.1.0; stopping = p.1.1.0; jobs = p.1.1.1 })
+    (follow admit course) (follow_at admit_at course_at) (λ _. refl) (λ _. refl) (follow_reads admit course admit_at course_at admit_reads course_reads)
+
+-- ---- runners
+
+kept_there : (k : Kept) → kept_of (kept_parts k) ≡ Some k
+kept_there nothing = refl
+kept_there (leased n) = refl
+kept_there done = refl
+
+bare : (k : Kept) (l : Option ℕ) (found : Kept) → without_lease k l ≡ Some found → (k ≡ found) × (l ≡ None)
+bare k None found h = (same_Some k found h, refl)
+bare k (Some n) found h = absurd (none-some found h)
+
+with_one : (l : Option ℕ) (found : Kept) → with_lease l ≡ Some found → (n : ℕ) × (l ≡ Some n) × (leased n ≡ found)
+with_one None found h = absurd (none-some found h)
+with_one (Some n) found h = (n, refl, same_Some (leased n) found h)
+
+kept_back : (a : ℕ × Option ℕ) (k : Kept) → kept_of a ≡ Some k → kept_parts k ≡ a
+kept_back (b, l) k h =
+    let third : Option Kept = if b == 2 then without_lease done l else None in
+    let second : Option Kept = if b == 1 then with_lease l else third in
+    let same : (c : ℕ) (m : Option ℕ) (of : Kept) → (b == c) ≡ true → kept_parts of ≡ (c, m) → l ≡ m → of ≡ k → kept_parts k ≡ (b, l) =
+    λ c m of is parts same_lease found.
+        ap kept_parts (sym found) ∙ parts ∙ ap (λ n. (n, m)) (sym (eqb-true b c is)) ∙ ap (λ (o : Option ℕ). (b, o)) (sym same_lease) in
+    elim (chosen (b == 0) (without_lease nothing l) second (Some k) h) [
+      | inl zero ↦ (let by = bare nothing l k zero.1 in same 0 None nothing zero.0 refl by.1 by.0)
+      | inr more ↦ elim (chosen (b == 1) (with_lease l) third (Some k) more.1) [
+        | inl one ↦ (let by = with_one l k one.1 in same 1 (Some by.0) (leased by.0) one.0 refl by.1 by.2)
+        | inr most ↦ elim (chosen (b == 2) (without_lease done l) None (Some k) most.1) [
+          | inl two ↦ (let by = bare done l k two.1 in same 2 None done two.0 refl by.1 by.0)
+          | inr none ↦ absurd (none-some k none.1)
+        ]
+      ]
+    ]
+
+pub kept_reads : Reads kept kept_at
+unfolding kept_at
+kept_reads = some_reads kept_parts kept_of (pair byte lease) (pair_at byte_at lease_at) kept_there kept_back (pair_reads byte lease byte_at lease_at byte_reads lease_reads)
+
+last_there : (l : LastParts) → last_of (last_parts l) ≡ Some l
+last_there (last.Claim claim None) = refl
+last_there (last.Claim claim (Some n)) = refl
+last_there (last.Done report) = refl
+
+claim_back : (claim : Claim) (k : Kept) (l : LastParts) → claim_with claim k ≡ Some l → last_parts l ≡ (asked.Claim claim, k)
+claim_back claim nothing l h = ap last_parts (sym (same_Some (last.Claim claim None) l h))
+claim_back claim (leased n) l h = ap last_parts (sym (same_Some (last.Claim claim (Some n)) l h))
+claim_back claim done l h = absurd (none-some l h)
+
+report_back : (report : Done) (k : Kept) (l : LastParts) → report_with report k ≡ Some l → last_parts l ≡ (asked.Done report, k)
+report_back report nothing l h = absurd (none-some l h)
+report_back report (leased n) l h = absurd (none-some l h)
+report_back report done l h = ap last_parts (sym (same_Some (last.Done report) l h))
+
+last_back_of : (c : Command) (k : Kept) (l : LastParts) → last_with c k ≡ Some l → last_parts l ≡ (c, k)
+last_back_of (asked.Admit event) k l h = absurd (none-some l h)
+last_back_of (asked.Claim claim) k l h = claim_back claim k l h
+last_back_of (asked.Done report) k l h = report_back report k l h
+last_back_of (asked.Beat asks) k l h = absurd (none-some l h)
+last_back_of (asked.Cancel r) k l h = absurd (none-some l h)
+last_back_of (asked.Lost r) k l h = absurd (none-some l h)
+last_back_of (asked.Look r) k l h = absurd (none-some l h)
+last_back_of (asked.Fetch r) k l h = absurd (none-some l h)
+
+pub last_reads : Reads last_command last_at
+unfolding last_at
+last_reads =
+    some_reads last_parts last_of (pair command kept) (pair_at command_at kept_at) last_there (λ a l h. last_back_of a.0 a.1 l h)
+    (pair_reads command kept command_at kept_at command_reads kept_reads)
+
+pub runner_reads : Reads runner runner_at
+unfolding runner_at
+runner_reads =
+    parts_reads (λ (r : StoredRunner). (r.name, (r.number, (r.last, r.holds))))
+    (λ (p : List ℕ × (ℕ × (LastParts × Option ℕ))). record { name = p.0; number = p.1.0; last = p.1.1.0; holds = p.1.1.1 })
+    (pair (small_text is_runner_byte) (pair number (pair last_command lease)))
+    (pair_at (small_text_at is_runner_byte) (pair_at number_at (pair_at last_at lease_at))) (λ _. refl) (λ _. refl)
+    (pair_reads (small_text is_runner_byte) (pair number (pair last_command lease)) (small_text_at is_runner_byte) (pair_at number_at (pair_at last_at lease_at))
+    (small_text_reads is_runner_byte)
+    (pair_reads number (pair last_command lease) number_at (pair_at last_at lease_at) number_reads (pair_reads last_command lease last_at lease_at last_reads lease_reads)))
+
+-- ---- tables
+
+pub last_lease_reads : Reads (only is_last_lease word) last_lease_at
+unfolding last_lease_at
+last_lease_reads = only_reads is_last_lease word word_at word_reads
+
+pub runs_reads : Reads (counted 0 100000 run) runs_at
+unfolding runs_at
+runs_reads = counted_reads 0 100000 run run_at (omega arith) run_reads
+
+pub runners_reads : Reads (only names_rise (counted 0 4294967295 runner)) runners_at
+unfolding runners_at
+runners_reads =
+    only_reads names_rise (counted 0 4294967295 runner) (counted_at 0 4294967295 runner_at) (counted_reads 0 4294967295 runner runner_at (omega arith) runner_reads)
+
+pub table_reads : Reads table table_at
+unfolding table_at
+table_reads =
+    parts_reads (λ (t : StoredTable). (t.last_lease, (t.runs, t.runners)))
+    (λ (p : ℕ × (List RunState × List StoredRunner)). record { last_lease = p.0; runs = p.1.0; runners = p.1.1 })
+    (pair (only is_last_lease word) (pair (counted 0 100000 run) (only names_rise (counted 0 4294967295 runner))))
+    (pair_at last_lease_at (pair_at runs_at runners_at)) (λ _. refl) (λ _. refl)
+    (pair_reads (only is_last_lease word) (pair (counted 0 100000 run) (only names_rise (counted 0 4294967295 runner))) last_lease_at (pair_at runs_at runners_at)
+    last_lease_reads
+    (pair_reads (counted 0 100000 run) (only names_rise (counted 0 4294967295 runner)) runs_at runners_at runs_reads runners_reads))

@@ -1,0 +1,131 @@
+-- Worked tables, their bytes and their lengths, by computation.
+use Rattle.std.specs.Prelude.{◌≡◌, ℕ, List, [], ◌∷◌, ◌++◌, codes, true, false, Some, None, refl}
+use Rattle.wf_value.specs.declared.outcome.JobResult.TheVariants as result
+use Rattle.wf_value.specs.declared.outcome.Outcome.TheVariants as outcome
+use Rattle.run_table.specs.Stored.{StoredRunner, StoredTable}
+use Rattle.run_table.specs.TableState.{RunState}
+use Rattle.run_table.specs.declared.parts.LastParts.TheVariants as last
+use Rattle.run_table.specs.declared.phases.JobPhase.TheVariants as job_phase
+use Rattle.run_table.specs.declared.phases.LegPhase.TheVariants as leg_phase
+use Rattle.run_table.specs.declared.phases.RunPhase.TheVariants as run_phase
+use Rattle.table_text.specs.Format.{text_bytes, word_bytes}
+use Rattle.table_text.specs.TableLengths.{table_length}
+use Rattle.table_text.specs.Tables.{names_rise, runner, run, table}
+
+-- without runs and runners: twelve zero bytes
+abbrev empty : StoredTable
+empty = record { last_lease = 0; runs = []; runners = [] }
+
+empty_bytes : table.spelling empty ≡ 0 ∷ 0 ∷ 0 ∷ 0 ∷ 0 ∷ 0 ∷ 0 ∷ 0 ∷ 0 ∷ 0 ∷ 0 ∷ 0 ∷ []
+unfolding word_bytes
+empty_bytes = refl
+
+-- a live run whose one job has one ready leg
+abbrev first_run : RunState
+first_run = record {
+  admitted = record {
+    delivery = codes "d1";
+    event = codes "push";
+    body = codes "{\"repo\":\"o/r\",\"path\":\"ci.json\",\"workflow\":{\"jobs\":{\"build\":{\"runs-on\":\"linux\"}}}}";
+  };
+  phase = run_phase.Live;
+  stopping = false;
+  jobs = record { phase = job_phase.Open; legs = record { phase = leg_phase.Ready; lease = None } ∷ [] } ∷ [];
+}
+
+after_the_first_admission : table_length (record { last_lease = 0; runs = first_run ∷ []; runners = [] }) ≡ 123
+after_the_first_admission = refl
+
+-- its leg running under lease 1
+abbrev claimed_run : RunState
+claimed_run = record first_run {
+  jobs = record { phase = job_phase.Open; legs = record { phase = leg_phase.Running; lease = Some 1 } ∷ [] } ∷ [];
+}
+
+-- which the first runner holds
+abbrev first_runner : StoredRunner
+first_runner = record {
+  name = codes "r1";
+  number = 1;
+  last = last.Claim (record { runner = codes "r1"; number = 1; labels = codes "linux" ∷ [] }) (Some 1);
+  holds = Some 1;
+}
+
+abbrev claimed : StoredTable
+claimed = record { last_lease = 1; runs = claimed_run ∷ []; runners = first_runner ∷ [] }
+
+after_the_first_claim : table_length claimed ≡ 166
+after_the_first_claim = refl
+
+claimed_bytes : table.spelling claimed
+    ≡ (0 ∷ 0 ∷ 0 ∷ 1 ∷ 0 ∷ 0 ∷ 0 ∷ 1 ∷ 0 ∷ 0 ∷ 0 ∷ 2 ∷ 100 ∷ 49 ∷ 0 ∷ 0 ∷ 0 ∷ 4 ∷ 112 ∷ 117 ∷ 115 ∷ 104 ∷ 0 ∷ 0 ∷ 0 ∷ 81 ∷ [])
+    ++ first_run.admitted.body
+    ++ (1 ∷ 0 ∷ 1 ∷ 0 ∷ 0 ∷ 0 ∷ 1 ∷ 3 ∷ 0 ∷ 0 ∷ 0 ∷ 1 ∷ 0 ∷ 0 ∷ 0 ∷ 1 ∷ 0 ∷ 0 ∷ 0 ∷ 2 ∷ 114 ∷ 49 ∷ 0 ∷ 0 ∷ 0 ∷ 1
+    ∷ 2 ∷ 0 ∷ 0 ∷ 0 ∷ 2 ∷ 114 ∷ 49 ∷ 0 ∷ 0 ∷ 0 ∷ 1 ∷ 0 ∷ 0 ∷ 0 ∷ 1 ∷ 0 ∷ 0 ∷ 0 ∷ 5 ∷ 108 ∷ 105 ∷ 110 ∷ 117 ∷ 120
+    ∷ 1 ∷ 0 ∷ 0 ∷ 0 ∷ 1 ∷ 0 ∷ 0 ∷ 0 ∷ 1 ∷ [])
+unfolding text_bytes word_bytes
+claimed_bytes = refl
+
+-- a stopping run of no event that counts here, with one job settled and one open
+abbrev stopping_run : RunState
+stopping_run = record {
+  admitted = record { delivery = codes "d"; event = codes "e"; body = codes "b" };
+  phase = run_phase.Live;
+  stopping = true;
+  jobs =
+      record { phase = job_phase.Settled result.Failure; legs = record { phase = leg_phase.Ended outcome.Failure; lease = Some 1 } ∷ [] }
+      ∷ record { phase = job_phase.Open; legs = record { phase = leg_phase.Stopping; lease = Some 258 } ∷ [] }
+      ∷ record { phase = job_phase.Blocked; legs = [] } ∷ [];
+}
+
+stopping_run_bytes : run.spelling stopping_run
+    ≡ 0 ∷ 0 ∷ 0 ∷ 1 ∷ 100 ∷ 0 ∷ 0 ∷ 0 ∷ 1 ∷ 101 ∷ 0 ∷ 0 ∷ 0 ∷ 1 ∷ 98 ∷ 1 ∷ 1
+    ∷ 3 ∷ 0 ∷ 0 ∷ 0 ∷ 1 ∷ 6 ∷ 0 ∷ 0 ∷ 0 ∷ 1
+    ∷ 1 ∷ 0 ∷ 0 ∷ 0 ∷ 1 ∷ 4 ∷ 0 ∷ 0 ∷ 1 ∷ 2
+    ∷ 0 ∷ 0 ∷ 0 ∷ 0 ∷ 0 ∷ []
+unfolding text_bytes word_bytes
+stopping_run_bytes = refl
+
+-- a runner that was given lease 2 by its third command and has it
+abbrev leased_runner : StoredRunner
+leased_runner = record {
+  name = codes "r1";
+  number = 3;
+  last = last.Claim (record { runner = codes "r1"; number = 3; labels = codes "x" ∷ [] }) (Some 2);
+  holds = Some 2;
+}
+
+leased_runner_bytes : runner.spelling leased_runner
+    ≡ 0 ∷ 0 ∷ 0 ∷ 2 ∷ 114 ∷ 49 ∷ 0 ∷ 0 ∷ 0 ∷ 3
+    ∷ 2 ∷ 0 ∷ 0 ∷ 0 ∷ 2 ∷ 114 ∷ 49 ∷ 0 ∷ 0 ∷ 0 ∷ 3 ∷ 0 ∷ 0 ∷ 0 ∷ 1 ∷ 0 ∷ 0 ∷ 0 ∷ 1 ∷ 120
+    ∷ 1 ∷ 0 ∷ 0 ∷ 0 ∷ 2
+    ∷ 0 ∷ 0 ∷ 0 ∷ 2 ∷ []
+unfolding text_bytes word_bytes
+leased_runner_bytes = refl
+
+-- one that found nothing
+abbrev idle_runner : StoredRunner
+idle_runner = record {
+  name = codes "r";
+  number = 1;
+  last = last.Claim (record { runner = codes "r"; number = 1; labels = codes "x" ∷ [] }) None;
+  holds = None;
+}
+
+idle_runner_bytes : runner.spelling idle_runner
+    ≡ 0 ∷ 0 ∷ 0 ∷ 1 ∷ 114 ∷ 0 ∷ 0 ∷ 0 ∷ 1
+    ∷ 2 ∷ 0 ∷ 0 ∷ 0 ∷ 1 ∷ 114 ∷ 0 ∷ 0 ∷ 0 ∷ 1 ∷ 0 ∷ 0 ∷ 0 ∷ 1 ∷ 0 ∷ 0 ∷ 0 ∷ 1 ∷ 120
+    ∷ 0 ∷ 0 ∷ 0 ∷ 0 ∷ 0
+    ∷ 0 ∷ 0 ∷ 0 ∷ 0 ∷ []
+unfolding text_bytes word_bytes
+idle_runner_bytes = refl
+
+-- `r` stands before `r1`, and no name stands twice
+idle_before_leased : names_rise (idle_runner ∷ leased_runner ∷ []) ≡ true
+idle_before_leased = refl
+
+leased_before_idle : names_rise (leased_runner ∷ idle_runner ∷ []) ≡ false
+leased_before_idle = refl
+
+no_name_twice : names_rise (idle_runner ∷ idle_runner ∷ []) ≡ false
+no_name_twice = refl

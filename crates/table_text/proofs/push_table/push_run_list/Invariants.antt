@@ -1,0 +1,11 @@
+use Rattle.std.proofs.Common.{◌≡◌, ◌++◌, take}
+use Rattle.std.specs.List.{flat_map, AllByRecursion}
+use Rattle.table_text.specs.Tables.{run}
+use Rattle.table_text.proofs.push_table.push_run_list.Given as goal
+
+-- the runs so far have been appended
+abbrev pub invariant-loop-value : goal.invariant-loop-value
+invariant-loop-value l = record {
+  each : AllByRecursion run.Takes (take l.value-index l.list);
+  bytes : l.out.items ≡ l.initial.out.items ++ flat_map run.spelling (take l.value-index l.list);
+}

@@ -1,0 +1,142 @@
+-- Reading of a table as a function, field by field.
+use Rattle.std.specs.Prelude.{ℕ, ◌==◌, List, [], ◌∷◌, find, Bool, true, false, not, if◌then◌else◌, Option, Some, None}
+use Rattle.wf_value.specs.declared.outcome.JobResult.TheVariants as result
+use Rattle.wf_value.specs.declared.outcome.Outcome.TheVariants as outcome
+use Rattle.run_plan.specs.Admitted.{Admitted}
+use Rattle.run_plan.specs.SmallText.{is_runner_byte}
+use Rattle.run_plan.specs.declared.command.Claim.{Claim}
+use Rattle.run_plan.specs.declared.command.Done.{Done}
+use Rattle.run_plan.specs.declared.command.Command.{Command}
+use Rattle.run_plan.specs.declared.command.Command.TheVariants as asked
+use Rattle.run_table.specs.Stored.{StoredRunner, StoredTable, is_new}
+use Rattle.run_table.specs.TableState.{LegState, JobState, RunState}
+use Rattle.run_table.specs.declared.parts.LastParts.{LastParts}
+use Rattle.run_table.specs.declared.parts.LastParts.TheVariants as last
+use Rattle.run_table.specs.declared.phases.JobPhase.{JobPhase}
+use Rattle.run_table.specs.declared.phases.JobPhase.TheVariants as job_phase
+use Rattle.run_table.specs.declared.phases.LegPhase.{LegPhase}
+use Rattle.run_table.specs.declared.phases.LegPhase.TheVariants as leg_phase
+use Rattle.run_table.specs.declared.phases.RunPhase.{RunPhase}
+use Rattle.run_table.specs.declared.phases.RunPhase.TheVariants as run_phase
+use Rattle.table_text.specs.Commands.{is_numbered}
+use Rattle.table_text.specs.Reading.{Reader, byte_at, counted_at, follow_at, items_at, only_at, pair_at, parts_at, some_at, word_at}
+use Rattle.table_text.specs.ReadingCommands.{admit_at, command_at, number_at, small_text_at}
+use Rattle.table_text.specs.Tables.{Kept, flag_byte, is_last_lease, job_byte, jobs_planned, leg_byte, names_rise, run_byte}
+use Rattle.table_text.specs.Tables.Kept.{nothing, leased, done}
+
+-- 0 is none, and other numbers are leases up to 999,999,999
+abbrev pub lease_of : ℕ → Option (Option ℕ)
+lease_of n = if n == 0 then Some None else (if is_numbered n then Some (Some n) else None)
+
+unfoldable pub lease_at : Reader (Option ℕ)
+lease_at bytes = some_at lease_of word_at bytes
+
+-- the first of the values that has this byte
+abbrev pub of_byte : {A : Type 0} → (A → ℕ) → List A → ℕ → Option A
+of_byte code values b = find (λ x. b == code x) values
+
+abbrev pub leg_phases : List LegPhase
+leg_phases =
+    leg_phase.New ∷ leg_phase.Waiting ∷ leg_phase.Ready ∷ leg_phase.Running ∷ leg_phase.Stopping ∷ leg_phase.Ended outcome.Success
+    ∷ leg_phase.Ended outcome.Failure ∷ leg_phase.Ended outcome.Cancelled ∷ []
+
+abbrev pub job_phases : List JobPhase
+job_phases =
+    job_phase.Blocked ∷ job_phase.Open ∷ job_phase.Settled result.Success ∷ job_phase.Settled result.Failure ∷ job_phase.Settled result.Cancelled
+    ∷ job_phase.Settled result.Skipped ∷ []
+
+abbrev pub run_phases : List RunPhase
+run_phases = run_phase.Waiting ∷ run_phase.Live ∷ run_phase.Ended ∷ []
+
+unfoldable pub leg_phase_at : Reader LegPhase
+leg_phase_at bytes = only_at (λ p. not (is_new p)) (some_at (of_byte leg_byte leg_phases) byte_at) bytes
+
+unfoldable pub job_phase_at : Reader JobPhase
+job_phase_at bytes = some_at (of_byte job_byte job_phases) byte_at bytes
+
+unfoldable pub run_phase_at : Reader RunPhase
+run_phase_at bytes = some_at (of_byte run_byte run_phases) byte_at bytes
+
+unfoldable pub flag_at : Reader Bool
+flag_at bytes = some_at (of_byte flag_byte (false ∷ true ∷ [])) byte_at bytes
+
+unfoldable pub leg_at : Reader LegState
+leg_at bytes = parts_at (λ (p : LegPhase × Option ℕ). record { phase = p.0; lease = p.1 }) (pair_at leg_phase_at lease_at) bytes
+
+unfoldable pub job_at : Reader JobState
+job_at bytes = parts_at (λ (p : JobPhase × List LegState). record { phase = p.0; legs = p.1 }) (pair_at job_phase_at (counted_at 0 4294967295 leg_at)) bytes
+
+-- the phase, the stop flag and the jobs that the plan has
+unfoldable pub course_at : Admitted → Reader (RunPhase × (Bool × List JobState))
+course_at a bytes = pair_at run_phase_at (pair_at flag_at (items_at job_at (jobs_planned a))) bytes
+
+unfoldable pub run_at : Reader RunState
+run_at bytes =
+    parts_at (λ (p : Admitted × (RunPhase × (Bool × List JobState))). record { admitted = p.0; phase = p.1.0; stopping = p.1.1.0; jobs = p.1.1.1 })
+    (follow_at admit_at course_at) bytes
+
+-- ---- runners
+
+abbrev pub without_lease : Kept → Option ℕ → Option Kept
+without_lease kept None = Some kept
+without_lease kept (Some n) = None
+
+abbrev pub with_lease : Option ℕ → Option Kept
+with_lease None = None
+with_lease (Some n) = Some (leased n)
+
+abbrev pub kept_of : ℕ × Option ℕ → Option Kept
+kept_of p =
+    if p.0 == 0 then without_lease nothing p.1
+    else (if p.0 == 1 then with_lease p.1
+    else (if p.0 == 2 then without_lease done p.1 else None))
+
+unfoldable pub kept_at : Reader Kept
+kept_at bytes = some_at kept_of (pair_at byte_at lease_at) bytes
+
+abbrev pub claim_with : Claim → Kept → Option LastParts
+claim_with claim nothing = Some (last.Claim claim None)
+claim_with claim (leased n) = Some (last.Claim claim (Some n))
+claim_with claim done = None
+
+abbrev pub report_with : Done → Kept → Option LastParts
+report_with report nothing = None
+report_with report (leased n) = None
+report_with report done = Some (last.Done report)
+
+abbrev pub last_with : Command → Kept → Option LastParts
+last_with (asked.Admit event) kept = None
+last_with (asked.Claim claim) kept = claim_with claim kept
+last_with (asked.Done report) kept = report_with report kept
+last_with (asked.Beat asks) kept = None
+last_with (asked.Cancel run) kept = None
+last_with (asked.Lost runner) kept = None
+last_with (asked.Look run) kept = None
+last_with (asked.Fetch run) kept = None
+
+abbrev pub last_of : Command × Kept → Option LastParts
+last_of p = last_with p.0 p.1
+
+unfoldable pub last_at : Reader LastParts
+last_at bytes = some_at last_of (pair_at command_at kept_at) bytes
+
+unfoldable pub runner_at : Reader StoredRunner
+runner_at bytes =
+    parts_at (λ (p : List ℕ × (ℕ × (LastParts × Option ℕ))). record { name = p.0; number = p.1.0; last = p.1.1.0; holds = p.1.1.1 })
+    (pair_at (small_text_at is_runner_byte) (pair_at number_at (pair_at last_at lease_at))) bytes
+
+-- ---- tables
+
+unfoldable pub last_lease_at : Reader ℕ
+last_lease_at bytes = only_at is_last_lease word_at bytes
+
+unfoldable pub runs_at : Reader (List RunState)
+runs_at bytes = counted_at 0 100000 run_at bytes
+
+unfoldable pub runners_at : Reader (List StoredRunner)
+runners_at bytes = only_at names_rise (counted_at 0 4294967295 runner_at) bytes
+
+unfoldable pub table_at : Reader StoredTable
+table_at bytes =
+    parts_at (λ (p : ℕ × (List RunState × List StoredRunner)). record { last_lease = p.0; runs = p.1.0; runners = p.1.1 })
+    (pair_at last_lease_at (pair_at runs_at runners_at)) bytes

@@ -1,0 +1,30 @@
+-- How many bytes a table is spelled in, as a sum over its fields. Own: there is no public source.
+use Rattle.std.specs.Prelude.{ℕ, ◌+◌, ◌*◌, List, length, sum_by}
+use Rattle.run_plan.specs.Admitted.{Admitted}
+use Rattle.run_plan.specs.declared.command.Command.TheVariants as asked
+use Rattle.run_table.specs.Stored.{StoredRunner, StoredTable}
+use Rattle.run_table.specs.TableState.{JobState, RunState}
+use Rattle.run_table.specs.declared.parts.LastParts.{LastParts}
+use Rattle.run_table.specs.declared.parts.LastParts.TheVariants as last
+use Rattle.table_text.specs.Lengths.{command_length, fields_length, text_length}
+
+-- a phase, the count of the legs, and of each leg its phase and its lease
+abbrev pub job_length : JobState → ℕ
+job_length j = 1 + 4 + 5 * length j.legs
+
+-- what was admitted, a phase, a flag and the jobs
+abbrev pub run_length : RunState → ℕ
+run_length r = fields_length (asked.Admit r.admitted) + 1 + 1 + sum_by job_length r.jobs
+
+-- a command, a byte for its reply and a lease
+abbrev pub last_length : LastParts → ℕ
+last_length (last.Claim claim given) = command_length (asked.Claim claim) + 1 + 4
+last_length (last.Done report) = command_length (asked.Done report) + 1 + 4
+
+-- a name, a number, a last command and a lease
+abbrev pub runner_length : StoredRunner → ℕ
+runner_length r = text_length r.name + 4 + last_length r.last + 4
+
+-- the last lease and two counts have four bytes each
+abbrev pub table_length : StoredTable → ℕ
+table_length t = 4 + (4 + sum_by run_length t.runs) + (4 + sum_by runner_length t.runners)

@@ -1,0 +1,129 @@
+-- The spelling of a table, field by field. The bytes of a run say how many jobs it has only through their body, whose plan
+-- has so many. Own: there is no public source.
+use Rattle.std.specs.Prelude.{ℕ, List, length, Bool, true, false, not, nat_le, Option, Some, None}
+use Rattle.wf_value.specs.Names.{rises_by}
+use Rattle.wf_value.specs.declared.outcome.JobResult.TheVariants as result
+use Rattle.wf_value.specs.declared.outcome.Outcome.TheVariants as outcome
+use Rattle.run_plan.specs.Admitted.{Admitted}
+use Rattle.run_plan.specs.PlanOf.{plan_of}
+use Rattle.run_plan.specs.SmallText.{is_runner_byte}
+use Rattle.run_plan.specs.declared.command.Command.{Command}
+use Rattle.run_plan.specs.declared.command.Command.TheVariants as asked
+use Rattle.run_table.specs.Stored.{StoredRunner, StoredTable, is_new}
+use Rattle.run_table.specs.TableState.{LegState, JobState, RunState}
+use Rattle.run_table.specs.declared.parts.LastParts.{LastParts}
+use Rattle.run_table.specs.declared.parts.LastParts.TheVariants as last
+use Rattle.run_table.specs.declared.phases.JobPhase.{JobPhase}
+use Rattle.run_table.specs.declared.phases.JobPhase.TheVariants as job_phase
+use Rattle.run_table.specs.declared.phases.LegPhase.{LegPhase}
+use Rattle.run_table.specs.declared.phases.LegPhase.TheVariants as leg_phase
+use Rattle.run_table.specs.declared.phases.RunPhase.{RunPhase}
+use Rattle.run_table.specs.declared.phases.RunPhase.TheVariants as run_phase
+use Rattle.table_text.specs.Commands.{admit, command, is_numbered, number, small_text}
+use Rattle.table_text.specs.Format.{Format, byte, counted, follow, only, pair, parts, row, word, word_bytes}
+
+-- ---- leases
+
+-- 0 stands for none
+abbrev pub lease_word : Option ℕ → ℕ
+lease_word None = 0
+lease_word (Some n) = n
+
+abbrev pub IsLease : Option ℕ → Type 0
+IsLease None = Unit {0}
+IsLease (Some n) = number.Takes n
+
+abbrev pub lease : Format (Option ℕ)
+lease = record { Takes = IsLease; spelling = λ l. word_bytes (lease_word l) }
+
+-- ---- runs
+
+-- a new leg stands in no table that has settled, and its byte is not read
+abbrev pub leg_byte : LegPhase → ℕ
+leg_byte leg_phase.New = 0
+leg_byte leg_phase.Waiting = 1
+leg_byte leg_phase.Ready = 2
+leg_byte leg_phase.Running = 3
+leg_byte leg_phase.Stopping = 4
+leg_byte (leg_phase.Ended outcome.Success) = 5
+leg_byte (leg_phase.Ended outcome.Failure) = 6
+leg_byte (leg_phase.Ended outcome.Cancelled) = 7
+
+abbrev pub job_byte : JobPhase → ℕ
+job_byte job_phase.Blocked = 0
+job_byte job_phase.Open = 1
+job_byte (job_phase.Settled result.Success) = 2
+job_byte (job_phase.Settled result.Failure) = 3
+job_byte (job_phase.Settled result.Cancelled) = 4
+job_byte (job_phase.Settled result.Skipped) = 5
+
+abbrev pub run_byte : RunPhase → ℕ
+run_byte run_phase.Waiting = 0
+run_byte run_phase.Live = 1
+run_byte run_phase.Ended = 2
+
+abbrev pub flag_byte : Bool → ℕ
+flag_byte false = 0
+flag_byte true = 1
+
+-- the phase and the lease
+abbrev pub leg : Format LegState
+leg = parts (λ (l : LegState). (l.phase, l.lease)) (pair (only (λ p. not (is_new p)) (parts leg_byte byte)) lease)
+
+-- the phase and the legs
+abbrev pub job : Format JobState
+job = parts (λ (j : JobState). (j.phase, j.legs)) (pair (parts job_byte byte) (counted 0 4294967295 leg))
+
+-- how many jobs the plan of an admitted body has
+abbrev pub jobs_planned : Admitted → ℕ
+jobs_planned a = length (plan_of a.body)
+
+-- what was admitted, the phase, the stop flag and the jobs of the plan
+abbrev pub run : Format RunState
+run = parts (λ (r : RunState). (r.admitted, (r.phase, (r.stopping, r.jobs))))
+    (follow admit (λ a. pair (parts run_byte byte) (pair (parts flag_byte byte) (row (jobs_planned a) job))))
+
+-- ---- runners
+
+-- what is kept of the reply to a last command: nothing to a claim, a lease, or ok to a report
+pub data Kept : Type 0 where
+  nothing : Kept
+  leased : ℕ → Kept
+  done : Kept
+
+-- its byte, and its lease
+abbrev pub kept_parts : Kept → ℕ × Option ℕ
+kept_parts nothing = (0, None)
+kept_parts (leased n) = (1, Some n)
+kept_parts done = (2, None)
+
+abbrev pub kept : Format Kept
+kept = parts kept_parts (pair byte lease)
+
+-- the command, and what is kept of its reply
+abbrev pub last_parts : LastParts → Command × Kept
+last_parts (last.Claim claim None) = (asked.Claim claim, nothing)
+last_parts (last.Claim claim (Some n)) = (asked.Claim claim, leased n)
+last_parts (last.Done report) = (asked.Done report, done)
+
+abbrev pub last_command : Format LastParts
+last_command = parts last_parts (pair command kept)
+
+-- the name, the last number, the last command with its reply, and the lease that the runner holds
+abbrev pub runner : Format StoredRunner
+runner = parts (λ (r : StoredRunner). (r.name, (r.number, (r.last, r.holds)))) (pair (small_text is_runner_byte) (pair number (pair last_command lease)))
+
+-- ---- tables
+
+-- up to 999,999,999
+abbrev pub is_last_lease : ℕ → Bool
+is_last_lease n = nat_le n 999999999
+
+-- each name is above the one before it, by their bytes
+abbrev pub names_rise : List StoredRunner → Bool
+names_rise runners = rises_by (λ r. r.name) runners
+
+-- the last lease, the runs in the order of their ids, and the runners in the order of their names
+abbrev pub table : Format StoredTable
+table = parts (λ (t : StoredTable). (t.last_lease, (t.runs, t.runners)))
+    (pair (only is_last_lease word) (pair (counted 0 100000 run) (only names_rise (counted 0 4294967295 runner))))

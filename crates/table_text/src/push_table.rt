@@ -1,0 +1,227 @@
+//! The parts of a table's spelling, each appended to bytes.
+
+ghost use Rattle.std.specs.Prelude.{◌≡◌, [], ◌∷◌, ◌++◌, ◌≤◌, length, flat_map, true, OnOk};
+ghost use Rattle.std.specs.List.{AllByRecursion};
+ghost use Rattle.run_table.specs.Stored.{is_new, stored_last, stored_runner, stored_table};
+ghost use Rattle.run_table.specs.TableState.{JobState, RunState, RunnerState};
+ghost use Rattle.table_text.specs.Format.{word_bytes};
+ghost use Rattle.table_text.specs.Tables.{flag_byte, job, job_byte, last_command, lease, leg, leg_byte, names_rise, run, run_byte, runner, table};
+ghost use Rattle.table_text.specs.Writing.{HasByte, JobHasBytes, RunHasBytes};
+
+use crate::push::{push_admit, push_claim, push_done, push_number, push_small_text, push_word};
+use run_plan::{ClaimReply, LastCommand, Number};
+use run_table::{Job, JobPhase, Leg, LegPhase, Run, RunPhase, Runner, Table};
+use std::alloc::AllocError;
+use wf_value::{JobResult, Outcome};
+
+fn push_byte(out: &mut Vec<u8>, value: u8) -> Result<(), AllocError>
+    ensures { OnOk result (out.new.items ≡ out.old.items ++ value ∷ []) }
+{
+    out.extend_from_slice(&[value])
+}
+
+fn leg_byte(phase: LegPhase) -> u8
+    ensures { result ≡ leg_byte phase }
+{
+    match phase {
+        LegPhase::New => 0,
+        LegPhase::Waiting => 1,
+        LegPhase::Ready => 2,
+        LegPhase::Running => 3,
+        LegPhase::Stopping => 4,
+        LegPhase::Ended(Outcome::Success) => 5,
+        LegPhase::Ended(Outcome::Failure) => 6,
+        LegPhase::Ended(Outcome::Cancelled) => 7,
+    }
+}
+
+fn job_byte(phase: JobPhase) -> u8
+    ensures { result ≡ job_byte phase }
+{
+    match phase {
+        JobPhase::Blocked => 0,
+        JobPhase::Open => 1,
+        JobPhase::Settled(JobResult::Success) => 2,
+        JobPhase::Settled(JobResult::Failure) => 3,
+        JobPhase::Settled(JobResult::Cancelled) => 4,
+        JobPhase::Settled(JobResult::Skipped) => 5,
+    }
+}
+
+fn run_byte(phase: RunPhase) -> u8
+    ensures { result ≡ run_byte phase }
+{
+    match phase {
+        RunPhase::Waiting => 0,
+        RunPhase::Live => 1,
+        RunPhase::Ended => 2,
+    }
+}
+
+fn flag_byte(flag: bool) -> u8
+    ensures { result ≡ flag_byte flag }
+{
+    if flag { 1 } else { 0 }
+}
+
+/// Appends a lease, 0 where there is none.
+fn push_lease(out: &mut Vec<u8>, value: Option<Number>) -> Result<(), AllocError>
+    ensures takes { lease.Takes value }
+    ensures bytes { OnOk result (out.new.items ≡ out.old.items ++ lease.spelling value) }
+{
+    match value {
+        Some(number) => push_number(out, number),
+        None => push_word(out, 0),
+    }
+}
+
+// ---- runs
+
+fn push_leg(out: &mut Vec<u8>, value: &Leg) -> Result<(), AllocError>
+    requires { HasByte value.now }
+    ensures takes { OnOk result (leg.Takes value.now) }
+    ensures bytes { OnOk result (out.new.items ≡ out.old.items ++ leg.spelling value.now) }
+{
+    push_byte(out, leg_byte(value.phase))?;
+    push_lease(out, value.lease)?;
+    Ok(())
+}
+
+/// Appends each leg, one behind the other.
+fn push_leg_list(out: &mut Vec<u8>, list: &[Leg]) -> Result<(), AllocError>
+    requires { AllByRecursion HasByte list.now }
+    ensures takes { OnOk result (AllByRecursion leg.Takes list.now) }
+    ensures bytes { OnOk result (out.new.items ≡ out.old.items ++ flat_map leg.spelling list.now) }
+{
+    for value in list {
+        push_leg(out, value)?;
+    }
+    Ok(())
+}
+
+fn push_job(out: &mut Vec<u8>, value: &Job) -> Result<(), AllocError>
+    requires { JobHasBytes value.now.state }
+    ensures takes { OnOk result (job.Takes value.now.state) }
+    ensures bytes { OnOk result (out.new.items ≡ out.old.items ++ job.spelling value.now.state) }
+{
+    let legs = value.legs();
+    push_byte(out, job_byte(value.phase()))?;
+    push_word(out, legs.len() as u32)?;
+    push_leg_list(out, legs)?;
+    Ok(())
+}
+
+/// Appends each job, one behind the other.
+fn push_job_list(out: &mut Vec<u8>, list: &[Job]) -> Result<(), AllocError>
+    requires { AllByRecursion (λ j. JobHasBytes j.state) list.now }
+    ensures takes { OnOk result (AllByRecursion (λ j. job.Takes j.state) list.now) }
+    ensures bytes { OnOk result (out.new.items ≡ out.old.items ++ flat_map (λ j. job.spelling j.state) list.now) }
+{
+    for value in list {
+        push_job(out, value)?;
+    }
+    Ok(())
+}
+
+fn push_run(out: &mut Vec<u8>, value: &Run) -> Result<(), AllocError>
+    requires { RunHasBytes value.now }
+    ensures takes { OnOk result (run.Takes value.now) }
+    ensures bytes { OnOk result (out.new.items ≡ out.old.items ++ run.spelling value.now) }
+{
+    push_admit(out, value.prepared())?;
+    push_byte(out, run_byte(value.phase()))?;
+    push_byte(out, flag_byte(value.is_stopping()))?;
+    push_job_list(out, value.jobs())?;
+    Ok(())
+}
+
+/// Appends each run, one behind the other.
+fn push_run_list(out: &mut Vec<u8>, list: &[Run]) -> Result<(), AllocError>
+    requires { AllByRecursion RunHasBytes list.now }
+    ensures takes { OnOk result (AllByRecursion run.Takes list.now) }
+    ensures bytes { OnOk result (out.new.items ≡ out.old.items ++ flat_map run.spelling list.now) }
+{
+    for value in list {
+        push_run(out, value)?;
+    }
+    Ok(())
+}
+
+// ---- runners
+
+/// Appends the byte of a kept reply, and the lease that it gave.
+fn push_kept(out: &mut Vec<u8>, reply: u8, given: Option<Number>) -> Result<(), AllocError>
+    ensures takes { lease.Takes given }
+    ensures bytes { OnOk result (out.new.items ≡ out.old.items ++ reply ∷ lease.spelling given) }
+{
+    push_byte(out, reply)?;
+    push_lease(out, given)?;
+    Ok(())
+}
+
+fn push_last(out: &mut Vec<u8>, value: &LastCommand) -> Result<(), AllocError>
+    ensures takes { OnOk result (last_command.Takes (stored_last value.now)) }
+    ensures bytes { OnOk result (out.new.items ≡ out.old.items ++ last_command.spelling (stored_last value.now)) }
+{
+    match value {
+        LastCommand::Claim(claim, ClaimReply::Nothing) => {
+            push_byte(out, 2)?;
+            push_claim(out, claim)?;
+            push_kept(out, 0, None)?;
+            Ok(())
+        }
+        LastCommand::Claim(claim, ClaimReply::Lease(given)) => {
+            push_byte(out, 2)?;
+            push_claim(out, claim)?;
+            push_kept(out, 1, Some(given.lease))?;
+            Ok(())
+        }
+        LastCommand::Done(report) => {
+            push_byte(out, 3)?;
+            push_done(out, report)?;
+            push_kept(out, 2, None)?;
+            Ok(())
+        }
+    }
+}
+
+fn push_runner(out: &mut Vec<u8>, value: &Runner) -> Result<(), AllocError>
+    ensures takes { OnOk result (runner.Takes (stored_runner value.now)) }
+    ensures bytes { OnOk result (out.new.items ≡ out.old.items ++ runner.spelling (stored_runner value.now)) }
+{
+    push_small_text(out, &value.name)?;
+    push_number(out, value.number)?;
+    push_last(out, &value.last)?;
+    push_lease(out, value.holds)?;
+    Ok(())
+}
+
+/// Appends each runner, one behind the other.
+fn push_runner_list(out: &mut Vec<u8>, list: &[Runner]) -> Result<(), AllocError>
+    ensures takes { OnOk result (AllByRecursion (λ r. runner.Takes (stored_runner r)) list.now) }
+    ensures bytes { OnOk result (out.new.items ≡ out.old.items ++ flat_map (λ r. runner.spelling (stored_runner r)) list.now) }
+{
+    for value in list {
+        push_runner(out, value)?;
+    }
+    Ok(())
+}
+
+// ---- tables
+
+/// Appends the spelling of a table whose runners stand in the order of their names.
+pub(crate) fn push_table(out: &mut Vec<u8>, value: &Table) -> Result<(), AllocError>
+    requires rise { names_rise (stored_table value.now).runners ≡ true }
+    requires most { length value.now.runners ≤ 4294967295 }
+    ensures takes { OnOk result (table.Takes (stored_table value.now)) }
+    ensures bytes { OnOk result (out.new.items ≡ out.old.items ++ table.spelling (stored_table value.now)) }
+{
+    let runs = value.runs();
+    let runners = value.runners();
+    push_word(out, value.last_lease())?;
+    push_word(out, runs.len() as u32)?;
+    push_run_list(out, runs)?;
+    push_word(out, runners.len() as u32)?;
+    push_runner_list(out, runners)?;
+    Ok(())
+}
