@@ -1,0 +1,106 @@
+-- How a store begins: with an empty history, at the table that its disk stands for.
+use Rattle.std.proofs.Common.{◌≡◌, inl, ℕ, ◌+◌, ◌<◌, ◌≤◌, List, [], ◌∷◌, ◌++◌, length, take, drop, false, refl, sym, ◌∙◌, ap, subst, arith}
+use Rattle.std.specs.Prelude.{Some, None}
+use Rattle.std.specs.List.{AllByRecursion}
+use Rattle.std.proofs.lemmas.List.{take_all}
+use Rattle.gated_journal.specs.Layout.{Head, Fits, opened}
+use Rattle.gated_journal.specs.TwoAreas.{behind_gate}
+use Rattle.gated_journal.specs.Whole.{StandsWhole}
+use Rattle.gated_journal.specs.declared.gate.Gate.{Gate}
+use Rattle.gated_journal.specs.declared.gate.Gate.TheVariants.{Closed}
+use Rattle.gated_journal.specs.declared.side.Side.{Side}
+use Rattle.gated_journal.specs.declared.side.Side.TheVariants.{First}
+use Rattle.run_table.specs.Step.{empty}
+use Rattle.run_table.specs.TableState.{TableState}
+use Rattle.table_text.specs.Commands.{IsSpelled}
+use Rattle.act_store.specs.Entries.{IsLegal, commands_of, table_after}
+use Rattle.act_store.specs.Images.{IsAreaLength, StandsFor}
+use Rattle.act_store.specs.Kept.{Kept, covered_table, table_of}
+use Rattle.act_store.specs.Meaning.{MeansTable}
+use Rattle.act_store.specs.Promise.{IsCounted, IsSettled, IsStanding, record_body}
+use Rattle.act_store.specs.TableText.{SpellsTable, empty_text}
+use Rattle.act_store.specs.declared.entry.Entry.{Entry}
+use Rattle.act_store.proofs.Settling.{settled_at, settled_stands}
+
+abbrev pub begun : {D : Type 0} → D → ℕ → TableState → ℕ → ℕ → List Entry → Kept D
+begun disk area base used generation history = record {
+  disk = disk;
+  area = area;
+  base = base;
+  history = history;
+  covered = 0;
+  used = used;
+  generation = generation;
+  failed = false;
+}
+
+module _ {D : Type 0} (disk : D) (area : ℕ) (base : TableState) (used generation : ℕ) (history : List Entry) (none : history ≡ []) where
+  pub counted_begun : (table : TableState) → table ≡ base → IsAreaLength area → used < area
+      → IsCounted (begun disk area base used generation history) table None
+  counted_begun table same size fits =
+      subst (λ (h : List Entry). IsCounted (begun disk area base used generation h) table None) (sym none) (record {
+        legal = refl;
+        table_is = same;
+        covers = omega arith;
+        most = omega arith;
+        size = size;
+        gate_fits = fits;
+        record_fits = λ less. absurd (omega (arith, less));
+        spelled = _;
+        waiting_is = refl;
+      })
+
+  pub standing_begun : (images : D → List ℕ → Type 0) (side : Side) (gate : Gate) → IsAreaLength area
+      → IsSettled area side gate generation used base (images disk)
+      → IsStanding images side gate (begun disk area base used generation history)
+  standing_begun images side gate size settled =
+      subst (λ (h : List Entry). IsStanding images side gate (begun disk area base used generation h)) (sym none)
+      (let first : take 0 [] ≡ [] = take_all 0 [] (omega arith) in
+      let here = settled_at area side gate generation used base (table_after base (take 0 [])) (images disk)
+      (ap (λ (l : List Entry). table_after base l) (sym first)) settled in
+      record {
+        each = λ c now. inl (settled_stands area side gate generation used (table_after base (take 0 [])) (images disk) size here c now);
+        settled = λ _. here;
+      })
+
+-- ---- a new store
+
+abbrev pub first_head : Head
+first_head = record { version = 1; generation = 1; text = empty_text }
+
+pub means_first : MeansTable first_head [] empty
+unfolding SpellsTable
+means_first = record {
+  version = refl;
+  first = empty;
+  text = (refl, refl);
+  commands = [];
+  batched = record { batches = []; takes = _; spelled = refl; commands_are = refl };
+  table_is = refl;
+}
+
+-- the bytes that the first area is made of
+pub first_bytes : 0 ∷ behind_gate first_head [] ≡ 0 ∷ 1 ∷ 0 ∷ 0 ∷ 0 ∷ 0 ∷ 0 ∷ 0 ∷ 0 ∷ 1 ∷ 0 ∷ 0 ∷ 0 ∷ 0 ∷ 0 ∷ 0 ∷ 0 ∷ 12 ∷ 0 ∷ 0 ∷ 0 ∷ 0 ∷ 0 ∷ 0 ∷ 0 ∷ 0 ∷ 0 ∷ 0 ∷ 0 ∷ 0 ∷ 0 ∷ []
+unfolding empty_text
+first_bytes = refl
+
+pub first_fits : Fits first_head []
+unfolding empty_text
+first_fits = record { generation = omega arith; text = omega arith; each = _ }
+
+pub first_settled : (area : ℕ) (images : List ℕ → Type 0) → ((c : List ℕ) → images c → StandsWhole area First Closed c first_head [])
+    → IsSettled area First Closed 1 30 empty images
+unfolding empty_text
+first_settled area images each = record {
+  head = first_head;
+  bodies = [];
+  each = each;
+  used_is = refl;
+  generation_is = refl;
+  means = means_first;
+}
+
+pub first_stands : (area : ℕ) (images : List ℕ → Type 0) → IsAreaLength area
+    → ((c : List ℕ) → images c → StandsWhole area First Closed c first_head []) → (c : List ℕ) → images c → StandsFor empty c
+first_stands area images size each =
+    settled_stands area First Closed 1 30 empty images size (first_settled area images each)

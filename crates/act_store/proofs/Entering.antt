@@ -1,0 +1,94 @@
+-- What an entry more leaves.
+use Rattle.std.proofs.Common.{◌≡◌, inl, inr, ℕ, ◌+◌, ◌<◌, ◌≤◌, Bool, List, [], ◌∷◌, ◌++◌, length, drop, true, false}
+use Rattle.std.proofs.Common.{refl, sym, ◌∙◌, ap, subst, arith, length-append}
+use Rattle.std.specs.Prelude.{Option, Some, None, if◌then◌else◌, nat_le, nat_lt}
+use Rattle.std.specs.List.{AllByRecursion}
+use Rattle.std.proofs.lemmas.Bool.{cases_Bool, leb-false, ltb-false}
+use Rattle.std.proofs.lemmas.List.{drop-append-le}
+use Rattle.wf_value.specs.declared.refusal.Refusal.{Refusal}
+use Rattle.run_plan.specs.declared.command.Command.{Command}
+use Rattle.run_table.specs.Step.{stepped}
+use Rattle.run_table.specs.TableState.{TableState}
+use Rattle.table_text.specs.Commands.{IsSpelled, batch}
+use Rattle.act_store.specs.Entries.{IsLegal, commands_of, table_after}
+use Rattle.act_store.specs.Kept.{Kept, pending_commands, table_of}
+use Rattle.act_store.specs.Plain.{area_full, entered, entry_of, failed_earlier, history_full, record_end, refusal_of_apply, refusal_of_room}
+use Rattle.act_store.specs.Promise.{IsCounted, record_body}
+use Rattle.act_store.specs.declared.entry.Entry.{Entry}
+use Rattle.act_store.proofs.Histories.{commands-append, legal_more, table_more}
+use Rattle.act_store.proofs.Meanings.{all_push}
+
+-- what is known where a command is not refused
+pub record IsAdmitted {D : Type 0} (s : Kept D) (command : Command) : Type 0 where
+  pub live : s.failed ≡ false
+  pub fewer : length s.history < 100000
+  pub room : record_end s (pending_commands s ++ command ∷ []) ≤ s.area
+
+module _ {D : Type 0} (s : Kept D) (command : Command) where
+  has_room : refusal_of_room s command ≡ None → record_end s (pending_commands s ++ command ∷ []) ≤ s.area
+  has_room none = elim (cases_Bool (nat_lt s.area (record_end s (pending_commands s ++ command ∷ [])))) [
+    | inl full ↦ absurd (cc (sym (ap (λ (b : Bool). if b then Some area_full else None) full) ∙ none))
+    | inr fits ↦ ltb-false s.area (record_end s (pending_commands s ++ command ∷ [])) fits
+  ]
+
+  has_few : (if nat_le 100000 (length s.history) then Some history_full else refusal_of_room s command) ≡ None
+      → (length s.history < 100000) × (refusal_of_room s command ≡ None)
+  has_few none = elim (cases_Bool (nat_le 100000 (length s.history))) [
+    | inl full ↦ absurd (cc (sym (ap (λ (b : Bool). if b then Some history_full else refusal_of_room s command) full) ∙ none))
+    | inr fewer ↦ (
+        leb-false 100000 (length s.history) fewer,
+        sym (ap (λ (b : Bool). if b then Some history_full else refusal_of_room s command) fewer) ∙ none,
+      )
+  ]
+
+  pub is_admitted : refusal_of_apply s command ≡ None → IsAdmitted s command
+  is_admitted none =
+      let rest = if nat_le 100000 (length s.history) then Some history_full else refusal_of_room s command in
+      elim (cases_Bool s.failed) [
+        | inl failed ↦ absurd (cc (sym (ap (λ (b : Bool). if b then Some failed_earlier else rest) failed) ∙ none))
+        | inr live ↦ (
+            let few = has_few (sym (ap (λ (b : Bool). if b then Some failed_earlier else rest) live) ∙ none) in
+            record { live = live; fewer = few.0; room = has_room few.1 }
+          )
+      ]
+
+body_with : (commands : List Command) (command : Command) (body : List ℕ) → body ≡ batch.spelling (commands ++ command ∷ [])
+    → Some body ≡ record_body (commands ++ command ∷ [])
+body_with [] command body is = ap (λ (b : List ℕ). Some b) is
+body_with (c ∷ commands) command body is = ap (λ (b : List ℕ). Some b) is
+
+module _ {D : Type 0} (s : Kept D) (table : TableState) (waiting : Option (List ℕ)) (counted : IsCounted s table waiting)
+    (command : Command) (entry : Entry) (history : List Entry) (asked : entry.command ≡ command)
+    (reply : entry.reply ≡ (stepped table command).reply) (is : history ≡ s.history ++ entry ∷ []) where
+  pending_more : commands_of (drop s.covered history) ≡ pending_commands s ++ command ∷ []
+  pending_more =
+      ap (λ (l : List Entry). commands_of (drop s.covered l)) is
+      ∙ ap (λ (l : List Entry). commands_of l) (drop-append-le s.covered s.history (entry ∷ []) counted.covers)
+      ∙ commands-append (drop s.covered s.history) (entry ∷ [])
+      ∙ ap (λ (c : Command). pending_commands s ++ c ∷ []) asked
+
+  long : length history ≡ length s.history + 1
+  long = omega (arith, ap (λ (l : List Entry). length l) is, length-append s.history (entry ∷ []))
+
+  told : entry.reply ≡ (stepped (table_of s) entry.command).reply
+  told = reply ∙ ap (λ (t : TableState). (stepped t command).reply) counted.table_is
+      ∙ ap (λ (c : Command). (stepped (table_of s) c).reply) (sym asked)
+
+  pub counted_entered : (body : List ℕ) → body ≡ batch.spelling (pending_commands s ++ command ∷ []) → IsSpelled command
+      → IsAdmitted s command → IsCounted (record s { history = history }) (stepped table command).table (Some body)
+  counted_entered body spells spelled admitted = record {
+    legal = subst (λ (l : List Entry). IsLegal s.base l) (sym is) (legal_more s.base s.history entry counted.legal told);
+    table_is =
+        ap (λ (t : TableState). (stepped t command).table) counted.table_is
+        ∙ ap (λ (c : Command). (stepped (table_of s) c).table) (sym asked)
+        ∙ sym (table_more s.base s.history entry) ∙ ap (λ (l : List Entry). table_after s.base l) (sym is);
+    covers = omega (arith, long, counted.covers);
+    most = omega (arith, long, admitted.fewer);
+    size = counted.size;
+    gate_fits = counted.gate_fits;
+    record_fits =
+        λ _. subst (λ (cs : List Command). record_end s cs ≤ s.area) (sym pending_more) admitted.room;
+    spelled = subst (λ (cs : List Command). AllByRecursion IsSpelled cs) (sym pending_more)
+        (all_push IsSpelled (pending_commands s) command counted.spelled spelled);
+    waiting_is = body_with (pending_commands s) command body spells ∙ ap record_body (sym pending_more);
+  }

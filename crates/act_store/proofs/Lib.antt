@@ -1,0 +1,11 @@
+mod Beginning
+mod Committing
+mod Entering
+mod Histories
+mod Meanings
+mod OneTable
+mod Opening
+mod Records
+mod Replaying
+mod Settling
+mod Spelling

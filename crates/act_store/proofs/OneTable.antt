@@ -1,0 +1,59 @@
+-- An image stands for one table at most.
+use Rattle.std.proofs.Common.{◌≡◌, ℕ, ◌+◌, List, [], ◌∷◌, ◌++◌, length, map, refl, sym, ◌∙◌, ap, subst, arith}
+use Rattle.std.specs.List.{AllByRecursion, flat_map}
+use Rattle.std.proofs.lemmas.List.{append-nil}
+use Rattle.gated_journal.specs.Layout.{Head, Reads}
+use Rattle.gated_journal.specs.TwoAreas.{area_on, Spells}
+use Rattle.gated_journal.specs.declared.side.Side.{Side}
+use Rattle.gated_journal.proofs.OneReading.{one_reading}
+use Rattle.run_plan.specs.declared.command.Command.{Command}
+use Rattle.run_table.specs.Histories.{after}
+use Rattle.run_table.specs.TableState.{TableState}
+use Rattle.table_text.specs.Commands.{batch}
+use Rattle.table_text.specs.ReadingCommands.{batch_at}
+use Rattle.table_text.proofs.CommandReaders.{batch_reads}
+use Rattle.table_text.proofs.Readers.{none_begins}
+use Rattle.act_store.specs.Images.{StandsFor}
+use Rattle.act_store.specs.Meaning.{MeansTable, SpellCommands}
+use Rattle.act_store.specs.TableText.{SpellsTable}
+
+one_text : (one two : TableState) (text : List ℕ) → SpellsTable one text → SpellsTable two text → one ≡ two
+unfolding SpellsTable
+one_text one two text first second = first.0 ∙ sym second.0
+
+same_batches : (one two : List (List Command)) → AllByRecursion batch.Takes one → AllByRecursion batch.Takes two
+    → map batch.spelling one ≡ map batch.spelling two → one ≡ two
+same_batches [] [] f s same = refl
+same_batches [] (b ∷ two) f s same = absurd (cc same)
+same_batches (a ∷ one) [] f s same = absurd (cc same)
+same_batches (a ∷ one) (b ∷ two) f s same =
+    let first : batch.spelling a ≡ batch.spelling b = cc same in
+    let rest : map batch.spelling one ≡ map batch.spelling two = cc same in
+    let heads = none_begins batch batch_at batch_reads (batch.spelling a) (batch.spelling b) [] [] a b (f.0, refl) (s.0, refl)
+    (ap (λ (l : List ℕ). l ++ []) first) in
+    ap (λ (x : List Command). x ∷ one) heads.1 ∙ ap (λ (l : List (List Command)). b ∷ l) (same_batches one two f.1 s.1 rest)
+
+same_commands : (bodies : List (List ℕ)) (one two : List Command) → SpellCommands bodies one → SpellCommands bodies two → one ≡ two
+same_commands bodies one two first second =
+    first.commands_are
+    ∙ ap (λ (l : List (List Command)). flat_map (λ b. b) l)
+    (same_batches first.batches second.batches first.takes second.takes (sym first.spelled ∙ second.spelled))
+    ∙ sym second.commands_are
+
+one_meaning : (head : Head) (bodies : List (List ℕ)) (one two : TableState) → MeansTable head bodies one → MeansTable head bodies two → one ≡ two
+one_meaning head bodies one two first second =
+    sym first.table_is
+    ∙ ap (λ (t : TableState). after t first.commands) (one_text first.first second.first head.text first.text second.text)
+    ∙ ap (λ (l : List Command). after second.first l) (same_commands bodies first.commands second.commands first.batched second.batched)
+    ∙ second.table_is
+
+pub one_table : (image : List ℕ) (one two : TableState) → StandsFor one image → StandsFor two image → one ≡ two
+one_table image one two first second =
+    let lens : second.len ≡ first.len = omega (arith, first.long, second.long) in
+    let spells = subst (λ (n : ℕ). Spells n second.side image second.head second.bodies) lens second.spells in
+    let sides : second.side ≡ first.side = cc (spells.stands, first.spells.stands) in
+    let reads = subst (λ (s : Side). Reads (area_on first.len s image) second.head second.bodies) sides spells.reads in
+    let same = one_reading (area_on first.len first.side image) second.head first.head second.bodies first.bodies reads first.spells.reads in
+    let heads = subst (λ (h : Head). MeansTable h second.bodies two) same.0 second.means in
+    one_meaning first.head first.bodies one two first.means
+    (subst (λ (b : List (List ℕ)). MeansTable first.head b two) same.1 heads)

@@ -1,0 +1,125 @@
+-- How the promise of a store is kept, from call to call.
+use Rattle.std.proofs.Common.{◌≡◌, inl, inr, ⊎_elim, ℕ, ◌+◌, ◌<◌, ◌≤◌, List, [], ◌∷◌, ◌++◌, length, take, drop, true, false}
+use Rattle.std.proofs.Common.{refl, sym, ◌∙◌, ap, subst, arith, length-append}
+use Rattle.std.proofs.lemmas.List.{take_all, take-append-le}
+use Rattle.std.specs.Int.{to_be_bytes, w32}
+use Rattle.gated_journal.specs.Layout.{Head, framed, opened}
+use Rattle.gated_journal.specs.Whole.{StandsWhole, WholeOrGrew}
+use Rattle.gated_journal.specs.declared.gate.Gate.{Gate}
+use Rattle.gated_journal.specs.declared.side.Side.{Side}
+use Rattle.gated_journal.proofs.Grown.{opened-push}
+use Rattle.run_plan.specs.declared.command.Command.{Command}
+use Rattle.run_table.specs.Histories.{after}
+use Rattle.run_table.specs.TableState.{TableState}
+use Rattle.table_text.specs.Commands.{batch}
+use Rattle.act_store.specs.Entries.{table_after}
+use Rattle.act_store.specs.Images.{IsAreaLength, StandsFor}
+use Rattle.act_store.specs.Kept.{Kept, StandsForEither, covered_table, pending_commands, table_of}
+use Rattle.act_store.specs.Meaning.{MeansTable}
+use Rattle.act_store.specs.Plain.{committed, broken, entered, entry_of, used_after}
+use Rattle.act_store.specs.Promise.{IsSettled, IsStanding}
+use Rattle.act_store.specs.declared.entry.Entry.{Entry}
+use Rattle.act_store.proofs.Histories.{table_split}
+use Rattle.act_store.proofs.Meanings.{means_more}
+
+-- where the gate behind one record more is
+length-opened : (head : Head) (bodies : List (List ℕ)) (body : List ℕ)
+    → length (opened head (bodies ++ body ∷ [])) ≡ length (opened head bodies) + (5 + length body)
+length-opened head bodies body =
+    let number = to_be_bytes w32 (length body) in
+    let four : length number ≡ 4 = refl in
+    omega (arith, ap (λ (l : List ℕ). length l) (opened-push head bodies body), length-append (opened head bodies) (0xA5 ∷ framed body),
+    length-append number body, four)
+
+-- an image that reads so stands for what it means
+pub stands_for : (len : ℕ) (side : Side) (gate : Gate) (head : Head) (bodies : List (List ℕ)) (table : TableState) (c : List ℕ)
+    → IsAreaLength len → StandsWhole len side gate c head bodies → MeansTable head bodies table → StandsFor table c
+stands_for len side gate head bodies table c size stands means = record {
+  len = len;
+  long = stands.whole;
+  size = size;
+  side = side;
+  head = head;
+  bodies = bodies;
+  spells = stands.stands.spells;
+  means = means;
+}
+
+pub settled_stands : (len : ℕ) (side : Side) (gate : Gate) (generation used : ℕ) (table : TableState) (images : List ℕ → Type 0)
+    → IsAreaLength len → IsSettled len side gate generation used table images → (c : List ℕ) → images c → StandsFor table c
+settled_stands len side gate generation used table images size settled c now =
+    stands_for len side gate settled.head settled.bodies table c size (settled.each c now) settled.means
+
+-- a table that is the same one
+pub settled_at : (len : ℕ) (side : Side) (gate : Gate) (generation used : ℕ) (one two : TableState) (images : List ℕ → Type 0)
+    → one ≡ two → IsSettled len side gate generation used one images → IsSettled len side gate generation used two images
+settled_at len side gate generation used one two images same settled =
+    subst (λ (t : TableState). IsSettled len side gate generation used t images) same settled
+
+module _ {D : Type 0} (images : D → List ℕ → Type 0) (side : Side) (gate : Gate) (s : Kept D) (size : IsAreaLength s.area) where
+  abbrev body : List ℕ
+  body = batch.spelling (pending_commands s)
+
+  -- the covered entries, and then those that were pending
+  all_after : after (covered_table s) (pending_commands s) ≡ table_of s
+  all_after = table_split s.base s.covered s.history
+
+  all_covered : (covered : ℕ) → covered ≡ length s.history → table_after s.base (take covered s.history) ≡ table_of s
+  all_covered covered is = ap (λ (l : List Entry). table_after s.base l) (take_all covered s.history (omega (arith, is)))
+
+  module _ (settled : IsSettled s.area side gate s.generation s.used (covered_table s) (images s.disk))
+      (takes : batch.Takes (pending_commands s)) where
+    means_all : MeansTable settled.head (settled.bodies ++ body ∷ []) (table_of s)
+    means_all =
+        subst (λ (t : TableState). MeansTable settled.head (settled.bodies ++ body ∷ []) t) all_after
+        (means_more settled.head settled.bodies (covered_table s) (pending_commands s) takes settled.means)
+
+    -- an image at any moment of an append
+    pub grown : (c : List ℕ) → WholeOrGrew s.area side gate settled.head settled.bodies body c → StandsForEither s c
+    grown c either =
+        ⊎_elim (λ same. inl (stands_for s.area side gate settled.head settled.bodies (covered_table s) c size same settled.means))
+        (λ more. inr (stands_for s.area side gate settled.head (settled.bodies ++ body ∷ []) (table_of s) c size more means_all)) either
+
+    -- and once it was done
+    pub resettled : (disk : D) (used : ℕ) → used ≡ used_after s
+        → ((c : List ℕ) → images disk c → StandsWhole s.area side gate c settled.head (settled.bodies ++ body ∷ []))
+        → IsSettled s.area side gate s.generation used (table_of s) (images disk)
+    resettled disk used is each = record {
+      head = settled.head;
+      bodies = settled.bodies ++ body ∷ [];
+      each = each;
+      used_is = omega (arith, is, settled.used_is, length-opened settled.head settled.bodies body);
+      generation_is = settled.generation_is;
+      means = means_all;
+    }
+
+  -- after a commit
+  pub standing_fresh : (disk : D) → IsSettled s.area side gate s.generation (used_after s) (table_of s) (images disk)
+      → IsStanding images side gate (committed s disk)
+  standing_fresh disk settled =
+      let here = settled_at s.area side gate s.generation (used_after s) (table_of s) (covered_table (committed s disk)) (images disk)
+      (sym (all_covered (length s.history) (omega arith))) settled in
+      record {
+        each = λ c now. inr (settled_stands s.area side gate s.generation (used_after s) (table_of s) (images disk) size settled c now);
+        settled = λ _. here;
+      }
+
+  -- after a device fault
+  pub standing_broken : (disk : D) → ((c : List ℕ) → images disk c → StandsForEither s c) → IsStanding images side gate (broken s disk)
+  standing_broken disk each = record { each = each; settled = λ impossible. absurd (cc impossible) }
+
+  -- with an entry more
+  pub standing_entered : (history : List Entry) (entry : Entry) → history ≡ s.history ++ entry ∷ [] → s.covered ≤ length s.history
+      → s.failed ≡ false → IsStanding images side gate s → IsStanding images side gate (record s { history = history })
+  standing_entered history entry is covers live standing =
+      let front : take s.covered history ≡ take s.covered s.history =
+      ap (λ (l : List Entry). take s.covered l) is ∙ take-append-le s.covered s.history (entry ∷ []) covers in
+      let same : covered_table s ≡ table_after s.base (take s.covered history) =
+      sym (ap (λ (l : List Entry). table_after s.base l) front) in
+      let settled = settled_at s.area side gate s.generation s.used (covered_table s) (table_after s.base (take s.covered history))
+      (images s.disk) same (standing.settled live) in
+      record {
+        each = λ c now. inl (settled_stands s.area side gate s.generation s.used (table_after s.base (take s.covered history))
+            (images s.disk) size settled c now);
+        settled = λ _. settled;
+      }

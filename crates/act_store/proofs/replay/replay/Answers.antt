@@ -1,0 +1,18 @@
+use Rattle.std.proofs.Common.{rules, subst}
+use Rattle.std.specs.Prelude.{Option}
+use Rattle.run_table.specs.TableState.{TableState}
+use Rattle.act_store.specs.Replayed.{IsCarried}
+use Rattle.act_store.proofs.Replaying.{at_broken, at_end}
+use Rattle.act_store.proofs.replay.replay.Goals as goal
+
+pub returns-in-None-clause-replayed : goal.returns-in-None-clause-replayed
+returns-in-None-clause-replayed c =
+    let l = c.loop-body in
+    let body = c.in-Some.body.now in
+    at_broken c.args.records.now l.rest.now c.args.first l.table l.invariant body c.in-Some.behind.now c.in-Some.ensures.some
+    (subst (λ (o : Option TableState). IsCarried body l.table o) c.in-None.is c.in_ok-next.ensures.carried)
+
+pub returns-clause-replayed : goal.returns-clause-replayed
+returns-clause-replayed c =
+    let l = c.loop-body in
+    at_end c.args.records.now l.rest.now c.args.first l.table l.invariant (c.record_at.ensures.none (search rules))

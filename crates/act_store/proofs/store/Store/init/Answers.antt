@@ -1,0 +1,33 @@
+use Rattle.std.proofs.Common.{rules, ◌≡◌, ◌∙◌, [], ℕ, List, sym, arith}
+use Rattle.run_table.specs.Step.{empty}
+use Rattle.gated_journal.specs.declared.gate.Gate.TheVariants.{Closed}
+use Rattle.gated_journal.specs.declared.side.Side.TheVariants.{First}
+use Rattle.act_store.specs.Images.{IsAreaLength}
+use Rattle.act_store.proofs.Beginning.{counted_begun, standing_begun, first_head, first_bytes, first_fits, first_settled, first_stands}
+use Rattle.act_store.proofs.Settling.{settled_at}
+use Rattle.act_store.proofs.store.Store.init.Goals as goal
+
+pub invariant_of-result : goal.invariant_of-result
+invariant_of-result g c =
+    let disk = g.D.Disk in
+    let d1 = c.make_areas.new.disk in
+    let area = c.args.area in
+    let size : IsAreaLength area = record { least = c.requires.least; most = c.requires.most } in
+    let none : c.new-in-Ok-2.result.items ≡ [] = c.new-in-Ok-2.ensures.items in
+    let base : c.new.result ≡ empty = c.new.ensures in (
+      counted_begun d1 area c.new.result 30 1 c.new-in-Ok-2.result.items none c.new-in-Ok.result (c.new-in-Ok.ensures ∙ sym base) size (omega (arith, c.requires.least)),
+      (λ _. search (rules, arith)),
+      λ honest1.
+          let honest = c.make_areas.ensures.honest.0 honest1 in
+          standing_begun d1 area c.new.result 30 1 c.new-in-Ok-2.result.items none disk.images First Closed size
+          (settled_at area First Closed 1 30 empty c.new.result (disk.images d1) (sym base)
+          (first_settled area (disk.images d1) (c.in-Ok.ensures.made first_head [] honest (sym first_bytes) first_fits))),
+    )
+
+pub returns-in-Ok-clause-stands : goal.returns-in-Ok-clause-stands
+returns-in-Ok-clause-stands g c = λ honest1.
+    let disk = g.D.Disk in
+    let d1 = c.make_areas.new.disk in
+    let size : IsAreaLength c.args.area = record { least = c.requires.least; most = c.requires.most } in
+    let honest = c.make_areas.ensures.honest.0 honest1 in
+    first_stands c.args.area (disk.images d1) size (c.in-Ok.ensures.made first_head [] honest (sym first_bytes) first_fits)

@@ -1,0 +1,41 @@
+use Rattle.std.proofs.Common.{rules, arith, ◌≡◌, [], ℕ, List, sym, subst}
+use Rattle.run_table.specs.TableState.{TableState}
+use Rattle.act_store.specs.Images.{IsAreaLength, StandsFor}
+use Rattle.act_store.proofs.Beginning.{counted_begun, standing_begun}
+use Rattle.act_store.proofs.Opening.{found_settled, found_stands}
+use Rattle.act_store.proofs.Settling.{settled_at}
+use Rattle.act_store.proofs.store.Store.open.Goals as goal
+
+pub invariant_of-result : goal.invariant_of-result
+invariant_of-result g c =
+    let disk = g.D.Disk in
+    let d1 = c.find.new.disk in
+    let file = disk.seen c.args.disk in
+    let found = c.in-Ok.found in
+    let spelled = found.spelled in
+    let base = c.in-Ok-copy.base in
+    let same : spelled.table ≡ base = search rules in
+    let none : c.new.result.items ≡ [] = c.new.ensures.items in
+    let area = c.in-Ok.ensures.area in (
+      counted_begun d1 found.area base spelled.used spelled.generation c.new.result.items none spelled.table same area.0 area.1,
+      (λ _. search (rules, arith)),
+      λ honest. standing_begun d1 found.area base spelled.used spelled.generation c.new.result.items none disk.images found.chosen.side
+          found.chosen.other area.0
+          (settled_at found.area found.chosen.side found.chosen.other spelled.generation spelled.used spelled.table base (disk.images d1) same
+          (found_settled found file (c.in-Ok.ensures.found honest) (disk.images d1) (c.in-Ok.ensures.stable honest))),
+    )
+
+pub returns-clause-base : goal.returns-clause-base
+returns-clause-base g c = λ honest.
+    let file = g.D.Disk.seen c.args.disk in
+    let same : c.in-Ok.found.spelled.table ≡ c.in-Ok-copy.base = search rules in
+    subst (λ (t : TableState). StandsFor t file) same
+    (found_stands c.in-Ok.found file (c.in-Ok.ensures.found honest) c.in-Ok.ensures.area.0)
+
+pub returns-clause-stands : goal.returns-clause-stands
+returns-clause-stands g c = λ honest image now.
+    let file = g.D.Disk.seen c.args.disk in
+    let same : c.in-Ok.found.spelled.table ≡ c.in-Ok-copy.base = search rules in
+    subst (λ (l : List ℕ). StandsFor c.in-Ok-copy.base l) (sym ((c.in-Ok.ensures.stable honest image).0 now))
+    (subst (λ (t : TableState). StandsFor t file) same
+    (found_stands c.in-Ok.found file (c.in-Ok.ensures.found honest) c.in-Ok.ensures.area.0))

@@ -1,0 +1,32 @@
+-- The table that an image of a disk stands for. Own: there is no public source.
+use Rattle.std.specs.Prelude.{◌≡◌, ℕ, ◌+◌, ◌≤◌, List, length, None}
+use Rattle.gated_journal.specs.Layout.{Head}
+use Rattle.gated_journal.specs.TwoAreas.{standing, Spells}
+use Rattle.gated_journal.specs.declared.side.Side.{Side}
+use Rattle.run_table.specs.TableState.{TableState}
+use Rattle.act_store.specs.Meaning.{MeansTable}
+
+-- how long an area may be
+pub record IsAreaLength (len : ℕ) : Type 0 where
+  pub least : 4096 ≤ len
+  pub most : len ≤ 1073741824
+
+-- The image is two areas long, and the one that stands spells this table.
+pub record StandsFor (table : TableState) (image : List ℕ) : Type 0 where
+  pub len : ℕ
+  pub long : length image ≡ len + len
+  pub size : IsAreaLength len
+  pub side : Side
+  pub head : Head
+  pub bodies : List (List ℕ)
+  pub spells : Spells len side image head bodies
+  pub means : MeansTable head bodies table
+
+-- Nothing stands there: it is not as long as two areas, or no area is open.
+abbrev pub HasNoArea : List ℕ → Type 0
+HasNoArea image = (len : ℕ) → length image ≡ len + len → IsAreaLength len → standing len image ≡ None
+
+-- The area that stands spells no table.
+pub record HasNoTable (image : List ℕ) : Type 0 where
+  pub some : HasNoArea image → ⊥
+  pub none : (table : TableState) → StandsFor table image → ⊥

@@ -1,0 +1,12 @@
+pub mod Entries
+pub mod Images
+pub mod Kept
+pub mod Meaning
+pub mod Opened
+pub mod Plain
+pub mod Promise
+pub mod Replayed
+pub mod Spelled
+pub mod Steps
+pub mod TableText
+pub mod Told

@@ -1,0 +1,26 @@
+-- The table that an area stands for: that of its text, and then the steps of the commands in its records. Own: there is no public source.
+use Rattle.std.specs.Prelude.{◌≡◌, ℕ, List, map}
+use Rattle.std.specs.List.{AllByRecursion, flat_map}
+use Rattle.gated_journal.specs.Layout.{Head}
+use Rattle.run_plan.specs.declared.command.Command.{Command}
+use Rattle.run_table.specs.Histories.{after}
+use Rattle.run_table.specs.TableState.{TableState}
+use Rattle.table_text.specs.Commands.{batch}
+use Rattle.act_store.specs.TableText.{SpellsTable}
+
+-- Each body is the spelling of a batch, and these are the commands of all of them, in order.
+pub record SpellCommands (bodies : List (List ℕ)) (commands : List Command) : Type 0 where
+  pub batches : List (List Command)
+  pub takes : AllByRecursion batch.Takes batches
+  pub spelled : bodies ≡ map batch.spelling batches
+  pub commands_are : commands ≡ flat_map (λ b. b) batches
+
+-- An area with this head and these bodies stands for this table.
+pub record MeansTable (head : Head) (bodies : List (List ℕ)) (table : TableState) : Type 0 where
+  -- the layout has one version so far
+  pub version : head.version ≡ 1
+  pub first : TableState
+  pub text : SpellsTable first head.text
+  pub commands : List Command
+  pub batched : SpellCommands bodies commands
+  pub table_is : after first commands ≡ table

@@ -1,0 +1,91 @@
+-- The plain store: when each call is refused, what it answers, and what is kept then. It is told with memory and a device that answer; where
+-- they do not, the calls' contracts say what is left. Own: there is no public source.
+use Rattle.std.specs.Prelude.{ℕ, ◌+◌, List, [], ◌∷◌, ◌++◌, length, nat_le, nat_lt, if◌then◌else◌, true, false, Option, Some, None}
+use Rattle.wf_value.specs.declared.code.Code.TheVariants.{AreaFull, DiskNotEmpty, FailedEarlier, HistoryFull, NoArea, NoTable}
+use Rattle.wf_value.specs.declared.refusal.Refusal.{Refusal}
+use Rattle.wf_value.specs.declared.refusal.Refusal.TheVariants.{Numbered}
+use Rattle.run_plan.specs.declared.command.Command.{Command}
+use Rattle.run_table.specs.Step.{empty, stepped}
+use Rattle.table_text.specs.Commands.{batch}
+use Rattle.act_store.specs.Kept.{Kept, pending_commands, table_of}
+use Rattle.act_store.specs.declared.entry.Entry.{Entry}
+use Rattle.act_store.specs.declared.receipt.Receipt.{Receipt}
+
+-- after a device fault nothing is known of what the device took, so the store has to be opened again
+abbrev pub failed_earlier : Refusal
+failed_earlier = Numbered FailedEarlier
+
+abbrev pub history_full : Refusal
+history_full = Numbered HistoryFull
+
+abbrev pub area_full : Refusal
+area_full = Numbered AreaFull
+
+-- how long the batch of these commands is
+abbrev pub batch_length : List Command → ℕ
+batch_length commands = length (batch.spelling commands)
+
+-- Where a record of these commands ends: an open gate, the length in four bytes, the batch, and the next gate. What is entered has to
+-- fit, so that a commit is never refused for want of room.
+abbrev pub record_end : {D : Type 0} → Kept D → List Command → ℕ
+record_end s commands = s.used + 5 + batch_length commands + 1
+
+-- ---- apply
+
+abbrev pub refusal_of_room : {D : Type 0} → Kept D → Command → Option Refusal
+refusal_of_room s command = if nat_lt s.area (record_end s (pending_commands s ++ command ∷ [])) then Some area_full else None
+
+abbrev pub refusal_of_apply : {D : Type 0} → Kept D → Command → Option Refusal
+refusal_of_apply s command =
+    if s.failed then Some failed_earlier else (if nat_le 100000 (length s.history) then Some history_full else refusal_of_room s command)
+
+-- the entry of a command at the end of the history
+abbrev pub entry_of : {D : Type 0} → Kept D → ℕ → Command → Entry
+entry_of s seat command = record { seat = seat; command = command; reply = (stepped (table_of s) command).reply }
+
+abbrev pub entered : {D : Type 0} → Kept D → ℕ → Command → Kept D
+entered s seat command = record s { history = s.history ++ entry_of s seat command ∷ [] }
+
+-- what the caller is told: the reply, and the place of the entry, counted from 1
+abbrev pub receipt_of : {D : Type 0} → Kept D → Command → Receipt
+receipt_of s command = record { reply = (stepped (table_of s) command).reply; place = length s.history + 1 }
+
+-- ---- commit
+
+-- where the next record goes once the pending entries stand in one
+abbrev pub used_after : {D : Type 0} → Kept D → ℕ
+used_after s = s.used + 5 + batch_length (pending_commands s)
+
+-- all entries are covered
+abbrev pub committed : {D : Type 0} → Kept D → D → Kept D
+committed s disk = record s { disk = disk; covered = length s.history; used = used_after s }
+
+-- the device failed
+abbrev pub broken : {D : Type 0} → Kept D → D → Kept D
+broken s disk = record s { disk = disk; failed = true }
+
+-- ---- init
+
+abbrev pub disk_not_empty : Refusal
+disk_not_empty = Numbered DiskNotEmpty
+
+-- a store that was made on an empty disk: the first area's record gate is behind its gate, its head and the empty table's text
+abbrev pub fresh : {D : Type 0} → D → ℕ → Kept D
+fresh disk area = record {
+  disk = disk;
+  area = area;
+  base = empty;
+  history = [];
+  covered = 0;
+  used = 30;
+  generation = 1;
+  failed = false;
+}
+
+-- ---- open
+
+abbrev pub no_area : Refusal
+no_area = Numbered NoArea
+
+abbrev pub no_table : Refusal
+no_table = Numbered NoTable

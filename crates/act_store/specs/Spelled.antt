@@ -1,0 +1,36 @@
+-- What the bytes of an area spell.
+use Rattle.std.specs.Prelude.{◌≡◌, ℕ, ◌+◌, List, length, Option, Some, None}
+use Rattle.gated_journal.specs.Layout.{Head, Reads, opened}
+use Rattle.run_plan.specs.declared.command.Command.{Command}
+use Rattle.run_table.specs.Histories.{after}
+use Rattle.run_table.specs.TableState.{TableState}
+use Rattle.table_text.specs.Commands.{batch}
+use Rattle.table_text.specs.Format.{Spells}
+use Rattle.act_store.specs.Images.{IsAreaLength}
+use Rattle.act_store.specs.Meaning.{MeansTable}
+use Rattle.act_store.specs.declared.spelled.Spelled.{Spelled}
+use Rattle.act_store.specs.TableText.{SpellsTable}
+
+-- The area reads as a head of this generation and bodies, which stand for this table, and its first closed gate is at `used`.
+pub record SpellsArea (area : List ℕ) (generation used : ℕ) (table : TableState) : Type 0 where
+  pub head : Head
+  pub bodies : List (List ℕ)
+  pub reads : Reads area head bodies
+  pub generation_is : generation ≡ head.generation
+  pub used_is : used ≡ length (opened head bodies)
+  pub means : MeansTable head bodies table
+
+-- The area spells this, or no table.
+abbrev pub IsSpelled : List ℕ → Option Spelled → Type 0
+IsSpelled area (Some found) = SpellsArea area found.generation found.used found.table
+IsSpelled area None = (head : Head) (bodies : List (List ℕ)) (table : TableState) → Reads area head bodies → MeansTable head bodies table → ⊥
+
+-- The text spells this table, or none.
+abbrev pub IsTextOf : List ℕ → Option TableState → Type 0
+IsTextOf text (Some table) = SpellsTable table text
+IsTextOf text None = (table : TableState) → SpellsTable table text → ⊥
+
+-- half of a disk's length, where that is the length of an area
+abbrev pub IsHalf : ℕ → Option ℕ → Type 0
+IsHalf size (Some len) = (size ≡ len + len) × IsAreaLength len
+IsHalf size None = (len : ℕ) → size ≡ len + len → IsAreaLength len → ⊥

@@ -1,0 +1,105 @@
+ghost use Rattle.std.specs.Prelude.{◌≡◌, ◌⊎◌, ◌<◌, [], ◌∷◌, ◌++◌, Err, IfErr, IfOk, IfSome, OnErr, Some, vec_capacity, vec_len};
+ghost use Rattle.wf_value.specs.Gives.{no_memory};
+ghost use Rattle.run_table.specs.Step.{stepped};
+ghost use Rattle.act_store.specs.Plain.{entered, receipt_of, refusal_of_apply};
+
+use crate::carried::carry_out;
+use crate::entry::Entry;
+use crate::receipt::Receipt;
+use crate::store::Store;
+use crate::waiting::{length_with, record_with};
+use act_disk::Disk;
+use run_plan::{Command, Reply};
+use run_table::Table;
+use std::alloc::Global;
+use wf_value::{Code, Refusal};
+
+/// The most entries of a history.
+const MOST_ENTRIES: usize = 100_000;
+
+/// What a record takes beside its batch: its gate, and its length in four bytes.
+const FRAME: u64 = 5;
+
+impl<D: Disk> Store<D> {
+    /// Carries out a command and enters it in the history, with its reply. No device is called.
+    ///
+    /// It is refused, memory or not, with 52 where the device has failed, else with 46 where the history has 100,000 entries, else
+    /// with 47 where the record of all entries that are not covered would not fit the area with this one. Else only memory can be
+    /// wanting, which is 50. A refused command is not entered, and the store is as it was.
+    pub fn apply(&mut self, alloc: Global, seat: u64, command: Command) -> Result<Receipt, Refusal>
+        ensures entered { IfOk result (λ receipt. (self.new ≡ entered self.old seat command) × (receipt ≡ receipt_of self.old command)) }
+        ensures refused { IfSome (refusal_of_apply self.old command) (λ refusal. result ≡ Err refusal) }
+        ensures cause { IfErr result (λ e. (e ≡ no_memory) ⊎ (refusal_of_apply self.old command ≡ Some e)) }
+        ensures unchanged { OnErr result (self.new ≡ self.old) }
+    {
+        if let Some(refusal) = self.refusal_of(&command) {
+            return Err(refusal);
+        }
+        let pending = &self.history[self.covered..];
+        let record = record_with(alloc, &self.waiting, pending, &command)?;
+        let reply = enter(alloc, &mut self.table, &mut self.history, seat, command)?;
+        self.waiting = Some(record);
+        Ok(Receipt {
+            reply,
+            place: self.history.len() as u64,
+        })
+    }
+
+    /// Why a command is not entered, memory or not.
+    fn refusal_of(&self, command: &Command) -> Option<Refusal>
+        ensures { result ≡ refusal_of_apply self.now command.now }
+    {
+        if self.failed {
+            return Some(Refusal::Numbered(Code::FailedEarlier));
+        }
+        if self.history.len() >= MOST_ENTRIES {
+            return Some(Refusal::Numbered(Code::HistoryFull));
+        }
+        let pending = &self.history[self.covered..];
+        let batch = length_with(&self.waiting, pending, command);
+        if self.areas.len < self.used + FRAME + batch + 1 {
+            return Some(Refusal::Numbered(Code::AreaFull));
+        }
+        None
+    }
+}
+
+/// Carries out a command, and enters it at the end of a history. Where memory is refused nothing has changed.
+fn enter(
+    alloc: Global,
+    table: &mut Table,
+    history: &mut Vec<Entry>,
+    seat: u64,
+    command: Command,
+) -> Result<Reply, Refusal>
+    ensures reply { IfOk result (λ reply. reply ≡ (stepped table.old command).reply) }
+    ensures table { IfOk result (λ _. table.new ≡ (stepped table.old command).table) }
+    ensures history { IfOk result (λ _. history.new.items ≡ history.old.items
+        ++ record { seat = seat; command = command; reply = (stepped table.old command).reply } ∷ []) }
+    ensures same_table { OnErr result (table.new ≡ table.old) }
+    ensures same_history { OnErr result (history.new.items ≡ history.old.items) }
+    ensures refused { IfErr result (λ e. e ≡ no_memory) }
+{
+    history.reserve(1)?;
+    let (reply, told) = carry_out(alloc, table, &command)?;
+    push_within(
+        history,
+        Entry {
+            seat,
+            command,
+            reply,
+        },
+    );
+    Ok(told)
+}
+
+/// Adds an entry for which there is room.
+fn push_within(history: &mut Vec<Entry>, entry: Entry)
+    requires { vec_len history.old < vec_capacity history.old }
+    ensures { history.new.items ≡ history.old.items ++ entry ∷ [] }
+{
+    match history.push(entry) {
+        Ok(()) => {}
+        Err(_) => unreachable!(),
+    }
+}

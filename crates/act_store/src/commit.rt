@@ -1,0 +1,52 @@
+ghost use Rattle.std.specs.Prelude.{◌≡◌, ◌↔◌, ◌+◌, ◌<◌, ◌≤◌, ℕ, List, length, true, false, Err, IfErr, IfOk, IsOk, OnErr, OnOk};
+ghost use Rattle.act_disk.specs.Failed.{device_failed};
+ghost use Rattle.act_disk.specs.Images.{EachSince, CountsFault};
+ghost use Rattle.act_store.specs.Images.{StandsFor};
+ghost use Rattle.act_store.specs.Kept.{StandsForEither, table_of};
+ghost use Rattle.act_store.specs.Plain.{broken, committed, failed_earlier};
+
+use crate::store::Store;
+use act_disk::Disk;
+use wf_value::{Code, Refusal};
+
+impl<D: Disk> Store<D> {
+    /// Covers all entries: writes the record of those that are not covered, syncs, opens its gate, and syncs. It answers how many
+    /// entries are covered. Where all are already, no device is called.
+    ///
+    /// At each moment of the call the disk stands for the entries that were covered or for all, and after `Ok` for all. 51 is answered
+    /// exactly where the device fails; the store then has failed. It takes no memory, and is never refused for want of room.
+    pub fn commit(&mut self) -> Result<u64, Refusal>
+        ensures any_moment { D.honest self.old.disk → EachSince D.moment D.images_since self.old.disk self.new.disk (StandsForEither self.old) }
+        ensures stands { OnOk result (D.honest self.new.disk → (c : List ℕ) → D.images self.new.disk c → StandsFor (table_of self.old) c) }
+        ensures covered { IfOk result (λ count. (count ≡ length self.old.history) × (self.new.covered ≡ count)) }
+        ensures failed { self.old.failed ≡ true → (result ≡ Err failed_earlier) × (self.new ≡ self.old) }
+        ensures none { self.old.failed ≡ false → self.old.covered ≡ length self.old.history → IsOk result × (self.new ≡ self.old) }
+        ensures some { OnOk result (self.old.covered < length self.old.history → self.new ≡ committed self.old self.new.disk) }
+        ensures broken { OnErr result (self.old.failed ≡ false → self.new ≡ broken self.old self.new.disk) }
+        ensures faults { self.old.failed ≡ false → CountsFault result (D.fault_count self.old.disk) (D.fault_count self.new.disk) }
+        ensures refused { IfErr result (λ e. self.old.failed ≡ false → e ≡ device_failed) }
+        ensures calls { D.calls self.new.disk ≤ D.calls self.old.disk + 4 }
+        ensures honest { D.honest self.new.disk ↔ D.honest self.old.disk }
+    {
+        if self.failed {
+            return Err(Refusal::Numbered(Code::FailedEarlier));
+        }
+        let Some(record) = &self.waiting else {
+            return Ok(self.covered as u64);
+        };
+        let bytes = record.as_slice();
+        let areas = self.areas;
+        match areas.grow(&mut self.disk, self.used, bytes) {
+            Err(fault) => {
+                self.failed = true;
+                Err(Refusal::from(fault))
+            }
+            Ok(()) => {
+                self.used += bytes.len() as u64;
+                self.covered = self.history.len();
+                self.waiting = None;
+                Ok(self.covered as u64)
+            }
+        }
+    }
+}

@@ -1,0 +1,64 @@
+ghost use Rattle.std.specs.Prelude.{◌≡◌, ◌⊎◌, ◌↔◌, ◌<◌, ◌≤◌, ◌+◌, ℕ, List, Err, IfErr, IfOk};
+ghost use Rattle.wf_value.specs.Gives.{no_memory};
+ghost use Rattle.act_disk.specs.Failed.{device_failed};
+ghost use Rattle.run_table.specs.Step.{empty};
+ghost use Rattle.act_store.specs.Images.{StandsFor};
+ghost use Rattle.act_store.specs.Plain.{disk_not_empty, fresh};
+
+use crate::store::Store;
+use act_disk::Disk;
+use gated_journal::{Gate, Side, Standing, make_areas};
+use run_table::Table;
+use std::alloc::Global;
+use wf_value::{Code, Refusal};
+
+/// What the first area of a new store holds, behind a closed gate: version 1, generation 1, the text of the empty table behind its
+/// length, and a closed gate.
+const FRONT: [u8; 31] = [
+    0, 1, 0, 0, 0, 0, 0, 0, 0, 1, 0, 0, 0, 0, 0, 0, 0, 12, 0, 0, 0, 0, 0, 0, 0, 0, 0, 0, 0, 0, 0,
+];
+
+/// Where the first record's gate is.
+const USED: u64 = 30;
+
+impl<D: Disk> Store<D> {
+    /// Makes a store of two areas on an empty disk, each `area` bytes long. Its history is empty, and it stands for the empty table.
+    ///
+    /// A disk that is not empty is refused with 55. Whatever the refusal, the disk is given back.
+    pub fn init(alloc: Global, disk: D, area: u64) -> Result<Store<D>, (D, Refusal)>
+        requires countable { D.fault_count disk < u64.MAX }
+        requires least { 4096 ≤ area }
+        requires most { area ≤ 1073741824 }
+        ensures made { IfOk result (λ s. s ≡ fresh s.disk area) }
+        ensures stands { IfOk result (λ s. D.honest s.disk → (c : List ℕ) → D.images s.disk c → StandsFor empty c) }
+        ensures occupied { (D.size disk ≡ 0 → ⊥) → result ≡ Err (disk, disk_not_empty) }
+        ensures refused { IfErr result (λ e. D.size disk ≡ 0 → (e.1 ≡ device_failed) × (D.fault_count e.0 ≡ D.fault_count disk + 1)) }
+        ensures faults { IfOk result (λ s. D.fault_count s.disk ≡ D.fault_count disk) }
+        ensures honest_ok { IfOk result (λ s. D.honest s.disk ↔ D.honest disk) }
+        ensures honest_err { IfErr result (λ e. D.honest e.0 ↔ D.honest disk) }
+    {
+        let mut disk = disk;
+        if disk.len() != 0 {
+            return Err((disk, Refusal::Numbered(Code::DiskNotEmpty)));
+        }
+        match make_areas(&mut disk, area, &FRONT) {
+            Err(fault) => Err((disk, Refusal::from(fault))),
+            Ok(()) => Ok(Store {
+                disk,
+                areas: Standing {
+                    len: area,
+                    side: Side::First,
+                },
+                other: Gate::Closed,
+                base: Table::new(alloc),
+                table: Table::new(alloc),
+                history: Vec::new(alloc),
+                covered: 0,
+                used: USED,
+                generation: 1,
+                waiting: None,
+                failed: false,
+            }),
+        }
+    }
+}

@@ -1,0 +1,23 @@
+//! The store: a table and its history in memory, and a disk whose every image stands for the covered entries, whenever the
+//! machine stops.
+#![tactic(auto)]
+
+mod apply;
+mod carried;
+mod commit;
+mod entry;
+mod found;
+mod init;
+pub mod laws;
+mod open;
+mod receipt;
+mod replay;
+mod spelled;
+mod step;
+mod store;
+mod waiting;
+
+pub use entry::Entry;
+pub use receipt::Receipt;
+pub use step::{Played, Step};
+pub use store::Store;

@@ -1,0 +1,57 @@
+ghost use Rattle.std.specs.Prelude.{◌≡◌, IfErr, IfOk};
+ghost use Rattle.wf_value.specs.Gives.{no_memory};
+ghost use Rattle.run_table.specs.Histories.{after};
+ghost use Rattle.act_store.specs.Replayed.{IsCarried, IsReplayed};
+
+use gated_journal::record_at;
+use run_plan::Command;
+use run_table::Table;
+use std::alloc::Global;
+use table_text::read_batch;
+use wf_value::Refusal;
+
+/// Carries out the commands of records, one behind the other. `None` where a body spells no batch.
+#[tactic(auto, using(crate::proofs::Replaying::none_so_far, crate::proofs::Replaying::one_more, crate::proofs::Replaying::at_end, crate::proofs::Replaying::at_broken, crate::proofs::Replaying::shorter))]
+pub(crate) fn replay(alloc: Global, first: Table, records: &[u8]) -> Result<Option<Table>, Refusal>
+    ensures replayed { IfOk result (λ last. IsReplayed records.now first last) }
+    ensures refused { IfErr result (λ e. e ≡ no_memory) }
+{
+    let mut table = first;
+    let mut rest = records;
+    while let Some((body, behind)) = record_at(rest) {
+        match carry_body(alloc, table, body)? {
+            Some(next) => table = next,
+            None => return Ok(None),
+        }
+        rest = behind;
+    }
+    Ok(Some(table))
+}
+
+/// Carries out the commands of a body. `None` where it spells no batch.
+#[tactic(auto, using(crate::proofs::Replaying::carried_whole, crate::proofs::Replaying::left_over, crate::proofs::Replaying::no_batch))]
+fn carry_body(alloc: Global, table: Table, body: &[u8]) -> Result<Option<Table>, Refusal>
+    ensures carried { IfOk result (λ next. IsCarried body.now table next) }
+    ensures refused { IfErr result (λ e. e ≡ no_memory) }
+{
+    let Some((commands, rest)) = read_batch(alloc, body)? else {
+        return Ok(None);
+    };
+    if rest.len() > 0 {
+        return Ok(None);
+    }
+    let next = carry_all(alloc, table, commands.as_slice())?;
+    Ok(Some(next))
+}
+
+/// Carries out commands in order.
+fn carry_all(alloc: Global, first: Table, commands: &[Command]) -> Result<Table, Refusal>
+    ensures carried { IfOk result (λ last. last ≡ after first commands.now) }
+    ensures refused { IfErr result (λ e. e ≡ no_memory) }
+{
+    let mut table = first;
+    for command in commands {
+        table.step(alloc, command)?;
+    }
+    Ok(table)
+}

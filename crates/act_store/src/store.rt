@@ -1,0 +1,98 @@
+ghost use Rattle.std.specs.Prelude.{◌≡◌, ◌≤◌, ◌==◌, ◌-◌, List, ℕ, if◌then◌else◌, length, slice_get, option_copied, None};
+ghost use Rattle.act_store.specs.Entries.{IsLegal};
+ghost use Rattle.act_store.specs.Kept.{StandsForEither, table_of};
+ghost use Rattle.run_table.specs.Step.{seen};
+
+use crate::entry::Entry;
+use act_disk::Disk;
+use gated_journal::{Gate, Record, Standing};
+use run_plan::Number;
+use run_table::{RunView, Table};
+use std::marker::Model;
+
+/// A table with its history in memory, and a disk that stands for it, whenever the machine stops.
+///
+/// The history is that of one thread: each reply is the one that its step gives. Each image that a stop may leave stands for the
+/// covered entries or for all. After a device fault every call that may be refused is refused with 52, and the store is to be opened
+/// again.
+#[derive(Drop)]
+pub struct Store<D: Disk> {
+    pub(crate) disk: D,
+    pub(crate) areas: Standing,
+    /// The gate of the area that does not stand.
+    pub(crate) other: Gate,
+    /// The table at the history's begin.
+    pub(crate) base: Table,
+    pub(crate) table: Table,
+    pub(crate) history: Vec<Entry>,
+    /// How many of the first entries are covered.
+    pub(crate) covered: usize,
+    /// The offset of the gate behind which the next record goes.
+    pub(crate) used: u64,
+    pub(crate) generation: u64,
+    /// The record of the entries that are not covered, where there are some.
+    pub(crate) waiting: Option<Record>,
+    pub(crate) failed: bool,
+}
+
+impl<D: Disk> Model for Store<D> {
+    ghost use Rattle.std.specs.Prelude.{◌≡◌, ◌-◌, ◌^◌, ◌<◌, false};
+    ghost use Rattle.act_store.specs.Kept.{Kept};
+    ghost use Rattle.act_store.specs.Promise.{IsCounted, IsStanding};
+
+    ghost Value = { Kept D };
+
+    ghost view = { λ s. record { disk = s.disk; area = s.areas.len; base = s.base; history = s.history.items; covered = s.covered;
+        used = s.used; generation = s.generation; failed = s.failed } };
+
+    ghost invariant = { λ s.
+        let kept : Kept D = record { disk = s.disk; area = s.areas.len; base = s.base; history = s.history.items; covered = s.covered;
+            used = s.used; generation = s.generation; failed = s.failed } in
+        IsCounted {D = D} kept s.table s.waiting
+        × (s.failed ≡ false → D.Disk.fault_count s.disk < 2 ^ 64 - 1)
+        × (D.Disk.honest s.disk → IsStanding D.Disk.images s.areas.side s.other kept) };
+}
+
+impl<D: Disk> Store<D> {
+    /// How many entries the history has.
+    pub fn entries(&self) -> u64
+        ensures { result ≡ length self.now.history }
+    {
+        self.history.len() as u64
+    }
+
+    /// How many of the first entries are covered. What a store keeps stands beside it.
+    pub fn covered(&self) -> u64
+        ensures value { result ≡ self.now.covered }
+        ensures within { self.now.covered ≤ length self.now.history }
+        ensures legal { IsLegal self.now.base self.now.history }
+        ensures promise { D.honest self.now.disk → (c : List ℕ) → D.images self.now.disk c → StandsForEither self.now c }
+    {
+        self.covered as u64
+    }
+
+    /// The entry at a place of the history, counted from 1.
+    pub fn entry(&self, place: u64) -> Option<&Entry>
+        ensures { option_copied result ≡ (if place == 0 then None else slice_get self.now.history (place - 1)) }
+    {
+        if place == 0 {
+            return None;
+        }
+        self.history.get(place as usize - 1)
+    }
+
+    /// What is seen of the run of an id in the present table, or `None` where there is no such run.
+    pub fn look(&self, run: Number) -> Option<RunView<'_>>
+        ensures { result ≡ seen (table_of self.now) run }
+    {
+        self.table.look(run)
+    }
+
+    /// The disk, also of a store that has failed.
+    pub fn into_disk(self) -> D
+        ensures { result ≡ self.disk }
+    {
+        let Store { disk, .. } = self;
+        disk
+    }
+}
