@@ -4,7 +4,7 @@ mod over_files;
 mod scripted_files;
 mod sending;
 
-use crate::holds::holds;
+use crate::holds::{expect_bytes, holds};
 use act_disk::{Call, Disk, DiskFault, Fill, FuseDisk, MemoryDisk, grow_to, write_synced};
 use std::alloc::Global;
 use std::process::Abort;
@@ -65,7 +65,7 @@ fn holding(rt: &impl Abort, alloc: Global, bytes: &[u8]) -> MemoryDisk {
 
 /// What a disk in memory holds, and how many calls it has noted.
 fn expect_held(rt: &impl Abort, disk: &MemoryDisk, bytes: &[u8], calls: usize) {
-    holds!(rt; disk.bytes() == bytes);
+    expect_bytes(rt, disk.bytes(), bytes);
     holds!(rt; disk.calls().len() == calls);
 }
 
@@ -178,7 +178,7 @@ fn images_are_those_by_hand(rt: HostRuntime) {
     let mut disk = holding(&rt, rt.alloc(), FIRST);
     play(&rt, &mut disk, &WRITTEN);
     holds!(rt; disk.calls().len() == 6);
-    for row in IMAGES {
+    for &row in &IMAGES {
         expect_image(&rt, rt.alloc(), &disk, row);
     }
 }
@@ -235,7 +235,7 @@ fn write_and_sync_are_two_calls(rt: HostRuntime) {
     holds!(rt; disk.faults() == 0);
     holds!(rt; write_synced(&mut disk, 1, b"abc").is_ok());
     expect_held(&rt, &disk, &[0, 97, 98, 99, 0, 0], 2);
-    for row in WRITE_SYNCED {
+    for &row in &WRITE_SYNCED {
         expect_image(&rt, rt.alloc(), &disk, row);
     }
 }

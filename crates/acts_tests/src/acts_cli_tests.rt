@@ -9,6 +9,7 @@ mod needs;
 mod scripts;
 
 use crate::given::spelled;
+use crate::holds::holds;
 use acts_cli::{MOST_BYTES, run_script};
 use std::alloc::Global;
 use std::io;
@@ -119,13 +120,13 @@ fn expect_played(rt: &impl Abort, alloc: Global, script: &[u8], answers: &str) {
     let mut reader = script;
     let mut printed = Vec::new(alloc);
     let number = number_of(run_script(alloc, &mut reader, &mut printed));
-    assert!(rt; number == 0);
-    assert!(rt; printed.as_slice() == answers.as_bytes(), "{answers}");
+    holds!(rt; number == 0);
+    holds!(rt; printed.as_slice() == answers.as_bytes(), answers);
 }
 
 #[test]
 fn plays_the_rows(rt: HostRuntime) {
-    for (script, answers) in ROWS {
+    for &(script, answers) in &ROWS {
         expect_played(&rt, rt.alloc(), script.as_bytes(), answers);
     }
 }
@@ -151,7 +152,7 @@ const SPACES: [(usize, &str); 2] = [
 
 #[test]
 fn bounds_a_body(rt: HostRuntime) {
-    for (spaces, answer) in SPACES {
+    for &(spaces, answer) in &SPACES {
         let pieces = [("admit d1 push ", 1), (BODY, 1), (" ", spaces)];
         expect_long_played(&rt, rt.alloc(), &pieces, answer);
     }
@@ -173,9 +174,9 @@ fn refuses_a_script_that_is_too_long(rt: HostRuntime) {
     let mut reader = script.as_bytes();
     let mut printed = Vec::new(rt.alloc());
     let number = number_of(run_script(rt.alloc(), &mut reader, &mut printed));
-    assert!(rt; number == 76);
-    assert!(rt; printed.is_empty());
-    assert!(rt; reader.len() == 8, "no more than 1,048,577 bytes are read");
+    holds!(rt; number == 76);
+    holds!(rt; printed.is_empty());
+    holds!(rt; reader.len() == 8, "no more than 1,048,577 bytes are read");
 }
 
 /// A reader that fails after a number of bytes.
@@ -206,7 +207,7 @@ fn fails_with_its_reader(rt: HostRuntime) {
         };
         let mut printed = Vec::new(rt.alloc());
         let number = number_of(run_script(rt.alloc(), &mut reader, &mut printed));
-        assert!(rt; number == 61 && printed.is_empty(), "at {left}");
+        holds!(rt; number == 61 && printed.is_empty(), left);
     }
 }
 
@@ -247,8 +248,8 @@ fn expect_61(rt: &impl Abort, alloc: Global, left: usize, holds_back: bool, writ
         holds_back,
     };
     let number = number_of(run_script(alloc, &mut reader, &mut writer));
-    assert!(rt; number == 61, "at {left}");
-    assert!(rt; writer.bytes.as_slice() == written, "at {left}");
+    holds!(rt; number == 61, left);
+    holds!(rt; writer.bytes.as_slice() == written, left);
 }
 
 #[test]

@@ -3,6 +3,7 @@ mod steps;
 mod sweep;
 mod torn;
 
+use crate::holds::holds;
 use act_disk::{Call, Disk, DiskFault, MemoryDisk};
 use gated_journal::{Area, scan};
 use std::alloc::Global;
@@ -39,10 +40,10 @@ fn append<D: Disk>(
     at: u64,
     bytes: &[u8],
 ) -> Result<(), DiskFault> {
-    assert!(rt; disk.faults() < u64::MAX);
-    assert!(rt; area.start <= 1 << 32 && area.len <= 1 << 32);
+    holds!(rt; disk.faults() < u64::MAX);
+    holds!(rt; area.start <= 1 << 32 && area.len <= 1 << 32);
     let len = bytes.len() as u64;
-    assert!(rt; at <= 1 << 32 && len <= 1 << 32 && at + len + 1 <= area.len);
+    holds!(rt; at <= 1 << 32 && len <= 1 << 32 && at + len + 1 <= area.len);
     area.append(disk, at, bytes)
 }
 

@@ -1,6 +1,7 @@
 //! Who is pending and who runs in a group. GitHub Docs, "Control the concurrency of workflows and jobs": at most one
 //! running and one pending job in a group, the newest one pending; cancel-in-progress cancels the running one.
 
+use crate::holds::holds;
 use group_book::{Arrival, Book, Holder};
 use group_name::GroupKey;
 use std::alloc::Global;
@@ -52,8 +53,8 @@ fn expect_in(
     pending: Option<Holder>,
 ) {
     let key = group(rt, alloc, name);
-    assert!(rt; is(book.running(&key), running));
-    assert!(rt; is(book.pending(&key), pending));
+    holds!(rt; is(book.running(&key), running));
+    holds!(rt; is(book.pending(&key), pending));
 }
 
 /// The one that may start does.
@@ -69,14 +70,14 @@ fn start(rt: &impl Abort, book: &mut Book, holder: Holder) {
 fn newest_one_is_pending(rt: HostRuntime) {
     let mut book = Book::new(rt.alloc());
     let first = arrive(&rt, rt.alloc(), &mut book, "deploy", FIRST, false);
-    assert!(&rt; is(first.displaced, None) && is(first.stopped, None));
+    holds!(&rt; is(first.displaced, None) && is(first.stopped, None));
     start(&rt, &mut book, FIRST);
     expect_in(&rt, rt.alloc(), &book, "deploy", Some(FIRST), None);
     let second = arrive(&rt, rt.alloc(), &mut book, "deploy", SECOND, false);
-    assert!(&rt; is(second.displaced, None) && is(second.stopped, None));
-    assert!(&rt; !book.may_start(SECOND));
+    holds!(&rt; is(second.displaced, None) && is(second.stopped, None));
+    holds!(&rt; !book.may_start(SECOND));
     let third = arrive(&rt, rt.alloc(), &mut book, "deploy", THIRD, false);
-    assert!(&rt; is(third.displaced, Some(SECOND)) && is(third.stopped, None));
+    holds!(&rt; is(third.displaced, Some(SECOND)) && is(third.stopped, None));
     expect_in(&rt, rt.alloc(), &book, "deploy", Some(FIRST), Some(THIRD));
     book.leave(FIRST);
     start(&rt, &mut book, THIRD);
@@ -89,11 +90,11 @@ fn cancel_in_progress_stops_the_running_one_once(rt: HostRuntime) {
     let _ = arrive(&rt, rt.alloc(), &mut book, "Prod", FIRST, false);
     start(&rt, &mut book, FIRST);
     let second = arrive(&rt, rt.alloc(), &mut book, "prod", SECOND, true);
-    assert!(&rt; is(second.displaced, None) && is(second.stopped, Some(FIRST)));
+    holds!(&rt; is(second.displaced, None) && is(second.stopped, Some(FIRST)));
     expect_in(&rt, rt.alloc(), &book, "PROD", Some(FIRST), Some(SECOND));
-    assert!(&rt; !book.may_start(SECOND));
+    holds!(&rt; !book.may_start(SECOND));
     let third = arrive(&rt, rt.alloc(), &mut book, "prod", THIRD, true);
-    assert!(&rt; is(third.displaced, Some(SECOND)) && is(third.stopped, None));
+    holds!(&rt; is(third.displaced, Some(SECOND)) && is(third.stopped, None));
     book.leave(FIRST);
     start(&rt, &mut book, THIRD);
     expect_in(&rt, rt.alloc(), &book, "prod", Some(THIRD), None);
@@ -107,7 +108,7 @@ fn a_stopped_one_is_not_stopped_again(rt: HostRuntime) {
     book.stop(LEG);
     expect_in(&rt, rt.alloc(), &book, "g", Some(LEG), None);
     let next = arrive(&rt, rt.alloc(), &mut book, "g", NEXT_LEG, true);
-    assert!(&rt; is(next.displaced, None) && is(next.stopped, None));
+    holds!(&rt; is(next.displaced, None) && is(next.stopped, None));
 }
 
 #[test]
@@ -115,13 +116,13 @@ fn groups_are_apart(rt: HostRuntime) {
     let mut book = Book::new(rt.alloc());
     let _ = arrive(&rt, rt.alloc(), &mut book, "a", LEG, false);
     let other = arrive(&rt, rt.alloc(), &mut book, "b", NEXT_LEG, true);
-    assert!(&rt; is(other.displaced, None) && is(other.stopped, None));
+    holds!(&rt; is(other.displaced, None) && is(other.stopped, None));
     let key = group(&rt, rt.alloc(), "a");
-    assert!(&rt; book.holds(&key, LEG) && !book.holds(&key, NEXT_LEG));
+    holds!(&rt; book.holds(&key, LEG) && !book.holds(&key, NEXT_LEG));
     start(&rt, &mut book, NEXT_LEG);
     expect_in(&rt, rt.alloc(), &book, "a", None, Some(LEG));
     expect_in(&rt, rt.alloc(), &book, "b", Some(NEXT_LEG), None);
-    assert!(&rt; book.may_start(LEG) && book.may_start(FIRST));
+    holds!(&rt; book.may_start(LEG) && book.may_start(FIRST));
 }
 
 #[test]

@@ -18,6 +18,20 @@ pub fn expect_so_at<R: Abort, D: Display + Drop>(rt: &R, is_so: bool, condition:
     assert!(rt; is_so, "not so: {condition}, at {place}");
 }
 
+/// That a text is the one that is wanted.
+pub fn expect_text<R: Abort>(rt: &R, text: &str, want: &str)
+    ensures { text ≡ want }
+{
+    assert!(rt; text == want, "{text}\nin place of\n{want}");
+}
+
+/// That bytes are those that are wanted.
+pub fn expect_bytes<R: Abort>(rt: &R, bytes: &[u8], want: &[u8])
+    ensures { bytes ≡ want }
+{
+    assert!(rt; bytes == want, "{bytes:?} in place of {want:?}");
+}
+
 /// That a condition holds, at a place where one is given: `holds!(rt; a < b)`, `holds!(rt; a < b, row)`.
 macro_rules! holds {
     ($rt:expr; $condition:expr $(,)?) => {

@@ -1,5 +1,6 @@
 //! The combinations of matrices.
 
+use crate::holds::{expect_text, holds};
 use crate::values::{Given, combo, scalars};
 use matrix_expand::expand;
 use std::alloc::Global;
@@ -124,7 +125,7 @@ const DOCUMENTED_COMBINATIONS: &str = concat!(
 #[test]
 fn gives_the_combinations_of_the_documentation(rt: HostRuntime) {
     let shown = shown_combinations(&rt, rt.alloc(), &DOCUMENTED);
-    assert!(rt; shown.as_str() == DOCUMENTED_COMBINATIONS);
+    expect_text(&rt, shown.as_str(), DOCUMENTED_COMBINATIONS);
 }
 
 const INCLUDED_ALONE: Listed = (
@@ -136,7 +137,7 @@ const INCLUDED_ALONE: Listed = (
 #[test]
 fn gives_a_leg_for_each_include_object_alone(rt: HostRuntime) {
     let shown = shown_combinations(&rt, rt.alloc(), &INCLUDED_ALONE);
-    assert!(rt; shown.as_str() == "{ a:1}{ a:2}");
+    expect_text(&rt, shown.as_str(), "{ a:1}{ a:2}");
 }
 
 const OF_EACH_KIND: Listed = (
@@ -160,7 +161,7 @@ const OF_EACH_KIND: Listed = (
 #[test]
 fn keeps_kinds_apart(rt: HostRuntime) {
     let shown = shown_combinations(&rt, rt.alloc(), &OF_EACH_KIND);
-    assert!(rt; shown.as_str() == "{ a:1}{ a:true}{ anull:}");
+    expect_text(&rt, shown.as_str(), "{ a:1}{ a:true}{ anull:}");
 }
 
 /// A variable of the numbers from 0 on.
@@ -221,7 +222,7 @@ fn counted(alloc: Global, matrix: &Matrix) -> u64 {
 fn counts_legs_after_exclude(rt: HostRuntime) {
     for (row, (x, y, include, exclude, want)) in GRIDS.iter().enumerate() {
         let matrix = grid(&rt, rt.alloc(), (*x, *y), include, exclude);
-        assert!(rt; counted(rt.alloc(), &matrix) == *want, "row {row}");
+        holds!(rt; counted(rt.alloc(), &matrix) == *want, row);
     }
 }
 
@@ -230,8 +231,8 @@ fn puts_the_new_combination_last(rt: HostRuntime) {
     let matrix = grid(&rt, rt.alloc(), (16, 16), SIXTEEN, ORIGIN);
     let combos = expand(rt.alloc(), &matrix).expect(&rt, "combinations");
     let shown = shown(rt.alloc(), combos.as_slice()).expect(&rt, "a text");
-    assert!(rt; shown.as_str().starts_with("{ x:0 y:1}{ x:0 y:2}"));
-    assert!(rt; shown.as_str().ends_with("{ x:15 y:15}{ x:16}"));
+    holds!(rt; shown.as_str().starts_with("{ x:0 y:1}{ x:0 y:2}"));
+    holds!(rt; shown.as_str().ends_with("{ x:15 y:15}{ x:16}"));
 }
 
 /// Seventeen variables of two values each: 131,072 choices.
@@ -259,8 +260,8 @@ const SEVENTEEN_OF_TWO: [(&str, i64); 17] = [
 fn expect_refused(rt: &impl Abort, alloc: Global, counts: &[(&str, i64)], number: u64) {
     let variables = numbered(alloc, counts).expect(rt, "variables");
     let matrix = matrix(alloc, variables, &[], &[]).expect(rt, "a matrix");
-    assert!(rt; matrix.variables().len() == counts.len());
-    assert!(rt; counted(alloc, &matrix) == number);
+    holds!(rt; matrix.variables().len() == counts.len());
+    holds!(rt; counted(alloc, &matrix) == number);
 }
 
 #[test]

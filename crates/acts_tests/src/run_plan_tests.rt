@@ -8,6 +8,7 @@ mod prepared;
 mod replies;
 mod small_texts;
 
+use crate::holds::holds;
 use std::process::Abort;
 use wf_value::Refusal;
 
@@ -21,6 +22,6 @@ pub fn expect_twice(rt: &impl Abort, first: Result<(), Refusal>, second: Result<
         Ok(()) => 50,
         Err(refusal) => refusal.number(),
     };
-    assert!(rt; number == 50);
-    assert!(rt; second.is_ok());
+    holds!(rt; number == 50);
+    holds!(rt; second.is_ok());
 }

@@ -6,6 +6,7 @@ mod tables;
 mod views;
 
 use crate::commands::{Words, command_of, number};
+use crate::holds::expect_text;
 use run_table::Table;
 use std::alloc::Global;
 use std::process::Abort;
@@ -38,7 +39,7 @@ fn reply_text(alloc: Global, table: &mut Table, words: &Words<'_>) -> Result<Cha
 pub fn play(rt: &impl Abort, alloc: Global, table: &mut Table, rows: &[Row<'_>]) {
     for (words, want) in rows {
         let text = reply_text(alloc, table, words).expect(rt, "a reply");
-        assert!(rt; text.as_str() == *want, "{want}");
+        expect_text(rt, text.as_str(), want);
     }
 }
 
@@ -54,5 +55,5 @@ pub fn expect_view(rt: &impl Abort, alloc: Global, table: &Table, id: &str, want
     let id = number(id).expect(rt, "a number");
     let view = table.look(id).expect(rt, "a run");
     let text = view.text(alloc).expect(rt, "a text");
-    assert!(rt; text.as_str() == want, "{want}");
+    expect_text(rt, text.as_str(), want);
 }

@@ -6,6 +6,7 @@ use std::process::Abort;
 use wf_value::{Chars, Code, Combo, Refusal, Same, Scalar, TryCopy};
 
 /// A scalar.
+#[derive(Clone, Copy)]
 pub enum Given {
     Null,
     Truth(bool),

@@ -6,6 +6,7 @@ mod needs;
 mod strategy;
 
 use crate::given::spelled;
+use crate::holds::holds;
 use std::alloc::Global;
 use std::fmt::Write;
 use std::process::Abort;
@@ -39,7 +40,7 @@ fn answer_to_event(alloc: Global, body: &[u8]) -> u64 {
 fn expect_workflows(rt: &impl Abort, alloc: Global, rows: &[(&str, u64)]) {
     for (body, want) in rows {
         let answer = answer_to_workflow(alloc, body.as_bytes());
-        assert!(rt; answer == *want, "{body}");
+        holds!(rt; answer == *want, body);
     }
 }
 
@@ -84,7 +85,7 @@ const WORKFLOWS: [(&str, u64); 24] = [
 fn refuses_workflows(rt: HostRuntime) {
     expect_workflows(&rt, rt.alloc(), &WORKFLOWS);
     let answer = answer_to_workflow(rt.alloc(), b"{\"jobs\":{\"\xff\":{}}}");
-    assert!(rt; answer == 10, "no UTF-8");
+    holds!(rt; answer == 10, "no UTF-8");
 }
 
 const EVENTS: [(&str, u64); 10] = [
@@ -123,9 +124,9 @@ const EVENTS: [(&str, u64); 10] = [
 
 #[test]
 fn refuses_events(rt: HostRuntime) {
-    for (body, want) in EVENTS {
+    for &(body, want) in &EVENTS {
         let answer = answer_to_event(rt.alloc(), body.as_bytes());
-        assert!(rt; answer == want, "{body}");
+        holds!(rt; answer == want, body);
     }
 }
 
@@ -145,7 +146,7 @@ fn answer_to_job(alloc: Global, members: &str) -> u64 {
 fn expect_jobs(rt: &impl Abort, alloc: Global, rows: &[(&str, u64)]) {
     for (members, want) in rows {
         let answer = answer_to_job(alloc, members);
-        assert!(rt; answer == *want, "{members}");
+        holds!(rt; answer == *want, members);
     }
 }
 
@@ -265,7 +266,7 @@ fn counts_jobs(rt: HostRuntime) {
     ] {
         let body = of_jobs(&rt, rt.alloc(), count, bad);
         let answer = answer_to_workflow(rt.alloc(), body.as_bytes());
-        assert!(rt; answer == want, "{count} {bad}");
+        holds!(rt; answer == want, format_args!("{count} {bad}"));
     }
 }
 
@@ -288,13 +289,13 @@ const LENGTHS: [(usize, usize, u64, u64); 2] = [
 
 #[test]
 fn counts_bytes(rt: HostRuntime) {
-    for (letters, length, of_workflow, of_event) in LENGTHS {
+    for &(letters, length, of_workflow, of_event) in &LENGTHS {
         let body = long(&rt, rt.alloc(), &[(PADDED, 1), ("e", letters), ("\"}", 1)]);
-        assert!(rt; body.len() == length);
+        holds!(rt; body.len() == length);
         let answer = answer_to_workflow(rt.alloc(), body.as_bytes());
-        assert!(rt; answer == of_workflow, "{length}");
+        holds!(rt; answer == of_workflow, length);
         let answer = answer_to_event(rt.alloc(), body.as_bytes());
-        assert!(rt; answer == of_event, "{length}");
+        holds!(rt; answer == of_event, length);
     }
 }
 
@@ -308,7 +309,7 @@ fn counts_bytes_of_an_id(rt: HostRuntime) {
         ];
         let body = long(&rt, rt.alloc(), &pieces);
         let answer = answer_to_workflow(rt.alloc(), body.as_bytes());
-        assert!(rt; answer == want, "{length}");
+        holds!(rt; answer == want, length);
     }
 }
 
@@ -322,7 +323,7 @@ fn counts_nesting(rt: HostRuntime) {
         let pieces = [("{\"x\":", 1), ("[", depth), ("]", depth), (AFTER_LISTS, 1)];
         let body = long(&rt, rt.alloc(), &pieces);
         let answer = answer_to_event(rt.alloc(), body.as_bytes());
-        assert!(rt; answer == want, "{depth}");
+        holds!(rt; answer == want, depth);
     }
 }
 
@@ -345,9 +346,9 @@ fn keeps_labels(rt: HostRuntime) {
         Err(_) => copied_labels(rt.alloc()).expect(&rt, "a copy"),
     };
     let labels = copy.into_vec();
-    assert!(rt; labels.len() == 2);
-    assert!(rt; labels[0].pieces().len() == 1);
-    assert!(rt; labels[1].pieces().len() == 0);
+    holds!(rt; labels.len() == 2);
+    holds!(rt; labels[0].pieces().len() == 1);
+    holds!(rt; labels[1].pieces().len() == 0);
 }
 
 fn one_job(alloc: Global) -> Result<Jobs, Refusal> {
@@ -370,6 +371,6 @@ fn keeps_jobs(rt: HostRuntime) {
         Ok(jobs) => jobs,
         Err(_) => one_job(rt.alloc()).expect(&rt, "a job"),
     };
-    assert!(rt; jobs.as_slice().len() == 1);
-    assert!(rt; jobs.into_vec().len() == 1);
+    holds!(rt; jobs.as_slice().len() == 1);
+    holds!(rt; jobs.into_vec().len() == 1);
 }

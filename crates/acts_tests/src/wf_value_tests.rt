@@ -1,6 +1,6 @@
 //! Scalars, texts, lists and refusals.
 
-use crate::holds::holds;
+use crate::holds::{expect_text, holds};
 use crate::values::{Given, expect_apart, pairs, scalar, scalars, texts};
 use std::alloc::Global;
 use std::process::Abort;
@@ -43,7 +43,7 @@ fn truth_and_text(rt: HostRuntime) {
         let scalar = scalar(rt.alloc(), given).expect(&rt, "a scalar");
         holds!(rt; scalar.truthy() == *truthy, printed);
         let text = scalar.text(rt.alloc()).expect(&rt, "a text");
-        holds!(rt; text.as_str() == *printed, printed);
+        expect_text(&rt, text.as_str(), printed);
     }
 }
 
@@ -54,9 +54,9 @@ fn cycle(alloc: Global, ids: &[&str]) -> Result<Refusal, Refusal> {
 fn expect_printed(rt: &impl Abort, alloc: Global, refusal: &Refusal, number: u64, printed: &str) {
     holds!(rt; refusal.number() == number, printed);
     let text = refusal.text(alloc).expect(rt, "a text");
-    holds!(rt; text.as_str() == printed, printed);
+    expect_text(rt, text.as_str(), printed);
     let shown = format!(in alloc; "{refusal}").expect(rt, "a text");
-    holds!(rt; shown.as_str() == printed, printed);
+    expect_text(rt, shown.as_str(), printed);
 }
 
 #[test]
@@ -117,7 +117,7 @@ fn texts_come_back(rt: HostRuntime) {
     let chars = Chars::new(String::from_str(alloc, "build").expect(&rt, "a text"));
     let copy = chars.copy(alloc).expect(&rt, "a copy");
     holds!(rt; chars.same(&copy));
-    holds!(rt; chars.into_string().as_str() == "build");
+    expect_text(&rt, chars.into_string().as_str(), "build");
 }
 
 #[test]
@@ -133,7 +133,7 @@ const LISTS: [&[&str]; 5] = [&[], &["a"], &["a", "b"], &["b", "a"], &["a", "b", 
 
 fn lists(alloc: Global) -> Result<Vec<Sequence<Chars>>, Refusal> {
     let mut lists = Vec::new(alloc);
-    for list in LISTS {
+    for &list in &LISTS {
         lists.push(Sequence::new(texts(alloc, list)?))?;
     }
     Ok(lists)
@@ -222,10 +222,10 @@ const RESULTS: [(JobResult, &str); 4] = [
 
 #[test]
 fn words_of_results(rt: HostRuntime) {
-    for (outcome, word) in OUTCOMES {
+    for &(outcome, word) in &OUTCOMES {
         holds!(rt; outcome.word() == word, word);
     }
-    for (result, word) in RESULTS {
+    for &(result, word) in &RESULTS {
         holds!(rt; result.word() == word, word);
     }
 }

@@ -1,7 +1,7 @@
 //! Disks over files of the system.
 
 use crate::act_disk_tests::{Ask, Row, play};
-use crate::holds::holds;
+use crate::holds::{expect_bytes, holds};
 use act_disk::{Disk, Empty, FileDisk, HostFile};
 use std::alloc::Global;
 use std::fs;
@@ -41,7 +41,7 @@ fn remove_folder<R: Abort + Alloc + Files>(rt: &R, folder: &str) {
 
 fn expect_file<R: Abort + Alloc<A = Global> + Files>(rt: &R, path: &str, bytes: &[u8]) {
     let found = fs::read(rt, path).expect(rt, "a file");
-    holds!(rt; found.as_slice() == bytes);
+    expect_bytes(rt, found.as_slice(), bytes);
 }
 
 fn expect_61<R: Abort + Files<File = File>>(rt: &R, path: &str) {

@@ -1,7 +1,7 @@
 //! Disks over files whose calls go as a script says.
 
 use crate::act_disk_tests::{Ask, Row, play};
-use crate::holds::holds;
+use crate::holds::{expect_bytes, holds};
 use act_disk::{FileDisk, ScriptedFile, Turn};
 use std::alloc::Global;
 use std::process::Abort;
@@ -47,7 +47,7 @@ const WRITTEN_AND_READ: [Row; 3] = [
 fn short_calls_are_gone_on_from(rt: HostRuntime) {
     let disk = scripted(&rt, rt.alloc(), &TURNS);
     let file = expect_turns(&rt, disk, &WRITTEN_AND_READ, 7);
-    holds!(rt; file.bytes() == b"abcdef".as_slice());
+    expect_bytes(&rt, file.bytes(), b"abcdef");
 }
 
 /// The turns, with two more that are interrupted at this place.
@@ -65,7 +65,7 @@ fn interrupted_calls_are_made_again(rt: HostRuntime) {
     for place in 0..TURNS.len() {
         let disk = interrupted_at(&rt, rt.alloc(), place);
         let file = expect_turns(&rt, disk, &WRITTEN_AND_READ, 9);
-        holds!(rt; file.bytes() == b"abcdef".as_slice());
+        expect_bytes(&rt, file.bytes(), b"abcdef");
     }
 }
 

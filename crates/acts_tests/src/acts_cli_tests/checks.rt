@@ -2,6 +2,7 @@
 
 use crate::acts_cli_tests::{FailingReader, FailingWriter, number_of};
 use crate::given::spelled;
+use crate::holds::holds;
 use acts_cli::{MOST_BYTES, run_check};
 use std::alloc::Global;
 use std::process::Abort;
@@ -80,7 +81,7 @@ fn prints_the_legs(rt: HostRuntime) -> Result<(), Fail> {
     ];
     for (workflow, lines) in rows {
         let printed = checked(rt.alloc(), workflow.as_bytes())?;
-        assert!(rt; printed.as_slice() == lines.as_bytes(), "{workflow}");
+        holds!(rt; printed.as_slice() == lines.as_bytes(), workflow);
     }
     Ok(())
 }
@@ -110,14 +111,14 @@ fn choices(alloc: Global, first: u32, count: u32) -> Result<String, Refusal> {
 fn bounds_the_legs(rt: HostRuntime) -> Result<(), Fail> {
     let alloc = rt.alloc();
     let all = checked(alloc, grid(alloc, "")?.as_bytes())?;
-    assert!(rt; all.as_slice() == choices(alloc, 0, 256)?.as_bytes());
+    holds!(rt; all.as_slice() == choices(alloc, 0, 256)?.as_bytes());
     let one_more = grid(alloc, ",\"include\":[{\"x\":16}]")?;
     expect_refused(&rt, alloc, one_more.as_str(), 22);
     let but_one = ",\"include\":[{\"x\":16}],\"exclude\":[{\"x\":0,\"y\":0}]";
     let left = checked(alloc, grid(alloc, but_one)?.as_bytes())?;
     let mut lines = choices(alloc, 1, 255)?;
     lines.push_str("m 255 {\"x\":16}\n")?;
-    assert!(rt; left.as_slice() == lines.as_bytes());
+    holds!(rt; left.as_slice() == lines.as_bytes());
     Ok(())
 }
 
@@ -137,8 +138,8 @@ fn expect_refused(rt: &impl Abort, alloc: Global, workflow: &str, number: u64) {
     let mut reader = workflow.as_bytes();
     let mut printed = Vec::new(alloc);
     let ended = number_of(run_check(alloc, &mut reader, &mut printed));
-    assert!(rt; ended == number, "{workflow}");
-    assert!(rt; printed.is_empty(), "{workflow}");
+    holds!(rt; ended == number, workflow);
+    holds!(rt; printed.is_empty(), workflow);
 }
 
 #[test]
@@ -245,10 +246,10 @@ const NEIGHBOURS_IN_STRATEGY: [(&str, u64); 7] = [
 
 #[test]
 fn answers_the_earlier_of_two_checks(rt: HostRuntime) {
-    for (workflow, number) in NEIGHBOURS {
+    for &(workflow, number) in &NEIGHBOURS {
         expect_refused(&rt, rt.alloc(), workflow, number);
     }
-    for (workflow, number) in NEIGHBOURS_IN_STRATEGY {
+    for &(workflow, number) in &NEIGHBOURS_IN_STRATEGY {
         expect_refused(&rt, rt.alloc(), workflow, number);
     }
 }
@@ -285,9 +286,9 @@ fn bounds_a_workflow(rt: HostRuntime) -> Result<(), Fail> {
         let mut reader = workflow.as_slice();
         let mut printed = Vec::new(rt.alloc());
         let ended = run_check(rt.alloc(), &mut reader, &mut printed);
-        assert_eq!(rt; number_of(ended), number, "{length}");
+        holds!(rt; number_of(ended) == number, length);
         let left = if length > MOST_BYTES { 8 } else { 0 };
-        assert_eq!(rt; reader.len(), left, "no more than 1,048,577 bytes are read");
+        holds!(rt; reader.len() == left, "no more than 1,048,577 bytes are read");
     }
     Ok(())
 }
@@ -301,7 +302,7 @@ fn fails_with_its_reader(rt: HostRuntime) {
         };
         let mut printed = Vec::new(rt.alloc());
         let number = number_of(run_check(rt.alloc(), &mut reader, &mut printed));
-        assert!(rt; number == 61 && printed.is_empty(), "at {left}");
+        holds!(rt; number == 61 && printed.is_empty(), left);
     }
 }
 
@@ -314,8 +315,8 @@ fn expect_61(rt: &impl Abort, alloc: Global, left: usize, holds_back: bool, line
         holds_back,
     };
     let number = number_of(run_check(alloc, &mut reader, &mut writer));
-    assert!(rt; number == 61, "at {left}");
-    assert!(rt; writer.bytes.as_slice() == lines, "at {left}");
+    holds!(rt; number == 61, left);
+    holds!(rt; writer.bytes.as_slice() == lines, left);
 }
 
 #[test]

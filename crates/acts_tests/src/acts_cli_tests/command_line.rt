@@ -2,6 +2,7 @@
 
 use crate::acts_cli_tests::{FIRST, FIRST_ANSWERS};
 use crate::given::spelled;
+use crate::holds::holds;
 use acts_cli::{MOST_BYTES, run};
 use std::alloc::{Allocator, Global};
 use std::cell::RefCell;
@@ -150,20 +151,14 @@ fn expect(
         err: Page::new(alloc, 10_000),
     };
     let (status, out, err) = ended;
-    assert!(rt; run(&process) == ExitCode::from(status), "{status}");
+    holds!(rt; run(&process) == ExitCode::from(status), status);
     let Process {
         out: printed,
         err: told,
         ..
     } = process;
-    assert!(rt;
-        is_as_wanted(printed, out),
-        "standard output of status {status}"
-    );
-    assert!(rt;
-        is_as_wanted(told, err),
-        "standard error of status {status}"
-    );
+    holds!(rt; is_as_wanted(printed, out), status);
+    holds!(rt; is_as_wanted(told, err), status);
 }
 
 fn is_as_wanted(page: Page, want: Option<&str>) -> bool {
@@ -221,7 +216,7 @@ const FAULT: Ended<'static> = (2, Some(""), None);
 
 #[test]
 fn ends_with_its_status(rt: HostRuntime) {
-    for (words, room, ended) in ROWS {
+    for &(words, room, ended) in &ROWS {
         expect(&rt, rt.alloc(), words, FIRST, room, ended);
     }
 }
@@ -251,7 +246,7 @@ const CHECKS: [(&str, usize, Ended<'static>); 4] = [
 
 #[test]
 fn ends_a_check_with_its_status(rt: HostRuntime) {
-    for (workflow, room, ended) in CHECKS {
+    for &(workflow, room, ended) in &CHECKS {
         expect(&rt, rt.alloc(), &["acts", "check"], workflow, room, ended);
     }
 }
@@ -264,7 +259,7 @@ const NUMBERS: [&str; 28] = [
 
 #[test]
 fn explains_each_number_that_is_met(rt: HostRuntime) {
-    for number in NUMBERS {
+    for &number in &NUMBERS {
         let words = ["acts", "explain", number];
         expect(&rt, rt.alloc(), &words, FIRST, 10_000, (0, None, Some("")));
         expect(&rt, rt.alloc(), &words, FIRST, 10, FULL);

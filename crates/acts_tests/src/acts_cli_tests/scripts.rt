@@ -1,5 +1,6 @@
 //! Scripts that are put together from lines and their answers, and played through `run_script`.
 
+use crate::holds::holds;
 use acts_cli::run_script;
 use std::alloc::Global;
 use std::process::Abort;
@@ -55,7 +56,7 @@ impl Script {
     pub fn expect(&self, rt: &impl Abort, alloc: Global) -> Result<(), Refusal> {
         let printed = self.printed(alloc)?;
         let lines = self.lines.as_str();
-        assert!(rt; printed.as_slice() == self.answers.as_bytes(), "{lines}");
+        holds!(rt; printed.as_slice() == self.answers.as_bytes(), lines);
         Ok(())
     }
 }

@@ -1,4 +1,5 @@
 use super::{FIRST, RECORD, append, fresh_disk, gate_in, gate_of, wrote};
+use crate::holds::{expect_bytes, holds};
 use act_disk::{Call, Disk};
 use gated_journal::{record_at, scan};
 use std::test::Fail;
@@ -6,7 +7,7 @@ use std::test::Fail;
 #[test]
 fn fresh_area_has_no_records(rt: HostRuntime) -> Result<(), Fail> {
     let disk = fresh_disk(rt.alloc())?;
-    assert_eq!(rt; gate_of(&disk), Some(30));
+    holds!(rt; gate_of(&disk) == Some(30));
     Ok(())
 }
 
@@ -15,13 +16,13 @@ fn record_goes_behind_the_gate(rt: HostRuntime) -> Result<(), Fail> {
     let mut disk = fresh_disk(rt.alloc())?;
     append(&rt, FIRST, &mut disk, 30, &RECORD)?;
     let calls = disk.calls();
-    assert_eq!(rt; calls.len(), 4);
-    assert!(rt; wrote(&calls[0], 31, &RECORD));
-    assert!(rt; matches!(&calls[1], Call::Sync));
-    assert!(rt; wrote(&calls[2], 30, &[0xA5]));
-    assert!(rt; matches!(&calls[3], Call::Sync));
-    assert_eq!(rt; gate_of(&disk), Some(44));
-    assert_eq!(rt; disk.faults(), 0);
+    holds!(rt; calls.len() == 4);
+    holds!(rt; wrote(&calls[0], 31, &RECORD));
+    holds!(rt; matches!(&calls[1], Call::Sync));
+    holds!(rt; wrote(&calls[2], 30, &[0xA5]));
+    holds!(rt; matches!(&calls[3], Call::Sync));
+    holds!(rt; gate_of(&disk) == Some(44));
+    holds!(rt; disk.faults() == 0);
     Ok(())
 }
 
@@ -36,19 +37,19 @@ fn scan_finds_head_and_records(rt: HostRuntime) {
     let Some(found) = scan(&SMALL) else {
         panic!(rt; "it reads");
     };
-    assert_eq!(rt; found.head.version, 1);
-    assert_eq!(rt; found.head.generation, 7);
-    assert_eq!(rt; found.head.text, b"ab".as_slice());
-    assert_eq!(rt; found.gate, 33);
+    holds!(rt; found.head.version == 1);
+    holds!(rt; found.head.generation == 7);
+    expect_bytes(&rt, found.head.text, b"ab");
+    holds!(rt; found.gate == 33);
     let Some((body, behind)) = record_at(found.records) else {
         panic!(rt; "it has a record");
     };
-    assert_eq!(rt; body, b"hey".as_slice());
+    expect_bytes(&rt, body, b"hey");
     let Some((body, behind)) = record_at(behind) else {
         panic!(rt; "it has two records");
     };
-    assert_eq!(rt; body, b"".as_slice());
-    assert_eq!(rt; behind, b"".as_slice());
+    expect_bytes(&rt, body, b"");
+    expect_bytes(&rt, behind, b"");
 }
 
 /// How many bytes of `SMALL` an area has, and the offset of its first closed gate.
@@ -65,9 +66,9 @@ const ENDS: [(usize, Option<u64>); 6] = [
 
 #[test]
 fn area_ends_behind_its_gate(rt: HostRuntime) {
-    for (len, want) in ENDS {
+    for &(len, want) in &ENDS {
         let gate = SMALL.get(..len).and_then(gate_in);
-        assert_eq!(rt; gate, want, "of {len} bytes");
+        holds!(rt; gate == want, len);
     }
 }
 
@@ -90,13 +91,13 @@ const CHANGES: [(usize, u8, Option<u64>); 9] = [
 
 #[test]
 fn changed_byte_changes_the_reading(rt: HostRuntime) {
-    for (place, byte, want) in CHANGES {
+    for &(place, byte, want) in &CHANGES {
         let mut area = SMALL;
         if let Some(changed) = area.get_mut(place) {
             *changed = byte;
         }
         let gate = gate_in(&area);
-        assert_eq!(rt; gate, want, "with {byte} at {place}");
+        holds!(rt; gate == want, format_args!("with {byte} at {place}"));
     }
 }
 
@@ -111,9 +112,9 @@ fn second_area_has_its_record_at_4237(rt: HostRuntime) -> Result<(), Fail> {
     let Some(found) = scan(&disk[4096..]) else {
         panic!(rt; "it reads");
     };
-    assert_eq!(rt; found.head.generation, 2);
-    assert_eq!(rt; found.head.text.len(), 123);
-    assert_eq!(rt; found.records.len(), 49);
-    assert_eq!(rt; found.gate, 4286 - 4096);
+    holds!(rt; found.head.generation == 2);
+    holds!(rt; found.head.text.len() == 123);
+    holds!(rt; found.records.len() == 49);
+    holds!(rt; found.gate == 4286 - 4096);
     Ok(())
 }

@@ -1,5 +1,6 @@
 //! Random calls of a journal in two areas of 200 bytes, and what the disk has to read as after each.
 
+use crate::holds::holds;
 use act_disk::{Disk, DiskFault};
 use gated_journal::{Area, Gate};
 use std::alloc::{AllocError, Global};
@@ -165,7 +166,7 @@ impl Journal {
         disk: &mut D,
         step: &Step,
     ) -> Result<(), DiskFault> {
-        assert!(rt; disk.faults() < u64::MAX);
+        holds!(rt; disk.faults() < u64::MAX);
         match step {
             Step::Append(bytes) => super::append(
                 rt,
@@ -189,9 +190,9 @@ impl Journal {
         let Some(bytes) = self.next.get(from..).and_then(|rest| rest.get(..count)) else {
             panic!(rt; "no more than is left is put");
         };
-        assert!(rt; disk.faults() < u64::MAX);
-        assert!(rt; self.other.start <= LEN && self.other.len == LEN);
-        assert!(rt; 0 < from && from < 200 && bytes.len() <= 200 - from);
+        holds!(rt; disk.faults() < u64::MAX);
+        holds!(rt; self.other.start <= LEN && self.other.len == LEN);
+        holds!(rt; 0 < from && from < 200 && bytes.len() <= 200 - from);
         self.other.put(disk, from as u64, bytes)
     }
 

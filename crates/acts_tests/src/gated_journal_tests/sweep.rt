@@ -1,6 +1,7 @@
 //! 1,000 random lists of calls. Each test plays a part of them, so that it is short in a trial run too.
 
 use super::steps::{Dice, Journal, LEN};
+use crate::holds::holds;
 use act_disk::{Disk, Fill, FuseDisk, MemoryDisk};
 use gated_journal::scan;
 use std::alloc::{AllocError, Global};
@@ -85,15 +86,12 @@ fn check_image(
     fill: Fill,
     allowed: (&[u8], &[u8]),
 ) -> Result<(), Fail> {
-    assert!(rt; call < disk.calls().len());
+    holds!(rt; call < disk.calls().len());
     let image = disk.image(alloc, call as u64, fill)?;
     let Some(found) = standing(&image) else {
         panic!(rt; "the image reads as nothing");
     };
-    assert!(rt;
-        found == allowed.0 || found == allowed.1,
-        "inside call {call}"
-    );
+    holds!(rt; found == allowed.0 || found == allowed.1, call);
     Ok(())
 }
 
@@ -106,7 +104,7 @@ fn check_images(
     allowed: (&[u8], &[u8]),
 ) -> Result<(), Fail> {
     for call in calls {
-        for fill in FILLS {
+        for &fill in &FILLS {
             check_image(rt, alloc, disk, call, fill, allowed)?;
         }
     }
@@ -181,16 +179,16 @@ fn check_fault(
 ) -> Result<(), Fail> {
     let mut disk = disk;
     let made = play_to_fault(rt, alloc, seed, &mut disk)?;
-    assert!(rt; made < moments.len() && made + 1 < moments.len());
+    holds!(rt; made < moments.len() && made + 1 < moments.len());
     let (before, after) = (&moments[made], &moments[made + 1]);
-    assert!(rt; disk.faults() == 1);
+    holds!(rt; disk.faults() == 1);
     let _outcome = disk.sync();
     let inner = disk.into_inner();
     let Some(found) = standing(&inner) else {
         panic!(rt; "the disk reads as nothing");
     };
     let allowed = (before.opened.as_slice(), after.opened.as_slice());
-    assert!(rt; found == allowed.0 || found == allowed.1);
+    holds!(rt; found == allowed.0 || found == allowed.1);
     check_images(rt, alloc, &inner, before.done..inner.calls().len(), allowed)
 }
 

@@ -1,4 +1,5 @@
 use super::{FIRST, RECORD, append, fresh_disk, gate_of};
+use crate::holds::holds;
 use act_disk::{Disk, Fill, FuseDisk};
 use std::alloc::Global;
 use std::process::Abort;
@@ -12,13 +13,13 @@ const FILLS: [Fill; 4] = [Fill::Old, Fill::New, Fill::Half, Fill::Gates];
 fn record_torn_at_each_byte_is_not_there(rt: HostRuntime) -> Result<(), Fail> {
     let alloc = rt.alloc();
     for count in 0..=RECORD.len() {
-        for fill in FILLS {
+        for &fill in &FILLS {
             let mut disk = fresh_disk(alloc)?;
-            assert!(rt; disk.faults() == 0);
+            holds!(rt; disk.faults() == 0);
             disk.write_at(31, &RECORD[..count])?;
-            assert!(rt; disk.calls().len() == 1);
+            holds!(rt; disk.calls().len() == 1);
             let image = disk.image(alloc, 0, fill)?;
-            assert_eq!(rt; gate_of(&image), Some(30), "torn at {count}");
+            holds!(rt; gate_of(&image) == Some(30), count);
         }
     }
     Ok(())
@@ -49,11 +50,11 @@ fn stopped_append_is_there_or_not(rt: HostRuntime) -> Result<(), Fail> {
     let alloc = rt.alloc();
     let mut disk = fresh_disk(alloc)?;
     append(&rt, FIRST, &mut disk, 30, &RECORD)?;
-    assert_eq!(rt; disk.calls().len(), 4);
-    for (call, fill, want) in GATES {
-        assert!(rt; (call as usize) < disk.calls().len());
+    holds!(rt; disk.calls().len() == 4);
+    for &(call, fill, want) in &GATES {
+        holds!(rt; (call as usize) < disk.calls().len());
         let image = disk.image(alloc, call, fill)?;
-        assert_eq!(rt; gate_of(&image), Some(want), "inside call {call}");
+        holds!(rt; gate_of(&image) == Some(want), call);
     }
     Ok(())
 }
@@ -61,8 +62,8 @@ fn stopped_append_is_there_or_not(rt: HostRuntime) -> Result<(), Fail> {
 /// The first closed gate of the first area, read from the disk.
 fn loaded<D: Disk>(rt: &impl Abort, alloc: Global, disk: &mut D) -> Result<Option<u64>, Refusal> {
     let mut bytes = vec![in alloc; 0_u8; 4096]?;
-    assert!(rt; disk.faults() < u64::MAX);
-    assert!(rt; 4096 <= disk.len());
+    holds!(rt; disk.faults() < u64::MAX);
+    holds!(rt; 4096 <= disk.len());
     let found = FIRST.load(disk, &mut bytes)?;
     Ok(found.map(|area| area.gate))
 }
@@ -72,15 +73,11 @@ fn stopped_disk_is_read_after_a_sync(rt: HostRuntime) -> Result<(), Fail> {
     let alloc = rt.alloc();
     let mut disk = fresh_disk(alloc)?;
     append(&rt, FIRST, &mut disk, 30, &RECORD)?;
-    for (call, fill, want) in GATES {
-        assert!(rt; (call as usize) < disk.calls().len());
+    for &(call, fill, want) in &GATES {
+        holds!(rt; (call as usize) < disk.calls().len());
         let mut image = disk.image(alloc, call, fill)?;
-        assert_eq!(rt;
-            loaded(&rt, alloc, &mut image)?,
-            Some(want),
-            "inside call {call}"
-        );
-        assert_eq!(rt; image.calls().len(), 1);
+        holds!(rt; loaded(&rt, alloc, &mut image)? == Some(want), call);
+        holds!(rt; image.calls().len() == 1);
     }
     Ok(())
 }
@@ -90,9 +87,9 @@ fn failed_sync_or_read_is_no_reading(rt: HostRuntime) -> Result<(), Fail> {
     let alloc = rt.alloc();
     for call in 0..2 {
         let mut disk = FuseDisk::once(fresh_disk(alloc)?, call);
-        assert!(rt; loaded(&rt, alloc, &mut disk).is_err(), "call {call} fails");
-        assert_eq!(rt; disk.faults(), 1);
-        assert_eq!(rt; loaded(&rt, alloc, &mut disk)?, Some(30));
+        holds!(rt; loaded(&rt, alloc, &mut disk).is_err(), call);
+        holds!(rt; disk.faults() == 1);
+        holds!(rt; loaded(&rt, alloc, &mut disk)? == Some(30));
     }
     Ok(())
 }

@@ -1,3 +1,4 @@
+use crate::holds::{expect_text, holds};
 use crate::needs_graph_tests::settled::Settled;
 use crate::values::texts;
 use needs_graph::{Graph, JobNeeds, ids_rise};
@@ -39,7 +40,7 @@ fn jobs<'a>(alloc: Global, listed: &'a [Listed]) -> Result<Vec<JobNeeds<'a>>, Re
 
 fn graph(rt: &impl Abort, alloc: Global, listed: &[Listed]) -> Result<Graph, Refusal> {
     let jobs = jobs(alloc, listed)?;
-    assert!(rt; ids_rise(jobs.as_slice()));
+    holds!(rt; ids_rise(jobs.as_slice()));
     Graph::build(alloc, jobs.as_slice())
 }
 
@@ -81,12 +82,12 @@ fn refused(rt: &impl Abort, alloc: Global, rows: Rows<'_>) -> Refusal {
 
 fn expect_refused(rt: &impl Abort, alloc: Global, rows: Rows<'_>, want: &str) {
     let text = refused(rt, alloc, rows).text(alloc).expect(rt, "a text");
-    assert!(rt; text.as_str() == want, "{want}");
+    expect_text(rt, text.as_str(), want);
 }
 
 #[test]
 fn refuses(rt: HostRuntime) {
-    for (rows, want) in REFUSED {
+    for &(rows, want) in &REFUSED {
         expect_refused(&rt, rt.alloc(), rows, want);
     }
 }
@@ -110,16 +111,16 @@ const DIAMOND_ROWS: [(&[usize], &[usize], [bool; 5]); 4] = [
 /// The jobs that are ancestors of one, by a mark for each job in order.
 fn expect_ancestors(rt: &impl Abort, graph: &Graph, job: usize, ancestors: [bool; 5]) {
     for (other, want) in ancestors.iter().enumerate() {
-        assert!(rt; graph.has_ancestor(job, other) == *want, "{job} {other}");
+        holds!(rt; graph.has_ancestor(job, other) == *want, format_args!("{job} {other}"));
     }
 }
 
 fn expect_diamond(rt: &impl Abort, graph: &Graph) {
-    assert!(rt; graph.job_count() == 4);
+    holds!(rt; graph.job_count() == 4);
     for (job, (needs, dependents, ancestors)) in DIAMOND_ROWS.iter().enumerate() {
-        assert!(rt; job < graph.job_count());
-        assert!(rt; graph.needs(job) == *needs, "{job}");
-        assert!(rt; graph.dependents(job) == *dependents, "{job}");
+        holds!(rt; job < graph.job_count());
+        holds!(rt; graph.needs(job) == *needs, job);
+        holds!(rt; graph.dependents(job) == *dependents, job);
         expect_ancestors(rt, graph, job, *ancestors);
     }
     expect_ancestors(rt, graph, 4, [false; 5]);
@@ -156,9 +157,9 @@ fn number_of(rt: &impl Abort, alloc: Global, rows: Rows<'_>) -> u64 {
 #[test]
 fn gives_its_answer_or_refuses_memory(rt: HostRuntime) {
     let number = number_of(&rt, rt.alloc(), DIAMOND);
-    assert!(rt; number == 0 || number == 50);
+    holds!(rt; number == 0 || number == 50);
     let number = number_of(&rt, rt.alloc(), THREE_IN_A_CYCLE);
-    assert!(rt; number == 14 || number == 50);
+    holds!(rt; number == 14 || number == 50);
 }
 
 /// The result of a first job, and whether `success()` and `failure()` hold then of the last of three
@@ -183,19 +184,10 @@ fn expect_decided(
         Settled(Some(JobResult::Success)),
         Settled(None),
     ];
-    assert!(rt; graph.job_count() == 3);
-    assert!(rt;
-        graph.decide(2, Condition::Success, &jobs, false) == succeeded,
-        "row {row}"
-    );
-    assert!(rt;
-        graph.decide(2, Condition::Failure, &jobs, false) == failed,
-        "row {row}"
-    );
-    assert!(rt;
-        graph.decide(2, Condition::Always, &jobs, true),
-        "row {row}"
-    );
+    holds!(rt; graph.job_count() == 3);
+    holds!(rt; graph.decide(2, Condition::Success, &jobs, false) == succeeded, row);
+    holds!(rt; graph.decide(2, Condition::Failure, &jobs, false) == failed, row);
+    holds!(rt; graph.decide(2, Condition::Always, &jobs, true), row);
 }
 
 /// A chain of three, so that its last job has an ancestor that it does not need directly.
@@ -203,9 +195,9 @@ fn expect_decided(
 fn sees_past_direct_needs(rt: HostRuntime) {
     let rows: Rows<'_> = &[("a", &[]), ("b", &["a"]), ("c", &["b"])];
     let graph = built(&rt, rt.alloc(), rows);
-    assert!(rt; graph.job_count() == 3);
-    assert!(rt; graph.needs(2) == [1].as_slice());
-    assert!(rt; graph.has_ancestor(2, 0));
+    holds!(rt; graph.job_count() == 3);
+    holds!(rt; graph.needs(2) == [1].as_slice());
+    holds!(rt; graph.has_ancestor(2, 0));
     for (row, wanted) in FIRST_OF_A_CHAIN.iter().enumerate() {
         expect_decided(&rt, &graph, row, *wanted);
     }
@@ -237,17 +229,14 @@ fn sees_along_a_long_chain(rt: HostRuntime) {
     let graph = graph(&rt, rt.alloc(), listed.as_slice()).expect(&rt, "a graph");
     for job in 0..70 {
         for other in 0..70 {
-            assert!(rt;
-                graph.has_ancestor(job, other) == (other < job),
-                "{job} {other}"
-            );
+            holds!(rt; graph.has_ancestor(job, other) == (other < job), format_args!("{job} {other}"));
         }
     }
 }
 
 #[test]
 fn builds_from_no_jobs(rt: HostRuntime) {
-    assert!(rt; built(&rt, rt.alloc(), &[]).job_count() == 0);
+    holds!(rt; built(&rt, rt.alloc(), &[]).job_count() == 0);
 }
 
 /// Jobs, and whether their ids rise.
@@ -264,6 +253,6 @@ fn tells_the_order_of_ids(rt: HostRuntime) {
     for (row, (rows, want)) in IDS.iter().enumerate() {
         let listed = texts_of(rt.alloc(), rows).expect(&rt, "texts");
         let jobs = jobs(rt.alloc(), listed.as_slice()).expect(&rt, "jobs");
-        assert!(rt; ids_rise(jobs.as_slice()) == *want, "row {row}");
+        holds!(rt; ids_rise(jobs.as_slice()) == *want, row);
     }
 }

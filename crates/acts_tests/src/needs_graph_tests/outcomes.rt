@@ -1,3 +1,4 @@
+use crate::holds::holds;
 use crate::needs_graph_tests::settled::Settled;
 use needs_graph::{HasEnd, LegEnd, conclude, decide, gather};
 use std::process::Abort;
@@ -43,14 +44,14 @@ fn result_of_weight(weight: u8) -> JobResult {
 
 #[test]
 fn gathers_up_to_three_legs(rt: HostRuntime) {
-    for a in LEGS {
-        assert!(rt; gather(&[ended_leg(a)]) == result_of_weight(a.2));
-        for b in LEGS {
+    for &a in &LEGS {
+        holds!(rt; gather(&[ended_leg(a)]) == result_of_weight(a.2));
+        for &b in &LEGS {
             let two = a.2.max(b.2);
-            assert!(rt; gather(&[ended_leg(a), ended_leg(b)]) == result_of_weight(two));
-            for c in LEGS {
+            holds!(rt; gather(&[ended_leg(a), ended_leg(b)]) == result_of_weight(two));
+            for &c in &LEGS {
                 let three = [ended_leg(a), ended_leg(b), ended_leg(c)];
-                assert!(rt; gather(&three) == result_of_weight(two.max(c.2)));
+                holds!(rt; gather(&three) == result_of_weight(two.max(c.2)));
             }
         }
     }
@@ -60,11 +61,11 @@ fn gathers_up_to_three_legs(rt: HostRuntime) {
 #[test]
 fn gathers_what_has_ended(rt: HostRuntime) {
     let running = Leg(None);
-    for a in LEGS {
-        assert!(rt; gather(&[running, ended_leg(a), running]) == result_of_weight(a.2));
+    for &a in &LEGS {
+        holds!(rt; gather(&[running, ended_leg(a), running]) == result_of_weight(a.2));
     }
     let none: [Leg; 0] = [];
-    assert!(rt; gather(&none) == JobResult::Success);
+    holds!(rt; gather(&none) == JobResult::Success);
 }
 
 const SUCCEEDED: Option<JobResult> = Some(JobResult::Success);
@@ -89,7 +90,7 @@ const CONCLUSIONS: [(&[Settled], Outcome); 7] = [
 #[test]
 fn concludes_runs(rt: HostRuntime) {
     for (row, (jobs, expected)) in CONCLUSIONS.iter().enumerate() {
-        assert!(rt; conclude(jobs) == *expected, "row {row}");
+        holds!(rt; conclude(jobs) == *expected, row);
     }
 }
 
@@ -112,10 +113,7 @@ fn expect_conditions(
     want: [bool; 6],
 ) {
     for (place, condition) in CONDITIONS.iter().enumerate() {
-        assert!(rt;
-            decide(*condition, results, stopping) == want[place],
-            "row {row}: {place}"
-        );
+        holds!(rt; decide(*condition, results, stopping) == want[place], format_args!("row {row}: {place}"));
     }
 }
 

@@ -42,7 +42,7 @@ const COMMANDS: [Words<'static>; 20] = [
 ];
 
 fn push_admits(alloc: Global, commands: &mut Vec<Command>) -> Result<(), Refusal> {
-    for (id, name, body) in EVENTS {
+    for &(id, name, body) in &EVENTS {
         commands.push(Command::Admit(prepared(alloc, id, name, body)?))?;
     }
     Ok(())

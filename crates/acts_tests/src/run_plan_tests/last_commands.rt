@@ -1,4 +1,5 @@
 use crate::commands::{claim, done};
+use crate::holds::{expect_text, holds};
 use crate::run_plan_tests::expect_twice;
 use crate::run_plan_tests::replies::first_lease;
 use run_plan::{ClaimReply, LastCommand};
@@ -18,7 +19,7 @@ fn expect_reply(
     printed: &str,
 ) -> Result<(), Refusal> {
     let text = kept_text(alloc, last)?;
-    assert!(rt; text.as_str() == printed, "{printed}");
+    expect_text(rt, text.as_str(), printed);
     Ok(())
 }
 
@@ -39,8 +40,8 @@ fn expect_claim(
     printed: &str,
 ) -> Result<(), Refusal> {
     expect_reply(rt, alloc, last, printed)?;
-    assert!(rt; is_claim(alloc, last, "1", "linux")?, "{printed}");
-    assert!(rt; !is_claim(alloc, last, "1", "Linux")?, "{printed}");
+    holds!(rt; is_claim(alloc, last, "1", "linux")?, printed);
+    holds!(rt; !is_claim(alloc, last, "1", "Linux")?, printed);
     Ok(())
 }
 
@@ -63,9 +64,9 @@ fn keeps_a_lease(rt: &impl Abort, alloc: Global) -> Result<(), Refusal> {
 
 fn expect_report(rt: &impl Abort, alloc: Global, last: &LastCommand) -> Result<(), Refusal> {
     expect_reply(rt, alloc, last, "ok")?;
-    assert!(rt; is_report(alloc, last, Outcome::Success)?);
-    assert!(rt; !is_report(alloc, last, Outcome::Failure)?);
-    assert!(rt; !is_claim(alloc, last, "2", "linux")?);
+    holds!(rt; is_report(alloc, last, Outcome::Success)?);
+    holds!(rt; !is_report(alloc, last, Outcome::Failure)?);
+    holds!(rt; !is_claim(alloc, last, "2", "linux")?);
     Ok(())
 }
 

@@ -1,5 +1,6 @@
 //! What a workflow's jobs need, as it is planned.
 
+use crate::holds::{expect_text, holds};
 use crate::run_plan_tests::expect_twice;
 use run_plan::plan;
 use std::alloc::Global;
@@ -78,9 +79,9 @@ const REFUSED: [(&str, &str); 12] = [
 ];
 
 fn refuses(rt: &impl Abort, alloc: Global) -> Result<(), Refusal> {
-    for (workflow, want) in REFUSED {
+    for &(workflow, want) in &REFUSED {
         let text = refused(alloc, workflow)?;
-        assert_eq!(rt; text.as_str(), want, "{workflow}");
+        expect_text(rt, text.as_str(), want);
     }
     Ok(())
 }
@@ -98,22 +99,22 @@ const DIAMOND: &str =
 
 fn plans(rt: &impl Abort, alloc: Global) -> Result<(), Refusal> {
     let plan = plan(alloc, read_workflow(alloc, DIAMOND.as_bytes())?)?;
-    assert_eq!(rt; plan.as_slice().len(), 4);
+    holds!(rt; plan.as_slice().len() == 4);
     let graph = plan.graph();
-    assert_eq!(rt; graph.job_count(), 4);
+    holds!(rt; graph.job_count() == 4);
     let none: [usize; 0] = [];
-    assert!(rt; graph.needs(0) == none.as_slice());
-    assert!(rt; graph.needs(1) == [0].as_slice());
-    assert!(rt; graph.needs(2) == [0].as_slice());
-    assert!(rt; graph.needs(3) == [1, 2].as_slice());
-    assert!(rt; graph.has_ancestor(3, 0));
-    assert!(rt; !graph.has_ancestor(2, 1));
+    holds!(rt; graph.needs(0) == none.as_slice());
+    holds!(rt; graph.needs(1) == [0].as_slice());
+    holds!(rt; graph.needs(2) == [0].as_slice());
+    holds!(rt; graph.needs(3) == [1, 2].as_slice());
+    holds!(rt; graph.has_ancestor(3, 0));
+    holds!(rt; !graph.has_ancestor(2, 1));
     let jobs = plan.as_slice();
-    assert!(rt; jobs[0].condition == Condition::Success);
-    assert!(rt; jobs[1].condition == Condition::Failure);
-    assert!(rt; jobs[2].condition == Condition::Success);
-    assert!(rt; jobs[3].condition == Condition::Always);
-    assert_eq!(rt; jobs[3].needs.len(), 3);
+    holds!(rt; jobs[0].condition == Condition::Success);
+    holds!(rt; jobs[1].condition == Condition::Failure);
+    holds!(rt; jobs[2].condition == Condition::Success);
+    holds!(rt; jobs[3].condition == Condition::Always);
+    holds!(rt; jobs[3].needs.len() == 3);
     Ok(())
 }
 

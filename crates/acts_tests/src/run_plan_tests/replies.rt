@@ -1,4 +1,5 @@
 use crate::commands::number;
+use crate::holds::{expect_text, holds};
 use crate::run_plan_tests::expect_twice;
 use crate::values::{Given, combo, expect_apart, texts};
 use run_plan::{Lease, Reply};
@@ -76,7 +77,7 @@ const BODIES: [&str; 3] = ["", "{\"a\":\n\"é\"}", "run 1 1 queued - build:open(
 const CYCLES: [[&str; 2]; 2] = [["a", "b"], ["a", "c"]];
 
 fn push_created(replies: &mut Vec<Reply>) -> Result<(), Refusal> {
-    for run in CREATED {
+    for &run in &CREATED {
         replies.push(Reply::Created(number(run)?))?;
     }
     Ok(())
@@ -110,7 +111,7 @@ fn push_leases(alloc: Global, replies: &mut Vec<Reply>) -> Result<(), Refusal> {
 }
 
 fn push_views(alloc: Global, replies: &mut Vec<Reply>) -> Result<(), Refusal> {
-    for view in VIEWS {
+    for &view in &VIEWS {
         replies.push(Reply::Run(Chars::from_str(alloc, view)?))?;
     }
     Ok(())
@@ -142,7 +143,7 @@ fn push_refused(replies: &mut Vec<Reply>) -> Result<(), Refusal> {
 }
 
 fn push_cycles(alloc: Global, replies: &mut Vec<Reply>) -> Result<(), Refusal> {
-    for ids in CYCLES {
+    for &ids in &CYCLES {
         let ids = Sequence::new(texts(alloc, &ids)?);
         replies.push(Reply::Refused(Refusal::Cycle(ids)))?;
     }
@@ -167,10 +168,10 @@ fn expect_printed(
     replies: &[Reply],
     printed: &[&str],
 ) -> Result<(), Refusal> {
-    assert!(rt; replies.len() == printed.len());
+    holds!(rt; replies.len() == printed.len());
     for (reply, want) in replies.iter().zip(printed) {
         let text = reply.text(alloc)?;
-        assert!(rt; text.as_str() == *want, "{want}");
+        expect_text(rt, text.as_str(), want);
     }
     Ok(())
 }

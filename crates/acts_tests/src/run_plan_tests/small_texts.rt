@@ -1,4 +1,5 @@
 use crate::commands::labels;
+use crate::holds::holds;
 use crate::run_plan_tests::expect_twice;
 use run_plan::{DeliveryId, EventName, Labels, Number, RunnerName};
 use std::alloc::Global;
@@ -65,12 +66,9 @@ fn expect_name(
     row: &(&str, bool, bool, bool),
 ) -> Result<(), Refusal> {
     let (text, is_delivery, is_event, is_runner) = row;
-    assert!(rt;
-        reads_delivery(alloc, text)? == *is_delivery,
-        "delivery {text}"
-    );
-    assert!(rt; reads_event(alloc, text)? == *is_event, "event {text}");
-    assert!(rt; reads_runner(alloc, text)? == *is_runner, "runner {text}");
+    holds!(rt; reads_delivery(alloc, text)? == *is_delivery, text);
+    holds!(rt; reads_event(alloc, text)? == *is_event, text);
+    holds!(rt; reads_runner(alloc, text)? == *is_runner, text);
     Ok(())
 }
 
@@ -78,7 +76,7 @@ fn reads_names(rt: &impl Abort, alloc: Global) -> Result<(), Refusal> {
     for row in &NAMES {
         expect_name(rt, alloc, row)?;
     }
-    assert!(rt; RunnerName::of(alloc, b"r\xff")?.is_none());
+    holds!(rt; RunnerName::of(alloc, b"r\xff")?.is_none());
     Ok(())
 }
 
@@ -121,12 +119,12 @@ fn count_of_labels(alloc: Global, text: &str) -> Result<usize, Refusal> {
 }
 
 fn reads_labels(rt: &impl Abort, alloc: Global) -> Result<(), Refusal> {
-    for (text, want) in LABELS {
-        assert!(rt; count_of_labels(alloc, text)? == want, "{text}");
+    for &(text, want) in &LABELS {
+        holds!(rt; count_of_labels(alloc, text)? == want, text);
     }
     let two = labels(alloc, "X64,linux")?;
-    assert!(rt; two.as_slice().len() == 2);
-    assert!(rt; two.as_slice()[0].as_str() == "X64" && two.as_slice()[1].as_str() == "linux");
+    holds!(rt; two.as_slice().len() == 2);
+    holds!(rt; two.as_slice()[0].as_str() == "X64" && two.as_slice()[1].as_str() == "linux");
     Ok(())
 }
 
@@ -162,12 +160,12 @@ const NUMBERS: [(&str, u32); 17] = [
 
 #[test]
 fn reads_numbers(rt: HostRuntime) {
-    for (text, want) in NUMBERS {
+    for &(text, want) in &NUMBERS {
         let value = match Number::of(text.as_bytes()) {
             Some(number) => number.get(),
             None => 0,
         };
-        assert!(rt; value == want, "{text}");
+        holds!(rt; value == want, text);
     }
-    assert!(rt; Number::new(7).get() == 7);
+    holds!(rt; Number::new(7).get() == 7);
 }

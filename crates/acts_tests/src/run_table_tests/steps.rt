@@ -1,4 +1,5 @@
 use crate::commands::Words;
+use crate::holds::holds;
 use crate::run_table_tests::{BUILD, BUILD_ELSEWHERE, Row, THREE, expect_view, play, played};
 use run_plan::Number;
 use wf_value::{Outcome, TryCopy};
@@ -16,7 +17,7 @@ fn one_run_to_its_end(rt: HostRuntime) {
     let table = played(&rt, rt.alloc(), &TO_ITS_END);
     let want = "run 1 1 completed success build:success(success)";
     expect_view(&rt, rt.alloc(), &table, "1", want);
-    assert!(rt; table.look(Number::new(2)).is_none());
+    holds!(rt; table.look(Number::new(2)).is_none());
 }
 
 const REFUSED: [Row; 5] = [

@@ -1,4 +1,5 @@
 use crate::commands::Words;
+use crate::holds::holds;
 use crate::run_table_tests::{BUILD, BUILD_ELSEWHERE, Row, expect_view, play, played};
 use run_plan::Number;
 use run_table::Table;
@@ -24,10 +25,10 @@ const LEASED_RUNS: [(&str, &str); 3] = [
 
 /// What is seen of the runs of `LEASED`.
 fn expect_runs(rt: &impl Abort, alloc: Global, table: &Table) {
-    for (id, want) in LEASED_RUNS {
+    for &(id, want) in &LEASED_RUNS {
         expect_view(rt, alloc, table, id, want);
     }
-    assert!(rt; table.look(Number::new(4)).is_none());
+    holds!(rt; table.look(Number::new(4)).is_none());
 }
 
 #[test]

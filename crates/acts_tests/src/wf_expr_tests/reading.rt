@@ -1,4 +1,5 @@
 use crate::given::spelled;
+use crate::holds::{expect_text, holds};
 use crate::wf_expr_tests::path_of;
 use std::alloc::Global;
 use std::process::Abort;
@@ -11,7 +12,7 @@ fn expect_read(rt: &impl Abort, alloc: Global, text: &str, place: Place, want: u
         Ok(_) => 0,
         Err(refusal) => refusal.number(),
     };
-    assert!(rt; number == want, "{text}: {number}");
+    holds!(rt; number == want, format_args!("{text}: {number}"));
 }
 
 const NO_TEMPLATES: [&str; 35] = [
@@ -54,7 +55,7 @@ const NO_TEMPLATES: [&str; 35] = [
 
 #[test]
 fn refuses_what_spells_no_template(rt: HostRuntime) {
-    for text in NO_TEMPLATES {
+    for &text in &NO_TEMPLATES {
         expect_read(&rt, rt.alloc(), text, Place::Job, 17);
         expect_read(&rt, rt.alloc(), text, Place::Workflow, 17);
     }
@@ -76,7 +77,7 @@ const PLACES: [(&str, u64, u64); 10] = [
 
 #[test]
 fn refuses_contexts_of_jobs_elsewhere(rt: HostRuntime) {
-    for (text, at_job, at_workflow) in PLACES {
+    for &(text, at_job, at_workflow) in &PLACES {
         expect_read(&rt, rt.alloc(), text, Place::Job, at_job);
         expect_read(&rt, rt.alloc(), text, Place::Workflow, at_workflow);
     }
@@ -110,7 +111,7 @@ const COUNTED: [(&[(&str, usize)], Place, u64); 5] = [
 
 #[test]
 fn counts_references_each_time(rt: HostRuntime) {
-    for (pieces, place, want) in COUNTED {
+    for &(pieces, place, want) in &COUNTED {
         let text = spelled(rt.alloc(), pieces).expect(&rt, "a text");
         expect_read(&rt, rt.alloc(), text.as_str(), place, want);
     }
@@ -119,9 +120,9 @@ fn counts_references_each_time(rt: HostRuntime) {
 fn expect_operands(rt: &impl Abort, alloc: Global, operands: &[Operand]) {
     match operands {
         [Operand::Quoted(text), Operand::Reference(path)] => {
-            assert!(rt; text.as_str() == "b");
+            expect_text(rt, text.as_str(), "b");
             let want = path_of(alloc, "github.c-d.e").expect(rt, "a path");
-            assert!(rt; same_items(path.as_slice(), want.as_slice()));
+            holds!(rt; same_items(path.as_slice(), want.as_slice()));
         }
         _ => panic!(rt; "other operands"),
     }
@@ -133,7 +134,7 @@ fn shows_pieces(rt: HostRuntime) {
     let template = Template::parse(rt.alloc(), text, Place::Job).expect(&rt, "a template");
     match template.pieces() {
         [Piece::Plain(text), Piece::Braced(operands)] => {
-            assert!(rt; text.as_str() == "a");
+            expect_text(&rt, text.as_str(), "a");
             expect_operands(&rt, rt.alloc(), operands.as_slice());
         }
         _ => panic!(rt; "other pieces"),
@@ -143,5 +144,5 @@ fn shows_pieces(rt: HostRuntime) {
 #[test]
 fn empty_text_has_no_piece(rt: HostRuntime) {
     let template = Template::parse(rt.alloc(), "", Place::Workflow).expect(&rt, "a template");
-    assert!(rt; template.pieces().len() == 0);
+    holds!(rt; template.pieces().len() == 0);
 }

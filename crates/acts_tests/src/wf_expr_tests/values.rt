@@ -1,3 +1,4 @@
+use crate::holds::holds;
 use crate::values::{Given, scalar};
 use crate::wf_expr_tests::{EXAMPLE, path_of, properties, value_of};
 use std::alloc::Global;
@@ -10,7 +11,7 @@ fn expect_values(rt: &impl Abort, alloc: Global, rows: &[(&str, Given)]) {
     for (text, want) in rows {
         let want = scalar(alloc, want).expect(rt, "a scalar");
         let value = value_of(alloc, text).expect(rt, text);
-        assert!(rt; value.same(&want), "{text}");
+        holds!(rt; value.same(&want), text);
     }
 }
 
@@ -95,7 +96,7 @@ fn expect_at(
 ) {
     for (names, want) in rows {
         let path = path_of(alloc, names).expect(rt, "a path");
-        assert!(rt; is_whole(properties.get(path.as_slice()), *want), "{names}");
+        holds!(rt; is_whole(properties.get(path.as_slice()), *want), names);
     }
 }
 
@@ -151,9 +152,9 @@ const OVER: [(&str, &str); 3] = [
 
 fn expect_over(rt: &impl Abort, alloc: Global, upper: &Properties, lower: &Properties) {
     let layers = Over { upper, lower };
-    for (text, want) in OVER {
+    for &(text, want) in &OVER {
         let template = Template::parse(alloc, text, Place::Job).expect(rt, text);
-        assert!(rt; template.is_text(&layers, want.as_bytes()), "{text}");
+        holds!(rt; template.is_text(&layers, want.as_bytes()), text);
     }
 }
 
@@ -195,14 +196,11 @@ fn copied(alloc: Global, text: &str) -> Result<Template, Refusal> {
 #[test]
 fn compares_with_a_text(rt: HostRuntime) {
     let context = properties(rt.alloc(), &EXAMPLE).expect(&rt, "properties");
-    for (text, other, same, alike) in COMPARED {
+    for &(text, other, same, alike) in &COMPARED {
         let template = copied(rt.alloc(), text).expect(&rt, text);
         let other = other.as_bytes();
-        assert!(rt; template.is_text(&context, other) == same, "{text}");
-        assert!(rt;
-            template.is_text_ignoring_ascii_case(&context, other) == alike,
-            "{text}"
-        );
+        holds!(rt; template.is_text(&context, other) == same, text);
+        holds!(rt; template.is_text_ignoring_ascii_case(&context, other) == alike, text);
     }
 }
 
@@ -222,8 +220,8 @@ const FLAGS: [(&str, bool); 10] = [
 
 #[test]
 fn sets_flags(rt: HostRuntime) {
-    for (text, want) in FLAGS {
+    for &(text, want) in &FLAGS {
         let value = value_of(rt.alloc(), text).expect(&rt, text);
-        assert!(rt; is_flag_set(&value) == want, "{text}");
+        holds!(rt; is_flag_set(&value) == want, text);
     }
 }

@@ -1,6 +1,7 @@
 //! The `concurrency` of a workflow and of a job, as it is read.
 
 use super::{ACCEPTED, number};
+use crate::holds::holds;
 use std::alloc::Global;
 use std::process::Abort;
 use wf_expr::{Piece, Template};
@@ -88,10 +89,10 @@ const VALUES: [(&str, u64, u64); 22] = [
 
 #[test]
 fn answers_each_fault_of_a_concurrency(rt: HostRuntime) {
-    for (value, workflow, job) in VALUES {
+    for &(value, workflow, job) in &VALUES {
         let found = answers(rt.alloc(), value);
-        assert!(rt; found.0 == workflow, "{value}");
-        assert!(rt; found.1 == job, "{value}");
+        holds!(rt; found.0 == workflow, value);
+        holds!(rt; found.1 == job, value);
     }
 }
 
@@ -112,17 +113,17 @@ fn is_expression(template: &Template) -> bool {
 }
 
 fn expect_fixed(rt: &impl Abort, concurrency: &Concurrency, group: &str, want: bool) {
-    assert!(rt; is_plain(&concurrency.group, group));
+    holds!(rt; is_plain(&concurrency.group, group));
     match &concurrency.cancel_in_progress {
-        Flag::Fixed(set) => assert!(rt; *set == want),
+        Flag::Fixed(set) => holds!(rt; *set == want),
         Flag::Template(_) => panic!(rt; "a template"),
     }
 }
 
 fn expect_by_template(rt: &impl Abort, concurrency: &Concurrency, group: &str) {
-    assert!(rt; is_plain(&concurrency.group, group));
+    holds!(rt; is_plain(&concurrency.group, group));
     match &concurrency.cancel_in_progress {
-        Flag::Template(template) => assert!(rt; is_expression(template)),
+        Flag::Template(template) => holds!(rt; is_expression(template)),
         Flag::Fixed(_) => panic!(rt; "no template"),
     }
 }
@@ -165,7 +166,7 @@ fn reads_a_concurrency(rt: HostRuntime) {
 fn reads_a_text_as_a_group(rt: HostRuntime) {
     let body = "{\"jobs\":{\"a\":{\"runs-on\":\"x\",\"concurrency\":\"k\"}}}";
     let workflow = read(&rt, rt.alloc(), body);
-    assert!(rt; workflow.concurrency.is_none());
+    holds!(rt; workflow.concurrency.is_none());
     match of_the_job(&workflow) {
         Some(concurrency) => expect_fixed(&rt, concurrency, "k", false),
         None => panic!(rt; "no concurrency"),

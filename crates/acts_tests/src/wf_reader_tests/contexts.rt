@@ -1,5 +1,6 @@
 //! What an event shows: its names, and the labels of its jobs with the sender's contexts alone.
 
+use crate::holds::expect_text;
 use std::alloc::Global;
 use std::process::Abort;
 use wf_expr::Template;
@@ -69,12 +70,12 @@ const SHOWN: [(&str, &str); 2] = [
 
 #[test]
 fn reads_an_event(rt: HostRuntime) {
-    for (body, want) in SHOWN {
+    for &(body, want) in &SHOWN {
         let text = match shown(rt.alloc(), body) {
             Ok(text) => text,
             Err(_) => shown(rt.alloc(), body).expect(&rt, "an event"),
         };
-        assert!(rt; text.as_str() == want, "{want}");
+        expect_text(&rt, text.as_str(), want);
     }
 }
 
@@ -114,11 +115,11 @@ const FOUND: [(&str, &str); 14] = [
 
 #[test]
 fn finds_values_of_contexts(rt: HostRuntime) {
-    for (reference, want) in FOUND {
+    for &(reference, want) in &FOUND {
         let text = match sent(rt.alloc(), reference) {
             Ok(text) => text,
             Err(_) => sent(rt.alloc(), reference).expect(&rt, "a label"),
         };
-        assert!(rt; text.as_str() == want, "{reference}");
+        expect_text(&rt, text.as_str(), want);
     }
 }

@@ -1,6 +1,7 @@
 //! The `needs` and the `if` of a job, as they are read.
 
 use super::{ACCEPTED, number};
+use crate::holds::holds;
 use std::alloc::Global;
 use wf_reader::{Job, read_workflow};
 use wf_value::{Condition, Refusal};
@@ -91,9 +92,9 @@ const READ: [(&str, &str); 22] = [
 
 #[test]
 fn reads_needs_and_conditions(rt: HostRuntime) {
-    for (members, want) in READ {
+    for &(members, want) in &READ {
         let shown = is_shown(rt.alloc(), members, want);
-        assert!(rt; shown, "{members}");
+        holds!(rt; shown, members);
     }
 }
 
@@ -130,13 +131,13 @@ const NO_CONDITIONS: [&str; 28] = [
 
 #[test]
 fn refuses_other_conditions(rt: HostRuntime) {
-    for condition in NO_CONDITIONS {
+    for &condition in &NO_CONDITIONS {
         let body = format!(in rt.alloc(); ",\"if\":{condition}");
         let answer = match body {
             Ok(members) => answer(rt.alloc(), members.as_str()),
             Err(_) => 50,
         };
-        assert!(rt; answer == 26, "{condition}");
+        holds!(rt; answer == 26, condition);
     }
 }
 
@@ -153,7 +154,7 @@ fn takes_one_character_for_a_space(rt: HostRuntime) {
     ];
     for (members, want) in rows {
         let answer = answer(rt.alloc(), members);
-        assert!(rt; answer == want, "{members}");
+        holds!(rt; answer == want, members);
     }
 }
 
@@ -171,6 +172,6 @@ fn refuses_other_needs(rt: HostRuntime) {
     ];
     for (members, want) in rows {
         let answer = answer(rt.alloc(), members);
-        assert!(rt; answer == want, "{members}");
+        holds!(rt; answer == want, members);
     }
 }

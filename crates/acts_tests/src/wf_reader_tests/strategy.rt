@@ -1,4 +1,5 @@
 use super::{ACCEPTED, number};
+use crate::holds::holds;
 use std::alloc::Global;
 use wf_reader::{Strategy, read_workflow};
 use wf_value::{Matrix, Refusal};
@@ -57,9 +58,9 @@ const STRATEGIES: [(&str, u64); 24] = [
 
 #[test]
 fn reads_strategies(rt: HostRuntime) {
-    for (strategy, want) in STRATEGIES {
+    for &(strategy, want) in &STRATEGIES {
         let answer = answer_to_strategy(rt.alloc(), strategy);
-        assert!(rt; answer == want, "{strategy}");
+        holds!(rt; answer == want, strategy);
     }
 }
 
@@ -100,9 +101,9 @@ const MATRICES: [(&str, u64); 26] = [
 
 #[test]
 fn reads_matrices(rt: HostRuntime) {
-    for (matrix, want) in MATRICES {
+    for &(matrix, want) in &MATRICES {
         let answer = answer_to_matrix(rt.alloc(), matrix);
-        assert!(rt; answer == want, "{matrix}");
+        holds!(rt; answer == want, matrix);
     }
 }
 
@@ -135,17 +136,17 @@ const EARLIER_IN_MATRIX: [(&str, u64); 15] = [
 
 #[test]
 fn answers_the_earlier_of_two_checks(rt: HostRuntime) {
-    for (strategy, want) in EARLIER_IN_STRATEGY {
+    for &(strategy, want) in &EARLIER_IN_STRATEGY {
         let answer = answer_to_strategy(rt.alloc(), strategy);
-        assert!(rt; answer == want, "{strategy}");
+        holds!(rt; answer == want, strategy);
     }
 }
 
 #[test]
 fn answers_the_earlier_of_two_parts_of_a_matrix(rt: HostRuntime) {
-    for (matrix, want) in EARLIER_IN_MATRIX {
+    for &(matrix, want) in &EARLIER_IN_MATRIX {
         let answer = answer_to_matrix(rt.alloc(), matrix);
-        assert!(rt; answer == want, "{matrix}");
+        holds!(rt; answer == want, matrix);
     }
 }
 
@@ -210,6 +211,6 @@ fn gives_what_a_strategy_says(rt: HostRuntime) {
     ];
     for (strategy, want) in rows {
         let shown = is_shown(rt.alloc(), strategy, want);
-        assert!(rt; shown, "{strategy}");
+        holds!(rt; shown, strategy);
     }
 }
