@@ -1,5 +1,7 @@
 //! The stored bytes of commands and of batches. The expected ones are those of the format, worked out by hand.
 
+mod tables;
+
 use crate::commands::{Words, command_of};
 use crate::run_plan_tests::{BODY, expect_twice};
 use run_plan::Command;

@@ -1,10 +1,13 @@
 -- What is known of the parts of a table that is written.
 use Rattle.std.proofs.Common.{◌≡◌, ℕ, zero, suc, ◌≤◌, ◌<◌, List, [], ◌∷◌, length, get_or, ◌++◌, refl, sym, ◌∙◌, ap, arith, append_assoc}
-use Rattle.std.specs.Prelude.{Bool, true, false, not, map, flat_map, Some, slice_get, option_and_then}
+use Rattle.std.specs.Prelude.{Bool, true, false, ◌&&◌, not, map, flat_map, Some, slice_get, option_and_then}
+use Rattle.std.specs.Cmp.Lexicographic.{slice_cmp}
 use Rattle.std.specs.List.{AllByRecursion}
+use Rattle.std.specs.Ordering.{is_lt, nat_cmp}
 use Rattle.std.proofs.lemmas.Bool.{le-leb}
 use Rattle.std.proofs.lemmas.List.{length-map}
 use Rattle.std.proofs.lemmas.List.Folds.{flat_map-map}
+use Rattle.wf_value.specs.Names.{rises_by}
 use Rattle.wf_value.specs.declared.outcome.JobResult.TheVariants as result
 use Rattle.wf_value.specs.declared.outcome.Outcome.TheVariants as outcome
 use Rattle.run_table.specs.Places.{LegPlace, job_at, leg_at, run_at}
@@ -71,6 +74,11 @@ all_seen P f (x ∷ xs) all = (all.0, all_seen P f xs all.1)
 pub all_behind : {X Y : Type 0} (P : Y → Type 0) (f : X → Y) (xs : List X) → AllByRecursion P (map f xs) → AllByRecursion (λ x. P (f x)) xs
 all_behind P f [] all = tt
 all_behind P f (x ∷ xs) all = (all.0, all_behind P f xs all.1)
+
+pub rises_over : {X Y : Type 0} (name : Y → List ℕ) (f : X → Y) (xs : List X) → rises_by name (map f xs) ≡ rises_by (λ x. name (f x)) xs
+rises_over name f [] = refl
+rises_over name f (x ∷ []) = refl
+rises_over name f (x ∷ y ∷ ys) = ap (λ b. is_lt (slice_cmp nat_cmp (name (f x)) (name (f y))) && b) (rises_over name f (y ∷ ys))
 
 -- ---- the runs of a table have bytes
 

@@ -1,6 +1,6 @@
 -- The length of a table's spelling is the sum over its fields.
 use Rattle.std.proofs.Common.{◌≡◌, ℕ, ◌+◌, ◌*◌, List, [], ◌∷◌, ◌++◌, length, refl, sym, ◌∙◌, ap, arith}
-use Rattle.std.specs.Prelude.{Bool, flat_map, sum_by, Option, Some, None}
+use Rattle.std.specs.Prelude.{Bool, flat_map, map, sum_by, Option, Some, None}
 use Rattle.std.proofs.lemmas.List.Concat.{length-flat_map}
 use Rattle.std.proofs.lemmas.List.Sums.{sum_by-cons}
 use Rattle.run_plan.specs.Admitted.{Admitted}
@@ -22,6 +22,12 @@ length_leg l = behind_one (lease.spelling l.lease) (length_lease l.lease) ∙ om
   where
     length_lease : (o : Option ℕ) → length (lease.spelling o) ≡ 4
     length_lease o = length_word _
+
+-- the same sum over what is seen of the values
+pub sum_seen : {X Y : Type 0} (f : Y → ℕ) (g : X → Y) (xs : List X) → sum_by f (map g xs) ≡ sum_by (λ x. f (g x)) xs
+sum_seen f g [] = refl
+sum_seen f g (x ∷ xs) =
+    sum_by-cons f (g x) (map g xs) ∙ ap (λ n. f (g x) + n) (sum_seen f g xs) ∙ sym (sum_by-cons (λ x. f (g x)) x xs)
 
 -- each of the legs has five
 five_each : (legs : List LegState) → sum_by (λ (l : LegState). 5) legs ≡ 5 * length legs

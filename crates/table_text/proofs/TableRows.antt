@@ -1,16 +1,19 @@
 -- Worked tables, their bytes and their lengths, by computation.
-use Rattle.std.specs.Prelude.{◌≡◌, ℕ, List, [], ◌∷◌, ◌++◌, codes, true, false, Some, None, refl}
+use Rattle.std.specs.Prelude.{◌≡◌, ℕ, List, [], ◌∷◌, ◌++◌, codes, true, false, Option, Some, None, refl}
 use Rattle.wf_value.specs.declared.outcome.JobResult.TheVariants as result
 use Rattle.wf_value.specs.declared.outcome.Outcome.TheVariants as outcome
 use Rattle.run_table.specs.Stored.{StoredRunner, StoredTable}
-use Rattle.run_table.specs.TableState.{RunState}
+use Rattle.run_table.specs.TableState.{LegState, JobState, RunState}
 use Rattle.run_table.specs.declared.parts.LastParts.TheVariants as last
+use Rattle.run_table.specs.declared.phases.JobPhase.{JobPhase}
 use Rattle.run_table.specs.declared.phases.JobPhase.TheVariants as job_phase
+use Rattle.run_table.specs.declared.phases.LegPhase.{LegPhase}
 use Rattle.run_table.specs.declared.phases.LegPhase.TheVariants as leg_phase
+use Rattle.run_table.specs.declared.phases.RunPhase.{RunPhase}
 use Rattle.run_table.specs.declared.phases.RunPhase.TheVariants as run_phase
 use Rattle.table_text.specs.Format.{text_bytes, word_bytes}
 use Rattle.table_text.specs.TableLengths.{table_length}
-use Rattle.table_text.specs.Tables.{names_rise, runner, run, table}
+use Rattle.table_text.specs.Tables.{job, names_rise, runner, run, table}
 
 -- without runs and runners: twelve zero bytes
 abbrev empty : StoredTable
@@ -33,8 +36,19 @@ first_run = record {
   jobs = record { phase = job_phase.Open; legs = record { phase = leg_phase.Ready; lease = None } ∷ [] } ∷ [];
 }
 
-after_the_first_admission : table_length (record { last_lease = 0; runs = first_run ∷ []; runners = [] }) ≡ 123
+abbrev admitted : StoredTable
+admitted = record { last_lease = 0; runs = first_run ∷ []; runners = [] }
+
+after_the_first_admission : table_length admitted ≡ 123
 after_the_first_admission = refl
+
+-- the ready leg has no lease, which is 0
+admitted_bytes : table.spelling admitted
+    ≡ (0 ∷ 0 ∷ 0 ∷ 0 ∷ 0 ∷ 0 ∷ 0 ∷ 1 ∷ 0 ∷ 0 ∷ 0 ∷ 2 ∷ 100 ∷ 49 ∷ 0 ∷ 0 ∷ 0 ∷ 4 ∷ 112 ∷ 117 ∷ 115 ∷ 104 ∷ 0 ∷ 0 ∷ 0 ∷ 81 ∷ [])
+    ++ first_run.admitted.body
+    ++ (1 ∷ 0 ∷ 1 ∷ 0 ∷ 0 ∷ 0 ∷ 1 ∷ 2 ∷ 0 ∷ 0 ∷ 0 ∷ 0 ∷ 0 ∷ 0 ∷ 0 ∷ 0 ∷ [])
+unfolding text_bytes word_bytes
+admitted_bytes = refl
 
 -- its leg running under lease 1
 abbrev claimed_run : RunState
@@ -86,6 +100,58 @@ stopping_run_bytes : run.spelling stopping_run
 unfolding text_bytes word_bytes
 stopping_run_bytes = refl
 
+-- a leg in each phase that has a byte, some with the highest lease
+abbrev leg_in : LegPhase → Option ℕ → LegState
+leg_in phase lease = record { phase = phase; lease = lease }
+
+abbrev job_of_all_phases : JobState
+job_of_all_phases = record {
+  phase = job_phase.Settled result.Cancelled;
+  legs =
+      leg_in leg_phase.Waiting None ∷ leg_in leg_phase.Ready None ∷ leg_in leg_phase.Running (Some 1) ∷ leg_in leg_phase.Stopping (Some 2)
+      ∷ leg_in (leg_phase.Ended outcome.Success) (Some 999999999) ∷ leg_in (leg_phase.Ended outcome.Failure) (Some 3)
+      ∷ leg_in (leg_phase.Ended outcome.Cancelled) (Some 4) ∷ leg_in (leg_phase.Ended outcome.Cancelled) None ∷ [];
+}
+
+bytes_of_all_leg_phases : job.spelling job_of_all_phases
+    ≡ 4 ∷ 0 ∷ 0 ∷ 0 ∷ 8
+    ∷ 1 ∷ 0 ∷ 0 ∷ 0 ∷ 0 ∷ 2 ∷ 0 ∷ 0 ∷ 0 ∷ 0 ∷ 3 ∷ 0 ∷ 0 ∷ 0 ∷ 1 ∷ 4 ∷ 0 ∷ 0 ∷ 0 ∷ 2
+    ∷ 5 ∷ 59 ∷ 154 ∷ 201 ∷ 255 ∷ 6 ∷ 0 ∷ 0 ∷ 0 ∷ 3 ∷ 7 ∷ 0 ∷ 0 ∷ 0 ∷ 4 ∷ 7 ∷ 0 ∷ 0 ∷ 0 ∷ 0 ∷ []
+unfolding word_bytes
+bytes_of_all_leg_phases = refl
+
+-- jobs in each state, without legs, in a run of this phase
+abbrev job_in : JobPhase → JobState
+job_in phase = record { phase = phase; legs = [] }
+
+abbrev run_in : RunPhase → RunState
+run_in phase = record stopping_run {
+  phase = phase;
+  stopping = false;
+  jobs =
+      job_in job_phase.Blocked ∷ job_in job_phase.Open ∷ job_in (job_phase.Settled result.Success) ∷ job_in (job_phase.Settled result.Failure)
+      ∷ job_in (job_phase.Settled result.Cancelled) ∷ job_in (job_phase.Settled result.Skipped) ∷ [];
+}
+
+-- what stands before the run's phase, and behind its stop flag
+abbrev before_phase : List ℕ
+before_phase = 0 ∷ 0 ∷ 0 ∷ 1 ∷ 100 ∷ 0 ∷ 0 ∷ 0 ∷ 1 ∷ 101 ∷ 0 ∷ 0 ∷ 0 ∷ 1 ∷ 98 ∷ []
+
+abbrev six_jobs : List ℕ
+six_jobs = 0 ∷ 0 ∷ 0 ∷ 0 ∷ 0 ∷ 1 ∷ 0 ∷ 0 ∷ 0 ∷ 0 ∷ 2 ∷ 0 ∷ 0 ∷ 0 ∷ 0 ∷ 3 ∷ 0 ∷ 0 ∷ 0 ∷ 0 ∷ 4 ∷ 0 ∷ 0 ∷ 0 ∷ 0 ∷ 5 ∷ 0 ∷ 0 ∷ 0 ∷ 0 ∷ []
+
+waiting_run_bytes : run.spelling (run_in run_phase.Waiting) ≡ before_phase ++ 0 ∷ 0 ∷ six_jobs
+unfolding text_bytes word_bytes
+waiting_run_bytes = refl
+
+live_run_bytes : run.spelling (run_in run_phase.Live) ≡ before_phase ++ 1 ∷ 0 ∷ six_jobs
+unfolding text_bytes word_bytes
+live_run_bytes = refl
+
+ended_run_bytes : run.spelling (run_in run_phase.Ended) ≡ before_phase ++ 2 ∷ 0 ∷ six_jobs
+unfolding text_bytes word_bytes
+ended_run_bytes = refl
+
 -- a runner that was given lease 2 by its third command and has it
 abbrev leased_runner : StoredRunner
 leased_runner = record {
@@ -119,6 +185,29 @@ idle_runner_bytes : runner.spelling idle_runner
     ∷ 0 ∷ 0 ∷ 0 ∷ 0 ∷ []
 unfolding text_bytes word_bytes
 idle_runner_bytes = refl
+
+-- one that has reported
+abbrev reporting_runner : StoredRunner
+reporting_runner = record {
+  name = codes "r1";
+  number = 2;
+  last = last.Done (record { runner = codes "r1"; number = 2; lease = 1; result = outcome.Failure });
+  holds = None;
+}
+
+reporting_runner_bytes : runner.spelling reporting_runner
+    ≡ 0 ∷ 0 ∷ 0 ∷ 2 ∷ 114 ∷ 49 ∷ 0 ∷ 0 ∷ 0 ∷ 2
+    ∷ 3 ∷ 0 ∷ 0 ∷ 0 ∷ 2 ∷ 114 ∷ 49 ∷ 0 ∷ 0 ∷ 0 ∷ 2 ∷ 0 ∷ 0 ∷ 0 ∷ 1 ∷ 2
+    ∷ 2 ∷ 0 ∷ 0 ∷ 0 ∷ 0
+    ∷ 0 ∷ 0 ∷ 0 ∷ 0 ∷ []
+unfolding text_bytes word_bytes
+reporting_runner_bytes = refl
+
+-- the last lease, no run, and two runners
+two_runners_bytes : table.spelling (record { last_lease = 258; runs = []; runners = idle_runner ∷ leased_runner ∷ [] })
+    ≡ (0 ∷ 0 ∷ 1 ∷ 2 ∷ 0 ∷ 0 ∷ 0 ∷ 0 ∷ 0 ∷ 0 ∷ 0 ∷ 2 ∷ []) ++ runner.spelling idle_runner ++ runner.spelling leased_runner
+unfolding text_bytes word_bytes
+two_runners_bytes = refl
 
 -- `r` stands before `r1`, and no name stands twice
 idle_before_leased : names_rise (idle_runner ∷ leased_runner ∷ []) ≡ true

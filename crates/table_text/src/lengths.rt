@@ -1,6 +1,7 @@
 //! How many bytes a spelling has, before it is written.
 
-ghost use Rattle.std.specs.Prelude.{◌≡◌, ◌≤◌, ◌*◌, length, sum_by};
+ghost use Rattle.std.specs.Prelude.{◌≡◌, [], ◌≤◌, ◌*◌, length, sum_by};
+ghost use Rattle.run_plan.specs.PlanOf.{faults_of};
 ghost use Rattle.run_plan.specs.declared.command.Command.TheVariants as asked_for;
 ghost use Rattle.table_text.specs.Commands.{batch, command};
 ghost use Rattle.table_text.specs.Lengths.{command_length, fields_length, length_of, text_length, texts_length};
@@ -8,9 +9,9 @@ ghost use Rattle.table_text.specs.Lengths.{command_length, fields_length, length
 use run_plan::{Beat, Claim, Command, Done, Form, Label, Labels, Prepared, SmallText};
 
 /// The bytes of a number, of a length and of a count.
-const WORD: u64 = 4;
+pub(crate) const WORD: u64 = 4;
 
-fn small_text_length<F: Form>(text: &SmallText<F>) -> u64
+pub(crate) fn small_text_length<F: Form>(text: &SmallText<F>) -> u64
     ensures length { result ≡ text_length text.now }
     ensures most { result ≤ 68 }
 {
@@ -41,25 +42,27 @@ fn labels_length(labels: &Labels) -> u64
 fn body_length(event: &Prepared) -> u64
     ensures length { result ≡ text_length event.now.body }
     ensures most { result ≤ 65540 }
+    ensures faultless { faults_of event.now.body ≡ [] }
 {
     WORD + event.body().len() as u64
 }
 
-fn admit_length(event: &Prepared) -> u64
+pub(crate) fn admit_length(event: &Prepared) -> u64
     ensures length { result ≡ fields_length (asked_for.Admit event.now) }
     ensures most { result ≤ 65676 }
+    ensures faultless { faults_of event.now.body ≡ [] }
 {
     small_text_length(event.delivery()) + small_text_length(event.event()) + body_length(event)
 }
 
-fn claim_length(asks: &Claim) -> u64
+pub(crate) fn claim_length(asks: &Claim) -> u64
     ensures length { result ≡ fields_length (asked_for.Claim asks.now) }
     ensures most { result ≤ 1164 }
 {
     small_text_length(&asks.runner) + WORD + labels_length(&asks.labels)
 }
 
-fn done_length(report: &Done) -> u64
+pub(crate) fn done_length(report: &Done) -> u64
     ensures length { result ≡ fields_length (asked_for.Done report.now) }
     ensures most { result ≤ 77 }
 {
