@@ -5,6 +5,7 @@ mod Histories
 mod Meanings
 mod OneTable
 mod Opening
+mod Playing
 mod Records
 mod Replaying
 mod Settling

@@ -1,16 +1,19 @@
 -- A list of steps of a store, one after another, and what each is answered.
-use Rattle.std.specs.Prelude.{◌≡◌, ◌⊎◌, ℕ, ◌<◌, List, [], ◌∷◌, length, true, false, Some, None}
+use Rattle.std.specs.Prelude.{◌≡◌, ◌⊎◌, ◌↔◌, ℕ, ◌<◌, ◌≤◌, List, [], ◌∷◌, ◌++◌, length, true, false, Some, None}
 use Rattle.wf_value.specs.Gives.{no_memory}
 use Rattle.act_disk.specs.Failed.{device_failed}
+use Rattle.act_disk.specs.Images.{EachSince}
 use Rattle.run_table.specs.Step.{stepped}
-use Rattle.act_store.specs.Kept.{Kept, table_of}
+use Rattle.act_store.specs.Kept.{Kept, StandsForEither, table_of}
 use Rattle.act_store.specs.Plain.{broken, committed, entered, failed_earlier, refusal_of_apply}
+use Rattle.act_store.specs.Told.{IsCause}
+use Rattle.act_store.specs.declared.entry.Entry.{Entry}
 use Rattle.act_store.specs.declared.step.Step.{Step}
 use Rattle.act_store.specs.declared.step.Step.TheVariants as asked
 use Rattle.act_store.specs.declared.step.Played.{Played}
 use Rattle.act_store.specs.declared.step.Played.TheVariants as told
 
--- a commit that was done
+-- a commit that was done: all entries are covered, and this many there are
 pub record Covers {D : Type 0} (old : Kept D) (count : ℕ) (new : Kept D) : Type 0 where
   pub live : old.failed ≡ false
   pub count_is : count ≡ length old.history
@@ -29,9 +32,39 @@ Takes old asked.Commit (told.Refused e) new =
     ((old.failed ≡ true) × (e ≡ failed_earlier) × (new ≡ old)) ⊎ ((old.failed ≡ false) × (e ≡ device_failed) × (new ≡ broken old new.disk))
 Takes old asked.Commit (told.Replied reply) new = ⊥
 
--- All of them, in order.
-abbrev pub Plays : {D : Type 0} → Kept D → List Step → List Played → Kept D → Type 0
-Plays old [] [] new = new ≡ old
-Plays old [] (p ∷ ps) new = ⊥
-Plays old (s ∷ ss) [] new = ⊥
-Plays {D} old (s ∷ ss) (p ∷ ps) new = (mid : Kept D) × Takes old s p mid × Plays mid ss ps new
+-- 51 is told exactly where the device failed in the step
+abbrev pub TellsStep : Played → ℕ → ℕ → Type 0
+TellsStep (told.Refused e) old new = IsCause e old new
+TellsStep (told.Replied reply) old new = new ≡ old
+TellsStep (told.Count count) old new = new ≡ old
+
+-- What a stop may leave during a step: whenever it comes, the image stands for the entries that were covered when the step began, or for all that
+-- there were then.
+pub record Survives {D : Type 0} (honest : D → Type 0) (moment fault_count : D → ℕ) (images_since : D → ℕ → List ℕ → Type 0) (old : Kept D)
+    (answer : Played) (new : Kept D) : Type 0 where
+  pub any_moment : honest old.disk → EachSince moment images_since old.disk new.disk (StandsForEither old)
+  pub stays_honest : honest new.disk ↔ honest old.disk
+  pub faults : TellsStep answer (fault_count old.disk) (fault_count new.disk)
+
+-- All of them, in order, where `during` holds of each step.
+abbrev pub Plays : {D : Type 0} → (Kept D → Played → Kept D → Type 0) → Kept D → List Step → List Played → Kept D → Type 0
+Plays during old [] [] new = new ≡ old
+Plays during old [] (p ∷ ps) new = ⊥
+Plays during old (s ∷ ss) [] new = ⊥
+Plays {D} during old (s ∷ ss) (p ∷ ps) new = (mid : Kept D) × Takes old s p mid × during old p mid × Plays during mid ss ps new
+
+-- The first of them, however many, and no other.
+pub record PlaysSome {D : Type 0} (during : Kept D → Played → Kept D → Type 0) (old : Kept D) (steps : List Step) (new : Kept D) : Type 0 where
+  pub first : List Step
+  pub others : List Step
+  pub split : steps ≡ first ++ others
+  pub answers : List Played
+  pub plays : Plays during old first answers new
+
+-- The base stays, entries come behind those that there are, and what is covered stays covered.
+pub record Grows {D : Type 0} (old new : Kept D) : Type 0 where
+  pub base : new.base ≡ old.base
+  pub more : List Entry
+  pub history : new.history ≡ old.history ++ more
+  pub covers : old.covered ≤ new.covered
+  pub within : new.covered ≤ length new.history

@@ -10,6 +10,7 @@ mod found;
 mod init;
 pub mod laws;
 mod open;
+mod playing;
 mod receipt;
 mod replay;
 mod spelled;
@@ -18,6 +19,7 @@ mod store;
 mod waiting;
 
 pub use entry::Entry;
+pub use playing::play;
 pub use receipt::Receipt;
 pub use step::{Played, Step};
 pub use store::Store;

@@ -1,0 +1,212 @@
+-- What steps leave, one after another.
+use Rattle.std.proofs.Common.{◌≡◌, inl, inr, ⊎_elim, ◌↔◌, ℕ, ◌+◌, ◌<◌, ◌≤◌, List, [], ◌∷◌, ◌++◌, length, take, refl, sym, ◌∙◌, ap, subst, arith}
+use Rattle.std.proofs.Common.{append_assoc, length-append, true, false, Bool}
+use Rattle.std.specs.Prelude.{Option, Some, None, IfSome, IfOk, OnErr, Result, Ok, Err, if◌then◌else◌, nat_le, nat_lt}
+use Rattle.std.proofs.Math.Nat.{eq-or-lt_of_le}
+use Rattle.std.proofs.lemmas.List.{append-nil, take_all, take-append-le}
+use Rattle.wf_value.specs.Gives.{no_memory}
+use Rattle.wf_value.specs.declared.refusal.Refusal.{Refusal}
+use Rattle.act_disk.specs.Failed.{device_failed}
+use Rattle.act_disk.specs.Images.{EachSince}
+use Rattle.act_disk.specs.Moments.{started, weakened, joined}
+use Rattle.run_plan.specs.declared.command.Command.{Command}
+use Rattle.run_table.specs.TableState.{TableState}
+use Rattle.act_store.specs.Entries.{table_after}
+use Rattle.act_store.specs.Images.{StandsFor}
+use Rattle.act_store.specs.Kept.{Kept, StandsForEither, StandsForSome, pending_commands}
+use Rattle.act_store.specs.Plain.{area_full, broken, committed, entered, entry_of, failed_earlier, history_full, record_end, refusal_of_apply}
+use Rattle.act_store.specs.Steps.{Covers, Grows, Plays, PlaysSome, Survives, Takes}
+use Rattle.act_store.specs.Told.{IsCause}
+use Rattle.act_store.specs.declared.entry.Entry.{Entry}
+use Rattle.act_store.specs.declared.step.Played.{Played}
+use Rattle.act_store.specs.declared.step.Played.TheVariants as told
+use Rattle.act_store.specs.declared.step.Step.{Step}
+use Rattle.act_store.specs.declared.step.Step.TheVariants as asked
+
+-- ---- one step more
+
+pub plays_more : {D : Type 0} (during : Kept D → Played → Kept D → Type 0) (old mid new : Kept D) (steps : List Step) (answers : List Played)
+    (step : Step) (answer : Played) → Plays during old steps answers mid → Takes mid step answer new → during mid answer new
+    → Plays during old (steps ++ step ∷ []) (answers ++ answer ∷ []) new
+plays_more {D} during old mid new [] [] step answer plays takes so =
+    let here : mid ≡ old = plays in
+    (new, subst (λ (k : Kept D). Takes k step answer new) here takes, subst (λ (k : Kept D). during k answer new) here so, refl)
+plays_more during old mid new [] (p ∷ ps) step answer plays takes so = absurd plays
+plays_more during old mid new (s ∷ ss) [] step answer plays takes so = absurd plays
+plays_more during old mid new (s ∷ ss) (p ∷ ps) step answer plays takes so =
+    (plays.0, plays.1, plays.2, plays_more during plays.0 mid new ss ps step answer plays.3 takes so)
+
+-- ---- why a command is refused
+
+by_tests : (failed full over : Bool) (e : Refusal)
+    → (if failed then Some failed_earlier else (if full then Some history_full else (if over then Some area_full else None))) ≡ Some e
+    → e ≡ device_failed → ⊥
+by_tests true full over e is device = cc
+by_tests false true over e is device = cc
+by_tests false false true e is device = cc
+by_tests false false false e is device = cc
+
+-- ---- what one step leaves of what there was
+
+module _ {D : Type 0} where
+  no_device : (s : Kept D) (command : Command) (e : Refusal) → (e ≡ no_memory) ⊎ (refusal_of_apply s command ≡ Some e) → e ≡ device_failed → ⊥
+  no_device s command e cause device = ⊎_elim (λ memory. let clash : no_memory ≡ device_failed = sym memory ∙ device in cc)
+      (λ some. by_tests s.failed (nat_le 100000 (length s.history)) (nat_lt s.area (record_end s (pending_commands s ++ command ∷ []))) e some device)
+      cause
+
+  same_grows : (old new : Kept D) → old.covered ≤ length old.history → new ≡ old → Grows old new
+  same_grows old new within same = subst (λ (k : Kept D). Grows old k) (sym same)
+      (record { base = refl; more = []; history = sym (append-nil old.history); covers = omega arith; within = within })
+
+  committed_grows : (old new : Kept D) (disk : D) → old.covered ≤ length old.history → new ≡ committed old disk → Grows old new
+  committed_grows old new disk within same = subst (λ (k : Kept D). Grows old k) (sym same)
+      (record { base = refl; more = []; history = sym (append-nil old.history); covers = within; within = omega arith })
+
+  broken_grows : (old new : Kept D) (disk : D) → old.covered ≤ length old.history → new ≡ broken old disk → Grows old new
+  broken_grows old new disk within same = subst (λ (k : Kept D). Grows old k) (sym same)
+      (record { base = refl; more = []; history = sym (append-nil old.history); covers = omega arith; within = within })
+
+  entered_grows : (old new : Kept D) (command : Command) → old.covered ≤ length old.history → new ≡ entered old 0 command → Grows old new
+  entered_grows old new command within same = subst (λ (k : Kept D). Grows old k) (sym same)
+      (record {
+        base = refl;
+        more = entry_of old 0 command ∷ [];
+        history = refl;
+        covers = omega arith;
+        within = omega (arith, within, length-append old.history (entry_of old 0 command ∷ []));
+      })
+
+  covers_grows : (old new : Kept D) (count : ℕ) → old.covered ≤ length old.history → Covers old count new → Grows old new
+  covers_grows old new count within covers = ⊎_elim (λ all. same_grows old new within (covers.none all))
+      (λ less. committed_grows old new new.disk within (covers.some less)) (eq-or-lt_of_le within)
+
+  pub takes_grows : (old new : Kept D) (step : Step) (answer : Played) → Takes old step answer new → old.covered ≤ length old.history
+      → Grows old new
+  takes_grows old new (asked.Apply command) (told.Replied reply) takes within = entered_grows old new command within takes.1
+  takes_grows old new (asked.Apply command) (told.Refused e) takes within = same_grows old new within takes.1
+  takes_grows old new (asked.Apply command) (told.Count count) takes within = absurd takes
+  takes_grows old new asked.Commit (told.Replied reply) takes within = absurd takes
+  takes_grows old new asked.Commit (told.Refused e) takes within =
+      ⊎_elim (λ earlier. same_grows old new within earlier.2) (λ now. broken_grows old new new.disk within now.2) takes
+  takes_grows old new asked.Commit (told.Count count) takes within = covers_grows old new count within takes
+
+  grows_on : (old mid new : Kept D) → Grows old mid → Grows mid new → Grows old new
+  grows_on old mid new first second = record {
+    base = second.base ∙ first.base;
+    more = first.more ++ second.more;
+    history =
+        second.history ∙ ap (λ (l : List Entry). l ++ second.more) first.history ∙ append_assoc old.history first.more second.more;
+    covers = omega (arith, first.covers, second.covers);
+    within = second.within;
+  }
+
+  pub plays_grows : (during : Kept D → Played → Kept D → Type 0) (old new : Kept D) (steps : List Step) (answers : List Played)
+      → Plays during old steps answers new → old.covered ≤ length old.history → Grows old new
+  plays_grows during old new [] [] plays within = same_grows old new within plays
+  plays_grows during old new [] (p ∷ ps) plays within = absurd plays
+  plays_grows during old new (s ∷ ss) [] plays within = absurd plays
+  plays_grows during old new (s ∷ ss) (p ∷ ps) plays within =
+      let first = takes_grows old plays.0 s p plays.1 within in
+      grows_on old plays.0 new first (plays_grows during plays.0 new ss ps plays.3 first.within)
+
+  -- ---- what images stand for, as more is entered
+
+  front_same : (old new : Kept D) → Grows old new → (count : ℕ) → count ≤ length old.history
+      → table_after old.base (take count old.history) ≡ table_after new.base (take count new.history)
+  front_same old new grows count least =
+      ap (λ (l : List Entry). table_after old.base l)
+      (sym (ap (λ (l : List Entry). take count l) grows.history ∙ take-append-le count old.history grows.more least))
+      ∙ ap (λ (t : TableState). table_after t (take count new.history)) (sym grows.base)
+
+  length_grows : (old new : Kept D) → Grows old new → length old.history ≤ length new.history
+  length_grows old new grows =
+      omega (arith, ap (λ (l : List Entry). length l) grows.history, length-append old.history grows.more)
+
+  pub either_grown : (old new : Kept D) → Grows old new → old.covered ≤ length old.history → (c : List ℕ) → StandsForEither old c
+      → StandsForSome new.base new.history old.covered c
+  either_grown old new grows within c either = ⊎_elim
+      (λ covered. record {
+        count = old.covered;
+        from = omega arith;
+        within = omega (arith, within, length_grows old new grows);
+        stands = subst (λ (t : TableState). StandsFor t c) (front_same old new grows old.covered within) covered;
+      })
+      (λ all. record {
+        count = length old.history;
+        from = within;
+        within = length_grows old new grows;
+        stands = subst (λ (t : TableState). StandsFor t c)
+            (ap (λ (l : List Entry). table_after old.base l) (sym (take_all (length old.history) old.history (omega arith)))
+            ∙ front_same old new grows (length old.history) (omega arith)) all;
+      }) either
+
+  -- the store as it is
+  pub either_now : (s : Kept D) → s.covered ≤ length s.history → (c : List ℕ) → StandsForEither s c → StandsForSome s.base s.history s.covered c
+  either_now s within c either = either_grown s s (same_grows s s within refl) within c either
+
+  -- ---- whatever came of the steps
+
+  pub some_played : (during : Kept D → Played → Kept D → Type 0) {V E : Type 0} (items : V → List Played) (result : Result V E) (old new : Kept D)
+      (steps : List Step) → IfOk result (λ v. Plays during old steps (items v) new) → OnErr result (PlaysSome during old steps new)
+      → PlaysSome during old steps new
+  some_played during items (Ok v) old new steps all part =
+      record { first = steps; others = []; split = sym (append-nil steps); answers = items v; plays = all }
+  some_played during items (Err e) old new steps all part = part
+
+  module _ (honest : D → Type 0) (moment fault_count : D → ℕ) (images_since : D → ℕ → List ℕ → Type 0) where
+    abbrev pub during : Kept D → Played → Kept D → Type 0
+    during = Survives honest moment fault_count images_since
+
+    pub honest_of : (old new : Kept D) (steps : List Step) (answers : List Played) → Plays during old steps answers new
+        → honest new.disk ↔ honest old.disk
+    honest_of old new [] [] plays = let P : Kept D → Type 0 = λ k. honest k.disk ↔ honest old.disk in
+        subst P (sym plays) ((λ h. h), (λ h. h))
+    honest_of old new [] (p ∷ ps) plays = absurd plays
+    honest_of old new (s ∷ ss) [] plays = absurd plays
+    honest_of old new (s ∷ ss) (p ∷ ps) plays =
+        let later = honest_of plays.0 new ss ps plays.3 in
+        let first = plays.2.stays_honest in
+        ((λ h. first.0 (later.0 h)), (λ h. later.1 (first.1 h)))
+
+    pub moments_of : (old new : Kept D) (steps : List Step) (answers : List Played) → Plays during old steps answers new
+        → old.covered ≤ length old.history → honest old.disk
+        → ((c : List ℕ) → images_since new.disk (moment new.disk) c → StandsForEither new c)
+        → EachSince moment images_since old.disk new.disk (StandsForSome new.base new.history old.covered)
+    moments_of old new [] [] plays within is_honest here =
+        let P : Kept D → Type 0 = λ k. ((c : List ℕ) → images_since k.disk (moment k.disk) c → StandsForEither k c)
+        → EachSince moment images_since old.disk k.disk (StandsForSome k.base k.history old.covered) in
+        subst P (sym plays)
+        (λ now. started moment images_since old.disk (StandsForSome old.base old.history old.covered)
+        (λ c left. either_now old within c (now c left))) here
+    moments_of old new [] (p ∷ ps) plays within is_honest here = absurd plays
+    moments_of old new (s ∷ ss) [] plays within is_honest here = absurd plays
+    moments_of old new (s ∷ ss) (p ∷ ps) plays within is_honest here =
+        let mid = plays.0 in
+        let so = plays.2 in
+        let first = takes_grows old mid s p plays.1 within in
+        let second = plays_grows during mid new ss ps plays.3 first.within in
+        joined moment images_since old.disk mid.disk new.disk (StandsForSome new.base new.history old.covered)
+        (StandsForSome new.base new.history mid.covered)
+        (weakened moment images_since old.disk mid.disk (StandsForEither old) (StandsForSome new.base new.history old.covered)
+        (so.any_moment is_honest) (either_grown old new (grows_on old mid new first second) within))
+        (moments_of mid new ss ps plays.3 first.within (so.stays_honest.1 is_honest) here)
+        (λ c some. record {
+          count = some.count;
+          from = omega (arith, some.from, first.covers);
+          within = some.within;
+          stands = some.stands;
+        })
+
+    -- ---- a command that is refused
+
+    pub refused_survives : (images : D → List ℕ → Type 0) (old new : Kept D) (command : Command) (e : Refusal) → new ≡ old
+        → (e ≡ no_memory) ⊎ (refusal_of_apply old command ≡ Some e)
+        → (honest old.disk → (c : List ℕ) → images old.disk c → StandsForEither old c)
+        → ((disk : D) → honest disk → (c : List ℕ) → images_since disk (moment disk) c → images disk c)
+        → during old (told.Refused e) new
+    refused_survives images old new command e same cause promise only =
+        subst (λ (k : Kept D). during old (told.Refused e) k) (sym same) (record {
+          any_moment = λ h. started moment images_since old.disk (StandsForEither old) (λ c left. promise h c (only old.disk h c left));
+          stays_honest = ((λ h. h), (λ h. h));
+          faults = inr (no_device old command e cause, refl);
+        })

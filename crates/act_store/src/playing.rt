@@ -1,0 +1,94 @@
+ghost use Rattle.std.specs.Prelude.{◌≡◌, ◌↔◌, ℕ, List, IfErr, IfOk, OnErr};
+ghost use Rattle.wf_value.specs.Gives.{no_memory};
+ghost use Rattle.act_disk.specs.Images.{EachSince};
+ghost use Rattle.act_store.specs.Entries.{IsLegal};
+ghost use Rattle.act_store.specs.Kept.{StandsForSome};
+ghost use Rattle.act_store.specs.Steps.{Grows, Plays, PlaysSome, Survives, Takes};
+ghost use Rattle.act_store.specs.declared.step.Step.TheVariants as asked;
+
+use crate::receipt::Receipt;
+use crate::step::{Played, Step};
+use crate::store::Store;
+use act_disk::Disk;
+use run_plan::Command;
+use std::alloc::Global;
+use wf_value::{Refusal, TryCopy};
+
+/// Takes steps of a store, one after another, and gives what each is answered. A step that is refused is answered by its refusal, and the
+/// next one follows.
+///
+/// Whatever the steps are, and whatever the device does: a stop at any moment leaves an image that stands for the table after some of
+/// the first entries of the history, with all that were covered when the play began, and one at the end with all that are covered
+/// then. The history is one thread's, reply by reply. Only memory can be wanting, for the answers or for a copy of a command; the
+/// store then stands after some of the first steps.
+pub fn play<D: Disk>(alloc: Global, store: &mut Store<D>, steps: &[Step]) -> Result<Vec<Played>, Refusal>
+    ensures played { IfOk result (λ answers.
+        Plays (Survives D.honest D.moment D.fault_count D.images_since) store.old steps.now answers.items store.new) }
+    ensures part { OnErr result (PlaysSome (Survives D.honest D.moment D.fault_count D.images_since) store.old steps.now store.new) }
+    ensures refused { IfErr result (λ e. e ≡ no_memory) }
+    ensures any_moment { D.honest store.old.disk → EachSince D.moment D.images_since store.old.disk store.new.disk
+        (StandsForSome store.new.base store.new.history store.old.covered) }
+    ensures stands { D.honest store.new.disk → (c : List ℕ) → D.images store.new.disk c
+        → StandsForSome store.new.base store.new.history store.new.covered c }
+    ensures legal { IsLegal store.new.base store.new.history }
+    ensures grows { Grows store.old store.new }
+    ensures honest { D.honest store.new.disk ↔ D.honest store.old.disk }
+{
+    let answers = take_all(alloc, store, steps);
+    let _covered = store.covered();
+    answers
+}
+
+/// Takes steps, one after another.
+fn take_all<D: Disk>(alloc: Global, store: &mut Store<D>, steps: &[Step]) -> Result<Vec<Played>, Refusal>
+    ensures played { IfOk result (λ answers.
+        Plays (Survives D.honest D.moment D.fault_count D.images_since) store.old steps.now answers.items store.new) }
+    ensures part { OnErr result (PlaysSome (Survives D.honest D.moment D.fault_count D.images_since) store.old steps.now store.new) }
+    ensures refused { IfErr result (λ e. e ≡ no_memory) }
+{
+    let mut answers = Vec::new(alloc);
+    for step in steps {
+        let answer = take_step(alloc, store, step)?;
+        answers.push(answer)?;
+    }
+    Ok(answers)
+}
+
+/// Takes a step. Where a command cannot be copied, none is taken.
+fn take_step<D: Disk>(alloc: Global, store: &mut Store<D>, step: &Step) -> Result<Played, Refusal>
+    ensures takes { IfOk result (λ answer. Takes store.old step.now answer store.new) }
+    ensures survives { IfOk result (λ answer. Survives D.honest D.moment D.fault_count D.images_since store.old answer store.new) }
+    ensures unchanged { OnErr result (store.new ≡ store.old) }
+    ensures refused { IfErr result (λ e. e ≡ no_memory) }
+{
+    match step {
+        Step::Apply(command) => {
+            let copy = command.copy(alloc)?;
+            Ok(take_apply(alloc, store, copy))
+        }
+        Step::Commit => Ok(take_commit(store)),
+    }
+}
+
+/// Applies a command for seat 0.
+fn take_apply<D: Disk>(alloc: Global, store: &mut Store<D>, command: Command) -> Played
+    ensures takes { Takes store.old (asked.Apply command) result store.new }
+    ensures survives { Survives D.honest D.moment D.fault_count D.images_since store.old result store.new }
+{
+    let _covered = store.covered();
+    match store.apply(alloc, 0, command) {
+        Ok(Receipt { reply, .. }) => Played::Replied(reply),
+        Err(refusal) => Played::Refused(refusal),
+    }
+}
+
+/// Covers all entries.
+fn take_commit<D: Disk>(store: &mut Store<D>) -> Played
+    ensures takes { Takes store.old asked.Commit result store.new }
+    ensures survives { Survives D.honest D.moment D.fault_count D.images_since store.old result store.new }
+{
+    match store.commit() {
+        Ok(count) => Played::Count(count),
+        Err(refusal) => Played::Refused(refusal),
+    }
+}
