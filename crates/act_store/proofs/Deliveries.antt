@@ -26,7 +26,7 @@ use Rattle.run_table.specs.RunNumber.{events}
 use Rattle.run_table.specs.Rules.{closing_rule, decided, is_blocked, is_done, is_settled, leg_in_phase, leg_rule, next_leg_phase, next_run_phase}
 use Rattle.run_table.specs.Rules.{opening_rule, result_at, rule_at, run_in_phase, settled_as, whole_rule}
 use Rattle.run_table.specs.Settling.{first_place, first_rule, left, settled, settled_within}
-use Rattle.run_table.specs.Step.{admission_answer, admitting, cancel_answer, cancelling, claim_answer, claiming, is_delivered_as, leasing, losing, lost}
+use Rattle.run_table.specs.Step.{admission_answer, admitting, cancel_answer, cancelling, claim_answer, claiming, is_delivered_as, leased_leg, leasing, losing, lost}
 use Rattle.run_table.specs.Step.{new_run, refused, released, report_answer, reporting, serving_nothing, step, stepped, unchanged, with_ended}
 use Rattle.run_table.specs.Stops.{after_end, outcome_of_loss, stopped_in, stopped_run, stops_others, told_to_stop, with_stopped_legs}
 use Rattle.run_table.specs.TableState.{JobState, LegState, RunState, RunnerState, TableState}
@@ -127,17 +127,18 @@ answered : (t : TableState) (answer : Option Reply) (change : Step) → Keeps t 
 answered t None change h = h
 answered t (Some given) change h = keeps_itself t
 
+entered_events : (t : TableState) (event : Admitted) → events (admitting t event).table.runs ≡ events t.runs ++ event ∷ []
+entered_events t event =
+    settled_events (t.runs ++ new_run event ∷ []) ∙ map-append (λ (x : RunState). x.admitted) t.runs (new_run event ∷ [])
+
 admits : (t : TableState) (event : Admitted) → Keeps t (admitting t event).table
-admits t event = (
-  event ∷ [],
-  settled_events (t.runs ++ new_run event ∷ []) ∙ map-append (λ (x : RunState). x.admitted) t.runs (new_run event ∷ []),
-)
+admits t event = (event ∷ [], entered_events t event)
 
 claims : (t : TableState) (claim : Claimed) → Keeps t (claiming t claim).table
 claims t claim = elim (first_fit claim.labels t.runs) as (λ o. Keeps t (option_map_or (leasing t claim) o (serving_nothing t claim)).table) [
   | None ↦ keeps_all t (serving_nothing t claim).table (settled_events t.runs)
   | Some p ↦ keeps_all t (leasing t claim p).table
-      (let f = λ (x : LegState). record { phase = leg.Running; lease = Some (t.last_lease + 1) } in
+      (let f : LegState → LegState = λ x. leased_leg (t.last_lease + 1) in
       settled_events (with_leg p f t.runs) ∙ leg_events p f t.runs)
 ]
 
@@ -178,8 +179,7 @@ pub after_keeps : (t : TableState) (cs : List Command) → Keeps t (after t cs)
 after_keeps t [] = keeps_itself t
 after_keeps t (c ∷ cs) =
     let first = step_keeps t c in
-    let others = after_keeps (stepped t c).table cs in
-    (
+    let others = after_keeps (stepped t c).table cs in (
       first.0 ++ others.0,
       others.1 ∙ ap (λ (l : List Admitted). l ++ others.0) first.1 ∙ append_assoc (events t.runs) first.0 others.0,
     )
@@ -263,7 +263,7 @@ new_place t event none =
     let behind = placed_nowhere (prefix_len q old) (length old) (by_events event.delivery t.runs ∙ none) in
     let same : prefix_len q (old ++ event ∷ []) ≡ length old = len_all q old event behind is_new in
     sym (by_events event.delivery now)
-    ∙ ap (λ (l : List Admitted). position (is_event event.delivery) l) (admits t event).1
+    ∙ ap (λ (l : List Admitted). position (is_event event.delivery) l) (entered_events t event)
     ∙ place_is (prefix_len q (old ++ event ∷ [])) (length (old ++ event ∷ [])) (omega (arith, same, length-append old (event ∷ [])))
     ∙ ap (λ (n : ℕ). Some n) (same ∙ length_is)
 

@@ -36,9 +36,9 @@ module _ {D : Type 0} (s : Kept D) (command : Command) where
   has_few none = elim (cases_Bool (nat_le 100000 (length s.history))) [
     | inl full ↦ absurd (cc (sym (ap (λ (b : Bool). if b then Some history_full else refusal_of_room s command) full) ∙ none))
     | inr fewer ↦ (
-        leb-false 100000 (length s.history) fewer,
-        sym (ap (λ (b : Bool). if b then Some history_full else refusal_of_room s command) fewer) ∙ none,
-      )
+      leb-false 100000 (length s.history) fewer,
+      sym (ap (λ (b : Bool). if b then Some history_full else refusal_of_room s command) fewer) ∙ none,
+    )
   ]
 
   pub is_admitted : refusal_of_apply s command ≡ None → IsAdmitted s command
@@ -49,7 +49,7 @@ module _ {D : Type 0} (s : Kept D) (command : Command) where
         | inr live ↦ (
             let few = has_few (sym (ap (λ (b : Bool). if b then Some failed_earlier else rest) live) ∙ none) in
             record { live = live; fewer = few.0; room = has_room few.1 }
-          )
+            )
       ]
 
 body_with : (commands : List Command) (command : Command) (body : List ℕ) → body ≡ batch.spelling (commands ++ command ∷ [])

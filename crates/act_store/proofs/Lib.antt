@@ -1,12 +1,15 @@
 mod Beginning
 mod Committing
+mod Deliveries
 mod Entering
 mod Histories
+mod KeptReplies
 mod Meanings
 mod OneTable
 mod Opening
-mod Playing
+mod Plays
 mod Records
+mod Reopening
 mod Replaying
 mod Settling
 mod Spelling

@@ -70,8 +70,12 @@ commands_with commands more =
 pub length_with : (commands : List Command) (more : Command)
     → batch_length (commands ++ more ∷ []) ≡ (4 + length (flat_map command_bytes commands)) + length (command_bytes more)
 length_with commands more =
-    omega (arith, length_batch (commands ++ more ∷ []), ap (λ (l : List ℕ). length l) (commands_with commands more),
-    length-append (flat_map command_bytes commands) (command_bytes more))
+    omega (
+      arith,
+      length_batch (commands ++ more ∷ []),
+      ap (λ (l : List ℕ). length l) (commands_with commands more),
+      length-append (flat_map command_bytes commands) (command_bytes more),
+    )
 
 pub record_with : (commands : List Command) (more : Command) (count : ℕ) (front number waiting bytes : List ℕ) → length front ≡ 4
     → count ≡ length commands + 1 → number ≡ to_be_bytes w32 count → waiting ≡ flat_map command_bytes commands
@@ -94,9 +98,18 @@ pub length_record_with : (commands : List Command) (more : Command) (count : ℕ
     → length bytes ≡ 5 + batch_length (commands ++ more ∷ [])
 length_record_with commands more count front number waiting bytes four numbered waits is =
     let size : length number ≡ 4 = ap (λ (l : List ℕ). length l) numbered in
-    omega (arith, ap (λ (l : List ℕ). length l) is, length-append (((front ++ number) ++ waiting) ++ command_bytes more) (0 ∷ []),
-    length-append ((front ++ number) ++ waiting) (command_bytes more), length-append (front ++ number) waiting, length-append front number,
-    four, size, ap (λ (l : List ℕ). length l) waits, length_with commands more)
+    omega (
+      arith,
+      ap (λ (l : List ℕ). length l) is,
+      length-append (((front ++ number) ++ waiting) ++ command_bytes more) (0 ∷ []),
+      length-append ((front ++ number) ++ waiting) (command_bytes more),
+      length-append (front ++ number) waiting,
+      length-append front number,
+      four,
+      size,
+      ap (λ (l : List ℕ). length l) waits,
+      length_with commands more,
+    )
 
 -- what waits has a count
 pub has_count : (commands : List Command) (waiting : Option (List ℕ)) → waiting ≡ record_body commands → IfSome waiting (λ body. 4 ≤ length body)

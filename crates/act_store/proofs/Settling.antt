@@ -28,8 +28,13 @@ length-opened : (head : Head) (bodies : List (List ℕ)) (body : List ℕ)
 length-opened head bodies body =
     let number = to_be_bytes w32 (length body) in
     let four : length number ≡ 4 = refl in
-    omega (arith, ap (λ (l : List ℕ). length l) (opened-push head bodies body), length-append (opened head bodies) (0xA5 ∷ framed body),
-    length-append number body, four)
+    omega (
+      arith,
+      ap (λ (l : List ℕ). length l) (opened-push head bodies body),
+      length-append (opened head bodies) (0xA5 ∷ framed body),
+      length-append number body,
+      four,
+    )
 
 -- an image that reads so stands for what it means
 pub stands_for : (len : ℕ) (side : Side) (gate : Gate) (head : Head) (bodies : List (List ℕ)) (table : TableState) (c : List ℕ)

@@ -55,5 +55,10 @@ gate_there (gate ∷ rest) closed = omega arith
 pub gate_within : (area : List ℕ) (generation used : ℕ) (table : TableState) → SpellsArea area generation used table → used < length area
 gate_within area generation used table spells =
     let reads = spells.reads in
-    omega (arith, spells.used_is, ap (λ (l : List ℕ). length l) reads.split, length-append (opened spells.head spells.bodies) reads.rest,
-    gate_there reads.rest reads.closed)
+    omega (
+      arith,
+      spells.used_is,
+      ap (λ (l : List ℕ). length l) reads.split,
+      length-append (opened spells.head spells.bodies) reads.rest,
+      gate_there reads.rest reads.closed,
+    )

@@ -5,6 +5,7 @@ pub mod Meaning
 pub mod Opened
 pub mod Plain
 pub mod Promise
+pub mod Reopened
 pub mod Replayed
 pub mod Spelled
 pub mod Steps

@@ -17,6 +17,7 @@ use wf_value::{Code, Refusal};
 
 /// The least length of a disk of two areas, and the most.
 const LEAST: u64 = 8_192;
+
 const MOST: u64 = 2_147_483_648;
 
 /// Half of a disk's length, where that is the length of an area.

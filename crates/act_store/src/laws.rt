@@ -1,10 +1,35 @@
 //! Laws of what images stand for.
 
 ghost use Rattle.std.specs.Prelude.{◌≡◌, ℕ, List};
+ghost use Rattle.run_plan.specs.Admitted.{Admitted};
+ghost use Rattle.run_plan.specs.declared.command.Command.TheVariants as command;
+ghost use Rattle.run_plan.specs.declared.reply.Reply.TheVariants as reply;
+ghost use Rattle.run_table.specs.Step.{step};
 ghost use Rattle.run_table.specs.TableState.{TableState};
+ghost use Rattle.act_store.specs.Entries.{commands_of};
 ghost use Rattle.act_store.specs.Images.{StandsFor};
+ghost use Rattle.act_store.specs.Reopened.{HasTurn, HaveNoLaterTurn, IsRefused, Reopens};
+ghost use Rattle.act_store.specs.declared.entry.Entry.{Entry};
 
 /// An image stands for one table at most.
 pub fn an_image_stands_for_one_table()
     ensures { (image : List ℕ) (one two : TableState) → StandsFor one image → StandsFor two image → one ≡ two }
+{}
+
+/// After a stop and an opening, an event whose delivery was answered with a run, by an entry that was acknowledged, is answered with
+/// the same run again, whatever its body is. The table stays.
+pub fn a_delivery_makes_one_run()
+    ensures { (base table : TableState) (history before behind : List Entry) (entry : Entry) (covered run : ℕ) (event again : Admitted)
+        → Reopens base history covered before entry behind table
+        → entry.command ≡ command.Admit event → entry.reply ≡ reply.Created run → again.delivery ≡ event.delivery
+        → step table (command.Admit again) ≡ (table, reply.Created run) }
+{}
+
+/// After a stop and an opening, a runner that asks again what an acknowledged entry carried out gets the reply of that entry again, as
+/// long as the history has no later number of that runner. The table stays.
+pub fn a_kept_reply_is_given_again()
+    ensures { (base table : TableState) (history before behind : List Entry) (entry : Entry) (covered number : ℕ) (runner : List ℕ)
+        → Reopens base history covered before entry behind table
+        → HasTurn entry.command runner number → (IsRefused entry.reply → ⊥) → HaveNoLaterTurn runner number (commands_of behind)
+        → step table entry.command ≡ (table, entry.reply) }
 {}

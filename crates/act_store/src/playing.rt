@@ -21,7 +21,11 @@ use wf_value::{Refusal, TryCopy};
 /// the first entries of the history, with all that were covered when the play began, and one at the end with all that are covered
 /// then. The history is one thread's, reply by reply. Only memory can be wanting, for the answers or for a copy of a command; the
 /// store then stands after some of the first steps.
-pub fn play<D: Disk>(alloc: Global, store: &mut Store<D>, steps: &[Step]) -> Result<Vec<Played>, Refusal>
+pub fn play<D: Disk>(
+    alloc: Global,
+    store: &mut Store<D>,
+    steps: &[Step],
+) -> Result<Vec<Played>, Refusal>
     ensures played { IfOk result (λ answers.
         Plays (Survives D.honest D.moment D.fault_count D.images_since) store.old steps.now answers.items store.new) }
     ensures part { OnErr result (PlaysSome (Survives D.honest D.moment D.fault_count D.images_since) store.old steps.now store.new) }
@@ -34,13 +38,19 @@ pub fn play<D: Disk>(alloc: Global, store: &mut Store<D>, steps: &[Step]) -> Res
     ensures grows { Grows store.old store.new }
     ensures honest { D.honest store.new.disk ↔ D.honest store.old.disk }
 {
+    let first = store.covered();
     let answers = take_all(alloc, store, steps);
-    let _covered = store.covered();
+    let last = store.covered();
+    prove!(first <= last);
     answers
 }
 
 /// Takes steps, one after another.
-fn take_all<D: Disk>(alloc: Global, store: &mut Store<D>, steps: &[Step]) -> Result<Vec<Played>, Refusal>
+fn take_all<D: Disk>(
+    alloc: Global,
+    store: &mut Store<D>,
+    steps: &[Step],
+) -> Result<Vec<Played>, Refusal>
     ensures played { IfOk result (λ answers.
         Plays (Survives D.honest D.moment D.fault_count D.images_since) store.old steps.now answers.items store.new) }
     ensures part { OnErr result (PlaysSome (Survives D.honest D.moment D.fault_count D.images_since) store.old steps.now store.new) }

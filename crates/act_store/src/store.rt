@@ -42,12 +42,28 @@ impl<D: Disk> Model for Store<D> {
 
     ghost Value = { Kept D };
 
-    ghost view = { λ s. record { disk = s.disk; area = s.areas.len; base = s.base; history = s.history.items; covered = s.covered;
-        used = s.used; generation = s.generation; failed = s.failed } };
+    ghost view = { λ s. record {
+      disk = s.disk;
+      area = s.areas.len;
+      base = s.base;
+      history = s.history.items;
+      covered = s.covered;
+      used = s.used;
+      generation = s.generation;
+      failed = s.failed;
+    } };
 
     ghost invariant = { λ s.
-        let kept : Kept D = record { disk = s.disk; area = s.areas.len; base = s.base; history = s.history.items; covered = s.covered;
-            used = s.used; generation = s.generation; failed = s.failed } in
+        let kept : Kept D = record {
+          disk = s.disk;
+          area = s.areas.len;
+          base = s.base;
+          history = s.history.items;
+          covered = s.covered;
+          used = s.used;
+          generation = s.generation;
+          failed = s.failed;
+        } in
         IsCounted {D = D} kept s.table s.waiting
         × (s.failed ≡ false → D.Disk.fault_count s.disk < 2 ^ 64 - 1)
         × (D.Disk.honest s.disk → IsStanding D.Disk.images s.areas.side s.other kept) };

@@ -1,4 +1,4 @@
-use Rattle.act_store.proofs.Playing.{refused_survives}
+use Rattle.act_store.proofs.Plays.{refused_survives}
 use Rattle.act_store.proofs.playing.take_apply.Goals as goal
 
 pub returns-in-Err-clause-survives : goal.returns-in-Err-clause-survives

@@ -20,11 +20,16 @@ of-requires-clause-short c =
     let four : length front ≡ 4 =
     ap (λ (l : List ℕ). length l) (first ∙ ap (λ (l : List ℕ). l ++ (0 ∷ 0 ∷ 0 ∷ 0 ∷ [])) c.new-bytes.ensures.items) in
     let len : vec_len c.push.new.self ≡ length c.push.new.self.items = c.push.new.self.ok.0 in
-    omega (arith, len, length_record_with commands more _ front c.to_be_bytes.result waiting c.push.new.self.items four c.to_be_bytes.ensures
-    (c.spelled.ensures.bytes commands c.requires.waiting)
-    (c.in_ok-push.ensures.items ∙ ap (λ (l : List ℕ). l ++ 0 ∷ []) (c.in_ok-write_command.ensures.ok.1
-    ∙ ap (λ (l : List ℕ). l ++ command_bytes more) (c.in_ok-extend_from_slice-3.ensures.items
-    ∙ ap (λ (l : List ℕ). l ++ waiting) c.in_ok-extend_from_slice-2.ensures.items))), c.requires.fits)
+    omega (
+      arith,
+      len,
+      length_record_with commands more _ front c.to_be_bytes.result waiting c.push.new.self.items four c.to_be_bytes.ensures
+          (c.spelled.ensures.bytes commands c.requires.waiting)
+          (c.in_ok-push.ensures.items ∙ ap (λ (l : List ℕ). l ++ 0 ∷ []) (c.in_ok-write_command.ensures.ok.1
+          ∙ ap (λ (l : List ℕ). l ++ command_bytes more) (c.in_ok-extend_from_slice-3.ensures.items
+          ∙ ap (λ (l : List ℕ). l ++ waiting) c.in_ok-extend_from_slice-2.ensures.items))),
+      c.requires.fits,
+    )
 
 pub returns-clause-record : goal.returns-clause-record
 returns-clause-record c =

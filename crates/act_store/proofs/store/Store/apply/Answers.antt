@@ -34,7 +34,7 @@ invariant_of-self-2 g c =
     let spells : body ≡ batch.spelling (pending_commands k ++ command ∷ []) =
     c.in_ok-record.ensures.record ∙ ap (λ (l : List Entry). batch.spelling (commands_of l ++ command ∷ [])) slice in (
       subst (λ (t : TableState). IsCounted (record k { history = history }) t (Some body)) (sym table)
-      (counted_entered k s.table s.waiting counted command entry history refl refl is body spells c.in_ok-record.ensures.spelled admitted),
+          (counted_entered k s.table s.waiting counted command entry history refl refl is body spells c.in_ok-record.ensures.spelled admitted),
       c.self.invariant.1,
       λ honest. standing_entered g.D.Disk.images s.areas.side s.other k counted.size history entry is counted.covers admitted.live
           (c.self.invariant.2 honest),

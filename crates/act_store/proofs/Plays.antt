@@ -1,9 +1,9 @@
 -- What steps leave, one after another.
 use Rattle.std.proofs.Common.{◌≡◌, inl, inr, ⊎_elim, ◌↔◌, ℕ, ◌+◌, ◌<◌, ◌≤◌, List, [], ◌∷◌, ◌++◌, length, take, refl, sym, ◌∙◌, ap, subst, arith}
-use Rattle.std.proofs.Common.{append_assoc, length-append, true, false, Bool}
-use Rattle.std.specs.Prelude.{Option, Some, None, IfSome, IfOk, OnErr, Result, Ok, Err, if◌then◌else◌, nat_le, nat_lt}
+use Rattle.std.proofs.Common.{append_assoc, drop, get_or, length-append, take-append-drop, true, false, Bool}
+use Rattle.std.specs.Prelude.{◌⊎◌, Option, Some, None, IfSome, IfOk, OnErr, Result, Ok, Err, if◌then◌else◌, nat_le, nat_lt}
 use Rattle.std.proofs.Math.Nat.{eq-or-lt_of_le}
-use Rattle.std.proofs.lemmas.List.{append-nil, take_all, take-append-le}
+use Rattle.std.proofs.lemmas.List.{append-nil, take_all, take-append-le, take_more}
 use Rattle.wf_value.specs.Gives.{no_memory}
 use Rattle.wf_value.specs.declared.refusal.Refusal.{Refusal}
 use Rattle.act_disk.specs.Failed.{device_failed}
@@ -35,6 +35,26 @@ plays_more during old mid new [] (p ∷ ps) step answer plays takes so = absurd 
 plays_more during old mid new (s ∷ ss) [] step answer plays takes so = absurd plays
 plays_more during old mid new (s ∷ ss) (p ∷ ps) step answer plays takes so =
     (plays.0, plays.1, plays.2, plays_more during plays.0 mid new ss ps step answer plays.3 takes so)
+
+module _ {D : Type 0} (during : Kept D → Played → Kept D → Type 0) (old : Kept D) (steps : List Step) where
+  -- the next step of a list
+  pub plays_next : (mid new : Kept D) (i : ℕ) (answers all : List Played) (step : Step) (answer : Played) → i < length steps
+      → step ≡ get_or steps i step → all ≡ answers ++ answer ∷ [] → Plays during old (take i steps) answers mid → Takes mid step answer new
+      → during mid answer new → Plays during old (take (i + 1) steps) all new
+  plays_next mid new i answers all step answer below is all_is plays takes so =
+      let front : take (i + 1) steps ≡ take i steps ++ step ∷ [] =
+      take_more steps i step below ∙ ap (λ (s : Step). take i steps ++ s ∷ []) (sym is) in
+      subst (λ (l : List Step). Plays during old l all new) (sym front)
+      (subst (λ (l : List Played). Plays during old (take i steps ++ step ∷ []) l new) (sym all_is)
+      (plays_more during old mid new (take i steps) answers step answer plays takes so))
+
+  pub first_played : (new : Kept D) (i : ℕ) (answers : List Played) → Plays during old (take i steps) answers new → PlaysSome during old steps new
+  first_played new i answers plays =
+      record { first = take i steps; others = drop i steps; split = sym (take-append-drop i steps); answers = answers; plays = plays }
+
+pub on_err : {T E : Type 0} (r : Result T E) (P : Type 0) → P → OnErr r P
+on_err (Ok x) P p = tt
+on_err (Err e) P p = p
 
 -- ---- why a command is refused
 
@@ -210,3 +230,22 @@ module _ {D : Type 0} where
           stays_honest = ((λ h. h), (λ h. h));
           faults = inr (no_device old command e cause, refl);
         })
+
+    -- ---- what a play leaves, whatever came of it
+
+    module _ (images : D → List ℕ → Type 0) (only : (disk : D) → honest disk → (c : List ℕ) → images_since disk (moment disk) c → images disk c)
+        (old new : Kept D) (steps : List Step) (part : PlaysSome during old steps new) (within : old.covered ≤ length old.history)
+        (promise : honest new.disk → (c : List ℕ) → images new.disk c → StandsForEither new c) where
+      pub play_grows : Grows old new
+      play_grows = plays_grows during old new part.first part.answers part.plays within
+
+      pub play_honest : honest new.disk ↔ honest old.disk
+      play_honest = honest_of old new part.first part.answers part.plays
+
+      pub play_moments : honest old.disk → EachSince moment images_since old.disk new.disk (StandsForSome new.base new.history old.covered)
+      play_moments is_honest =
+          let still = play_honest.1 is_honest in
+          moments_of old new part.first part.answers part.plays within is_honest (λ c left. promise still c (only new.disk still c left))
+
+      pub play_stands : honest new.disk → (c : List ℕ) → images new.disk c → StandsForSome new.base new.history new.covered c
+      play_stands still c now = either_now new play_grows.within c (promise still c now)

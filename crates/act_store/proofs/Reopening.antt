@@ -1,0 +1,103 @@
+-- What an opening after a stop finds of an entry that was acknowledged.
+use Rattle.std.proofs.Common.{◌≡◌, ℕ, zero, suc, ◌+◌, ◌-◌, ◌<◌, ◌≤◌, List, [], ◌∷◌, ◌++◌, length, map, take, drop, refl, sym, ◌∙◌, ap, subst, arith}
+use Rattle.std.specs.List.{AllByRecursion}
+use Rattle.run_plan.specs.Admitted.{Admitted}
+use Rattle.run_plan.specs.declared.command.Command.{Command}
+use Rattle.run_plan.specs.declared.command.Command.TheVariants as command
+use Rattle.run_plan.specs.declared.reply.Reply.{Reply}
+use Rattle.run_plan.specs.declared.reply.Reply.TheVariants as reply
+use Rattle.run_table.specs.Histories.{after, replies}
+use Rattle.run_table.specs.Sound.{IsSound}
+use Rattle.run_table.specs.Step.{empty, step, stepped}
+use Rattle.run_table.specs.TableState.{TableState}
+use Rattle.run_table.proofs.StepKeeps.{empty_is_sound, stepped_is_sound}
+use Rattle.act_store.specs.Entries.{IsLegal, commands_of, replies_of, table_after}
+use Rattle.act_store.specs.Images.{StandsFor}
+use Rattle.act_store.specs.Reopened.{HasTurn, HaveNoLaterTurn, IsRefused, Reopens}
+use Rattle.act_store.specs.TableText.{SpellsTable}
+use Rattle.act_store.specs.declared.entry.Entry.{Entry}
+use Rattle.act_store.proofs.Deliveries.{after_keeps, created_again, created_at, place_of, place_stays}
+use Rattle.act_store.proofs.Histories.{table-append}
+use Rattle.act_store.proofs.KeptReplies.{HasKept, has_after, test_of, turn_again, turn_has}
+use Rattle.act_store.proofs.OneTable.{one_table}
+
+-- ---- the reply of an entry, and the tables behind it
+
+legal_at : (base : TableState) (before behind : List Entry) (entry : Entry) → IsLegal base (before ++ entry ∷ behind)
+    → entry.reply ≡ (stepped (table_after base before) entry.command).reply
+legal_at base [] behind entry legal = cc legal
+legal_at base (e ∷ before) behind entry legal =
+    let rest : replies_of (before ++ entry ∷ behind) ≡ replies (stepped base e.command).table (commands_of (before ++ entry ∷ behind)) = cc legal in
+    legal_at (stepped base e.command).table before behind entry rest
+
+front_at : (before behind : List Entry) (entry : Entry) (count : ℕ) → length before < count
+    → take count (before ++ entry ∷ behind) ≡ before ++ entry ∷ take (count - length before - 1) behind
+front_at [] behind entry zero less = absurd (omega (arith, less))
+front_at [] behind entry (suc count) less = ap (λ (n : ℕ). entry ∷ take n behind) (omega arith)
+front_at (e ∷ before) behind entry zero less = absurd (omega (arith, less))
+front_at (e ∷ before) behind entry (suc count) less =
+    let same : suc count - length (e ∷ before) - 1 ≡ count - length before - 1 = omega arith in
+    ap (λ (l : List Entry). e ∷ l) (front_at before behind entry count (omega (arith, less)))
+    ∙ ap (λ (n : ℕ). e ∷ before ++ entry ∷ take n behind) (sym same)
+
+fewer : (name : List ℕ) (number n : ℕ) (behind : List Entry) → HaveNoLaterTurn name number (commands_of behind)
+    → HaveNoLaterTurn name number (commands_of (take n behind))
+fewer name number zero behind all = tt
+fewer name number (suc n) [] all = tt
+fewer name number (suc n) (e ∷ behind) all = (all.0, fewer name number n behind all.1)
+
+-- ---- a table that an image stands for
+
+sound_after : (t : TableState) (cs : List Command) → IsSound t → IsSound (after t cs)
+sound_after t [] sound = sound
+sound_after t (c ∷ cs) sound = sound_after (stepped t c).table cs (stepped_is_sound t c sound)
+
+pub stands_sound : (table : TableState) (image : List ℕ) → StandsFor table image → IsSound table
+unfolding SpellsTable
+stands_sound table image stands =
+    let means = stands.means in
+    subst IsSound means.table_is (sound_after means.first means.commands (subst IsSound (sym means.text.0) empty_is_sound))
+
+module _ (base table : TableState) (history before behind : List Entry) (entry : Entry) (covered : ℕ)
+    (opens : Reopens base history covered before entry behind table) where
+  abbrev here : TableState
+  here = table_after base before
+
+  told : entry.reply ≡ (stepped here entry.command).reply
+  told = legal_at base before behind entry (subst (λ (l : List Entry). IsLegal base l) opens.stands_at opens.legal)
+
+  abbrev later : List Entry
+  later = take (opens.left.count - length before - 1) behind
+
+  -- the table that was found is one after the entry
+  found : table ≡ after (stepped here entry.command).table (commands_of later)
+  found =
+      one_table opens.image table (table_after base (take opens.left.count history)) opens.opened opens.left.stands
+      ∙ ap (λ (l : List Entry). table_after base (take opens.left.count l)) opens.stands_at
+      ∙ ap (λ (l : List Entry). table_after base l)
+      (front_at before behind entry opens.left.count (omega (arith, opens.acknowledged, opens.left.from)))
+      ∙ table-append base before (entry ∷ later)
+
+  pub delivery_again : (id : ℕ) (event again : Admitted) → entry.command ≡ command.Admit event → entry.reply ≡ reply.Created id
+      → again.delivery ≡ event.delivery → step table (command.Admit again) ≡ (table, reply.Created id)
+  delivery_again id event again asked created same =
+      let t = (stepped here (command.Admit event)).table in
+      let given : (stepped here (command.Admit event)).reply ≡ reply.Created id =
+      ap (λ (c : Command). (stepped here c).reply) (sym asked) ∙ sym told ∙ created in
+      let at = created_at here event id given in
+      let is : table ≡ after t (commands_of later) = found ∙ ap (λ (c : Command). after (stepped here c).table (commands_of later)) asked in
+      let stays = place_stays event.delivery t (after t (commands_of later)) at.0 (after_keeps t (commands_of later)) at.2 in
+      created_again table again at.0
+      (ap (λ (d : List ℕ). place_of d table) same ∙ ap (λ (x : TableState). place_of event.delivery x) is ∙ stays)
+      ∙ ap (λ (n : ℕ). (table, reply.Created n)) (sym at.1)
+
+  pub reply_again : (name : List ℕ) (number : ℕ) → HasTurn entry.command name number → (IsRefused entry.reply → ⊥)
+      → HaveNoLaterTurn name number (commands_of behind) → step table entry.command ≡ (table, entry.reply)
+  reply_again name number turn taken no_later =
+      let s = stepped here entry.command in
+      let first = turn_has here entry.command name number turn (λ refused. taken (refused.0, told ∙ refused.1)) in
+      let last = has_after name number (test_of entry.command) s.reply s.table (commands_of later)
+      (fewer name number (opens.left.count - length before - 1) behind no_later) first in
+      turn_again table entry.command name number s.reply turn (stands_sound table opens.image opens.opened).names_differ
+      (subst (λ (x : TableState). HasKept x name number (test_of entry.command) s.reply) (sym found) last)
+      ∙ ap (λ (r : Reply). (table, r)) (sym told)
