@@ -1,9 +1,8 @@
 -- How a store begins: with an empty history, at the table that its disk stands for.
-use Rattle.std.proofs.Common.{◌≡◌, inl, ℕ, ◌+◌, ◌<◌, ◌≤◌, List, [], ◌∷◌, ◌++◌, length, take, drop, false, refl, sym, ◌∙◌, ap, subst, arith}
-use Rattle.std.specs.Prelude.{Some, None}
-use Rattle.std.specs.List.{AllByRecursion}
+use Rattle.std.proofs.Common.{◌≡◌, inl, ℕ, ◌<◌, List, [], ◌∷◌, take, false, refl, sym, ap, subst, arith}
+use Rattle.std.specs.Prelude.{None}
 use Rattle.std.proofs.lemmas.List.{take_all}
-use Rattle.gated_journal.specs.Layout.{Head, Fits, opened}
+use Rattle.gated_journal.specs.Layout.{Head, Fits}
 use Rattle.gated_journal.specs.TwoAreas.{behind_gate}
 use Rattle.gated_journal.specs.Whole.{StandsWhole}
 use Rattle.gated_journal.specs.declared.gate.Gate.{Gate}
@@ -12,12 +11,11 @@ use Rattle.gated_journal.specs.declared.side.Side.{Side}
 use Rattle.gated_journal.specs.declared.side.Side.TheVariants.{First}
 use Rattle.run_table.specs.Step.{empty}
 use Rattle.run_table.specs.TableState.{TableState}
-use Rattle.table_text.specs.Commands.{IsSpelled}
-use Rattle.act_store.specs.Entries.{IsLegal, commands_of, table_after}
+use Rattle.act_store.specs.Entries.{table_after}
 use Rattle.act_store.specs.Images.{IsAreaLength, StandsFor}
-use Rattle.act_store.specs.Kept.{Kept, covered_table, table_of}
+use Rattle.act_store.specs.Kept.{Kept}
 use Rattle.act_store.specs.Meaning.{MeansTable}
-use Rattle.act_store.specs.Promise.{IsCounted, IsSettled, IsStanding, record_body}
+use Rattle.act_store.specs.Promise.{IsCounted, IsSettled, IsStanding}
 use Rattle.act_store.specs.TableText.{SpellsTable, empty_text}
 use Rattle.act_store.specs.declared.entry.Entry.{Entry}
 use Rattle.act_store.proofs.Settling.{settled_at, settled_stands}

@@ -1,5 +1,5 @@
 -- What a commit leaves.
-use Rattle.std.proofs.Common.{◌≡◌, ⊎_elim, ℕ, ◌+◌, ◌-◌, ◌<◌, ◌≤◌, ◌^◌, List, [], ◌∷◌, ◌++◌, length, take, drop, true, false}
+use Rattle.std.proofs.Common.{◌≡◌, ⊎_elim, ℕ, ◌+◌, ◌-◌, ◌<◌, ◌≤◌, List, [], ◌∷◌, ◌++◌, length, drop}
 use Rattle.std.proofs.Common.{refl, sym, ◌∙◌, ap, subst, arith, drop_of_length-le}
 use Rattle.std.specs.Prelude.{Option, Some, None}
 use Rattle.std.specs.List.{AllByRecursion}
@@ -15,10 +15,10 @@ use Rattle.table_text.specs.Commands.{IsSpelled, batch}
 use Rattle.act_store.specs.Entries.{commands_of, table_after}
 use Rattle.act_store.specs.Images.{StandsFor}
 use Rattle.act_store.specs.Kept.{Kept, StandsForEither, covered_table, pending_commands, table_of}
-use Rattle.act_store.specs.Plain.{broken, committed, record_end, used_after}
+use Rattle.act_store.specs.Plain.{broken, committed, used_after}
 use Rattle.act_store.specs.Promise.{IsCounted, IsSettled, IsStanding, record_body}
 use Rattle.act_store.specs.declared.entry.Entry.{Entry}
-use Rattle.act_store.proofs.Settling.{grown, resettled, settled_stands, standing_fresh, standing_broken}
+use Rattle.act_store.proofs.Settling.{grown, resettled, settled_stands, standing_fresh}
 
 -- an image of now is one since any moment
 pub now_of : {D : Type 0} (moment : D → ℕ) (images_since : D → ℕ → List ℕ → Type 0) (images : D → List ℕ → Type 0) (old new : D)

@@ -1,5 +1,5 @@
 -- The runs of a table stay, each with what was admitted: so a delivery that made a run is found at its place in every later table.
-use Rattle.std.proofs.Common.{◌≡◌, ℕ, zero, suc, ◌+◌, ◌-◌, ◌<◌, ◌≤◌, Bool, true, false, List, [], ◌∷◌, ◌++◌, length, map, refl, sym, ◌∙◌, ap, subst}
+use Rattle.std.proofs.Common.{◌≡◌, ℕ, zero, suc, ◌+◌, ◌-◌, ◌<◌, ◌≤◌, Bool, true, false, List, [], ◌∷◌, ◌++◌, length, map, refl, sym, ◌∙◌, ap}
 use Rattle.std.proofs.Common.{append_assoc, length-append, arith, cond, not}
 use Rattle.std.specs.Prelude.{Option, Some, None, option_map, if◌then◌else◌, nat_le, nat_lt, ◌&&◌}
 use Rattle.std.specs.List.{list_all, position, prefix_len}
@@ -14,7 +14,6 @@ use Rattle.run_plan.specs.Admitted.{Admitted}
 use Rattle.run_plan.specs.declared.command.Claim.{Claim as Claimed}
 use Rattle.run_plan.specs.declared.command.Command.{Command}
 use Rattle.run_plan.specs.declared.command.Command.TheVariants as command
-use Rattle.run_plan.specs.declared.command.Done.{Done as Reported}
 use Rattle.run_plan.specs.declared.reply.Reply.{Reply}
 use Rattle.run_plan.specs.declared.reply.Reply.TheVariants as reply
 use Rattle.run_table.specs.Fitting.{first_fit, place_of_lease}
@@ -29,7 +28,7 @@ use Rattle.run_table.specs.Settling.{first_place, first_rule, left, settled, set
 use Rattle.run_table.specs.Step.{admission_answer, admitting, cancel_answer, cancelling, claim_answer, claiming, is_delivered_as, leased_leg, leasing, losing, lost}
 use Rattle.run_table.specs.Step.{new_run, refused, released, report_answer, reporting, serving_nothing, step, stepped, unchanged, with_ended}
 use Rattle.run_table.specs.Stops.{after_end, outcome_of_loss, stopped_in, stopped_run, stops_others, told_to_stop, with_stopped_legs}
-use Rattle.run_table.specs.TableState.{JobState, LegState, RunState, RunnerState, TableState}
+use Rattle.run_table.specs.TableState.{JobState, LegState, RunState, TableState}
 use Rattle.run_table.specs.Turns.{runner_named}
 use Rattle.run_table.specs.Words.{needs_have_settled}
 use Rattle.run_table.specs.declared.phases.LegPhase.TheVariants as leg

@@ -1,18 +1,17 @@
 -- What an entry more leaves.
-use Rattle.std.proofs.Common.{◌≡◌, inl, inr, ℕ, ◌+◌, ◌<◌, ◌≤◌, Bool, List, [], ◌∷◌, ◌++◌, length, drop, true, false}
-use Rattle.std.proofs.Common.{refl, sym, ◌∙◌, ap, subst, arith, length-append}
+use Rattle.std.proofs.Common.{◌≡◌, inl, inr, ℕ, ◌+◌, ◌<◌, ◌≤◌, Bool, List, [], ◌∷◌, ◌++◌, length, drop, false}
+use Rattle.std.proofs.Common.{sym, ◌∙◌, ap, subst, arith, length-append}
 use Rattle.std.specs.Prelude.{Option, Some, None, if◌then◌else◌, nat_le, nat_lt}
 use Rattle.std.specs.List.{AllByRecursion}
 use Rattle.std.proofs.lemmas.Bool.{cases_Bool, leb-false, ltb-false}
 use Rattle.std.proofs.lemmas.List.{drop-append-le}
-use Rattle.wf_value.specs.declared.refusal.Refusal.{Refusal}
 use Rattle.run_plan.specs.declared.command.Command.{Command}
 use Rattle.run_table.specs.Step.{stepped}
 use Rattle.run_table.specs.TableState.{TableState}
 use Rattle.table_text.specs.Commands.{IsSpelled, batch}
 use Rattle.act_store.specs.Entries.{IsLegal, commands_of, table_after}
 use Rattle.act_store.specs.Kept.{Kept, pending_commands, table_of}
-use Rattle.act_store.specs.Plain.{area_full, entered, entry_of, failed_earlier, history_full, record_end, refusal_of_apply, refusal_of_room}
+use Rattle.act_store.specs.Plain.{area_full, failed_earlier, history_full, record_end, refusal_of_apply, refusal_of_room}
 use Rattle.act_store.specs.Promise.{IsCounted, record_body}
 use Rattle.act_store.specs.declared.entry.Entry.{Entry}
 use Rattle.act_store.proofs.Histories.{commands-append, legal_more, table_more}

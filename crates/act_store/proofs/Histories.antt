@@ -1,12 +1,12 @@
 -- A history with one entry more.
-use Rattle.std.proofs.Common.{◌≡◌, ℕ, ◌+◌, ◌≤◌, List, [], ◌∷◌, ◌++◌, length, map, take, drop, refl, sym, ◌∙◌, ap, take-append-drop}
+use Rattle.std.proofs.Common.{◌≡◌, ℕ, List, [], ◌∷◌, ◌++◌, take, drop, refl, sym, ◌∙◌, ap, take-append-drop}
 use Rattle.std.proofs.lemmas.List.{map-append}
 use Rattle.run_plan.specs.declared.command.Command.{Command}
 use Rattle.run_plan.specs.declared.reply.Reply.{Reply}
 use Rattle.run_table.specs.Histories.{after, replies}
 use Rattle.run_table.specs.Step.{stepped}
 use Rattle.run_table.specs.TableState.{TableState}
-use Rattle.act_store.specs.Entries.{commands_of, replies_of, table_after, IsLegal}
+use Rattle.act_store.specs.Entries.{commands_of, table_after, IsLegal}
 use Rattle.act_store.specs.declared.entry.Entry.{Entry}
 
 pub after-append : (t : TableState) (xs ys : List Command) → after t (xs ++ ys) ≡ after (after t xs) ys

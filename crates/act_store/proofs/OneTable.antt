@@ -1,7 +1,6 @@
 -- An image stands for one table at most.
-use Rattle.std.proofs.Common.{◌≡◌, ℕ, ◌+◌, List, [], ◌∷◌, ◌++◌, length, map, refl, sym, ◌∙◌, ap, subst, arith}
+use Rattle.std.proofs.Common.{◌≡◌, ℕ, List, [], ◌∷◌, ◌++◌, map, refl, sym, ◌∙◌, ap, subst, arith}
 use Rattle.std.specs.List.{AllByRecursion, flat_map}
-use Rattle.std.proofs.lemmas.List.{append-nil}
 use Rattle.gated_journal.specs.Layout.{Head, Reads}
 use Rattle.gated_journal.specs.TwoAreas.{area_on, Spells}
 use Rattle.gated_journal.specs.declared.side.Side.{Side}

@@ -1,13 +1,12 @@
 -- What a disk that is opened stands for.
-use Rattle.std.proofs.Common.{◌≡◌, ℕ, ◌+◌, ◌<◌, ◌≤◌, List, length, refl, sym, ◌∙◌, ap, subst, arith}
-use Rattle.std.specs.Prelude.{Option, Some, None}
+use Rattle.std.proofs.Common.{◌≡◌, ℕ, ◌+◌, List, length, sym, subst, arith}
+use Rattle.std.specs.Prelude.{Some, None}
 use Rattle.act_disk.specs.Images.{Only}
 use Rattle.gated_journal.specs.Layout.{Head, Reads}
 use Rattle.gated_journal.specs.TwoAreas.{area_on, standing, Spells}
 use Rattle.gated_journal.specs.Whole.{IsChosen, StandsWhole}
 use Rattle.gated_journal.specs.declared.chosen.Chosen.{Chosen}
 use Rattle.gated_journal.specs.declared.side.Side.{Side}
-use Rattle.run_table.specs.TableState.{TableState}
 use Rattle.act_store.specs.Images.{HasNoArea, HasNoTable, IsAreaLength, StandsFor}
 use Rattle.act_store.specs.Opened.{IsFound}
 use Rattle.act_store.specs.Promise.{IsSettled}

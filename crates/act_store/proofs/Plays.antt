@@ -1,7 +1,7 @@
 -- What steps leave, one after another.
-use Rattle.std.proofs.Common.{◌≡◌, inl, inr, ⊎_elim, ◌↔◌, ℕ, ◌+◌, ◌<◌, ◌≤◌, List, [], ◌∷◌, ◌++◌, length, take, refl, sym, ◌∙◌, ap, subst, arith}
+use Rattle.std.proofs.Common.{◌≡◌, inr, ⊎_elim, ◌↔◌, ℕ, ◌+◌, ◌<◌, ◌≤◌, List, [], ◌∷◌, ◌++◌, length, take, refl, sym, ◌∙◌, ap, subst, arith}
 use Rattle.std.proofs.Common.{append_assoc, drop, get_or, length-append, take-append-drop, true, false, Bool}
-use Rattle.std.specs.Prelude.{◌⊎◌, Option, Some, None, IfSome, IfOk, OnErr, Result, Ok, Err, if◌then◌else◌, nat_le, nat_lt}
+use Rattle.std.specs.Prelude.{◌⊎◌, Some, None, IfOk, OnErr, Result, Ok, Err, if◌then◌else◌, nat_le, nat_lt}
 use Rattle.std.proofs.Math.Nat.{eq-or-lt_of_le}
 use Rattle.std.proofs.lemmas.List.{append-nil, take_all, take-append-le, take_more}
 use Rattle.wf_value.specs.Gives.{no_memory}
@@ -16,7 +16,6 @@ use Rattle.act_store.specs.Images.{StandsFor}
 use Rattle.act_store.specs.Kept.{Kept, StandsForEither, StandsForSome, pending_commands}
 use Rattle.act_store.specs.Plain.{area_full, broken, committed, entered, entry_of, failed_earlier, history_full, record_end, refusal_of_apply}
 use Rattle.act_store.specs.Steps.{Covers, Grows, Plays, PlaysSome, Survives, Takes}
-use Rattle.act_store.specs.Told.{IsCause}
 use Rattle.act_store.specs.declared.entry.Entry.{Entry}
 use Rattle.act_store.specs.declared.step.Played.{Played}
 use Rattle.act_store.specs.declared.step.Played.TheVariants as told

@@ -1,10 +1,9 @@
 -- What the bytes of an area spell, from a scan of them.
-use Rattle.std.proofs.Common.{◌≡◌, ℕ, ◌+◌, ◌<◌, ◌≤◌, List, [], ◌∷◌, ◌++◌, length, refl, sym, ◌∙◌, ap, subst, arith, length-append}
-use Rattle.std.specs.Prelude.{Option, Some, None}
-use Rattle.gated_journal.specs.Layout.{Head, IsClosed, Reads, ReadsNothing, opened, record_bytes}
+use Rattle.std.proofs.Common.{◌≡◌, ℕ, ◌<◌, List, [], ◌∷◌, length, refl, sym, ◌∙◌, ap, subst, arith, length-append}
+use Rattle.std.specs.Prelude.{Some, None}
+use Rattle.gated_journal.specs.Layout.{Head, IsClosed, Reads, ReadsNothing, opened}
 use Rattle.gated_journal.specs.Scanned.{IsScanned}
 use Rattle.gated_journal.proofs.OneReading.{one_reading}
-use Rattle.run_plan.specs.declared.command.Command.{Command}
 use Rattle.run_table.specs.TableState.{TableState}
 use Rattle.act_store.specs.Meaning.{MeansTable, SpellCommands}
 use Rattle.act_store.specs.Replayed.{IsReplayed}

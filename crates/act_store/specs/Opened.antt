@@ -1,7 +1,6 @@
 -- What was found on a disk that is opened.
-use Rattle.std.specs.Prelude.{◌≡◌, ℕ, ◌+◌, ◌<◌, List, length, Some}
+use Rattle.std.specs.Prelude.{◌≡◌, ℕ, ◌+◌, List, length, Some}
 use Rattle.gated_journal.specs.TwoAreas.{IsGate, area_on, other, standing}
-use Rattle.act_store.specs.Images.{IsAreaLength}
 use Rattle.act_store.specs.Spelled.{SpellsArea}
 use Rattle.act_store.specs.declared.found.Found.{Found}
 

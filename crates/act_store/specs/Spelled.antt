@@ -1,11 +1,7 @@
 -- What the bytes of an area spell.
 use Rattle.std.specs.Prelude.{◌≡◌, ℕ, ◌+◌, List, length, Option, Some, None}
 use Rattle.gated_journal.specs.Layout.{Head, Reads, opened}
-use Rattle.run_plan.specs.declared.command.Command.{Command}
-use Rattle.run_table.specs.Histories.{after}
 use Rattle.run_table.specs.TableState.{TableState}
-use Rattle.table_text.specs.Commands.{batch}
-use Rattle.table_text.specs.Format.{Spells}
 use Rattle.act_store.specs.Images.{IsAreaLength}
 use Rattle.act_store.specs.Meaning.{MeansTable}
 use Rattle.act_store.specs.declared.spelled.Spelled.{Spelled}

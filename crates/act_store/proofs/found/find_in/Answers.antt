@@ -1,12 +1,12 @@
-use Rattle.std.proofs.Common.{◌≡◌, ◌+◌, ◌∙◌, ℕ, List, ap, subst, length}
-use Rattle.std.specs.Prelude.{Option, Some, None}
+use Rattle.std.proofs.Common.{◌≡◌, ◌∙◌, ℕ, List, ap, subst}
+use Rattle.std.specs.Prelude.{Option, None}
 use Rattle.gated_journal.specs.Choice.{part}
 use Rattle.gated_journal.specs.TwoAreas.{area_on, start_of}
 use Rattle.gated_journal.specs.Whole.{IsChosen}
 use Rattle.gated_journal.specs.declared.chosen.Chosen.{Chosen}
 use Rattle.act_store.specs.Spelled.{IsSpelled}
 use Rattle.act_store.specs.declared.spelled.Spelled.{Spelled}
-use Rattle.act_store.proofs.Opening.{no_area_in, no_table_in, found_in}
+use Rattle.act_store.proofs.Opening.{no_area_in, no_table_in}
 use Rattle.act_store.proofs.found.find_in.Goals as goal
 
 pub returns-in_default-clause-no_area : goal.returns-in_default-clause-no_area

@@ -1,4 +1,4 @@
-use Rattle.std.proofs.Common.{rules, arith, ◌≡◌, ◌+◌, ◌∙◌, sym, ap, length, List, ℕ}
+use Rattle.std.proofs.Common.{arith, ap, length, List, ℕ}
 use Rattle.act_store.specs.Entries.{commands_of}
 use Rattle.act_store.proofs.Records.{has_count, length_with}
 use Rattle.act_store.proofs.waiting.length_with.Goals as goal

@@ -1,7 +1,7 @@
-use Rattle.std.proofs.Common.{rules, arith, ◌≡◌, ◌+◌, ◌≤◌, ◌∙◌, sym, ap, subst, length, take, drop, ◌-◌, List, ℕ}
-use Rattle.std.specs.Prelude.{Option, Some, IfSome, flat_map}
+use Rattle.std.proofs.Common.{arith, ◌≡◌, ◌≤◌, ◌∙◌, ap, subst, length, take, drop, ◌-◌, List, ℕ}
+use Rattle.std.specs.Prelude.{Option, IfSome}
 use Rattle.gated_journal.specs.Appends.{record_of}
-use Rattle.table_text.specs.Commands.{batch, command_bytes}
+use Rattle.table_text.specs.Commands.{batch}
 use Rattle.act_store.proofs.Committing.{waits_some}
 use Rattle.act_store.proofs.Records.{length_record, commands_between}
 use Rattle.act_store.proofs.waiting.spelled.Goals as goal

@@ -1,5 +1,5 @@
 use Rattle.std.proofs.Common.{rules, ◌≡◌, ℕ, List, ◌+◌, ◌<◌, ◌^◌, ◌∙◌, ◌-◌, length, false, arith, ap, subst}
-use Rattle.std.specs.Prelude.{Some, None, Option}
+use Rattle.std.specs.Prelude.{None}
 use Rattle.act_disk.specs.Images.{EachSince}
 use Rattle.gated_journal.specs.Whole.{WholeOrGrew}
 use Rattle.act_store.specs.Images.{StandsFor}

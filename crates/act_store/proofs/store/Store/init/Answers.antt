@@ -1,4 +1,4 @@
-use Rattle.std.proofs.Common.{rules, ◌≡◌, ◌∙◌, [], ℕ, List, sym, arith}
+use Rattle.std.proofs.Common.{rules, ◌≡◌, ◌∙◌, [], sym, arith}
 use Rattle.run_table.specs.Step.{empty}
 use Rattle.gated_journal.specs.declared.gate.Gate.TheVariants.{Closed}
 use Rattle.gated_journal.specs.declared.side.Side.TheVariants.{First}

@@ -1,6 +1,6 @@
 use Rattle.std.proofs.Common.{rules, arith, ◌≡◌, [], ℕ, List, sym, subst}
 use Rattle.run_table.specs.TableState.{TableState}
-use Rattle.act_store.specs.Images.{IsAreaLength, StandsFor}
+use Rattle.act_store.specs.Images.{StandsFor}
 use Rattle.act_store.proofs.Beginning.{counted_begun, standing_begun}
 use Rattle.act_store.proofs.Opening.{found_settled, found_stands}
 use Rattle.act_store.proofs.Settling.{settled_at}
