@@ -1,5 +1,5 @@
 mod rows;
-mod steps;
+pub mod steps;
 mod sweep;
 mod torn;
 

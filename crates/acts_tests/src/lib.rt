@@ -4,6 +4,8 @@
 #[cfg(test)]
 mod act_disk_tests;
 #[cfg(test)]
+mod act_store_tests;
+#[cfg(test)]
 mod acts_cli_tests;
 #[cfg(test)]
 mod commands;

@@ -21,7 +21,7 @@ impl Dice {
     }
 
     /// A number from 0 to 255.
-    fn byte(&mut self) -> u8 {
+    pub fn byte(&mut self) -> u8 {
         let next = self.state.wrapping_mul(6_364_136_223_846_793_005);
         self.state = next.wrapping_add(1_442_695_040_888_963_407);
         ((self.state >> 40) % 256) as u8

@@ -1,0 +1,112 @@
+//! Stores over disks in memory, and what opens of what a stop or a fault leaves.
+
+mod bounds;
+mod faults;
+mod layout;
+mod memory;
+mod openings;
+mod rows;
+mod scripts;
+mod stops;
+
+use crate::commands::{Words, command_of};
+use crate::holds::holds;
+use act_disk::Disk;
+use act_store::Store;
+use std::alloc::Global;
+use std::process::Abort;
+use wf_value::{Chars, Refusal};
+
+/// The least length of an area.
+const LEAST: u64 = 4_096;
+
+/// What a store is asked.
+enum Ask {
+    Apply(Words<'static>),
+    Commit,
+}
+
+/// What a store is asked and the printed answer, and then how many entries it has and how many of them are covered.
+type Row = (Ask, &'static str, u64, u64);
+
+/// The number of a refusal, and 0 where there is none.
+fn number_of<T: Drop>(outcome: Result<T, Refusal>) -> u64 {
+    match outcome {
+        Ok(_) => 0,
+        Err(refusal) => refusal.number(),
+    }
+}
+
+/// A new store on an empty disk.
+fn made<D: Disk>(rt: &impl Abort, alloc: Global, disk: D, area: u64) -> Store<D> {
+    holds!(rt; disk.faults() < u64::MAX);
+    holds!(rt; LEAST <= area && area <= 1_073_741_824);
+    match Store::init(alloc, disk, area) {
+        Ok(store) => store,
+        Err((_, refusal)) => panic!(rt; "not made: {refusal}"),
+    }
+}
+
+/// The number with which a disk is refused, and 0 where it opens.
+fn number_of_opening<D: Disk + Drop>(rt: &impl Abort, alloc: Global, disk: D) -> u64 {
+    holds!(rt; disk.faults() < u64::MAX);
+    match Store::open(alloc, disk) {
+        Ok(_) => 0,
+        Err((_, refusal)) => refusal.number(),
+    }
+}
+
+/// The store of a disk that opens.
+fn opened<D: Disk>(rt: &impl Abort, alloc: Global, disk: D) -> Store<D> {
+    holds!(rt; disk.faults() < u64::MAX);
+    match Store::open(alloc, disk) {
+        Ok(store) => store,
+        Err((_, refusal)) => panic!(rt; "not opened: {refusal}"),
+    }
+}
+
+/// Applies a command, and prints the reply. The place that is told is that of the last entry.
+fn applied<D: Disk>(
+    rt: &impl Abort,
+    alloc: Global,
+    store: &mut Store<D>,
+    words: &Words<'_>,
+) -> Result<Chars, Refusal> {
+    let command = command_of(alloc, words)?;
+    let receipt = store.apply(alloc, 7, command)?;
+    holds!(rt; receipt.place == store.entries());
+    receipt.reply.text(alloc)
+}
+
+/// Commits, and prints how many entries are covered.
+fn committed<D: Disk>(alloc: Global, store: &mut Store<D>) -> Result<Chars, Refusal> {
+    let count = store.commit()?;
+    Ok(Chars::new(format!(in alloc; "covered {count}")?))
+}
+
+/// The printed answer, or the printed refusal.
+fn answer<D: Disk>(
+    rt: &impl Abort,
+    alloc: Global,
+    store: &mut Store<D>,
+    ask: &Ask,
+) -> Result<Chars, Refusal> {
+    let answered = match ask {
+        Ask::Apply(words) => applied(rt, alloc, store, words),
+        Ask::Commit => committed(alloc, store),
+    };
+    match answered {
+        Ok(text) => Ok(text),
+        Err(refusal) => refusal.text(alloc),
+    }
+}
+
+/// Asks a store in turn, and compares each answer.
+fn play<D: Disk>(rt: &impl Abort, alloc: Global, store: &mut Store<D>, rows: &[Row]) {
+    for (place, (ask, want, entries, covered)) in rows.iter().enumerate() {
+        let text = answer(rt, alloc, store, ask).expect(rt, "an answer");
+        holds!(rt; text.as_str() == *want, place);
+        holds!(rt; store.entries() == *entries, place);
+        holds!(rt; store.covered() == *covered, place);
+    }
+}

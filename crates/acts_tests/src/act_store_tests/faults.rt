@@ -1,0 +1,132 @@
+//! Each call of the disk fails in turn, by itself, and with all after it: 51, then 52, and what is covered opens.
+
+use super::scripts::{STEPS, Span, expect_either, make_step, tables_of};
+use super::{LEAST, made, number_of};
+use crate::commands::{Words, command_of};
+use crate::gated_journal_tests::steps::Dice;
+use crate::holds::holds;
+use act_disk::{Disk, FuseDisk, MemoryDisk};
+use act_store::Store;
+use std::alloc::Global;
+use std::process::Abort;
+use wf_value::{Code, Refusal, TryCopy};
+
+/// More calls than opening and a script make.
+const MOST: u64 = 60;
+
+/// Plays a script up to the step that is refused, which is with 51.
+fn play_to_fault<D: Disk>(
+    rt: &impl Abort,
+    alloc: Global,
+    seed: u64,
+    store: &mut Store<D>,
+) -> Option<Span> {
+    let mut dice = Dice::new(seed);
+    for _ in 0..STEPS {
+        let from = store.covered();
+        let to = store.entries();
+        if let Err(refusal) = make_step(alloc, store, &mut dice) {
+            holds!(rt; refusal.number() == 51);
+            return Some(Span { from, to });
+        }
+    }
+    None
+}
+
+/// That a store that has failed is refused with 52, and has its entries still.
+fn expect_failed<D: Disk>(rt: &impl Abort, alloc: Global, store: &mut Store<D>, span: Span) {
+    let command = command_of(alloc, &Words::Look("1")).expect(rt, "a command");
+    holds!(rt; number_of(store.apply(alloc, 0, command)) == 52);
+    holds!(rt; number_of(store.commit()) == 52);
+    holds!(rt; store.entries() == span.to && store.covered() == span.from);
+}
+
+/// Plays a script over a fuse. Says whether a call failed, and what the disk inside has to open to.
+fn play_fused(
+    rt: &impl Abort,
+    alloc: Global,
+    seed: u64,
+    disk: FuseDisk<MemoryDisk>,
+) -> (bool, Span, FuseDisk<MemoryDisk>) {
+    let none = Span { from: 0, to: 0 };
+    holds!(rt; disk.faults() == 0);
+    let mut store = match Store::open(alloc, disk) {
+        Ok(store) => store,
+        Err((disk, refusal)) => {
+            holds!(rt; refusal.number() == 51);
+            return (true, none, disk);
+        }
+    };
+    match play_to_fault(rt, alloc, seed, &mut store) {
+        Some(span) => {
+            expect_failed(rt, alloc, &mut store, span);
+            (true, span, store.into_disk())
+        }
+        None => {
+            let covered = store.covered();
+            let span = Span {
+                from: covered,
+                to: covered,
+            };
+            (false, span, store.into_disk())
+        }
+    }
+}
+
+/// Plays a script over a fuse, and opens the disk inside. Says whether a call failed.
+fn fails(
+    rt: &impl Abort,
+    alloc: Global,
+    seed: u64,
+    disk: FuseDisk<MemoryDisk>,
+    tables: &[String],
+) -> bool {
+    let (failed, span, disk) = play_fused(rt, alloc, seed, disk);
+    holds!(rt; disk.faults() == if failed { 1 } else { 0 });
+    expect_either(rt, alloc, disk.into_inner(), tables, span);
+    failed
+}
+
+fn fresh(rt: &impl Abort, alloc: Global) -> MemoryDisk {
+    made(rt, alloc, MemoryDisk::new(alloc), LEAST).into_disk()
+}
+
+/// Each call of a script fails in turn. The first does, and none behind the last.
+fn expect_script(rt: &impl Abort, alloc: Global, seed: u64) {
+    let tables = tables_of(alloc, seed).expect(rt, "tables");
+    for call in 0..MOST {
+        let once = FuseDisk::once(fresh(rt, alloc), call);
+        let failed = fails(rt, alloc, seed, once, tables.as_slice());
+        let from = FuseDisk::from(fresh(rt, alloc), call);
+        holds!(rt; fails(rt, alloc, seed, from, tables.as_slice()) == failed, call);
+        holds!(rt; failed || call > 0);
+    }
+    let beyond = FuseDisk::once(fresh(rt, alloc), MOST);
+    holds!(rt; !fails(rt, alloc, seed, beyond, tables.as_slice()));
+}
+
+#[test]
+fn faults_leave_what_was_covered_or_all(rt: HostRuntime) {
+    for seed in 0..10 {
+        expect_script(&rt, rt.alloc(), seed);
+    }
+}
+
+/// That no store is made where this call fails, and the disk is given back.
+fn expect_not_made(rt: &impl Abort, alloc: Global, call: u64) {
+    let disk = FuseDisk::once(MemoryDisk::new(alloc), call);
+    holds!(rt; disk.faults() == 0);
+    match Store::init(alloc, disk, LEAST) {
+        Ok(_) => panic!(rt; "made though call {call} fails"),
+        Err((disk, refusal)) => holds!(rt; refusal.number() == 51 && disk.faults() == 1, call),
+    }
+}
+
+#[test]
+fn faults_of_the_making_are_told(rt: HostRuntime) {
+    for call in 0..6 {
+        expect_not_made(&rt, rt.alloc(), call);
+    }
+    let spared = FuseDisk::once(MemoryDisk::new(rt.alloc()), 6);
+    holds!(rt; made(&rt, rt.alloc(), spared, LEAST).entries() == 0);
+}

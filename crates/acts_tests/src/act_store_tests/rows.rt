@@ -1,0 +1,159 @@
+//! Scripts whose answers are worked out by hand, and what opens of their disks.
+
+use super::{Ask, LEAST, Row, made, opened, play};
+use crate::commands::{Words, number};
+use crate::holds::holds;
+use crate::run_table_tests::{BUILD, BUILD_ELSEWHERE};
+use act_disk::MemoryDisk;
+use act_store::{Entry, Store};
+use run_plan::{Command, Reply};
+use std::alloc::Global;
+use std::process::Abort;
+use wf_value::Outcome;
+
+/// A run is made and leased. Nothing is pending at the first commit and at the last.
+const FIRST: [Row; 9] = [
+    (Ask::Commit, "covered 0", 0, 0),
+    (Ask::Apply(Words::Look("1")), "refused 40", 1, 0),
+    (Ask::Apply(Words::Admit("d1", BUILD)), "created 1", 2, 0),
+    (Ask::Commit, "covered 2", 2, 2),
+    (
+        Ask::Apply(Words::Claim("r1", "2", "linux")),
+        "refused 43 0",
+        3,
+        2,
+    ),
+    (
+        Ask::Apply(Words::Claim("r1", "1", "linux")),
+        "lease 1 1 build 0 {}",
+        4,
+        2,
+    ),
+    (Ask::Apply(Words::Beat("r1", "1")), "go on", 5, 2),
+    (Ask::Commit, "covered 5", 5, 5),
+    (Ask::Commit, "covered 5", 5, 5),
+];
+
+/// After an opening: the delivery has its run and no second one, and the runner's last number has the reply that was kept. An entry
+/// stays behind that is not covered.
+const AGAIN: [Row; 7] = [
+    (Ask::Apply(Words::Admit("d1", BUILD)), "created 1", 1, 0),
+    (
+        Ask::Apply(Words::Admit("d1", BUILD_ELSEWHERE)),
+        "created 1",
+        2,
+        0,
+    ),
+    (Ask::Apply(Words::Look("2")), "refused 40", 3, 0),
+    (
+        Ask::Apply(Words::Claim("r1", "1", "linux")),
+        "lease 1 1 build 0 {}",
+        4,
+        0,
+    ),
+    (
+        Ask::Apply(Words::Claim("r1", "1", "gpu")),
+        "refused 43 1",
+        5,
+        0,
+    ),
+    (Ask::Commit, "covered 5", 5, 5),
+    (
+        Ask::Apply(Words::Done("r1", "2", "1", Outcome::Success)),
+        "ok",
+        6,
+        5,
+    ),
+];
+
+/// The report was not covered, so it counts for nothing.
+const AFTER_THAT: [Row; 5] = [
+    (
+        Ask::Apply(Words::Look("1")),
+        "run 1 1 in_progress - build:open(running)",
+        1,
+        0,
+    ),
+    (
+        Ask::Apply(Words::Done("r1", "2", "1", Outcome::Failure)),
+        "ok",
+        2,
+        0,
+    ),
+    (
+        Ask::Apply(Words::Done("r1", "2", "1", Outcome::Failure)),
+        "ok",
+        3,
+        0,
+    ),
+    (
+        Ask::Apply(Words::Look("1")),
+        "run 1 1 completed failure build:failure(failure)",
+        4,
+        0,
+    ),
+    (Ask::Commit, "covered 4", 4, 4),
+];
+
+/// Whether an entry says that so much of run 1 was asked by seat 7, and refused with 40.
+fn is_first(entry: &Entry) -> bool {
+    match (&entry.command, &entry.reply) {
+        (Command::Look(run), Reply::Refused(refusal)) => {
+            entry.seat == 7 && run.get() == 1 && refusal.number() == 40
+        }
+        _ => false,
+    }
+}
+
+/// Whether an entry says that the beat of seat 7 was told to go on.
+fn is_last(entry: &Entry) -> bool {
+    match (&entry.command, &entry.reply) {
+        (Command::Beat(beat), Reply::GoOn) => entry.seat == 7 && beat.lease.get() == 1,
+        _ => false,
+    }
+}
+
+/// The entries of `FIRST`, counted from 1.
+fn expect_entries(rt: &impl Abort, store: &Store<MemoryDisk>) {
+    holds!(rt; store.entry(0).is_none());
+    match store.entry(1) {
+        Some(entry) => holds!(rt; is_first(entry)),
+        None => panic!(rt; "no first entry"),
+    }
+    match store.entry(5) {
+        Some(entry) => holds!(rt; is_last(entry)),
+        None => panic!(rt; "no last entry"),
+    }
+    holds!(rt; store.entry(6).is_none());
+    holds!(rt; store.entry(u64::MAX).is_none());
+}
+
+/// What is seen of a run, printed, or nothing where there is none.
+fn expect_seen(rt: &impl Abort, alloc: Global, store: &Store<MemoryDisk>, id: &str, want: &str) {
+    let id = number(id).expect(rt, "a number");
+    match store.look(id) {
+        Some(view) => {
+            let text = view.text(alloc).expect(rt, "a text");
+            holds!(rt; text.as_str() == want);
+        }
+        None => holds!(rt; want.is_empty()),
+    }
+}
+
+#[test]
+fn what_is_covered_opens_again(rt: HostRuntime) {
+    let alloc = rt.alloc();
+    let mut first = made(&rt, alloc, MemoryDisk::new(alloc), LEAST);
+    play(&rt, alloc, &mut first, &FIRST);
+    expect_entries(&rt, &first);
+    let mut again = opened(&rt, alloc, first.into_disk());
+    holds!(rt; again.entries() == 0 && again.covered() == 0);
+    let running = "run 1 1 in_progress - build:open(running)";
+    expect_seen(&rt, alloc, &again, "1", running);
+    expect_seen(&rt, alloc, &again, "2", "");
+    play(&rt, alloc, &mut again, &AGAIN);
+    let success = "run 1 1 completed success build:success(success)";
+    expect_seen(&rt, alloc, &again, "1", success);
+    let mut last = opened(&rt, alloc, again.into_disk());
+    play(&rt, alloc, &mut last, &AFTER_THAT);
+}

@@ -1,0 +1,125 @@
+//! Random scripts, stopped inside each call of the disk: what is left opens to the entries that were covered, or to all.
+
+use super::scripts::{STEPS, Span, expect_either, make_step, tables_of};
+use super::{LEAST, made, number_of_opening};
+use crate::gated_journal_tests::steps::Dice;
+use crate::holds::holds;
+use act_disk::{Fill, MemoryDisk};
+use act_store::Store;
+use std::alloc::Global;
+use std::ops::Range;
+use std::process::Abort;
+use wf_value::Refusal;
+
+/// How many writes and syncs make a store, and a commit.
+const MAKES: usize = 6;
+
+const COMMITS: usize = 4;
+
+const FILLS: [Fill; 4] = [Fill::Old, Fill::New, Fill::Half, Fill::Gates];
+
+/// Plays a script, and keeps each commit that wrote.
+fn play(alloc: Global, seed: u64, store: &mut Store<MemoryDisk>) -> Result<Vec<Span>, Refusal> {
+    let mut dice = Dice::new(seed);
+    let mut spans = Vec::new(alloc);
+    for _ in 0..STEPS {
+        let from = store.covered();
+        make_step(alloc, store, &mut dice)?;
+        let to = store.covered();
+        if from < to {
+            spans.push(Span { from, to })?;
+        }
+    }
+    Ok(spans)
+}
+
+/// The images of a stop inside a call, with each fill.
+fn expect_call(
+    rt: &impl Abort,
+    alloc: Global,
+    disk: &MemoryDisk,
+    call: usize,
+    tables: &[String],
+    span: Span,
+) {
+    holds!(rt; call < disk.calls().len());
+    for fill in FILLS {
+        let image = disk.image(alloc, call as u64, fill).expect(rt, "an image");
+        expect_either(rt, alloc, image, tables, span);
+    }
+}
+
+/// The images of a stop inside each of these calls.
+fn expect_calls(
+    rt: &impl Abort,
+    alloc: Global,
+    disk: &MemoryDisk,
+    calls: Range<usize>,
+    tables: &[String],
+    span: Span,
+) {
+    for call in calls {
+        expect_call(rt, alloc, disk, call, tables, span);
+    }
+}
+
+/// The images of each commit of a script, and the disk at its end.
+fn expect_script(rt: &impl Abort, alloc: Global, seed: u64) -> Result<(), Refusal> {
+    let tables = tables_of(alloc, seed)?;
+    let mut store = made(rt, alloc, MemoryDisk::new(alloc), LEAST);
+    let spans = play(alloc, seed, &mut store)?;
+    let last = store.covered();
+    let disk = store.into_disk();
+    let mut next = MAKES;
+    for span in &spans {
+        let first = next;
+        next = next.saturating_add(COMMITS);
+        expect_calls(rt, alloc, &disk, first..next, tables.as_slice(), *span);
+    }
+    holds!(rt; next == disk.calls().len());
+    let end = Span {
+        from: last,
+        to: last,
+    };
+    expect_either(rt, alloc, disk, tables.as_slice(), end);
+    Ok(())
+}
+
+#[test]
+fn stops_leave_what_was_covered_or_all(rt: HostRuntime) {
+    for seed in 0..50 {
+        expect_script(&rt, rt.alloc(), seed).expect(&rt, "a script");
+    }
+}
+
+/// That no store is there yet, or one of the empty table.
+fn expect_none_or_empty(
+    rt: &impl Abort,
+    alloc: Global,
+    disk: &MemoryDisk,
+    call: usize,
+    fill: Fill,
+) {
+    holds!(rt; call < disk.calls().len());
+    let image = disk.image(alloc, call as u64, fill).expect(rt, "an image");
+    let same = disk.image(alloc, call as u64, fill).expect(rt, "an image");
+    let number = number_of_opening(rt, alloc, image);
+    if number == 0 {
+        let tables = tables_of(alloc, 0).expect(rt, "tables");
+        let none = Span { from: 0, to: 0 };
+        expect_either(rt, alloc, same, tables.as_slice(), none);
+    } else {
+        holds!(rt; number == 53 || number == 54, call);
+    }
+}
+
+#[test]
+fn stops_of_the_making_leave_no_store_or_an_empty_one(rt: HostRuntime) {
+    let disk = made(&rt, rt.alloc(), MemoryDisk::new(rt.alloc()), LEAST).into_disk();
+    holds!(rt; disk.calls().len() == MAKES);
+    for call in 0..MAKES {
+        for fill in FILLS {
+            expect_none_or_empty(&rt, rt.alloc(), &disk, call, fill);
+        }
+    }
+}
