@@ -13,7 +13,7 @@ use std::process::Abort;
 use wf_value::{Outcome, Refusal, TryCopy};
 
 /// How many steps a script has.
-pub const STEPS: usize = 20;
+pub const STEPS: usize = 16;
 
 /// A commit: how many entries were covered before it, and how many there were.
 #[derive(Clone, Copy)]
@@ -68,16 +68,13 @@ pub fn make_step<D: Disk>(
     Ok(())
 }
 
-/// What tells the tables of scripts apart: each run, and each runner's last number and lease. No probe changes a table.
-const PROBES: [Words<'static>; 8] = [
+/// What tells the tables of scripts apart: each run, and each runner's last number. No probe changes a table.
+const PROBES: [Words<'static>; 5] = [
     Words::Look("1"),
     Words::Look("2"),
     Words::Look("3"),
     Words::Claim("r1", "99", "x"),
     Words::Claim("r2", "99", "x"),
-    Words::Beat("r1", "1"),
-    Words::Beat("r1", "2"),
-    Words::Beat("r2", "1"),
 ];
 
 /// What a table answers the probes.
