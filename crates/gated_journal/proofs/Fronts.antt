@@ -57,5 +57,5 @@ module _ (len : ℕ) (disk : List ℕ) (some : 0 < len) (long : len + len ≤ le
       ∙ ap (λ s. gate_of (beside (open_generation (area_on len First disk)) s chosen.side)) two ∙ ap gate_of (beside_told chosen.side) in (
         sym (ap (λ f. newer f second) one ∙ ap (λ s. newer (open_generation (area_on len First disk)) s) two) ∙ between.0,
         subst (λ w. IsGate w there) (sym gate) (gate_told there
-        (omega (arith, some, length-part (start_of len (other chosen.side)) len disk (within len (other chosen.side) disk long)))),
+            (omega (arith, some, length-part (start_of len (other chosen.side)) len disk (within len (other chosen.side) disk long)))),
       )

@@ -89,11 +89,15 @@ all_by_place P (x ∷ xs) each = (each zero x refl, all_by_place P xs (λ i y at
 pub runs_have_bytes : (runs : List RunState) → IsStorable runs → AllByRecursion RunHasBytes runs
 runs_have_bytes runs s =
     all_by_place RunHasBytes runs (λ r x at.
-        let job_is : (j : ℕ) (y : JobState) → slice_get x.jobs j ≡ Some y → job_at runs r j ≡ Some y = λ j y there.
-            ap (option_and_then (λ (z : RunState). slice_get z.jobs j)) at ∙ there in
-        (s.jobs_are_the_plans r x at, all_by_place JobHasBytes x.jobs (λ j y there.
-            (s.legs_are_few r j y (job_is j y there), all_by_place HasByte y.legs (λ l z here.
-                s.no_leg_is_new (record { run = r; job = j; leg = l }) z (ap (option_and_then (λ (w : JobState). slice_get w.legs l)) (job_is j y there) ∙ here))))))
+    let job_is : (j : ℕ) (y : JobState) → slice_get x.jobs j ≡ Some y → job_at runs r j ≡ Some y = λ j y there.
+    ap (option_and_then (λ (z : RunState). slice_get z.jobs j)) at ∙ there in (
+      s.jobs_are_the_plans r x at,
+      all_by_place JobHasBytes x.jobs (λ j y there. (
+        s.legs_are_few r j y (job_is j y there),
+        all_by_place HasByte y.legs (λ l z here.
+            s.no_leg_is_new (record { run = r; job = j; leg = l }) z (ap (option_and_then (λ (w : JobState). slice_get w.legs l)) (job_is j y there) ∙ here)),
+      )),
+    ))
 
 -- ---- one part behind another
 
@@ -141,6 +145,7 @@ table_bytes t old a b c d e lease runs runners one two three four five same_leas
 pub table_takes : (t : TableState) → t.last_lease ≤ 999999999 → length t.runs ≤ 100000 → AllByRecursion run.Takes t.runs → length t.runners ≤ 4294967295
     → AllByRecursion (λ (r : RunnerState). runner.Takes (stored_runner r)) t.runners → names_rise (stored_table t).runners ≡ true → table.Takes (stored_table t)
 table_takes t low few runs most runners rise =
-    let same = length-map t.runners stored_runner in
-    ((omega (arith, low), le-leb t.last_lease 999999999 low),
-    ((omega arith, few, runs), ((omega arith, omega (arith, same, most), all_seen runner.Takes stored_runner t.runners runners), rise)))
+    let same = length-map t.runners stored_runner in (
+      (omega (arith, low), le-leb t.last_lease 999999999 low),
+      ((omega arith, few, runs), ((omega arith, omega (arith, same, most), all_seen runner.Takes stored_runner t.runners runners), rise)),
+    )

@@ -205,7 +205,7 @@ kept_back (b, l) k h =
     let second : Option Kept = if b == 1 then with_lease l else third in
     let same : (c : ℕ) (m : Option ℕ) (of : Kept) → (b == c) ≡ true → kept_parts of ≡ (c, m) → l ≡ m → of ≡ k → kept_parts k ≡ (b, l) =
     λ c m of is parts same_lease found.
-        ap kept_parts (sym found) ∙ parts ∙ ap (λ n. (n, m)) (sym (eqb-true b c is)) ∙ ap (λ (o : Option ℕ). (b, o)) (sym same_lease) in
+    ap kept_parts (sym found) ∙ parts ∙ ap (λ n. (n, m)) (sym (eqb-true b c is)) ∙ ap (λ (o : Option ℕ). (b, o)) (sym same_lease) in
     elim (chosen (b == 0) (without_lease nothing l) second (Some k) h) [
       | inl zero ↦ (let by = bare nothing l k zero.1 in same 0 None nothing zero.0 refl by.1 by.0)
       | inr more ↦ elim (chosen (b == 1) (with_lease l) third (Some k) more.1) [

@@ -16,5 +16,7 @@ fn is_below(runner: &Runner, next: &Runner) -> bool
 pub fn runners_rise(stored: &Table) -> bool
     ensures { result ≡ names_rise (stored_table stored.now).runners }
 {
-    stored.runners().is_sorted_by(|runner, next| is_below(runner, next))
+    stored
+        .runners()
+        .is_sorted_by(|runner, next| is_below(runner, next))
 }

@@ -32,7 +32,10 @@ pub(crate) fn push_number(out: &mut Vec<u8>, value: Number) -> Result<(), AllocE
     push_word(out, value.get())
 }
 
-pub(crate) fn push_small_text<F: Form>(out: &mut Vec<u8>, text: &SmallText<F>) -> Result<(), AllocError>
+pub(crate) fn push_small_text<F: Form>(
+    out: &mut Vec<u8>,
+    text: &SmallText<F>,
+) -> Result<(), AllocError>
     ensures takes { (small_text F.allows).Takes text.now }
     ensures bytes { OnOk result (out.new.items ≡ out.old.items ++ text_bytes text.now) }
 {

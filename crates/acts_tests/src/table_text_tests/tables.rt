@@ -10,6 +10,7 @@ use table_text::{runners_rise, table_length, write_table};
 use wf_value::{Outcome, Refusal};
 
 const ADMIT: Words<'static> = Words::Admit("d1", BODY);
+
 const CLAIM: Words<'static> = Words::Claim("r1", "1", "linux");
 
 /// Commands, the last lease of the table after them, and what stands behind the body of its one run.
@@ -101,12 +102,7 @@ fn bytes_of(alloc: Global, row: &Row<'_>) -> Result<Vec<u8>, Refusal> {
 }
 
 /// That a table is written as these bytes, behind one that is there, which stays where memory is refused.
-fn expect_table(
-    rt: &impl Abort,
-    alloc: Global,
-    table: &Table,
-    want: &[u8],
-) -> Result<(), Refusal> {
+fn expect_table(rt: &impl Abort, alloc: Global, table: &Table, want: &[u8]) -> Result<(), Refusal> {
     holds!(rt; table.runners().len() <= 4_294_967_295);
     holds!(rt; runners_rise(table));
     holds!(rt; table_length(table) == want.len() as u64);
