@@ -19,16 +19,12 @@ pub fn expect_so_at<R: Abort, D: Display + Drop>(rt: &R, is_so: bool, condition:
 }
 
 /// That a text is the one that is wanted.
-pub fn expect_text<R: Abort>(rt: &R, text: &str, want: &str)
-    ensures { text ≡ want }
-{
+pub fn expect_text<R: Abort>(rt: &R, text: &str, want: &str) {
     assert!(rt; text == want, "{text}\nin place of\n{want}");
 }
 
 /// That bytes are those that are wanted.
-pub fn expect_bytes<R: Abort>(rt: &R, bytes: &[u8], want: &[u8])
-    ensures { bytes ≡ want }
-{
+pub fn expect_bytes<R: Abort>(rt: &R, bytes: &[u8], want: &[u8]) {
     assert!(rt; bytes == want, "{bytes:?} in place of {want:?}");
 }
 
