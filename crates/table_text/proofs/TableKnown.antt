@@ -10,8 +10,8 @@ use Rattle.std.proofs.lemmas.List.Folds.{flat_map-map}
 use Rattle.wf_value.specs.Names.{rises_by}
 use Rattle.wf_value.specs.declared.outcome.JobResult.TheVariants as result
 use Rattle.wf_value.specs.declared.outcome.Outcome.TheVariants as outcome
-use Rattle.run_table.specs.Places.{LegPlace, job_at, leg_at, run_at}
-use Rattle.run_table.specs.Stored.{IsStorable, is_new, stored_runner, stored_table}
+use Rattle.run_table.specs.Places.{job_at}
+use Rattle.run_table.specs.Stored.{IsStorable, stored_runner, stored_table}
 use Rattle.run_table.specs.TableState.{LegState, JobState, RunState, RunnerState, TableState}
 use Rattle.run_table.specs.declared.phases.JobPhase.{JobPhase}
 use Rattle.run_table.specs.declared.phases.JobPhase.TheVariants as job_phase

@@ -1,9 +1,8 @@
 -- The length of a table's spelling is the sum over its fields.
 use Rattle.std.proofs.Common.{◌≡◌, ℕ, ◌+◌, ◌*◌, List, [], ◌∷◌, ◌++◌, length, refl, sym, ◌∙◌, ap, arith}
-use Rattle.std.specs.Prelude.{Bool, flat_map, map, sum_by, Option, Some, None}
+use Rattle.std.specs.Prelude.{flat_map, map, sum_by, Option, Some, None}
 use Rattle.std.proofs.lemmas.List.Concat.{length-flat_map}
 use Rattle.std.proofs.lemmas.List.Sums.{sum_by-cons}
-use Rattle.run_plan.specs.Admitted.{Admitted}
 use Rattle.run_plan.specs.declared.command.Command.TheVariants as asked
 use Rattle.run_table.specs.Stored.{StoredRunner, StoredTable}
 use Rattle.run_table.specs.TableState.{LegState, JobState, RunState}
@@ -13,7 +12,7 @@ use Rattle.table_text.specs.Commands.{admit, command_bytes}
 use Rattle.table_text.specs.Format.{text_bytes, word_bytes}
 use Rattle.table_text.specs.Lengths.{command_length, fields_length, length_of, text_length}
 use Rattle.table_text.specs.TableLengths.{job_length, last_length, run_length, runner_length, table_length}
-use Rattle.table_text.specs.Tables.{flag_byte, job, job_byte, kept, kept_parts, last_command, last_parts, lease, leg, leg_byte, run, run_byte, runner, table}
+use Rattle.table_text.specs.Tables.{flag_byte, job, kept, last_command, lease, leg, run, run_byte, runner, table}
 use Rattle.table_text.specs.Tables.Kept.{nothing, leased, done}
 use Rattle.table_text.proofs.LengthLaws.{behind_one, length_admit, length_command, length_counted, length_text, length_two, length_word, sum_same}
 

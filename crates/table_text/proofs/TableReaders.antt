@@ -1,6 +1,6 @@
 -- What reading of tables finds is what is spelled there, and nothing else.
 use Rattle.std.proofs.Common.{◌≡◌, inl, inr, ℕ, ◌≤◌, ◌<◌, ◌^◌, List, [], ◌∷◌, ◌++◌, refl, sym, ◌∙◌, ap, subst, arith}
-use Rattle.std.specs.Prelude.{◌==◌, ◌&&◌, Bool, true, false, not, nat_eq, nat_le, find, Option, Some, None, if◌then◌else◌}
+use Rattle.std.specs.Prelude.{◌==◌, Bool, true, false, not, nat_le, find, Option, Some, None, if◌then◌else◌}
 use Rattle.std.proofs.lemmas.Bool.{eqb-true, leb-true, cases_Bool}
 use Rattle.std.proofs.lemmas.Option.{same_Some, none-some, cond_some}
 use Rattle.wf_value.specs.declared.outcome.JobResult.TheVariants as result
@@ -23,7 +23,7 @@ use Rattle.run_table.specs.declared.phases.RunPhase.{RunPhase}
 use Rattle.run_table.specs.declared.phases.RunPhase.TheVariants as run_phase
 use Rattle.table_text.specs.Commands.{admit, command, is_numbered, number, small_text}
 use Rattle.table_text.specs.Format.{Format, byte, counted, follow, only, pair, parts, row, word, word_bytes}
-use Rattle.table_text.specs.Reading.{◌>>=◌, Reader, byte_at, counted_at, follow_at, items_at, only_at, pair_at, parts_at, some_at, word_at}
+use Rattle.table_text.specs.Reading.{◌>>=◌, byte_at, counted_at, follow_at, items_at, pair_at, some_at, word_at}
 use Rattle.table_text.specs.ReadingCommands.{admit_at, command_at, number_at, small_text_at}
 use Rattle.table_text.specs.ReadingTables.{course_at, flag_at, job_at, job_phase_at, job_phases, kept_at, kept_of, last_at, last_lease_at, last_of, last_with, lease_at}
 use Rattle.table_text.specs.ReadingTables.{claim_with, lease_of, leg_at, leg_phase_at, leg_phases, of_byte, report_with, run_at, run_phase_at, run_phases, runner_at, runners_at, runs_at}
@@ -31,7 +31,6 @@ use Rattle.table_text.specs.ReadingTables.{table_at, with_lease, without_lease}
 use Rattle.table_text.specs.Tables.{IsLease, Kept, flag_byte, is_last_lease, job, job_byte, jobs_planned, kept, kept_parts, last_command, last_parts, lease}
 use Rattle.table_text.specs.Tables.{lease_word, leg, leg_byte, names_rise, run, run_byte, runner, table}
 use Rattle.table_text.specs.Tables.Kept.{nothing, leased, done}
-use Rattle.table_text.proofs.Bytes.{AreBytes, AreBytes-drop}
 use Rattle.table_text.proofs.CommandReaders.{admit_reads, chosen, command_reads, number_reads, small_text_reads}
 use Rattle.table_text.proofs.FormReaders.{byte_reads, follow_reads, row_reads, some_reads}
 use Rattle.table_text.proofs.Readers.{Fronts, Reads, bind_some, both, counted_reads, only_reads, pair_reads, parts_reads, some_bind, word_reads}

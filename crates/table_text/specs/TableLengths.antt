@@ -1,6 +1,5 @@
 -- How many bytes a table is spelled in, as a sum over its fields. Own: there is no public source.
-use Rattle.std.specs.Prelude.{ℕ, ◌+◌, ◌*◌, List, length, sum_by}
-use Rattle.run_plan.specs.Admitted.{Admitted}
+use Rattle.std.specs.Prelude.{ℕ, ◌+◌, ◌*◌, length, sum_by}
 use Rattle.run_plan.specs.declared.command.Command.TheVariants as asked
 use Rattle.run_table.specs.Stored.{StoredRunner, StoredTable}
 use Rattle.run_table.specs.TableState.{JobState, RunState}

@@ -19,7 +19,7 @@ use Rattle.run_table.specs.declared.phases.LegPhase.{LegPhase}
 use Rattle.run_table.specs.declared.phases.LegPhase.TheVariants as leg_phase
 use Rattle.run_table.specs.declared.phases.RunPhase.{RunPhase}
 use Rattle.run_table.specs.declared.phases.RunPhase.TheVariants as run_phase
-use Rattle.table_text.specs.Commands.{admit, command, is_numbered, number, small_text}
+use Rattle.table_text.specs.Commands.{admit, command, number, small_text}
 use Rattle.table_text.specs.Format.{Format, byte, counted, follow, only, pair, parts, row, word, word_bytes}
 
 -- ---- leases

@@ -1,5 +1,5 @@
 -- What is known of runs and jobs that are written, in the order in which they stand.
-use Rattle.std.specs.Prelude.{◌≡◌, ◌≤◌, List, length, false}
+use Rattle.std.specs.Prelude.{◌≡◌, ◌≤◌, length, false}
 use Rattle.std.specs.List.{AllByRecursion}
 use Rattle.run_table.specs.Stored.{is_new}
 use Rattle.run_table.specs.TableState.{LegState, JobState, RunState}

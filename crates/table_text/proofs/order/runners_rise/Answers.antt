@@ -1,4 +1,4 @@
-use Rattle.std.proofs.Common.{◌≡◌, Bool, ap, rules, sym, ◌∙◌}
+use Rattle.std.proofs.Common.{ap, rules, sym, ◌∙◌}
 use Rattle.std.proofs.lemmas.Fn.{always_returns_same}
 use Rattle.run_table.specs.Stored.{stored_runner}
 use Rattle.run_table.specs.TableState.{RunnerState}

@@ -1,4 +1,4 @@
-use Rattle.std.proofs.Common.{subst, sym}
+use Rattle.std.proofs.Common.{subst}
 use Rattle.run_table.specs.Stored.{stored_runner}
 use Rattle.run_table.specs.TableState.{RunnerState}
 use Rattle.table_text.specs.Tables.{runner}

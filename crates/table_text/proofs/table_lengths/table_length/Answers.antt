@@ -1,4 +1,4 @@
-use Rattle.std.proofs.Common.{◌≡◌, ◌≤◌, ℕ, ap, arith, length, sym, ◌∙◌, subst}
+use Rattle.std.proofs.Common.{◌≡◌, ◌≤◌, ap, arith, length, sym, ◌∙◌, subst}
 use Rattle.std.specs.Prelude.{List, sum_by}
 use Rattle.std.specs.List.{AllByRecursion}
 use Rattle.run_table.specs.Stored.{stored_runner, stored_table}
