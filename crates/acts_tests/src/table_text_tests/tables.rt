@@ -101,18 +101,24 @@ fn bytes_of(alloc: Global, row: &Row<'_>) -> Result<Vec<u8>, Refusal> {
     Ok(bytes)
 }
 
+/// What stands before a table that is written.
+const BEFORE: &[u8] = &[9];
+
 /// That a table is written as these bytes, behind one that is there, which stays where memory is refused.
 fn expect_table(rt: &impl Abort, alloc: Global, table: &Table, want: &[u8]) -> Result<(), Refusal> {
     holds!(rt; table.runners().len() <= 4_294_967_295);
     holds!(rt; runners_rise(table));
     holds!(rt; table_length(table) == want.len() as u64);
-    let mut out = vec![in alloc; 9; 1]?;
+    let mut whole = BEFORE.to_vec(alloc)?;
+    whole.extend_from_slice(want)?;
+    let mut out = BEFORE.to_vec(alloc)?;
     let written = write_table(alloc, &mut out, table);
-    holds!(rt; out[0] == 9);
-    match written {
-        Ok(()) => holds!(rt; &out[1..] == want),
-        Err(_) => holds!(rt; out.len() == 1),
-    }
+    let left = if written.is_ok() {
+        whole.as_slice()
+    } else {
+        BEFORE
+    };
+    holds!(rt; out.as_slice() == left);
     written
 }
 
