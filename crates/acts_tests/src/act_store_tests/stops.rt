@@ -1,4 +1,5 @@
-//! Random scripts, stopped inside each call of the disk: what is left opens to the entries that were covered, or to all.
+//! 50 random scripts, stopped inside each call of the disk: what is left opens to the entries that were covered, or to all. Each test
+//! plays a part of them, so that it is short in a trial run too.
 
 use super::scripts::{STEPS, Span, expect_either, make_step, tables_of};
 use super::{LEAST, made, number_of_opening};
@@ -85,11 +86,35 @@ fn expect_script(rt: &impl Abort, alloc: Global, seed: u64) -> Result<(), Refusa
     Ok(())
 }
 
-#[test]
-fn stops_leave_what_was_covered_or_all(rt: HostRuntime) {
-    for seed in 0..50 {
-        expect_script(&rt, rt.alloc(), seed).expect(&rt, "a script");
+fn expect_scripts(rt: &impl Abort, alloc: Global, seeds: Range<u64>) {
+    for seed in seeds {
+        expect_script(rt, alloc, seed).expect(rt, "a script");
     }
+}
+
+#[test]
+fn stops_of_scripts_0_to_9(rt: HostRuntime) {
+    expect_scripts(&rt, rt.alloc(), 0..10);
+}
+
+#[test]
+fn stops_of_scripts_10_to_19(rt: HostRuntime) {
+    expect_scripts(&rt, rt.alloc(), 10..20);
+}
+
+#[test]
+fn stops_of_scripts_20_to_29(rt: HostRuntime) {
+    expect_scripts(&rt, rt.alloc(), 20..30);
+}
+
+#[test]
+fn stops_of_scripts_30_to_39(rt: HostRuntime) {
+    expect_scripts(&rt, rt.alloc(), 30..40);
+}
+
+#[test]
+fn stops_of_scripts_40_to_49(rt: HostRuntime) {
+    expect_scripts(&rt, rt.alloc(), 40..50);
 }
 
 /// That no store is there yet, or one of the empty table.
