@@ -1,8 +1,8 @@
 -- The runs of a table stay, each with what was admitted: so a delivery that made a run is found at its place in every later table.
-use Rattle.std.proofs.Common.{◌≡◌, ℕ, zero, suc, ◌+◌, ◌-◌, ◌<◌, ◌≤◌, Bool, true, false, List, [], ◌∷◌, ◌++◌, length, map, refl, sym, ◌∙◌, ap}
+use Rattle.std.proofs.Common.{◌≡◌, ℕ, ◌+◌, ◌-◌, ◌<◌, ◌≤◌, Bool, true, false, List, [], ◌∷◌, ◌++◌, length, map, refl, sym, ◌∙◌, ap}
 use Rattle.std.proofs.Common.{append_assoc, length-append, arith, cond, not}
-use Rattle.std.specs.Prelude.{Option, Some, None, option_map, if◌then◌else◌, nat_le, nat_lt, ◌&&◌}
-use Rattle.std.specs.List.{list_all, position, prefix_len}
+use Rattle.std.specs.Prelude.{Option, Some, None, option_map, if◌then◌else◌, nat_le, nat_lt}
+use Rattle.std.specs.List.{position, prefix_len}
 use Rattle.std.specs.Option.{option_map_or, option_or}
 use Rattle.std.specs.Str.{bytes_eq}
 use Rattle.std.proofs.lemmas.Bool.{lt-ltb, ltb-true, ltb-false}
@@ -16,99 +16,21 @@ use Rattle.run_plan.specs.declared.command.Command.{Command}
 use Rattle.run_plan.specs.declared.command.Command.TheVariants as command
 use Rattle.run_plan.specs.declared.reply.Reply.{Reply}
 use Rattle.run_plan.specs.declared.reply.Reply.TheVariants as reply
-use Rattle.run_table.specs.Fitting.{first_fit, place_of_lease}
-use Rattle.run_table.specs.FirstOf.{changed_at}
+use Rattle.run_table.specs.Fitting.{first_fit}
 use Rattle.run_table.specs.Histories.{after}
-use Rattle.run_table.specs.Moves.{Step}
-use Rattle.run_table.specs.Places.{LegPlace, job_at, leg_at, run_at, with_job, with_leg, with_run}
+use Rattle.run_table.specs.Moves.{Holder, Step}
+use Rattle.run_table.specs.Places.{with_leg}
 use Rattle.run_table.specs.RunNumber.{events}
-use Rattle.run_table.specs.Rules.{closing_rule, decided, is_blocked, is_done, is_settled, leg_in_phase, leg_rule, next_leg_phase, next_run_phase}
-use Rattle.run_table.specs.Rules.{opening_rule, result_at, rule_at, run_in_phase, settled_as, whole_rule}
-use Rattle.run_table.specs.Settling.{first_place, first_rule, left, settled, settled_within}
-use Rattle.run_table.specs.Step.{admission_answer, admitting, cancel_answer, cancelling, claim_answer, claiming, is_delivered_as, leased_leg, leasing, losing, lost}
-use Rattle.run_table.specs.Step.{new_run, refused, released, report_answer, reporting, serving_nothing, step, stepped, unchanged, with_ended}
-use Rattle.run_table.specs.Stops.{after_end, outcome_of_loss, stopped_in, stopped_run, stops_others, told_to_stop, with_stopped_legs}
-use Rattle.run_table.specs.TableState.{JobState, LegState, RunState, TableState}
+use Rattle.run_table.specs.Settling.{settled}
+use Rattle.run_table.specs.Step.{admission_answer, admitting, cancel_answer, cancelling, claim_answer, claiming, entered, is_delivered_as, leased_leg}
+use Rattle.run_table.specs.Step.{leasing, losing, lost, new_run, refused, released, report_answer, reporting, serving_nothing, step, stepped, unchanged}
+use Rattle.run_table.specs.Step.{with_ended}
+use Rattle.run_table.specs.StopMoves.{stop_holder}
+use Rattle.run_table.specs.Stops.{outcome_of_loss}
+use Rattle.run_table.specs.TableState.{LegState, RunState, TableState}
 use Rattle.run_table.specs.Turns.{runner_named}
-use Rattle.run_table.specs.Words.{needs_have_settled}
-use Rattle.run_table.specs.declared.phases.LegPhase.TheVariants as leg
-use Rattle.run_table.specs.declared.phases.RunPhase.{RunPhase}
-use Rattle.run_table.specs.declared.phases.RunPhase.TheVariants as run
-use Rattle.run_table.specs.declared.place.Place.{Place}
-use Rattle.run_table.specs.declared.place.Place.TheVariants.{AtLeg, Closing, Opening, Whole}
-use Rattle.run_table.proofs.Optional.{from_and_then, from_map, if_some}
-
--- ---- a change of one run that keeps its event
-
-same_events : (i : ℕ) (f : RunState → RunState) (runs : List RunState) → ((x : RunState) → (f x).admitted ≡ x.admitted)
-    → events (changed_at i f runs) ≡ events runs
-same_events i f [] same = refl
-same_events zero f (x ∷ xs) same = ap (λ (e : Admitted). e ∷ events xs) (same x)
-same_events (suc i) f (x ∷ xs) same = ap (λ (l : List Admitted). x.admitted ∷ l) (same_events i f xs same)
-
-job_events : (r j : ℕ) (f : JobState → JobState) (runs : List RunState) → events (with_job r j f runs) ≡ events runs
-job_events r j f runs = same_events r (λ (x : RunState). record x { jobs = changed_at j f x.jobs }) runs (λ x. refl)
-
-leg_events : (p : LegPlace) (f : LegState → LegState) (runs : List RunState) → events (with_leg p f runs) ≡ events runs
-leg_events p f runs = job_events p.run p.job (λ (job : JobState). record job { legs = changed_at p.leg f job.legs }) runs
-
--- ---- settling
-
-rule_events : (runs next : List RunState) (place : Place) → rule_at runs place ≡ Some next → events next ≡ events runs
-rule_events runs next (Opening r j) h =
-    let f = from_and_then (opening_rule runs r j) (job_at runs r j) next h in
-    let made = if_some (is_blocked f.value.phase && needs_have_settled runs r j) (with_job r j (decided runs r j) runs) next f.gives in
-    ap events (sym made.1) ∙ job_events r j (decided runs r j) runs
-rule_events runs next (AtLeg p) h =
-    let f = from_and_then (leg_rule runs p) (leg_at runs p) next h in
-    let made = from_map (λ phase. with_leg p (leg_in_phase phase) runs) (next_leg_phase f.value.phase) next f.gives in
-    ap events (sym made.gives) ∙ leg_events p (leg_in_phase made.value) runs
-rule_events runs next (Closing r j) h =
-    let f = from_and_then (closing_rule runs r j) (job_at runs r j) next h in
-    let change = settled_as (result_at runs r j f.value) in
-    let made = if_some (is_done f.value) (with_job r j change runs) next f.gives in
-    ap events (sym made.1) ∙ job_events r j change runs
-rule_events runs next (Whole r) h =
-    let f = from_and_then (whole_rule runs r) (run_at runs r) next h in
-    let made = from_map (λ phase. with_run r (run_in_phase phase) runs) (next_run_phase f.value.phase (list_all is_settled f.value.jobs)) next f.gives in
-    ap events (sym made.gives) ∙ same_events r (run_in_phase made.value) runs (λ x. refl)
-
-within_events : (n : ℕ) (runs : List RunState) → events (settled_within n runs) ≡ events runs
-within_events zero runs = refl
-within_events (suc n) runs =
-    elim (first_rule runs) as (λ o. first_rule runs ≡ o → events (option_map_or (settled_within n) o runs) ≡ events runs) [
-      | None ↦ λ is. refl
-      | Some next ↦ λ is.
-          let made = from_and_then (rule_at runs) (first_place runs) next is in
-          within_events n next ∙ rule_events runs next made.value made.gives
-    ] refl
-
-settled_events : (runs : List RunState) → events (settled runs) ≡ events runs
-settled_events runs = within_events (left runs) runs
-
--- ---- what is stopped, and what ends
-
-stopped_event : (phase : RunPhase) (r : RunState) → (stopped_in phase r).admitted ≡ r.admitted
-stopped_event run.Waiting r = refl
-stopped_event run.Live r = elim (r.stopping) as (λ b. (if b then r else told_to_stop r).admitted ≡ r.admitted) [ true ↦ refl | false ↦ refl ]
-stopped_event run.Ended r = refl
-
-end_events : (p : LegPlace) (outcome : Outcome) (runs : List RunState) → events (after_end p outcome runs) ≡ events runs
-end_events p outcome runs =
-    let ended = with_leg p (leg_in_phase (leg.Ended outcome)) runs in
-    let one : events ended ≡ events runs = leg_events p (leg_in_phase (leg.Ended outcome)) runs in
-    elim (stops_others runs p outcome) as
-    (λ b. events (if b then with_job p.run p.job with_stopped_legs ended else ended) ≡ events runs) [
-      | true ↦ job_events p.run p.job with_stopped_legs ended ∙ one
-      | false ↦ one
-    ]
-
-ended_events : (lease : ℕ) (outcome : Outcome) (runs : List RunState) → events (with_ended lease outcome runs) ≡ events runs
-ended_events lease outcome runs =
-    elim (place_of_lease runs lease) as (λ o. events (option_map_or (λ p. after_end p outcome runs) o runs) ≡ events runs) [
-      | None ↦ refl
-      | Some p ↦ end_events p outcome runs
-    ]
+use Rattle.run_table.proofs.Optional.{if_some}
+use Rattle.act_store.proofs.EventsStay.{arrived_events, ended_events, leg_events, settled_events, stop_events}
 
 -- ---- steps
 
@@ -128,7 +50,9 @@ answered t (Some given) change h = keeps_itself t
 
 entered_events : (t : TableState) (event : Admitted) → events (admitting t event).table.runs ≡ events t.runs ++ event ∷ []
 entered_events t event =
-    settled_events (t.runs ++ new_run event ∷ []) ∙ map-append (λ (x : RunState). x.admitted) t.runs (new_run event ∷ [])
+    let more = t.runs ++ new_run event ∷ [] in
+    settled_events (entered t event).runs ∙ arrived_events (Holder.a_run (length t.runs)) more
+    ∙ map-append (λ (x : RunState). x.admitted) t.runs (new_run event ∷ [])
 
 admits : (t : TableState) (event : Admitted) → Keeps t (admitting t event).table
 admits t event = (event ∷ [], entered_events t event)
@@ -144,9 +68,8 @@ claims t claim = elim (first_fit claim.labels t.runs) as (λ o. Keeps t (option_
 ends : (t : TableState) (lease : ℕ) (outcome : Outcome) → events (settled (with_ended lease outcome t.runs)) ≡ events t.runs
 ends t lease outcome = settled_events (with_ended lease outcome t.runs) ∙ ended_events lease outcome t.runs
 
-cancels : (t : TableState) (id : ℕ) → events (settled (with_run (id - 1) stopped_run t.runs)) ≡ events t.runs
-cancels t id = settled_events (with_run (id - 1) stopped_run t.runs)
-    ∙ same_events (id - 1) stopped_run t.runs (λ x. stopped_event x.phase x)
+cancels : (t : TableState) (id : ℕ) → events (settled (stop_holder (Holder.a_run (id - 1)) t.runs).runs) ≡ events t.runs
+cancels t id = settled_events (stop_holder (Holder.a_run (id - 1)) t.runs).runs ∙ stop_events (Holder.a_run (id - 1)) t.runs
 
 loses : (t : TableState) (name : List ℕ) → Keeps t (lost t name).table
 loses t name =

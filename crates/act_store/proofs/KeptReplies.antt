@@ -1,13 +1,11 @@
 -- What is kept of a runner stays until a later command of it is carried out: its last number, the command, and the reply to it.
-use Rattle.std.proofs.Common.{◌≡◌, inl, inr, ℕ, ◌+◌, ◌≤◌, Bool, true, false, List, [], ◌∷◌, refl, sym, ◌∙◌, ap, subst}
+use Rattle.std.proofs.Common.{◌≡◌, ℕ, ◌+◌, ◌≤◌, Bool, true, false, List, [], ◌∷◌, refl, sym, ◌∙◌, ap, subst}
 use Rattle.std.proofs.Common.{arith}
-use Rattle.std.specs.Prelude.{Option, Some, None, option_map, if◌then◌else◌, nat_eq, slice_get, ◌&&◌}
+use Rattle.std.specs.Prelude.{Option, Some, None, option_map, if◌then◌else◌, nat_eq, ◌&&◌}
 use Rattle.std.specs.Cmp.Lexicographic.{pointwise}
-use Rattle.std.specs.List.{position_or_len}
 use Rattle.std.specs.Option.{option_map_or, option_or}
 use Rattle.std.specs.Str.{bytes_eq}
-use Rattle.std.proofs.lemmas.Bool.{and_parts, cases_eq, eq-eqb, eqb-true}
-use Rattle.std.proofs.lemmas.List.Folds.{find_at}
+use Rattle.std.proofs.lemmas.Bool.{and_parts, eq-eqb, eqb-true, true≢false}
 use Rattle.std.proofs.lemmas.Slice.Eq.{bytes_eq-Decides}
 use Rattle.wf_value.specs.declared.code.Code.TheVariants.{HasLease, LastCounter, LeaseNotHeld, NoRunner}
 use Rattle.wf_value.specs.declared.outcome.Outcome.{Outcome}
@@ -26,54 +24,23 @@ use Rattle.run_plan.specs.declared.reply.Reply.TheVariants as reply
 use Rattle.run_table.specs.Fitting.{first_fit}
 use Rattle.run_table.specs.Histories.{after}
 use Rattle.run_table.specs.Moves.{Step}
-use Rattle.run_table.specs.Sound.{NamesDiffer}
 use Rattle.run_table.specs.Step.{admission_answer, admitting, cancel_answer, cancelling, claim_answer, claiming, claiming_runner, has_no_lease_left}
 use Rattle.run_table.specs.Step.{lease_answer, lease_at, leasing, losing, lost, refused, released, report_answer, reporting, reporting_runner}
 use Rattle.run_table.specs.Step.{outcome, serving_nothing, step, stepped, unchanged}
 use Rattle.run_table.specs.TableState.{RunnerState, TableState}
-use Rattle.run_table.specs.Turns.{answer_of_turn, holds_lease, holds_this, is_named, is_repeated, number_of, runner_named, turn_answer, with_runner}
-use Rattle.run_table.proofs.Found.{each_at, find_passes, none_found}
-use Rattle.run_table.proofs.RunnerPut.{put}
+use Rattle.run_table.specs.Turns.{answer_of_turn, holds_lease, holds_this, is_repeated, number_of, runner_named, turn_answer, with_runner}
+use Rattle.run_table.proofs.RunnerPut.{found_new, found_other, has_the_name}
 use Rattle.act_store.specs.Reopened.{HasTurn, HaveNoLaterTurn, IsRefused}
 
 some_same : {X : Type 0} (x y : X) → Some x ≡ Some y → x ≡ y
 some_same x y e = cc
-
--- ---- a runner by its name
-
-pub record IsAt (runners : List RunnerState) (name : List ℕ) (x : RunnerState) : Type 0 where
-  pub place : ℕ
-  pub here : slice_get runners place ≡ Some x
-  pub is_named_so : x.name ≡ name
-
-pub at_place : (runners : List RunnerState) (name : List ℕ) (x : RunnerState) → runner_named runners name ≡ Some x → IsAt runners name x
-at_place runners name x is = record {
-  place = position_or_len (is_named name) runners;
-  here = sym (find_at (is_named name) runners) ∙ is;
-  is_named_so = (bytes_eq-Decides x.name name).0 (find_passes (is_named name) runners x is);
-}
-
-by_name : (runners : List RunnerState) (name : List ℕ) (x : RunnerState) → NamesDiffer runners → IsAt runners name x
-    → runner_named runners name ≡ Some x
-by_name runners name x differ at =
-    elim (runner_named runners name) as (λ o. runner_named runners name ≡ o → runner_named runners name ≡ Some x) [
-      | Some y ↦ λ is.
-          let other = at_place runners name y is in
-          let place : at.place ≡ other.place = differ at.place other.place x y at.here other.here (at.is_named_so ∙ sym other.is_named_so) in
-          is ∙ sym other.here ∙ ap (slice_get runners) (sym place) ∙ at.here
-      | None ↦ λ is.
-          let passes : is_named name x ≡ true = (bytes_eq-Decides x.name name).1 at.is_named_so in
-          let fails = each_at (λ y. is_named name y ≡ false) runners at.place x (none_found (is_named name) runners is) at.here in
-          let clash : true ≡ false = sym passes ∙ fails in
-          cc
-    ] refl
 
 -- ---- what is kept
 
 -- the runner's last command has this number, passes the test, and keeps this reply
 pub record HasKept (t : TableState) (name : List ℕ) (number : ℕ) (same : LastCommand → Bool) (kept : Reply) : Type 0 where
   pub runner : RunnerState
-  pub at : IsAt t.runners name runner
+  pub found : runner_named t.runners name ≡ Some runner
   pub number_is : runner.number ≡ number
   pub passes : same runner.last ≡ true
   pub keeps : kept_reply runner.last ≡ kept
@@ -85,60 +52,48 @@ module _ (name : List ℕ) (number : ℕ) (same : LastCommand → Bool) (kept : 
   has_runners : (t next : TableState) → next.runners ≡ t.runners → Has t → Has next
   has_runners t next is has = record {
     runner = has.runner;
-    at = subst (λ (l : List RunnerState). IsAt l name has.runner) (sym is) has.at;
+    found = ap (λ (l : List RunnerState). runner_named l name) is ∙ has.found;
     number_is = has.number_is;
     passes = has.passes;
     keeps = has.keeps;
   }
 
-  -- another runner is put in its place
+  -- a runner is put among them
   has_beside : (t next : TableState) (new : RunnerState) → next.runners ≡ with_runner t.runners new
-      → ((place : ℕ) → slice_get t.runners place ≡ runner_named t.runners new.name → slice_get (with_runner t.runners new) place ≡ Some new
-      → (has : Has t) → has.at.place ≡ place → Has next)
-      → Has t → Has next
-  has_beside t next new is same_place has =
-      let p = put t.runners new in
-      elim (cases_eq has.at.place p.place) [
-        | inl there ↦ same_place p.place p.was p.here has there
-        | inr elsewhere ↦ record {
+      → ((has : Has t) → name ≡ new.name → Has next) → Has t → Has next
+  has_beside t next new is same_name has =
+      elim (bytes_eq name new.name) as (λ b. bytes_eq name new.name ≡ b → Has next) [
+        | true ↦ λ named. same_name has ((bytes_eq-Decides name new.name).0 named)
+        | false ↦ λ other. record {
           runner = has.runner;
-          at = record {
-            place = has.at.place;
-            here = ap (λ (l : List RunnerState). slice_get l has.at.place) is ∙ p.elsewhere has.at.place elsewhere ∙ has.at.here;
-            is_named_so = has.at.is_named_so;
-          };
+          found = ap (λ (l : List RunnerState). runner_named l name) is
+              ∙ found_other t.runners new name (λ e. absurd (true≢false (sym ((bytes_eq-Decides name new.name).1 e) ∙ other)))
+              ∙ has.found;
           number_is = has.number_is;
           passes = has.passes;
           keeps = has.keeps;
         }
-      ]
+      ] refl
 
   -- a runner whose command is in turn
   in_turn : (t next : TableState) (new : RunnerState) → next.runners ≡ with_runner t.runners new
       → new.number ≡ number_of (runner_named t.runners new.name) + 1 → (new.name ≡ name → new.number ≤ number) → Has t → Has next
-  in_turn t next new is turn no_later has = has_beside t next new is (λ place was here has there.
-      let found : runner_named t.runners new.name ≡ Some has.runner =
-      sym was ∙ ap (slice_get t.runners) (sym there) ∙ has.at.here in
-      let own = at_place t.runners new.name has.runner found in
+  in_turn t next new is turn no_later has = has_beside t next new is (λ has named.
+      let found : runner_named t.runners new.name ≡ Some has.runner = ap (runner_named t.runners) (sym named) ∙ has.found in
       let last : number_of (runner_named t.runners new.name) ≡ number = ap number_of found ∙ has.number_is in
-      absurd (omega (arith, turn, last, no_later (sym own.is_named_so ∙ has.at.is_named_so)))) has
+      absurd (omega (arith, turn, last, no_later (sym named)))) has
 
   -- a runner that loses its lease
   releasing : (t next : TableState) (lost_one : List ℕ) (runner : RunnerState) → runner_named t.runners lost_one ≡ Some runner
       → next.runners ≡ with_runner t.runners (released runner) → Has t → Has next
   releasing t next lost_one runner found is has =
-      has_beside t next (released runner) is (λ place was here has there.
-      let named = at_place t.runners lost_one runner found in
-      let again : runner_named t.runners runner.name ≡ Some runner = ap (runner_named t.runners) named.is_named_so ∙ found in
+      has_beside t next (released runner) is (λ has named.
       let same_one : has.runner ≡ runner = some_same has.runner runner
-      (sym has.at.here ∙ ap (slice_get t.runners) there ∙ was ∙ again) in
+      (sym has.found ∙ ap (runner_named t.runners) (named ∙ has_the_name t.runners lost_one runner found) ∙ found) in
       record {
         runner = released runner;
-        at = record {
-          place = place;
-          here = ap (λ (l : List RunnerState). slice_get l place) is ∙ here;
-          is_named_so = ap (λ (x : RunnerState). x.name) (sym same_one) ∙ has.at.is_named_so;
-        };
+        found = ap (λ (l : List RunnerState). runner_named l name) is ∙ ap (runner_named (with_runner t.runners (released runner))) named
+            ∙ found_new t.runners (released runner);
         number_is = ap (λ (x : RunnerState). x.number) (sym same_one) ∙ has.number_is;
         passes = ap (λ (x : RunnerState). same x.last) (sym same_one) ∙ has.passes;
         keeps = ap (λ (x : RunnerState). kept_reply x.last) (sym same_one) ∙ has.keeps;
@@ -223,13 +178,12 @@ module _ (name : List ℕ) (number : ℕ) (same : LastCommand → Bool) (kept : 
   has_after t (c ∷ cs) no_later has = has_after (stepped t c).table cs no_later.1 (has_step t c no_later.0 has)
 
   -- the command again
-  pub answer_again : (t : TableState) → NamesDiffer t.runners → Has t → answer_of_turn (runner_named t.runners name) number same ≡ Some kept
-  answer_again t differ has =
+  pub answer_again : (t : TableState) → Has t → answer_of_turn (runner_named t.runners name) number same ≡ Some kept
+  answer_again t has =
       let x = has.runner in
-      let found = by_name t.runners name x differ has.at in
       let repeats : is_repeated number same x ≡ true =
       ap (λ (b : Bool). b && same x.last) (eq-eqb x.number number has.number_is) ∙ ap (λ (b : Bool). true && b) has.passes in
-      ap (λ (o : Option RunnerState). answer_of_turn o number same) found
+      ap (λ (o : Option RunnerState). answer_of_turn o number same) has.found
       ∙ ap (λ (b : Bool). if b then Some (kept_reply x.last) else turn_answer x.number number) repeats
       ∙ ap (λ (r : Reply). Some r) has.keeps
 
@@ -266,19 +220,13 @@ same_report report =
 -- put among the runners
 put_has : (t next : TableState) (new : RunnerState) (same : LastCommand → Bool) (kept : Reply) → next.runners ≡ with_runner t.runners new
     → same new.last ≡ true → kept_reply new.last ≡ kept → HasKept next new.name new.number same kept
-put_has t next new same kept is passes keeps =
-    let p = put t.runners new in
-    record {
-      runner = new;
-      at = record {
-        place = p.place;
-        here = ap (λ (l : List RunnerState). slice_get l p.place) is ∙ p.here;
-        is_named_so = refl;
-      };
-      number_is = refl;
-      passes = passes;
-      keeps = keeps;
-    }
+put_has t next new same kept is passes keeps = record {
+  runner = new;
+  found = ap (λ (l : List RunnerState). runner_named l new.name) is ∙ found_new t.runners new;
+  number_is = refl;
+  passes = passes;
+  keeps = keeps;
+}
 
 -- what was kept already
 repeated_has : (t : TableState) (name : List ℕ) (number : ℕ) (same : LastCommand → Bool) (x : RunnerState) → runner_named t.runners name ≡ Some x
@@ -287,7 +235,7 @@ repeated_has t name number same x found is =
     let parts = and_parts (nat_eq x.number number) (same x.last) is in
     record {
       runner = x;
-      at = at_place t.runners name x found;
+      found = found;
       number_is = eqb-true x.number number parts.0;
       passes = parts.1;
       keeps = refl;
@@ -412,21 +360,21 @@ turn_has t (command.Lost who) name number turn taken = absurd turn
 turn_has t (command.Look id) name number turn taken = absurd turn
 turn_has t (command.Fetch id) name number turn taken = absurd turn
 
-pub turn_again : (t : TableState) (c : Command) (name : List ℕ) (number : ℕ) (kept : Reply) → HasTurn c name number → NamesDiffer t.runners
+pub turn_again : (t : TableState) (c : Command) (name : List ℕ) (number : ℕ) (kept : Reply) → HasTurn c name number
     → HasKept t name number (test_of c) kept → step t c ≡ (t, kept)
-turn_again t (command.Claim claim) name number kept turn differ has =
+turn_again t (command.Claim claim) name number kept turn has =
     let own = at_turn (λ x n. HasKept t x n (is_last_claim claim) kept) name claim.runner number claim.number (sym turn.0) (sym turn.1) has in
     let others = if holds_lease (runner_named t.runners claim.runner) then Some (refused HasLease) else lease_answer t claim in
     ap (λ (o : Option Reply). outcome (option_map_or (unchanged t) (option_or o others) (claiming t claim)))
-    (answer_again claim.runner claim.number (is_last_claim claim) kept t differ own)
-turn_again t (command.Done report) name number kept turn differ has =
+    (answer_again claim.runner claim.number (is_last_claim claim) kept t own)
+turn_again t (command.Done report) name number kept turn has =
     let own = at_turn (λ x n. HasKept t x n (is_last_report report) kept) name report.runner number report.number (sym turn.0) (sym turn.1) has in
     let others = if holds_this report.lease (runner_named t.runners report.runner) then None else Some (refused LeaseNotHeld) in
     ap (λ (o : Option Reply). outcome (option_map_or (unchanged t) (option_or o others) (reporting t report)))
-    (answer_again report.runner report.number (is_last_report report) kept t differ own)
-turn_again t (command.Admit event) name number kept turn differ has = absurd turn
-turn_again t (command.Beat beat) name number kept turn differ has = absurd turn
-turn_again t (command.Cancel id) name number kept turn differ has = absurd turn
-turn_again t (command.Lost who) name number kept turn differ has = absurd turn
-turn_again t (command.Look id) name number kept turn differ has = absurd turn
-turn_again t (command.Fetch id) name number kept turn differ has = absurd turn
+    (answer_again report.runner report.number (is_last_report report) kept t own)
+turn_again t (command.Admit event) name number kept turn has = absurd turn
+turn_again t (command.Beat beat) name number kept turn has = absurd turn
+turn_again t (command.Cancel id) name number kept turn has = absurd turn
+turn_again t (command.Lost who) name number kept turn has = absurd turn
+turn_again t (command.Look id) name number kept turn has = absurd turn
+turn_again t (command.Fetch id) name number kept turn has = absurd turn

@@ -2,6 +2,8 @@ mod Beginning
 mod Committing
 mod Deliveries
 mod Entering
+mod GroupsOfHistory
+mod EventsStay
 mod Histories
 mod KeptReplies
 mod Meanings

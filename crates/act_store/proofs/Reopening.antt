@@ -6,14 +6,10 @@ use Rattle.run_plan.specs.declared.command.Command.TheVariants as command
 use Rattle.run_plan.specs.declared.reply.Reply.{Reply}
 use Rattle.run_plan.specs.declared.reply.Reply.TheVariants as reply
 use Rattle.run_table.specs.Histories.{after, replies}
-use Rattle.run_table.specs.Sound.{IsSound}
 use Rattle.run_table.specs.Step.{step, stepped}
 use Rattle.run_table.specs.TableState.{TableState}
-use Rattle.run_table.proofs.StepKeeps.{empty_is_sound, stepped_is_sound}
 use Rattle.act_store.specs.Entries.{IsLegal, commands_of, replies_of, table_after}
-use Rattle.act_store.specs.Images.{StandsFor}
 use Rattle.act_store.specs.Reopened.{HasTurn, HaveNoLaterTurn, IsRefused, Reopens}
-use Rattle.act_store.specs.TableText.{SpellsTable}
 use Rattle.act_store.specs.declared.entry.Entry.{Entry}
 use Rattle.act_store.proofs.Deliveries.{after_keeps, created_again, created_at, place_of, place_stays}
 use Rattle.act_store.proofs.Histories.{table-append}
@@ -45,17 +41,7 @@ fewer name number zero behind all = tt
 fewer name number (suc n) [] all = tt
 fewer name number (suc n) (e ∷ behind) all = (all.0, fewer name number n behind all.1)
 
--- ---- a table that an image stands for
-
-sound_after : (t : TableState) (cs : List Command) → IsSound t → IsSound (after t cs)
-sound_after t [] sound = sound
-sound_after t (c ∷ cs) sound = sound_after (stepped t c).table cs (stepped_is_sound t c sound)
-
-pub stands_sound : (table : TableState) (image : List ℕ) → StandsFor table image → IsSound table
-unfolding SpellsTable
-stands_sound table image stands =
-    let means = stands.means in
-    subst IsSound means.table_is (sound_after means.first means.commands (subst IsSound (sym means.text.0) empty_is_sound))
+-- ---- what the table answers that was found
 
 module _ (base table : TableState) (history before behind : List Entry) (entry : Entry) (covered : ℕ)
     (opens : Reopens base history covered before entry behind table) where
@@ -97,6 +83,6 @@ module _ (base table : TableState) (history before behind : List Entry) (entry :
       let first = turn_has here entry.command name number turn (λ refused. taken (refused.0, told ∙ refused.1)) in
       let last = has_after name number (test_of entry.command) s.reply s.table (commands_of later)
       (fewer name number (opens.left.count - length before - 1) behind no_later) first in
-      turn_again table entry.command name number s.reply turn (stands_sound table opens.image opens.opened).names_differ
+      turn_again table entry.command name number s.reply turn
       (subst (λ (x : TableState). HasKept x name number (test_of entry.command) s.reply) (sym found) last)
       ∙ ap (λ (r : Reply). (table, r)) (sym told)

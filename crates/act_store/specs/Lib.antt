@@ -1,4 +1,5 @@
 pub mod Entries
+pub mod GroupsOfHistory
 pub mod Images
 pub mod Kept
 pub mod Meaning

@@ -2,6 +2,7 @@ ghost use Rattle.std.specs.Prelude.{◌≡◌, ◌↔◌, ℕ, List, IfErr, IfOk
 ghost use Rattle.wf_value.specs.Gives.{no_memory};
 ghost use Rattle.act_disk.specs.Images.{EachSince};
 ghost use Rattle.act_store.specs.Entries.{IsLegal};
+ghost use Rattle.act_store.specs.GroupsOfHistory.{KeepsGroups};
 ghost use Rattle.act_store.specs.Kept.{StandsForSome};
 ghost use Rattle.act_store.specs.Steps.{Grows, Plays, PlaysSome, Survives, Takes};
 ghost use Rattle.act_store.specs.declared.step.Step.TheVariants as asked;
@@ -19,7 +20,8 @@ use wf_value::{Refusal, TryCopy};
 ///
 /// Whatever the steps are, and whatever the device does: a stop at any moment leaves an image that stands for the table after some of
 /// the first entries of the history, with all that were covered when the play began, and one at the end with all that are covered
-/// then. The history is one thread's, reply by reply. Only memory can be wanting, for the answers or for a copy of a command; the
+/// then. The history is one thread's, reply by reply, and in it every concurrency group has at most one run or leg in progress and at
+/// most one pending, and keeps its law. Only memory can be wanting, for the answers or for a copy of a command; the
 /// store then stands after some of the first steps.
 pub fn play<D: Disk>(
     alloc: Global,
@@ -35,6 +37,7 @@ pub fn play<D: Disk>(
     ensures stands { D.honest store.new.disk → (c : List ℕ) → D.images store.new.disk c
         → StandsForSome store.new.base store.new.history store.new.covered c }
     ensures legal { IsLegal store.new.base store.new.history }
+    ensures groups { KeepsGroups store.new.base store.new.history }
     ensures grows { Grows store.old store.new }
     ensures honest { D.honest store.new.disk ↔ D.honest store.old.disk }
 {

@@ -1,5 +1,6 @@
 ghost use Rattle.std.specs.Prelude.{◌≡◌, ◌≤◌, ◌==◌, ◌-◌, List, ℕ, if◌then◌else◌, length, slice_get, option_copied, None};
 ghost use Rattle.act_store.specs.Entries.{IsLegal};
+ghost use Rattle.act_store.specs.GroupsOfHistory.{KeepsGroups};
 ghost use Rattle.act_store.specs.Kept.{StandsForEither, table_of};
 ghost use Rattle.run_table.specs.Step.{seen};
 
@@ -7,6 +8,7 @@ use crate::entry::Entry;
 use act_disk::Disk;
 use gated_journal::{Gate, Record, Standing};
 use run_plan::Number;
+use run_table::laws::{every_group_keeps_its_law, groups_have_one_holder_of_each_kind};
 use run_table::{RunView, Table};
 use std::marker::Model;
 
@@ -82,8 +84,12 @@ impl<D: Disk> Store<D> {
         ensures value { result ≡ self.now.covered }
         ensures within { self.now.covered ≤ length self.now.history }
         ensures legal { IsLegal self.now.base self.now.history }
+        ensures groups { KeepsGroups self.now.base self.now.history }
         ensures promise { D.honest self.now.disk → (c : List ℕ) → D.images self.now.disk c → StandsForEither self.now c }
     {
+        every_group_keeps_its_law();
+        groups_have_one_holder_of_each_kind();
+        let _last = self.base.last_lease();
         self.covered as u64
     }
 

@@ -57,8 +57,7 @@ const EXPLANATIONS: [Explanation; 28] = [
         number: "16",
         meaning: "a workflow has a member, or a kind of job, that is left out",
         input: "the workflow {\"jobs\":{\"a\":{\"uses\":\"./x.yml\"}}}",
-        remedy: "write the job's own steps in place of \"uses\", and labels in place of a runner group; \
-            \"concurrency\" is checked by acts check, and not run yet",
+        remedy: "write the job's own steps in place of \"uses\", and labels in place of a runner group",
     },
     Explanation {
         number: "17",

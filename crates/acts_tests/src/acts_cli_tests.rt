@@ -4,6 +4,7 @@ mod cancels;
 mod checks;
 mod command_line;
 mod conditions;
+mod groups;
 mod legs;
 mod needs;
 mod scripts;

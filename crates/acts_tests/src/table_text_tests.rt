@@ -1,5 +1,7 @@
 //! The stored bytes of commands and of batches. The expected ones are those of the format, worked out by hand.
 
+mod no_tables;
+mod reading_tables;
 mod tables;
 
 use crate::commands::{Words, command_of};

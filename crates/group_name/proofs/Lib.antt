@@ -1,2 +1,3 @@
 mod BoundFolding
 mod Folding
+pub mod OnLiterals

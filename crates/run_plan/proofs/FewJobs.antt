@@ -16,7 +16,7 @@ use Rattle.wf_reader.specs.Faults.{fault, in_turn, optional, required, text_faul
 use Rattle.wf_reader.specs.Job.{job_of}
 use Rattle.wf_reader.specs.Json.{member_at, members_of}
 use Rattle.wf_reader.specs.Workflow.{inside_workflow, jobs_faults, workflow_faults_in}
-use Rattle.run_plan.specs.PlanOf.{faults_of, plan_of, planned_job, run_faults}
+use Rattle.run_plan.specs.PlanOf.{faults_of, plan_of, planned_job, plan_faults}
 
 -- where nothing stands in either part
 no_front : {X : Type 0} (xs ys : List X) → xs ++ ys ≡ [] → xs ≡ []
@@ -76,7 +76,7 @@ few_in_body false read h = absurd (cc)
 pub few_jobs : (b : List ℕ) → faults_of b ≡ [] → length (plan_of b) ≤ 256
 few_jobs b h =
     let ms = members_of (member_at (codes "jobs") (member_at (codes "workflow") (unwrap_or (json_of b) null))) in
-    let few : length ms ≤ 256 = few_in_body (nat_le (length b) 65536) (json_of b) (no_front (event_faults b) (run_faults (event_of b).workflow) h) in
+    let few : length ms ≤ 256 = few_in_body (nat_le (length b) 65536) (json_of b) (no_front (event_faults b) (plan_faults (event_of b).workflow) h) in
     let read : length (map job_of ms) ≡ length ms = length-map ms job_of in
     let planned : length (plan_of b) ≡ length (map job_of ms) = length-map (map job_of ms) planned_job in
     omega (arith, few, read, planned)

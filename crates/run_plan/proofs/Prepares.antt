@@ -4,7 +4,7 @@ use Rattle.wf_value.specs.declared.refusal.Refusal.{Refusal}
 use Rattle.wf_reader.specs.Event.{event_faults, event_of}
 use Rattle.wf_reader.specs.Faults.{unless_faulty}
 use Rattle.wf_reader.specs.declared.event.Event.{Event}
-use Rattle.run_plan.specs.PlanOf.{faults_of, plan_of, planned_job, run_faults}
+use Rattle.run_plan.specs.PlanOf.{faults_of, plan_of, planned_job, plan_faults}
 use Rattle.run_plan.specs.declared.planned.PlannedJob.{PlannedJob}
 use Rattle.run_plan.proofs.Faultless.{faultless, given}
 
@@ -15,27 +15,27 @@ same_refusal (f ∷ fs) x y e h = cc
 
 -- where the event has no fault, those of its jobs decide
 faults_left : (body : List ℕ) (read : Event) → unless_faulty (event_faults body) (event_of body) ≡ Ok read
-    → faults_of body ≡ run_faults read.workflow
+    → faults_of body ≡ plan_faults read.workflow
 faults_left body read told =
-    ap (λ fs. fs ++ run_faults (event_of body).workflow) (faultless (event_faults body) (event_of body) read told)
-    ∙ ap (λ (e : Event). run_faults e.workflow) (given (event_faults body) (event_of body) read told)
+    ap (λ fs. fs ++ plan_faults (event_of body).workflow) (faultless (event_faults body) (event_of body) read told)
+    ∙ ap (λ (e : Event). plan_faults e.workflow) (given (event_faults body) (event_of body) read told)
 
 pub refused_run : {Y : Type 0} (body : List ℕ) (read : Event) (y : Y) (e : Refusal)
     → unless_faulty (event_faults body) (event_of body) ≡ Ok read
-    → unless_faulty (run_faults read.workflow) (map planned_job read.workflow.jobs) ≡ Err e → unless_faulty (faults_of body) y ≡ Err e
+    → unless_faulty (plan_faults read.workflow) (map planned_job read.workflow.jobs) ≡ Err e → unless_faulty (faults_of body) y ≡ Err e
 refused_run body read y e told refused =
     ap (λ fs. unless_faulty fs y) (faults_left body read told)
-    ∙ same_refusal (run_faults read.workflow) (map planned_job read.workflow.jobs) y e refused
+    ∙ same_refusal (plan_faults read.workflow) (map planned_job read.workflow.jobs) y e refused
 
 pub faultless_run : (body : List ℕ) (read : Event) (plan : List PlannedJob)
     → unless_faulty (event_faults body) (event_of body) ≡ Ok read
-    → unless_faulty (run_faults read.workflow) (map planned_job read.workflow.jobs) ≡ Ok plan → faults_of body ≡ []
+    → unless_faulty (plan_faults read.workflow) (map planned_job read.workflow.jobs) ≡ Ok plan → faults_of body ≡ []
 faultless_run body read plan told planned =
-    faults_left body read told ∙ faultless (run_faults read.workflow) (map planned_job read.workflow.jobs) plan planned
+    faults_left body read told ∙ faultless (plan_faults read.workflow) (map planned_job read.workflow.jobs) plan planned
 
 pub plan_of_run : (body : List ℕ) (read : Event) (plan : List PlannedJob)
     → unless_faulty (event_faults body) (event_of body) ≡ Ok read
-    → unless_faulty (run_faults read.workflow) (map planned_job read.workflow.jobs) ≡ Ok plan → plan ≡ plan_of body
+    → unless_faulty (plan_faults read.workflow) (map planned_job read.workflow.jobs) ≡ Ok plan → plan ≡ plan_of body
 plan_of_run body read plan told planned =
-    sym (given (run_faults read.workflow) (map planned_job read.workflow.jobs) plan planned)
+    sym (given (plan_faults read.workflow) (map planned_job read.workflow.jobs) plan planned)
     ∙ ap (λ (e : Event). map planned_job e.workflow.jobs) (sym (given (event_faults body) (event_of body) read told))

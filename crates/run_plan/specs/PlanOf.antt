@@ -2,18 +2,15 @@
 -- themselves, each with its combination, and which jobs each one needs. GitHub Docs, "Running variations of jobs in a workflow" and
 -- "Workflow syntax for GitHub Actions", jobs.<job_id>.runs-on, jobs.<job_id>.needs, jobs.<job_id>.if,
 -- jobs.<job_id>.continue-on-error, jobs.<job_id>.concurrency, jobs.<job_id>.strategy.
-use Rattle.std.specs.Prelude.{ℕ, List, [], ◌∷◌, ◌++◌, ◌&&◌, map, flat_map, Bool, true, is_none, Option, Result, Ok}
-use Rattle.std.specs.List.{list_all}
+use Rattle.std.specs.Prelude.{ℕ, List, [], ◌∷◌, ◌++◌, map, flat_map, true, Option, Result, Ok}
 use Rattle.std.specs.Option.{option_and_then, option_map_or}
 use Rattle.std.specs.Result.{result_unwrap_or}
 use Rattle.wf_value.specs.Matrix.{MatrixLists}
-use Rattle.wf_value.specs.declared.code.Code.TheVariants.{LeftOut}
 use Rattle.wf_value.specs.declared.refusal.Refusal.{Refusal}
-use Rattle.wf_reader.specs.declared.concurrency.Concurrency.{Concurrency}
 use Rattle.wf_reader.specs.declared.job.Job.{Job}
 use Rattle.wf_reader.specs.declared.workflow.Workflow.{Workflow}
 use Rattle.wf_reader.specs.Event.{event_faults, event_of}
-use Rattle.wf_reader.specs.Faults.{fault_unless, outcome_faults}
+use Rattle.wf_reader.specs.Faults.{outcome_faults}
 use Rattle.matrix_expand.specs.Combinations.{Combination, combinations_or_refusal}
 use Rattle.needs_graph.specs.JobNeeds.{JobNeeds}
 use Rattle.needs_graph.specs.Needs.{graph_of, needs_of}
@@ -88,26 +85,9 @@ jobs_faults jobs = legs_faults jobs ++ needs_faults jobs
 abbrev pub plan_faults : Workflow → List Refusal
 plan_faults workflow = jobs_faults workflow.jobs
 
--- ---- what runs leave out
-
-abbrev pub has_no_group : Job → Bool
-has_no_group job = is_none job.concurrency
-
--- neither the workflow nor a job has a group
-abbrev pub is_without_groups : Option Concurrency → List Job → Bool
-is_without_groups own jobs = is_none own && list_all has_no_group jobs
-
--- groups, as long as the table keeps none
-abbrev pub left_out_of_runs : Option Concurrency → List Job → List Refusal
-left_out_of_runs own jobs = fault_unless (is_without_groups own jobs) LeftOut
-
--- what is wrong with a workflow that is to be run
-abbrev pub run_faults : Workflow → List Refusal
-run_faults workflow = plan_faults workflow ++ left_out_of_runs workflow.concurrency workflow.jobs
-
--- what is wrong with the event that a body spells, and then with its workflow as one to be run
+-- what is wrong with the event that a body spells, and then with the plan of its workflow
 abbrev pub faults_of : List ℕ → List Refusal
-faults_of body = event_faults body ++ run_faults (event_of body).workflow
+faults_of body = event_faults body ++ plan_faults (event_of body).workflow
 
 -- the plan of the workflow that a body spells
 abbrev pub plan_of : List ℕ → List PlannedJob

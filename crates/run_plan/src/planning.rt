@@ -1,17 +1,16 @@
-ghost use Rattle.std.specs.Prelude.{◌≡◌, ◌++◌, IsTrue, IfOk, Ok, map, true};
-ghost use Rattle.std.specs.List.{list_all};
+ghost use Rattle.std.specs.Prelude.{◌≡◌, IsTrue, IfOk, Ok, map, true};
 ghost use Rattle.std.specs.Option.{option_and_then, option_map_or};
 ghost use Rattle.wf_value.specs.Gives.{Gives};
 ghost use Rattle.wf_reader.specs.Faults.{unless_faulty};
 ghost use Rattle.needs_graph.specs.Needs.{ids_rise};
-ghost use Rattle.run_plan.specs.PlanOf.{combinations_where, has_no_group, is_without_groups, job_faults, jobs_faults, left_out_of_runs};
+ghost use Rattle.run_plan.specs.PlanOf.{combinations_where, job_faults, jobs_faults};
 ghost use Rattle.run_plan.specs.PlanOf.{legs_faults, legs_of, needs_listed, plan_faults, planned_job, workflow_plan};
 
 use crate::planned::{Plan, PlannedJob, PlannedLeg};
 use matrix_expand::expand;
 use std::alloc::Global;
-use wf_reader::{Concurrency, Job, Jobs, Strategy, Workflow};
-use wf_value::{Code, Combo, Matrix, Refusal, Sequence};
+use wf_reader::{Job, Jobs, Strategy, Workflow};
+use wf_value::{Combo, Matrix, Refusal, Sequence};
 
 /// The plan of a workflow, whose texts it takes over. Job by job, a matrix is refused 21 where the
 /// lengths of its lists multiply to over 4,096, else 22 where it gives no leg or more than 256. Then 13 is
@@ -43,43 +42,6 @@ fn planned_jobs(alloc: Global, jobs: Jobs) -> Result<Sequence<PlannedJob>, Refus
         planned.push(planned_job(alloc, job)?)?;
     }
     Ok(Sequence::new(planned))
-}
-
-fn has_no_group(job: &Job) -> bool
-    ensures { result ≡ has_no_group job.now }
-{
-    job.concurrency.is_none()
-}
-
-fn have_no_group(jobs: &[Job]) -> bool
-    ensures { result ≡ list_all has_no_group jobs.now }
-{
-    jobs.iter().all(has_no_group)
-}
-
-/// Whether neither the workflow nor one of its jobs asks for a group.
-fn is_without_groups(concurrency: &Option<Concurrency>, jobs: &[Job]) -> bool
-    ensures { result ≡ is_without_groups concurrency.now jobs.now }
-{
-    concurrency.is_none() && have_no_group(jobs)
-}
-
-/// The plan of jobs that are to be run. After every other fault, 16 is refused where the workflow or a job
-/// asks for a concurrency group, as long as runs keep none.
-pub fn plan_run(
-    alloc: Global,
-    concurrency: &Option<Concurrency>,
-    jobs: Jobs,
-) -> Result<Plan, Refusal>
-    ensures { Gives (λ p. p) result
-        (unless_faulty (jobs_faults jobs ++ left_out_of_runs concurrency.now jobs) (map planned_job jobs)) }
-{
-    let is_run = is_without_groups(concurrency, jobs.as_slice());
-    let plan = plan_jobs(alloc, jobs)?;
-    if !is_run {
-        return Err(Refusal::Numbered(Code::LeftOut));
-    }
-    Ok(plan)
 }
 
 fn planned_job(alloc: Global, job: Job) -> Result<PlannedJob, Refusal>

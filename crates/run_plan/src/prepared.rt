@@ -9,7 +9,7 @@ ghost use Rattle.run_plan.specs.Origins.{IsOrigin};
 ghost use Rattle.run_plan.specs.PlanOf.{faults_of, plan_of};
 
 use crate::planned::Plan;
-use crate::planning::plan_run;
+use crate::planning::plan_jobs;
 use crate::small_text::{DeliveryId, EventName};
 use std::alloc::Global;
 use std::marker::Model;
@@ -157,7 +157,6 @@ impl Same for Prepared {
 /// The jobs of an event's workflow, and what else it says.
 fn origin_and_jobs(event: Event) -> (Origin, Jobs)
     ensures origin { IsOrigin result.0 event }
-    ensures concurrency { result.0.concurrency ≡ event.workflow.concurrency }
     ensures jobs { result.1 ≡ event.workflow.jobs }
 {
     let Event {
@@ -181,9 +180,8 @@ fn origin_and_jobs(event: Event) -> (Origin, Jobs)
     (origin, jobs)
 }
 
-/// An event made ready: its body is read and planned, and refused with the first of its faults, 10 to 26; one
-/// in which the workflow or a job has a concurrency group is refused 16 where it has no other fault. Want of
-/// memory is 50. A body that is too long or no UTF-8 is refused memory or not.
+/// An event made ready: its body is read and planned, and refused with the first of its faults, 10 to 26.
+/// Want of memory is 50. A body that is too long or no UTF-8 is refused memory or not.
 pub fn prepare(
     alloc: Global,
     event: EventName,
@@ -200,7 +198,7 @@ pub fn prepare(
 {
     let read = read_event(alloc, body.as_slice())?;
     let (origin, jobs) = origin_and_jobs(read);
-    let plan = plan_run(alloc, &origin.concurrency, jobs)?;
+    let plan = plan_jobs(alloc, jobs)?;
     let admission = Admission {
         delivery,
         event,

@@ -13,7 +13,7 @@ use Rattle.run_plan.specs.Admitted.{Admitted}
 use Rattle.run_plan.specs.PlanOf.{plan_of}
 use Rattle.run_plan.specs.declared.planned.PlannedJob.{PlannedJob}
 use Rattle.run_plan.specs.declared.reply.Reply.TheVariants as reply
-use Rattle.run_table.specs.Places.{LegPlace, run_at}
+use Rattle.run_table.specs.Places.{LegPlace, plan_at, run_at}
 use Rattle.run_table.specs.Rules.{result_at}
 use Rattle.run_table.specs.Parallel.{legs_at_work}
 use Rattle.run_table.specs.Sound.{DeliveriesDiffer, ParallelIsBounded}
@@ -22,8 +22,8 @@ use Rattle.run_table.specs.TableState.{LegState, JobState, RunState, TableState}
 use Rattle.run_table.specs.Words.{planned_legs}
 use Rattle.run_table.proofs.Found.{none_found, found_nowhere, each_at, at_the_end, before_the_end}
 use Rattle.run_table.proofs.Kept.{IsKept, kept_still_had}
-use Rattle.run_table.proofs.LeaseReads.{leases_same}
-use Rattle.run_table.proofs.LegReads.{work_of, had_at, works_at}
+use Rattle.run_table.proofs.LeaseReads.{leases_same, none_is_not_some}
+use Rattle.run_table.proofs.LegReads.{work_of, had_at, had_in, works_at}
 use Rattle.run_table.proofs.NeedsSettled.{result_in}
 use Rattle.run_table.proofs.Optional.{from_map}
 use Rattle.run_table.proofs.RunFits.{JobFits, RunFits, RunsFit}
@@ -62,7 +62,7 @@ no_lease f event j l =
 -- ---- the runs with it
 
 module _ (runs : List RunState) (event : Admitted) where
-  all_fit : RunsFit runs → RunsFit (runs ++ new_run event ∷ [])
+  pub all_fit : RunsFit runs → RunsFit (runs ++ new_run event ∷ [])
   all_fit fit r x e =
       let next = runs ++ new_run event ∷ [] in
       elim (cases_eq r (length runs)) [
@@ -140,6 +140,17 @@ module _ (runs : List RunState) (event : Admitted) where
           sym (ap (λ (v : RunState). v.admitted.delivery)
           (some_same x (sym (at_the_end runs (new_run event)) ∙ ap (slice_get (runs ++ new_run event ∷ [])) (sym s) ∙ e)))
 
+-- a leg with a lease was there, and its plan is as it was
+plan_was_there : (runs : List RunState) (event : Admitted) (p : LegPlace) (n : ℕ) → had_at runs p ≡ Some n
+    → plan_at (runs ++ new_run event ∷ []) p.run p.job ≡ plan_at runs p.run p.job
+plan_was_there runs event p n had =
+    elim (cases_eq p.run (length runs)) [
+      | inl s ↦ absurd (none_is_not_some n
+          (sym (ap (option_and_then (λ (run : RunState). had_in run p.job p.leg)) (slice_get_past runs p.run (omega (arith, s)))) ∙ had))
+      | inr m ↦ ap (option_and_then (λ (run : RunState). slice_get (plan_of run.admitted.body) p.job))
+          (before_the_end runs (new_run event) p.run m)
+    ]
+
 -- ---- what was looked at first
 
 pub nothing_in_or : {X : Type 0} (a b : Option X) → option_or a b ≡ None → (a ≡ None) × (b ≡ None)
@@ -175,11 +186,11 @@ admit_keeps t event s none =
       agree = leases_same t.last_lease (had_at t.runs) (works_at t.runs) (had_at next) (works_at next) (holds_at t.runners)
           (holds_at t.runners) (same_reads t.runs event (λ z. z.lease)) (same_reads t.runs event work_of) (λ k. refl) s.agree;
       last_lease_in_range = s.last_lease_in_range;
-      names_differ = s.names_differ;
+      runners_in_order = s.runners_in_order;
       lasts_are_own = s.lasts_are_own;
       kept_are_had =
-          (λ k x e. kept_still_had (had_at t.runs) (had_at next) (λ p n h. same_reads t.runs event (λ z. z.lease) p ∙ h) x.last
-          (s.kept_are_had k x e));
+          (λ k x e. kept_still_had t.runs next
+          (λ p n h. (same_reads t.runs event (λ z. z.lease) p ∙ h, plan_was_there t.runs event p n h)) x.last (s.kept_are_had k x e));
     }
   where
     fresh : find (is_delivered_as event.delivery) t.runs ≡ None → (r : ℕ) (x : RunState) → run_at t.runs r ≡ Some x

@@ -25,11 +25,12 @@ use Rattle.run_table.proofs.Found.{find_passes}
 use Rattle.run_table.proofs.AtWork.{at_work, one_at_work, at_most_one, fewer_in_job, most_same}
 use Rattle.run_table.proofs.JobKeeps.{leg_in, leg_stays, leg_now, leg_elsewhere, job_is_now, with_leg_of}
 use Rattle.run_table.proofs.Lowered.{sum_of_changed}
-use Rattle.run_table.proofs.Kept.{IsKept, KeptIsHad, kept_still_had, deliveries_still_differ}
-use Rattle.run_table.proofs.LeaseReads.{ChangesAt, place_or_another, lease_given, leases_same, none_is_not_some}
+use Rattle.run_table.proofs.Kept.{IsKept, KeptIsHad, kept_still_had, told_the_same, deliveries_still_differ}
+use Rattle.run_table.proofs.LeaseReads.{ChangesAt, names_same, place_or_another, lease_given, leases_same, none_is_not_some}
 use Rattle.run_table.proofs.LegReads.{work_of, had_at, works_at, had_is, works_is, had_from_leg, works_from_leg}
-use Rattle.run_table.proofs.RunFits.{RunsFit, admitted_at, leases_fit}
-use Rattle.run_table.proofs.RunnerPut.{put, each_put, names_still_differ, holds_at, holds_changes}
+use Rattle.run_table.proofs.RunFits.{RunsFit, admitted_at, plan_at_same, leases_fit}
+use Rattle.run_table.proofs.RunnerOrder.{names_still_rise}
+use Rattle.run_table.proofs.RunnerPut.{each_put, holds_at, holds_changes}
 
 -- ---- what was looked at first
 
@@ -80,7 +81,7 @@ fitting_room labels runs p e =
     (and_parts (option_map_or (λ l. is_ready l.phase) (leg_at runs p) false) (may_run_too runs p && is_served labels runs p)
     (find_passes (fits labels runs) (leg_places runs) p e)).1).0
 
-ready_has_no_lease : (phase : LegPhase) (lease : Option ℕ) → phase ≡ leg.Ready → LeaseFits phase lease → lease ≡ None
+pub ready_has_no_lease : (phase : LegPhase) (lease : Option ℕ) → phase ≡ leg.Ready → LeaseFits phase lease → lease ≡ None
 ready_has_no_lease phase lease e fits = subst (λ (x : LegPhase). LeaseFits x lease) e fits
 
 -- ---- what is read after a leg has changed
@@ -171,31 +172,28 @@ serving_keeps t claim s none =
     (if has_no_lease_left t claim then Some (refused LastCounter) else None)) none in
     let free = holds_none runner
     (looked_first (holds_lease runner) (has_no_lease_left t claim) (refused HasLease) (refused LastCounter) looked.1).0 in
-    let p = put t.runners new in
     let changes = holds_changes t.runners new in
-    let before : holds_at t.runners p.place ≡ None = ap (option_and_then (λ (x : RunnerState). x.holds)) p.was ∙ free in
     record {
       few_runs = s.few_runs;
       deliveries_differ = s.deliveries_differ;
       fit = s.fit;
       parallel_bounded = s.parallel_bounded;
       agree = leases_same t.last_lease (had_at t.runs) (works_at t.runs) (had_at t.runs) (works_at t.runs) (holds_at t.runners)
-          (holds_at (with_runner t.runners new)) (λ q. refl) (λ q. refl) (same_holds p.place changes before) s.agree;
+          (holds_at (with_runner t.runners new)) (λ q. refl) (λ q. refl) (same_holds changes free) s.agree;
       last_lease_in_range = s.last_lease_in_range;
-      names_differ = names_still_differ t.runners new s.names_differ;
+      runners_in_order = names_still_rise t.runners new s.runners_in_order;
       lasts_are_own = each_put t.runners new (λ x. IsLastOf x.name x.number x.last) (refl, refl) s.lasts_are_own;
-      kept_are_had = each_put t.runners new (λ x. KeptIsHad (had_at t.runs) x.last) tt s.kept_are_had;
+      kept_are_had = each_put t.runners new (λ x. KeptIsHad t.runs x.last) tt s.kept_are_had;
     }
   where
-    same_holds : (place : ℕ)
-        → ChangesAt (holds_at t.runners) (holds_at (with_runner t.runners (claiming_runner claim None given.Nothing))) place None
-        → holds_at t.runners place ≡ None
-        → (k : ℕ) → holds_at (with_runner t.runners (claiming_runner claim None given.Nothing)) k ≡ holds_at t.runners k
-    same_holds place changes before k =
-        elim (cases_eq k place) [
+    same_holds : ChangesAt (holds_at t.runners) (holds_at (with_runner t.runners (claiming_runner claim None given.Nothing))) claim.runner None
+        → holds_at t.runners claim.runner ≡ None
+        → (name : List ℕ) → holds_at (with_runner t.runners (claiming_runner claim None given.Nothing)) name ≡ holds_at t.runners name
+    same_holds changes before name =
+        elim (names_same name claim.runner) [
           | inl e ↦ ap (holds_at (with_runner t.runners (claiming_runner claim None given.Nothing))) e ∙ changes.here ∙ sym before
               ∙ ap (holds_at t.runners) (sym e)
-          | inr n ↦ changes.elsewhere k n
+          | inr n ↦ changes.elsewhere name n
         ]
 
 -- ---- a leg is leased
@@ -237,11 +235,10 @@ leasing_keeps t claim p s none fit =
     let stay = leg_stays t.runs s.fit p z (λ _. leased_leg lease) (leg_in t.runs p z ready.is) unended refl in
     let free_leg : had_at t.runs p ≡ None =
     had_from_leg t.runs p z ready.is ∙ ready_has_no_lease z.phase z.lease ready.ready (leases_fit t.runs s.fit p z ready.is) in
-    let place = put t.runners new in
-    let free_runner : holds_at t.runners place.place ≡ None =
-    ap (option_and_then (λ (x : RunnerState). x.holds)) place.was ∙ holds_none runner tests.0 in
+    let free_runner : holds_at t.runners claim.runner ≡ None = holds_none runner tests.0 in
     let had = had_changes t.runs p z (λ _. leased_leg lease) ready.is in
     let still = still_had (had_at t.runs) (had_at next) p (Some lease) had free_leg in
+    let same_plan = λ (q : LegPlace). plan_at_same t.runs next q.run q.job (stay.same_admitted q.run) in
     record {
       few_runs = subst (λ (n : ℕ). n ≤ 100000) (sym stay.same_length) s.few_runs;
       deliveries_differ = deliveries_still_differ t.runs next stay.same_admitted s.deliveries_differ;
@@ -249,12 +246,12 @@ leasing_keeps t claim p s none fit =
       parallel_bounded = leased_bounded t.runs p z (λ _. leased_leg lease) ready.is (fitting_room claim.labels t.runs p fit)
           stay.same_admitted stay.fit s.parallel_bounded;
       agree = lease_given t.last_lease (had_at t.runs) (works_at t.runs) (had_at next) (works_at next) (holds_at t.runners)
-          (holds_at (with_runner t.runners new)) p place.place s.agree free_leg free_runner
+          (holds_at (with_runner t.runners new)) p claim.runner s.agree free_leg free_runner
           had (works_changes t.runs p z (λ _. leased_leg lease) ready.is) (holds_changes t.runners new);
       last_lease_in_range = omega (arith, left);
-      names_differ = names_still_differ t.runners new s.names_differ;
+      runners_in_order = names_still_rise t.runners new s.runners_in_order;
       lasts_are_own = each_put t.runners new (λ x. IsLastOf x.name x.number x.last) (refl, refl) s.lasts_are_own;
       kept_are_had =
-          each_put t.runners new (λ x. KeptIsHad (had_at next) x.last) (omega arith, p, had.here)
-          (λ k x e. kept_still_had (had_at t.runs) (had_at next) still x.last (s.kept_are_had k x e));
+          each_put t.runners new (λ x. KeptIsHad next x.last) (omega arith, p, had.here, told_the_same t.runs next p lease (same_plan p))
+          (λ k x e. kept_still_had t.runs next (λ q n h. (still q n h, same_plan q)) x.last (s.kept_are_had k x e));
     }

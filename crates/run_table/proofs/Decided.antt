@@ -1,42 +1,31 @@
 -- Each job that is no longer blocked has its needs settled, and each that was skipped has a condition that is false: what
 -- each change of the runs keeps of it.
-use Rattle.std.specs.Prelude.{◌≡◌, ℕ, zero, suc, ◌&&◌, List, [], ◌∷◌, Bool, true, false, is_some, Option, Some, None}
-use Rattle.std.specs.Prelude.{option_map, option_and_then, slice_get, if◌then◌else◌, refl}
-use Rattle.std.specs.List.{list_all, list_any, slice_index_or}
+use Rattle.std.specs.Prelude.{◌≡◌, ℕ, zero, suc, List, [], ◌∷◌, true, false, is_some, Option, Some, None}
+use Rattle.std.specs.Prelude.{option_map, option_and_then, slice_get, refl}
+use Rattle.std.specs.List.{slice_index_or}
 use Rattle.std.specs.Option.{option_map_or}
 use Rattle.std.proofs.Common.{ap, sym, ◌∙◌, subst}
-use Rattle.std.proofs.lemmas.Bool.{and_parts}
 use Rattle.wf_value.specs.declared.condition.Condition.TheVariants as condition
 use Rattle.wf_value.specs.declared.outcome.JobResult.{JobResult}
 use Rattle.wf_value.specs.declared.outcome.JobResult.TheVariants as result
 use Rattle.needs_graph.specs.Ancestors.{ancestors_of}
 use Rattle.needs_graph.specs.Conditions.{condition_value, results_at}
-use Rattle.needs_graph.specs.Results.{fails_job, was_cancelled}
 use Rattle.run_plan.specs.Admitted.{Admitted}
 use Rattle.run_plan.specs.PlanOf.{plan_of}
 use Rattle.run_plan.specs.declared.planned.PlannedJob.{PlannedJob}
 use Rattle.run_table.specs.FirstOf.{changed_at}
-use Rattle.run_table.specs.Places.{LegPlace, run_at, job_at, leg_at, plan_at, with_run, with_job, with_leg}
-use Rattle.run_table.specs.Rules.{rule_at, opening_rule, leg_rule, closing_rule, whole_rule, is_blocked, is_open, is_settled, opened}
-use Rattle.run_table.specs.Rules.{settled_as, may_run, decided, has_ended, leg_ends, next_leg_phase, leg_in_phase, next_run_phase, result_at}
-use Rattle.run_table.specs.Rules.{run_in_phase}
-use Rattle.run_table.specs.Settling.{first_place, first_rule, left, settled_within, settled}
+use Rattle.run_table.specs.Places.{LegPlace, run_at, job_at, plan_at, with_job, with_leg}
 use Rattle.run_table.specs.TableState.{LegState, JobState, RunState}
-use Rattle.run_table.specs.Words.{ancestor_results, condition_of, is_stopping, job_results, needs_graph_at, needs_have_settled, planned_legs}
+use Rattle.run_table.specs.Words.{ancestor_results, condition_of, job_results, needs_graph_at, needs_have_settled}
 use Rattle.run_table.specs.Words.{settled_result}
 use Rattle.run_table.specs.declared.phases.JobPhase.{JobPhase}
 use Rattle.run_table.specs.declared.phases.JobPhase.TheVariants as job
-use Rattle.run_table.specs.declared.place.Place.{Place}
-use Rattle.run_table.specs.declared.place.Place.TheVariants.{Opening, AtLeg, Closing, Whole}
 use Rattle.run_table.proofs.AncestorsSettled.{NeedsBefore, ancestors_settled, results_stay}
 use Rattle.run_table.proofs.Changed.{holds_of_each}
-use Rattle.run_table.proofs.JobKeeps.{JobIn, job_in, leg_in, with_job_of}
-use Rattle.run_table.proofs.LivePlaces.{LivePlace, first_place_is_live}
+use Rattle.run_table.proofs.JobKeeps.{JobIn, job_in, with_job_of}
 use Rattle.run_table.proofs.NeedsSettled.{KeepsResults, graph_same, needs_stay_settled, result_in, result_of_job}
-use Rattle.run_table.proofs.Optional.{from_and_then, from_map, if_some, and_then-option_map}
-use Rattle.run_table.proofs.RuleKeeps.{is_open_open, rule_settles}
-use Rattle.run_table.proofs.RunFits.{RunsFit, admitted_at, job_in_run}
-use Rattle.run_table.proofs.SettlingKeeps.{first_rule_settles}
+use Rattle.run_table.proofs.Optional.{from_and_then, and_then-option_map}
+use Rattle.run_table.proofs.RunFits.{admitted_at, job_in_run}
 
 -- what holds of a job, once it is no longer blocked
 abbrev pub JobDecided : List RunState → ℕ → ℕ → JobPhase → Type 0
@@ -104,10 +93,10 @@ all_decided runs next all same keeps now r j y at = decided_stays runs next all 
 
 -- ---- a change of one job
 
-abbrev NowDecided : List RunState → List RunState → Type 0
+abbrev pub NowDecided : List RunState → List RunState → Type 0
 NowDecided runs next = (r j : ℕ) (y : JobState) → job_at next r j ≡ Some y → JobDecided runs r j y.phase
 
-one_decided : (runs : List RunState) (r j : ℕ) (f : JobState → JobState) (y : JobState) → job_at runs r j ≡ Some y
+pub one_decided : (runs : List RunState) (r j : ℕ) (f : JobState → JobState) (y : JobState) → job_at runs r j ≡ Some y
     → JobDecided runs r j (f y).phase → Decided runs → NowDecided runs (with_job r j f runs)
 one_decided runs r j f y was now all s i z at =
     let old = job_in runs r j y was in
@@ -188,89 +177,3 @@ job_change_decided runs r j f same all =
 pub leg_change_decided : (runs : List RunState) (p : LegPlace) (f : LegState → LegState) → Decided runs → Decided (with_leg p f runs)
 leg_change_decided runs p f all =
     job_change_decided runs p.run p.job (λ y. record y { legs = changed_at p.leg f y.legs }) (λ y. refl) all
-
--- ---- the rules
-
-made_decided : (runs : List RunState) (r j n : ℕ) (y : JobState) (may stopping : Bool) → may_run runs r j ≡ may
-    → is_stopping runs r ≡ stopping → needs_have_settled runs r j ≡ true
-    → JobDecided runs r j ((if may then opened n else settled_as (if stopping then result.Cancelled else result.Skipped)) y).phase
-made_decided runs r j n y true stopping is_may is_stop needs = needs
-made_decided runs r j n y false true is_may is_stop needs = (needs, (λ e. cc))
-made_decided runs r j n y false false is_may is_stop needs = (
-  needs,
-  (λ e. ap (λ s. condition_value (condition_of runs r j) (ancestor_results runs r j) s) (sym is_stop) ∙ is_may),
-)
-
-never_skipped : (a b : Bool) → (if a then result.Failure else (if b then result.Cancelled else result.Success)) ≡ result.Skipped → ⊥
-never_skipped true b e = cc
-never_skipped false true e = cc
-never_skipped false false e = cc
-
-open_needs : (runs : List RunState) (r j : ℕ) (phase : JobPhase) → phase ≡ job.Open → JobDecided runs r j phase
-    → needs_have_settled runs r j ≡ true
-open_needs runs r j phase e d = subst (JobDecided runs r j) e d
-
-rule_now : (runs next : List RunState) (place : Place) → rule_at runs place ≡ Some next → Decided runs → NowDecided runs next
-rule_now runs next (Opening r j) h all =
-    let from = from_and_then (opening_rule runs r j) (job_at runs r j) next h in
-    let y = from.value in
-    let taken = if_some (is_blocked y.phase && needs_have_settled runs r j) (with_job r j (decided runs r j) runs) next from.gives in
-    let needs = (and_parts (is_blocked y.phase) (needs_have_settled runs r j) taken.0).1 in
-    subst (NowDecided runs) taken.1
-    (one_decided runs r j (decided runs r j) y from.is
-    (made_decided runs r j (planned_legs runs r j) y (may_run runs r j) (is_stopping runs r) refl refl needs) all)
-rule_now runs next (AtLeg p) h all =
-    let from = from_and_then (leg_rule runs p) (leg_at runs p) next h in
-    let made = from_map (λ phase. with_leg p (leg_in_phase phase) runs) (next_leg_phase from.value.phase) next from.gives in
-    let old = leg_in runs p from.value from.is in
-    subst (NowDecided runs) made.gives
-    (one_decided runs p.run p.job (λ y. record y { legs = changed_at p.leg (leg_in_phase made.value) y.legs }) old.job
-    (job_in_run runs p.run p.job old.place.run old.place.run_is ∙ old.place.job_is)
-    (all p.run p.job old.job (job_in_run runs p.run p.job old.place.run old.place.run_is ∙ old.place.job_is)) all)
-rule_now runs next (Closing r j) h all =
-    let from = from_and_then (closing_rule runs r j) (job_at runs r j) next h in
-    let y = from.value in
-    let close = settled_as (result_at runs r j y) in
-    let taken = if_some (is_open y.phase && list_all has_ended y.legs) (with_job r j close runs) next from.gives in
-    let is_open = is_open_open y.phase (and_parts (is_open y.phase) (list_all has_ended y.legs) taken.0).0 in
-    subst (NowDecided runs) taken.1
-    (one_decided runs r j close y from.is (
-      open_needs runs r j y.phase is_open (all r j y from.is),
-      (λ e. absurd (never_skipped (list_any fails_job (leg_ends runs r j y)) (list_any was_cancelled (leg_ends runs r j y)) e)),
-    ) all)
-rule_now runs next (Whole r) h all =
-    let from = from_and_then (whole_rule runs r) (run_at runs r) next h in
-    let made = from_map (λ phase. with_run r (run_in_phase phase) runs)
-    (next_run_phase from.value.phase (list_all is_settled from.value.jobs)) next from.gives in
-    subst (NowDecided runs) made.gives
-    (λ s j y at.
-    let new = job_in (with_run r (run_in_phase made.value) runs) s j y at in
-    holds_of_each r (run_in_phase made.value) runs from.value
-    (λ k x. (l : ℕ) (v : JobState) → slice_get x.jobs l ≡ Some v → JobDecided runs k l v.phase) from.is
-    (λ l v e. all r l v (job_in_run runs r l from.value from.is ∙ e))
-    (λ k x e l v d. all k l v (job_in_run runs k l x e ∙ d)) s new.run new.run_is j y new.job_is)
-
-pub rule_decided : (runs next : List RunState) (place : Place) → RunsFit runs → LivePlace runs place → rule_at runs place ≡ Some next
-    → Decided runs → Decided next
-rule_decided runs next place fit live h all =
-    let stay = (rule_settles runs next place fit live h).stay in
-    all_decided runs next all stay.same_admitted stay.keeps_results (rule_now runs next place h all)
-
--- ---- settling
-
-first_rule_decided : (runs next : List RunState) → RunsFit runs → first_rule runs ≡ Some next → Decided runs → Decided next
-first_rule_decided runs next fit h all =
-    let made = from_and_then (rule_at runs) (first_place runs) next h in
-    rule_decided runs next made.value fit (first_place_is_live runs made.value made.is) made.gives all
-
-settles_decided : (n : ℕ) (runs : List RunState) → RunsFit runs → Decided runs → Decided (settled_within n runs)
-settles_decided zero runs fit all = all
-settles_decided (suc n) runs fit all =
-    elim (first_rule runs) as (λ o. first_rule runs ≡ o → Decided (option_map_or (settled_within n) o runs)) [
-      | None ↦ λ is. all
-      | Some next ↦ λ is.
-          settles_decided n next (first_rule_settles runs next fit is).stay.fit (first_rule_decided runs next fit is all)
-    ] refl
-
-pub settled_decided : (runs : List RunState) → RunsFit runs → Decided runs → Decided (settled runs)
-settled_decided runs fit all = settles_decided (left runs) runs fit all

@@ -85,7 +85,7 @@ none_from f (x ∷ xs) n none =
     ∙ none_from f xs (n + 1) (λ k lt. subst (λ m. option_and_then (f m) (slice_get xs k) ≡ None) (later k) (none (suc k) (omega arith)))
 
 -- the first place with an answer gives it
-found_at : {X Y : Type 0} (f : ℕ → X → Option Y) (xs : List X) (i : ℕ) (y : Y) → NoneBefore f xs i → ask f xs i ≡ Some y
+pub found_at : {X Y : Type 0} (f : ℕ → X → Option Y) (xs : List X) (i : ℕ) (y : Y) → NoneBefore f xs i → ask f xs i ≡ Some y
     → first_some (λ e. f e.0 e.1) (placed xs) ≡ Some y
 found_at f xs i y before here =
     let zero_first : (k : ℕ) → k ≡ 0 + k = λ k. omega arith in

@@ -152,7 +152,7 @@ one_runs cancels moves before after h k law e one other =
 
 -- ---- who waits
 
-next_shown : (moves : List Move) (h : Holder) → latest moves ≡ Some h → is_pending h moves ≡ true → next_displaced moves ≡ Some h
+pub next_shown : (moves : List Move) (h : Holder) → latest moves ≡ Some h → is_pending h moves ≡ true → next_displaced moves ≡ Some h
 next_shown moves h late is =
     ap (λ l. option_and_then (λ x. cond (is_pending x moves) (Some x) None) l) late ∙ ap (λ b. cond b (Some h) None) is
 

@@ -46,7 +46,7 @@ still_begins : (front after more : List Move) → BeginsWith front after → Beg
 still_begins front after more begins =
     (begins.0 ++ more, ap (λ ms. ms ++ more) begins.1 ∙ append_assoc front begins.0 more)
 
-still_lawful : (cancels : Holder → Bool) (before after more : List Move) (m : Move) → Lawful cancels before m after
+pub still_lawful : (cancels : Holder → Bool) (before after more : List Move) (m : Move) → Lawful cancels before m after
     → Lawful cancels before m (after ++ more)
 still_lawful cancels before after more (Move.arrive newcomer) law = (
   λ h is. still_begins (Move.end_with Cancelled h ∷ []) after more (law.0 h is),

@@ -64,7 +64,7 @@ pub record OpenWith (planned : ℕ) (phase : JobPhase) (legs : List LegState) : 
   pub open_is : phase ≡ job.Open
   pub as_planned : length legs ≡ planned
 
-no_leg : (legs : List LegState) (l : ℕ) (z : LegState) → legs ≡ [] → slice_get legs l ≡ Some z → ⊥
+pub no_leg : (legs : List LegState) (l : ℕ) (z : LegState) → legs ≡ [] → slice_get legs l ≡ Some z → ⊥
 no_leg legs l z none e = let past : slice_get [] l ≡ Some z = subst (λ (xs : List LegState). slice_get xs l ≡ Some z) none e in cc
 
 -- a job with a leg that has not ended is open

@@ -1,37 +1,43 @@
 -- What every table keeps within a step too: all that it keeps at rest, but that no rule applies.
-use Rattle.std.specs.Prelude.{◌≡◌, ℕ, ◌≤◌, List, length, Bool, true, Option, Some, None, option_map, option_and_then, slice_get}
+use Rattle.std.specs.Prelude.{◌≡◌, ℕ, ◌+◌, ◌≤◌, List, [], length, Bool, true, Option, Some, None, option_map, option_and_then, slice_get}
 use Rattle.std.specs.Prelude.{if◌then◌else◌, refl}
+use Rattle.std.specs.Option.{option_map_or}
 use Rattle.std.proofs.Common.{ap, sym, ◌∙◌, subst}
-use Rattle.run_table.specs.Places.{LegPlace, run_at, leg_at}
+use Rattle.run_table.specs.Groups.{HasOneEach}
+use Rattle.run_plan.specs.declared.planned.PlannedJob.{PlannedJob}
+use Rattle.run_table.specs.Places.{LegPlace, run_at, leg_at, plan_at}
 use Rattle.run_table.specs.Settling.{first_place, settled}
-use Rattle.run_table.specs.Sound.{DeliveriesDiffer, LeasesAreGiven, LeasesDiffer, NamesDiffer, IsHeld, IsAtWork, WorkIsHeld}
+use Rattle.run_table.specs.Sound.{DeliveriesDiffer, LeasesAreGiven, LeasesDiffer, IsHeld, IsAtWork, WorkIsHeld}
 use Rattle.run_table.specs.Parallel.{is_at_work}
 use Rattle.run_table.specs.Sound.{HeldIsAtWork, HeldOnce, LastsAreOwn, KeptIsALegs, IsSound}
 use Rattle.run_table.specs.Sound.{ParallelIsBounded}
-use Rattle.run_table.specs.Step.{last_number}
+use Rattle.run_table.specs.Step.{last_number, lease_at}
 use Rattle.run_table.specs.TableState.{LegState, RunState, RunnerState, TableState}
+use Rattle.run_table.specs.Turns.{names_rise, runner_named}
 use Rattle.run_plan.specs.declared.last_command.LastCommand.{LastCommand}
 use Rattle.run_plan.specs.declared.last_command.LastCommand.TheVariants as last
 use Rattle.run_plan.specs.declared.last_command.ClaimReply.TheVariants as given
 use Rattle.run_table.proofs.AtWork.{settling_bounded}
 use Rattle.run_table.proofs.LeaseReads.{LeasesAgree, leases_same}
 use Rattle.run_table.proofs.LegReads.{had_at, works_at, had_from_leg, works_from_leg, leg_from_had, leg_from_works, work_parts}
+use Rattle.run_table.proofs.OneEachRules.{settled_one_each}
 use Rattle.run_table.proofs.Optional.{from_and_then, from_map}
 use Rattle.run_table.proofs.Rests.{settled_has_no_place}
-use Rattle.run_table.proofs.RunFits.{RunsFit, admitted_at, runs_fit, jobs_are_the_plans, run_phases_fit, jobs_fit, needs_come_first}
+use Rattle.run_table.proofs.RunFits.{RunsFit, admitted_at, plan_at_same, runs_fit, jobs_are_the_plans, run_phases_fit, jobs_fit, needs_come_first}
 use Rattle.run_table.proofs.RunFits.{leases_fit}
-use Rattle.run_table.proofs.RunnerPut.{holds_at}
+use Rattle.run_table.proofs.RunnerPut.{apart, found_by_name, has_the_name, holds_at, stood}
 use Rattle.run_table.proofs.Settles.{Settles}
 use Rattle.run_table.proofs.SettlingKeeps.{settling_settles}
 
--- a kept lease is one that some leg had
-abbrev pub KeptIsHad : (LegPlace → Option ℕ) → LastCommand → Type 0
-KeptIsHad had (last.Claim claim given.Nothing) = Unit {0}
-KeptIsHad had (last.Claim claim (given.Lease lease)) = (1 ≤ lease.lease) × (p : LegPlace) × (had p ≡ Some lease.lease)
-KeptIsHad had (last.Done report) = Unit {0}
+-- a kept lease is one that some leg had, and tells of that leg
+abbrev pub KeptIsHad : List RunState → LastCommand → Type 0
+KeptIsHad runs (last.Claim claim given.Nothing) = Unit {0}
+KeptIsHad runs (last.Claim claim (given.Lease told)) =
+    (1 ≤ told.lease) × (p : LegPlace) × (had_at runs p ≡ Some told.lease) × (told ≡ lease_at runs p told.lease)
+KeptIsHad runs (last.Done report) = Unit {0}
 
-abbrev pub KeptAreHad : (LegPlace → Option ℕ) → List RunnerState → Type 0
-KeptAreHad had runners = (k : ℕ) (x : RunnerState) → slice_get runners k ≡ Some x → KeptIsHad had x.last
+abbrev pub KeptAreHad : List RunState → List RunnerState → Type 0
+KeptAreHad runs runners = (k : ℕ) (x : RunnerState) → slice_get runners k ≡ Some x → KeptIsHad runs x.last
 
 pub record IsKept (t : TableState) : Type 0 where
   pub few_runs : length t.runs ≤ 100000
@@ -40,9 +46,9 @@ pub record IsKept (t : TableState) : Type 0 where
   pub parallel_bounded : ParallelIsBounded t.runs
   pub agree : LeasesAgree t.last_lease (had_at t.runs) (works_at t.runs) (holds_at t.runners)
   pub last_lease_in_range : t.last_lease ≤ last_number
-  pub names_differ : NamesDiffer t.runners
+  pub runners_in_order : names_rise t.runners ≡ true
   pub lasts_are_own : LastsAreOwn t.runners
-  pub kept_are_had : KeptAreHad (had_at t.runs) t.runners
+  pub kept_are_had : KeptAreHad t.runs t.runners
 
 -- ---- the leases, by legs and by places
 
@@ -54,10 +60,20 @@ some_work : (runs : List RunState) (p : LegPlace) (x : LegState) (n : ℕ) → l
     → x.lease ≡ Some n → works_at runs p ≡ Some n
 some_work runs p x n at working e = works_from_leg runs p x at ∙ ap (λ (b : Bool). if b then x.lease else None) working ∙ e
 
-held_somewhere : (runners : List RunnerState) (n : ℕ) (k : ℕ) → holds_at runners k ≡ Some n → IsHeld runners n
-held_somewhere runners n k e =
-    let f = from_and_then (λ (x : RunnerState). x.holds) (slice_get runners k) n e in
-    (k, f.value, f.is, f.gives)
+held_somewhere : (runners : List RunnerState) (n : ℕ) (name : List ℕ) → holds_at runners name ≡ Some n → IsHeld runners n
+held_somewhere runners n name e =
+    let f = from_and_then (λ (x : RunnerState). x.holds) (runner_named runners name) n e in
+    let s = stood runners name in
+    (s.place, f.value, s.was ∙ f.is, f.gives)
+
+-- the runner at a place holds what the one of its name does
+held_by_name : (runners : List RunnerState) (n : ℕ) (k : ℕ) (x : RunnerState) → names_rise runners ≡ true → slice_get runners k ≡ Some x
+    → x.holds ≡ Some n → holds_at runners x.name ≡ Some n
+held_by_name runners n k x rise at holds =
+    ap (option_and_then (λ (v : RunnerState). v.holds)) (found_by_name runners rise k x at) ∙ holds
+
+some_same : (x y : RunnerState) → Some x ≡ Some y → x ≡ y
+some_same x y e = cc
 
 work_somewhere : (runs : List RunState) (n : ℕ) (p : LegPlace) → works_at runs p ≡ Some n → IsAtWork runs n
 work_somewhere runs n p e =
@@ -65,10 +81,10 @@ work_somewhere runs n p e =
     let both = work_parts (is_at_work f.value.phase) f.value.lease n f.gives in
     (p, f.value, f.is, both.1, both.0)
 
-leases_agree : (last : ℕ) (runs : List RunState) (runners : List RunnerState) → LeasesAreGiven last runs → LeasesDiffer runs
-    → WorkIsHeld runs runners → HeldIsAtWork runs runners → HeldOnce runners
+leases_agree : (last : ℕ) (runs : List RunState) (runners : List RunnerState) → names_rise runners ≡ true → LeasesAreGiven last runs
+    → LeasesDiffer runs → WorkIsHeld runs runners → HeldIsAtWork runs runners → HeldOnce runners
     → LeasesAgree last (had_at runs) (works_at runs) (holds_at runners)
-leases_agree last runs runners given differ work held once = record {
+leases_agree last runs runners rise given differ work held once = record {
   given = (λ p n e. let f = leg_from_had runs p n e in given p f.value n f.is f.gives);
   differ = (λ p q n e g.
       let f = leg_from_had runs p n e in
@@ -81,39 +97,61 @@ leases_agree last runs runners given differ work held once = record {
       let f = leg_from_works runs p n e in
       let both = work_parts (is_at_work f.value.phase) f.value.lease n f.gives in
       let (k, x, at, holds) = work p f.value n f.is both.0 both.1 in
-      (k, ap (option_and_then (λ (v : RunnerState). v.holds)) at ∙ holds));
-  held_is_work = (λ k n e.
-      let f = from_and_then (λ (x : RunnerState). x.holds) (slice_get runners k) n e in
-      let (p, x, at, lease, working) = held k f.value n f.is f.gives in
-      (p, some_work runs p x n at working lease));
+      (x.name, held_by_name runners n k x rise at holds));
+  held_is_work = (λ name n e.
+      let (k, x, at, holds) = held_somewhere runners n name e in
+      let (p, y, is, lease, working) = held k x n at holds in
+      (p, some_work runs p y n is working lease));
   held_once = (λ a b n e g.
-      let f = from_and_then (λ (x : RunnerState). x.holds) (slice_get runners a) n e in
-      let h = from_and_then (λ (x : RunnerState). x.holds) (slice_get runners b) n g in
-      once a b f.value h.value n f.is h.is f.gives h.gives);
+      let f = from_and_then (λ (x : RunnerState). x.holds) (runner_named runners a) n e in
+      let h = from_and_then (λ (x : RunnerState). x.holds) (runner_named runners b) n g in
+      let one = stood runners a in
+      let other = stood runners b in
+      let place = once one.place other.place f.value h.value n (one.was ∙ f.is) (other.was ∙ h.is) f.gives h.gives in
+      let same : f.value ≡ h.value = some_same f.value h.value
+      (sym (one.was ∙ f.is) ∙ ap (slice_get runners) place ∙ (other.was ∙ h.is)) in
+      sym (has_the_name runners a f.value f.is) ∙ ap (λ (x : RunnerState). x.name) same ∙ has_the_name runners b h.value h.is);
 }
 
 -- ---- kept leases, by legs and by places
 
-kept_is_had : (runs : List RunState) (last : LastCommand) → KeptIsALegs runs last → KeptIsHad (had_at runs) last
+kept_is_had : (runs : List RunState) (last : LastCommand) → KeptIsALegs runs last → KeptIsHad runs last
 kept_is_had runs (last.Claim claim given.Nothing) h = tt
-kept_is_had runs (last.Claim claim (given.Lease lease)) h =
-    let (p, x, at, e) = h.1 in
-    (h.0, p, some_lease runs p x lease.lease at e)
+kept_is_had runs (last.Claim claim (given.Lease told)) h =
+    let (p, x, at, e, tells) = h.1 in
+    (h.0, p, some_lease runs p x told.lease at e, tells)
 kept_is_had runs (last.Done report) h = tt
 
-kept_is_a_legs : (runs : List RunState) (last : LastCommand) → KeptIsHad (had_at runs) last → KeptIsALegs runs last
+kept_is_a_legs : (runs : List RunState) (last : LastCommand) → KeptIsHad runs last → KeptIsALegs runs last
 kept_is_a_legs runs (last.Claim claim given.Nothing) h = tt
-kept_is_a_legs runs (last.Claim claim (given.Lease lease)) h =
-    let f = leg_from_had runs h.1 lease.lease h.2 in
-    (h.0, (h.1, f.value, f.is, f.gives))
+kept_is_a_legs runs (last.Claim claim (given.Lease told)) h =
+    let f = leg_from_had runs h.1 told.lease h.2 in
+    (h.0, (h.1, f.value, f.is, f.gives, h.3))
 kept_is_a_legs runs (last.Done report) h = tt
 
--- what was had is had
-pub kept_still_had : (had had' : LegPlace → Option ℕ) → ((p : LegPlace) (n : ℕ) → had p ≡ Some n → had' p ≡ Some n) → (last : LastCommand)
-    → KeptIsHad had last → KeptIsHad had' last
-kept_still_had had had' still (last.Claim claim given.Nothing) h = tt
-kept_still_had had had' still (last.Claim claim (given.Lease lease)) h = (h.0, h.1, still h.1 lease.lease h.2)
-kept_still_had had had' still (last.Done report) h = tt
+-- what is told of a leg follows from the plan
+pub told_the_same : (runs next : List RunState) (p : LegPlace) (n : ℕ) → plan_at next p.run p.job ≡ plan_at runs p.run p.job
+    → lease_at runs p n ≡ lease_at next p n
+told_the_same runs next p n same =
+    ap (λ (o : Option PlannedJob). record {
+      lease = n;
+      run = p.run + 1;
+      job = option_map_or (λ planned. planned.id) o [];
+      leg = p.leg;
+      combo = option_map_or (λ leg. leg.combo) (option_and_then (λ planned. slice_get planned.legs p.leg) o) [];
+    }) (sym same)
+
+-- what was had of a leg is had, and its plan is as it was
+abbrev pub StillHad : List RunState → List RunState → Type 0
+StillHad runs next =
+    (p : LegPlace) (n : ℕ) → had_at runs p ≡ Some n → (had_at next p ≡ Some n) × (plan_at next p.run p.job ≡ plan_at runs p.run p.job)
+
+pub kept_still_had : (runs next : List RunState) → StillHad runs next → (last : LastCommand) → KeptIsHad runs last → KeptIsHad next last
+kept_still_had runs next still (last.Claim claim given.Nothing) h = tt
+kept_still_had runs next still (last.Claim claim (given.Lease told)) h =
+    let now = still h.1 told.lease h.2 in
+    (h.0, h.1, now.0, h.3 ∙ told_the_same runs next h.1 told.lease now.1)
+kept_still_had runs next still (last.Done report) h = tt
 
 -- ---- from and to what a table keeps at rest
 
@@ -123,15 +161,15 @@ kept_from_sound t s = record {
   deliveries_differ = s.deliveries_differ;
   fit = runs_fit t.runs s.jobs_are_the_plans s.run_phases_fit s.jobs_fit s.needs_settled_first s.leases_fit;
   parallel_bounded = s.parallel_bounded;
-  agree = leases_agree t.last_lease t.runs t.runners s.leases_are_given s.leases_differ s.work_is_held s.held_is_at_work s.held_once;
+  agree = leases_agree t.last_lease t.runs t.runners s.runners_in_order s.leases_are_given s.leases_differ s.work_is_held s.held_is_at_work s.held_once;
   last_lease_in_range = s.last_lease_in_range;
-  names_differ = s.names_differ;
+  runners_in_order = s.runners_in_order;
   lasts_are_own = s.lasts_are_own;
   kept_are_had = (λ k x e. kept_is_had t.runs x.last (s.kept_leases_are_legs k x e));
 }
 
-pub sound_from_kept : (t : TableState) → IsKept t → first_place t.runs ≡ None → IsSound t
-sound_from_kept t s rests = record {
+pub sound_from_kept : (t : TableState) → IsKept t → HasOneEach t.runs → first_place t.runs ≡ None → IsSound t
+sound_from_kept t s each rests = record {
   few_runs = s.few_runs;
   deliveries_differ = s.deliveries_differ;
   jobs_are_the_plans = jobs_are_the_plans t.runs s.fit;
@@ -139,18 +177,20 @@ sound_from_kept t s rests = record {
   jobs_fit = jobs_fit t.runs s.fit;
   needs_settled_first = needs_come_first t.runs s.fit;
   parallel_bounded = s.parallel_bounded;
+  one_of_each_group = each;
   leases_fit = leases_fit t.runs s.fit;
   leases_are_given = (λ p x n at e. s.agree.given p n (some_lease t.runs p x n at e));
   leases_differ = (λ p q x y n at bt e f. s.agree.differ p q n (some_lease t.runs p x n at e) (some_lease t.runs q y n bt f));
   last_lease_in_range = s.last_lease_in_range;
-  names_differ = s.names_differ;
+  runners_in_order = s.runners_in_order;
   work_is_held =
       (λ p x n at working e. let (k, h) = s.agree.work_is_held p n (some_work t.runs p x n at working e) in held_somewhere t.runners n k h);
   held_is_at_work =
       (λ k x n at e. let (p, w) =
-      s.agree.held_is_work k n (ap (option_and_then (λ (v : RunnerState). v.holds)) at ∙ e) in work_somewhere t.runs n p w);
-  held_once = (λ a b x y n at bt e f. s.agree.held_once a b n (ap (option_and_then (λ (v : RunnerState). v.holds)) at ∙ e)
-      (ap (option_and_then (λ (v : RunnerState). v.holds)) bt ∙ f));
+      s.agree.held_is_work x.name n (held_by_name t.runners n k x s.runners_in_order at e) in work_somewhere t.runs n p w);
+  held_once = (λ a b x y n at bt e f. apart t.runners s.runners_in_order a b x y at bt
+      (s.agree.held_once x.name y.name n (held_by_name t.runners n a x s.runners_in_order at e)
+      (held_by_name t.runners n b y s.runners_in_order bt f)));
   no_rule_applies = rests;
   lasts_are_own = s.lasts_are_own;
   kept_leases_are_legs = (λ k x e. kept_is_a_legs t.runs x.last (s.kept_are_had k x e));
@@ -177,13 +217,15 @@ kept_settles t next s settling = record {
   agree = leases_same t.last_lease (had_at t.runs) (works_at t.runs) (had_at next) (works_at next) (holds_at t.runners)
       (holds_at t.runners) settling.same_had settling.same_works (λ k. refl) s.agree;
   last_lease_in_range = s.last_lease_in_range;
-  names_differ = s.names_differ;
+  runners_in_order = s.runners_in_order;
   lasts_are_own = s.lasts_are_own;
   kept_are_had =
-      (λ k x e. kept_still_had (had_at t.runs) (had_at next) (λ p n h. settling.same_had p ∙ h) x.last (s.kept_are_had k x e));
+      (λ k x e. kept_still_had t.runs next
+      (λ p n h. (settling.same_had p ∙ h, plan_at_same t.runs next p.run p.job (settling.stay.same_admitted p.run))) x.last
+      (s.kept_are_had k x e));
 }
 
-pub rest_is_sound : (t : TableState) → IsKept t → IsSound (record t { runs = settled t.runs })
-rest_is_sound t s =
+pub rest_is_sound : (t : TableState) → IsKept t → HasOneEach t.runs → IsSound (record t { runs = settled t.runs })
+rest_is_sound t s each =
     sound_from_kept (record t { runs = settled t.runs }) (kept_settles t (settled t.runs) s (settling_settles t.runs s.fit))
-    (settled_has_no_place t.runs)
+    (settled_one_each t.runs s.fit each) (settled_has_no_place t.runs)

@@ -1,7 +1,9 @@
 -- The leases of a table as they are read place by place, and what a lease that is given, or that ends, makes of them.
-use Rattle.std.specs.Prelude.{◌≡◌, ◌⊎◌, ℕ, ◌+◌, ◌≤◌, Option, Some, None}
+use Rattle.std.specs.Prelude.{◌≡◌, ◌⊎◌, ℕ, ◌+◌, ◌≤◌, List, true, false, Option, Some, None, refl}
+use Rattle.std.specs.Str.{bytes_eq}
 use Rattle.std.proofs.Common.{arith, ap, sym, ◌∙◌, inl, inr}
-use Rattle.std.proofs.lemmas.Bool.{cases_eq}
+use Rattle.std.proofs.lemmas.Bool.{cases_eq, true≢false}
+use Rattle.std.proofs.lemmas.Slice.Eq.{bytes_eq-Decides}
 use Rattle.run_table.specs.Places.{LegPlace}
 
 pub same_place : (p q : LegPlace) → p.run ≡ q.run → p.job ≡ q.job → p.leg ≡ q.leg → p ≡ q
@@ -20,17 +22,26 @@ place_or_another p q =
       ]
     ]
 
+-- two names are one or not
+pub names_same : (a b : List ℕ) → (a ≡ b) ⊎ (a ≡ b → ⊥)
+names_same a b =
+    elim (bytes_eq a b) as (λ v. bytes_eq a b ≡ v → (a ≡ b) ⊎ (a ≡ b → ⊥)) [
+      | true ↦ λ is. inl ((bytes_eq-Decides a b).0 is)
+      | false ↦ λ is. inr (λ same. true≢false (sym ((bytes_eq-Decides a b).1 same) ∙ is))
+    ] refl
+
 pub none_is_not_some : (n : ℕ) → None ≡ Some n → ⊥
 none_is_not_some n e = cc
 
--- `had` is the lease of a leg, `works` the lease of a leg that a runner is at work on, `holds` the lease that a runner holds
-pub record LeasesAgree (last : ℕ) (had works : LegPlace → Option ℕ) (holds : ℕ → Option ℕ) : Type 0 where
+-- `had` is the lease of a leg, `works` the lease of a leg that a runner is at work on, `holds` the lease that the runner of a name
+-- holds
+pub record LeasesAgree (last : ℕ) (had works : LegPlace → Option ℕ) (holds : List ℕ → Option ℕ) : Type 0 where
   pub given : (p : LegPlace) (n : ℕ) → had p ≡ Some n → (1 ≤ n) × (n ≤ last)
   pub differ : (p q : LegPlace) (n : ℕ) → had p ≡ Some n → had q ≡ Some n → p ≡ q
   pub work_is_had : (p : LegPlace) (n : ℕ) → works p ≡ Some n → had p ≡ Some n
-  pub work_is_held : (p : LegPlace) (n : ℕ) → works p ≡ Some n → (k : ℕ) × (holds k ≡ Some n)
-  pub held_is_work : (k : ℕ) (n : ℕ) → holds k ≡ Some n → (p : LegPlace) × (works p ≡ Some n)
-  pub held_once : (a b : ℕ) (n : ℕ) → holds a ≡ Some n → holds b ≡ Some n → a ≡ b
+  pub work_is_held : (p : LegPlace) (n : ℕ) → works p ≡ Some n → (k : List ℕ) × (holds k ≡ Some n)
+  pub held_is_work : (k : List ℕ) (n : ℕ) → holds k ≡ Some n → (p : LegPlace) × (works p ≡ Some n)
+  pub held_once : (a b : List ℕ) (n : ℕ) → holds a ≡ Some n → holds b ≡ Some n → a ≡ b
 
 -- what is read at one place changes
 pub record ChangesAt {P : Type 0} (before after : P → Option ℕ) (at : P) (new : Option ℕ) : Type 0 where
@@ -39,7 +50,7 @@ pub record ChangesAt {P : Type 0} (before after : P → Option ℕ) (at : P) (ne
 
 -- ---- a lease is given
 
-module _ (last : ℕ) (had works had' works' : LegPlace → Option ℕ) (holds holds' : ℕ → Option ℕ) (at : LegPlace) (runner : ℕ)
+module _ (last : ℕ) (had works had' works' : LegPlace → Option ℕ) (holds holds' : List ℕ → Option ℕ) (at : LegPlace) (runner : List ℕ)
     (agree : LeasesAgree last had works holds)
     (free_leg : had at ≡ None) (free_runner : holds runner ≡ None)
     (h : ChangesAt had had' at (Some (last + 1))) (w : ChangesAt works works' at (Some (last + 1)))
@@ -77,7 +88,7 @@ module _ (last : ℕ) (had works had' works' : LegPlace → Option ℕ) (holds h
         | inr s ↦ h.elsewhere p s ∙ agree.work_is_had p n (sym (w.elsewhere p s) ∙ e)
       ]
 
-  work_is_held' : (p : LegPlace) (n : ℕ) → works' p ≡ Some n → (k : ℕ) × (holds' k ≡ Some n)
+  work_is_held' : (p : LegPlace) (n : ℕ) → works' p ≡ Some n → (k : List ℕ) × (holds' k ≡ Some n)
   work_is_held' p n e =
       elim (place_or_another p at) [
         | inl s ↦ (runner, r.here ∙ sym w.here ∙ ap works' (sym s) ∙ e)
@@ -86,26 +97,26 @@ module _ (last : ℕ) (had works had' works' : LegPlace → Option ℕ) (holds h
             (k, r.elsewhere k (λ t. none_is_not_some n (sym free_runner ∙ ap holds (sym t) ∙ f)) ∙ f)
       ]
 
-  held_is_work' : (k : ℕ) (n : ℕ) → holds' k ≡ Some n → (p : LegPlace) × (works' p ≡ Some n)
+  held_is_work' : (k : List ℕ) (n : ℕ) → holds' k ≡ Some n → (p : LegPlace) × (works' p ≡ Some n)
   held_is_work' k n e =
-      elim (cases_eq k runner) [
+      elim (names_same k runner) [
         | inl s ↦ (at, w.here ∙ sym r.here ∙ ap holds' (sym s) ∙ e)
         | inr s ↦
             let (p, f) = agree.held_is_work k n (sym (r.elsewhere k s) ∙ e) in
             (p, w.elsewhere p (λ t. none_is_not_some n (sym free_leg ∙ ap had (sym t) ∙ agree.work_is_had p n f)) ∙ f)
       ]
 
-  new_not_held : (k : ℕ) → holds k ≡ Some (last + 1) → ⊥
+  new_not_held : (k : List ℕ) → holds k ≡ Some (last + 1) → ⊥
   new_not_held k e = let (p, f) = agree.held_is_work k (last + 1) e in new_not_had p (agree.work_is_had p (last + 1) f)
 
-  held_once' : (a b : ℕ) (n : ℕ) → holds' a ≡ Some n → holds' b ≡ Some n → a ≡ b
+  held_once' : (a b : List ℕ) (n : ℕ) → holds' a ≡ Some n → holds' b ≡ Some n → a ≡ b
   held_once' a b n e f =
-      elim (cases_eq a runner) [
-        | inl s ↦ elim (cases_eq b runner) [
+      elim (names_same a runner) [
+        | inl s ↦ elim (names_same b runner) [
           | inl t ↦ s ∙ sym t
           | inr t ↦ absurd (new_not_held b (sym (r.elsewhere b t) ∙ f ∙ ap Some (is_new n (sym r.here ∙ ap holds' (sym s) ∙ e))))
         ]
-        | inr s ↦ elim (cases_eq b runner) [
+        | inr s ↦ elim (names_same b runner) [
           | inl t ↦ absurd (new_not_held a (sym (r.elsewhere a s) ∙ e ∙ ap Some (is_new n (sym r.here ∙ ap holds' (sym t) ∙ f))))
           | inr t ↦ agree.held_once a b n (sym (r.elsewhere a s) ∙ e) (sym (r.elsewhere b t) ∙ f)
         ]
@@ -125,7 +136,7 @@ module _ (last : ℕ) (had works had' works' : LegPlace → Option ℕ) (holds h
 
 -- ---- the leg of a lease ends
 
-module _ (last : ℕ) (had works works' : LegPlace → Option ℕ) (holds holds' : ℕ → Option ℕ) (at : LegPlace) (runner lease : ℕ)
+module _ (last : ℕ) (had works works' : LegPlace → Option ℕ) (holds holds' : List ℕ → Option ℕ) (at : LegPlace) (runner : List ℕ) (lease : ℕ)
     (agree : LeasesAgree last had works holds)
     (work_here : works at ≡ Some lease) (held_here : holds runner ≡ Some lease) (w : ChangesAt works works' at None)
     (r : ChangesAt holds holds' runner None) where
@@ -136,14 +147,14 @@ module _ (last : ℕ) (had works works' : LegPlace → Option ℕ) (holds holds'
         | inr s ↦ (s, sym (w.elsewhere p s) ∙ e)
       ]
 
-  holds_elsewhere : (k : ℕ) (n : ℕ) → holds' k ≡ Some n → (k ≡ runner → ⊥) × (holds k ≡ Some n)
+  holds_elsewhere : (k : List ℕ) (n : ℕ) → holds' k ≡ Some n → (k ≡ runner → ⊥) × (holds k ≡ Some n)
   holds_elsewhere k n e =
-      elim (cases_eq k runner) [
+      elim (names_same k runner) [
         | inl s ↦ absurd (none_is_not_some n (sym r.here ∙ ap holds' (sym s) ∙ e))
         | inr s ↦ (s, sym (r.elsewhere k s) ∙ e)
       ]
 
-  still_held : (p : LegPlace) (n : ℕ) → works' p ≡ Some n → (k : ℕ) × (holds' k ≡ Some n)
+  still_held : (p : LegPlace) (n : ℕ) → works' p ≡ Some n → (k : List ℕ) × (holds' k ≡ Some n)
   still_held p n e =
       let before = works_elsewhere p n e in
       let (k, f) = agree.work_is_held p n before.1 in (
@@ -154,7 +165,7 @@ module _ (last : ℕ) (had works works' : LegPlace → Option ℕ) (holds holds'
             (agree.work_is_had at n (work_here ∙ sym held_here ∙ ap holds (sym t) ∙ f)))) ∙ f,
       )
 
-  still_at_work : (k : ℕ) (n : ℕ) → holds' k ≡ Some n → (p : LegPlace) × (works' p ≡ Some n)
+  still_at_work : (k : List ℕ) (n : ℕ) → holds' k ≡ Some n → (p : LegPlace) × (works' p ≡ Some n)
   still_at_work k n e =
       let before = holds_elsewhere k n e in
       let (p, f) = agree.held_is_work k n before.1 in
@@ -172,8 +183,8 @@ module _ (last : ℕ) (had works works' : LegPlace → Option ℕ) (holds holds'
 
 -- ---- what is read is the same
 
-pub leases_same : (last : ℕ) (had works had' works' : LegPlace → Option ℕ) (holds holds' : ℕ → Option ℕ)
-    → ((p : LegPlace) → had' p ≡ had p) → ((p : LegPlace) → works' p ≡ works p) → ((k : ℕ) → holds' k ≡ holds k)
+pub leases_same : (last : ℕ) (had works had' works' : LegPlace → Option ℕ) (holds holds' : List ℕ → Option ℕ)
+    → ((p : LegPlace) → had' p ≡ had p) → ((p : LegPlace) → works' p ≡ works p) → ((k : List ℕ) → holds' k ≡ holds k)
     → LeasesAgree last had works holds → LeasesAgree last had' works' holds'
 leases_same last had works had' works' holds holds' h w r agree = record {
   given = (λ p n e. agree.given p n (sym (h p) ∙ e));

@@ -1,136 +1,120 @@
 -- After the rule at the first place where one applies, none applies before the place from where settling looks again.
 use Rattle.std.specs.Prelude.{◌≡◌, ◌⊎◌, ℕ, zero, suc, ◌+◌, ◌<◌, ◌≤◌, ◌&&◌, ◌||◌, min, List, [], ◌∷◌, Bool, true, false, length, nat_eq, is_some}
 use Rattle.std.specs.Prelude.{Option, Some, None, IfSome, option_map, option_and_then, slice_get, filter, if◌then◌else◌, refl}
-use Rattle.std.specs.List.{list_all, list_any, position, range_with_len, slice_index_or}
+use Rattle.std.specs.List.{AllByRecursion, list_any, range_with_len, slice_index_or}
 use Rattle.std.specs.Option.{option_map_or, option_or}
 use Rattle.std.proofs.Common.{arith, ap, sym, ◌∙◌, inl, inr, subst}
 use Rattle.std.proofs.lemmas.Bool.{and_parts, cases_eq, cases_lt, eqb-false}
 use Rattle.std.proofs.lemmas.List.{get_or_past}
 use Rattle.wf_value.specs.declared.outcome.JobResult.{JobResult}
 use Rattle.needs_graph.specs.Ancestors.{dependents_of, needs_at}
-use Rattle.run_table.specs.FirstOf.{changed_at}
+use Rattle.run_table.specs.FirstOf.{changed_at, first_some, placed}
 use Rattle.run_table.specs.JobResults.{needs_in, results_so_far, settled_result}
-use Rattle.run_table.specs.LookAgain.{JobsRestBefore, NoneBefore, RestBefore, ask, has_settled, job_again, look_again}
-use Rattle.run_table.specs.Places.{job_at, leg_at, run_at, with_job, with_leg, with_run}
-use Rattle.run_table.specs.Rules.{closing_rule, decided, is_blocked, is_done, is_live, leg_in_phase, leg_rule, next_leg_phase, opening_rule}
-use Rattle.run_table.specs.Rules.{is_settled, next_run_phase, result_at, rule_at, run_of_place, settled_as}
+use Rattle.run_table.specs.LookAgain.{NoneBefore, RestBefore, frees, has_settled, job_again, look_again, look_near}
+use Rattle.run_table.specs.Moves.{Holder, Moved}
+use Rattle.run_table.specs.Places.{leg_at, run_at}
+use Rattle.run_table.specs.Rules.{rule_at}
 use Rattle.run_table.specs.Settling.{first_place}
-use Rattle.run_table.specs.TableState.{JobState, RunState}
-use Rattle.run_table.specs.WithinRun.{first_in_job, first_in_jobs, first_in_run, first_of_open, first_of_whole, goes_on, leg_place}
-use Rattle.run_table.specs.WithinRun.{needs_settled_in}
-use Rattle.run_table.specs.Words.{all_have_results, needs_have_settled}
-use Rattle.run_table.specs.declared.place.JobPlace.{JobPlace}
+use Rattle.run_table.specs.StateWords.{is_blocked, is_done, is_live}
+use Rattle.run_table.specs.TableState.{LegState, JobState, RunState}
+use Rattle.run_table.specs.WithinRun.{first_in_job, first_in_jobs, first_in_run, first_of_legs, first_of_open, first_of_whole, goes_on, goes_on_in}
+use Rattle.run_table.specs.WithinRun.{leg_place, needs_settled_in, whole_goes_on_in}
+use Rattle.run_table.specs.Words.{all_have_results}
+use Rattle.run_table.specs.declared.phases.LegPhase.{LegPhase}
+use Rattle.run_table.specs.declared.phases.LegPhase.TheVariants as leg
+use Rattle.run_table.specs.declared.phases.RunPhase.{RunPhase}
+use Rattle.run_table.specs.declared.phases.RunPhase.TheVariants as run
 use Rattle.run_table.specs.declared.place.Place.{Place}
 use Rattle.run_table.specs.declared.place.Place.TheVariants.{Opening, AtLeg, Closing, Whole}
 use Rattle.run_table.proofs.Changed.{at_another, at_changed}
 use Rattle.run_table.proofs.Firsts.{first_at}
+use Rattle.run_table.proofs.Found.{all_weaken, placed_get}
+use Rattle.run_table.proofs.KeptBack.{KeepsBack}
 use Rattle.run_table.proofs.NeedsSettled.{result_among}
-use Rattle.run_table.proofs.Optional.{from_and_then, from_map, if_some}
-use Rattle.run_table.proofs.OwnRun.{own_run_alone}
+use Rattle.run_table.proofs.Optional.{from_and_then, if_some}
+use Rattle.run_table.proofs.QuietRules.{IsAt, quiet_at_job, quiet_in_run, quiet_keeps_back}
+use Rattle.run_table.proofs.RunFits.{RunsFit, job_in_run, leg_in_job}
 use Rattle.run_table.proofs.Walks.{first_place_by_run}
 
 -- ---- the first place, by its run and its job
-
--- a place of the job
-abbrev IsAt : ℕ → ℕ → Place → Type 0
-IsAt r j (Opening s k) = (s ≡ r) × (k ≡ j)
-IsAt r j (AtLeg p) = (p.run ≡ r) × (p.job ≡ j)
-IsAt r j (Closing s k) = (s ≡ r) × (k ≡ j)
-IsAt r j (Whole s) = ⊥
 
 at_end : (r j : ℕ) (done : Bool) (p : Place) → (if done then Some (Closing r j) else None) ≡ Some p → IsAt r j p
 at_end r j true p e = let is : Closing r j ≡ p = cc in subst (IsAt r j) is (refl, refl)
 at_end r j false p e = cc
 
-at_leg_or_end : (r j : ℕ) (leg : Option ℕ) (done : Bool) (p : Place)
-    → option_or (option_map (λ l. AtLeg (leg_place r j l)) leg) (if done then Some (Closing r j) else None) ≡ Some p → IsAt r j p
-at_leg_or_end r j None done p e = at_end r j done p e
-at_leg_or_end r j (Some l) done p e = let is : AtLeg (leg_place r j l) ≡ p = cc in subst (IsAt r j) is (refl, refl)
+leg_is_at : (runs : List RunState) (r j : ℕ) (legs : List LegState) (p : Place) → first_of_legs runs r j legs ≡ Some p → IsAt r j p
+leg_is_at runs r j legs p e =
+    let test : ℕ → LegState → Option Place = λ l z. if goes_on runs (leg_place r j l) z then Some (AtLeg (leg_place r j l)) else None in
+    let first = first_at test legs p e in
+    let from = from_and_then (test first.at) (slice_get legs first.at) p first.here in
+    let taken = if_some (goes_on runs (leg_place r j first.at) from.value) (AtLeg (leg_place r j first.at)) p from.gives in
+    subst (IsAt r j) taken.1 (refl, refl)
+
+open_is_at : (runs : List RunState) (r j : ℕ) (y : JobState) (p : Place) → first_of_open runs r j y ≡ Some p → IsAt r j p
+open_is_at runs r j y p e =
+    elim (first_of_legs runs r j y.legs) as
+    (λ o. first_of_legs runs r j y.legs ≡ o → option_or o (if is_done y then Some (Closing r j) else None) ≡ Some p → IsAt r j p) [
+      | None ↦ λ is e. at_end r j (is_done y) p e
+      | Some q ↦ λ is e. leg_is_at runs r j y.legs p (is ∙ e)
+    ] refl e
 
 at_the_job : (r j : ℕ) (opens : Bool) (later : Option Place) (p : Place) → (later ≡ Some p → IsAt r j p)
     → (if opens then Some (Opening r j) else later) ≡ Some p → IsAt r j p
 at_the_job r j true later p other e = let is : Opening r j ≡ p = cc in subst (IsAt r j) is (refl, refl)
 at_the_job r j false later p other e = other e
 
-first_is_at : (r : ℕ) (x : RunState) (j : ℕ) (y : JobState) (p : Place) → first_in_job r x j y ≡ Some p → IsAt r j p
-first_is_at r x j y p e =
-    at_the_job r j (is_blocked y.phase && needs_settled_in x j) (first_of_open r j y) p
-    (at_leg_or_end r j (position goes_on y.legs) (is_done y) p) e
+first_is_at : (runs : List RunState) (r : ℕ) (x : RunState) (j : ℕ) (y : JobState) (p : Place) → first_in_job runs r x j y ≡ Some p
+    → IsAt r j p
+first_is_at runs r x j y p e =
+    at_the_job r j (is_blocked y.phase && needs_settled_in x j) (first_of_open runs r j y) p (open_is_at runs r j y p) e
 
 -- the first place, where it is one of a job or of a run itself
-record FoundInJob (r : ℕ) (x : RunState) (p : Place) : Type 0 where
+record FoundInJob (runs : List RunState) (r : ℕ) (x : RunState) (p : Place) : Type 0 where
   job : ℕ
   is_at : IsAt r job p
-  before : NoneBefore (first_in_job r x) x.jobs job
+  before : NoneBefore (first_in_job runs r x) x.jobs job
 
-abbrev FoundIn : ℕ → RunState → Place → Type 0
-FoundIn r x p = FoundInJob r x p ⊎ (p ≡ Whole r)
+abbrev FoundIn : List RunState → ℕ → RunState → Place → Type 0
+FoundIn runs r x p = FoundInJob runs r x p ⊎ (p ≡ Whole r)
 
 whole_found : (r : ℕ) (due : Bool) (p : Place) → (if due then Some (Whole r) else None) ≡ Some p → p ≡ Whole r
 whole_found r true p e = cc
 whole_found r false p e = cc
 
-job_found : (r : ℕ) (x : RunState) (p : Place) → first_in_jobs r x x.jobs ≡ Some p → FoundInJob r x p
-job_found r x p e =
-    let first = first_at (first_in_job r x) x.jobs p e in
-    let from = from_and_then (first_in_job r x first.at) (slice_get x.jobs first.at) p first.here in
-    record { job = first.at; is_at = first_is_at r x first.at from.value p from.gives; before = first.before }
+job_found : (runs : List RunState) (r : ℕ) (x : RunState) (p : Place) → first_in_jobs runs r x x.jobs ≡ Some p → FoundInJob runs r x p
+job_found runs r x p e =
+    let first = first_at (first_in_job runs r x) x.jobs p e in
+    let from = from_and_then (first_in_job runs r x first.at) (slice_get x.jobs first.at) p first.here in
+    record { job = first.at; is_at = first_is_at runs r x first.at from.value p from.gives; before = first.before }
 
-found_in : (r : ℕ) (x : RunState) (p : Place) (live : Bool)
-    → option_or (if live then first_in_jobs r x x.jobs else None) (first_of_whole r x) ≡ Some p → FoundIn r x p
-found_in r x p true e =
-    elim (first_in_jobs r x x.jobs) as (λ o. first_in_jobs r x x.jobs ≡ o → option_or o (first_of_whole r x) ≡ Some p → FoundIn r x p) [
-      | None ↦ λ is e. inr (whole_found r (is_some (next_run_phase x.phase (list_all is_settled x.jobs))) p e)
-      | Some q ↦ λ is e. inl (job_found r x p (is ∙ e))
+found_in : (runs : List RunState) (r : ℕ) (x : RunState) (p : Place) (live : Bool)
+    → option_or (if live then first_in_jobs runs r x x.jobs else None) (first_of_whole runs r x) ≡ Some p → FoundIn runs r x p
+found_in runs r x p true e =
+    elim (first_in_jobs runs r x x.jobs) as
+    (λ o. first_in_jobs runs r x x.jobs ≡ o → option_or o (first_of_whole runs r x) ≡ Some p → FoundIn runs r x p) [
+      | None ↦ λ is e. inr (whole_found r (whole_goes_on_in x.phase runs r x) p e)
+      | Some q ↦ λ is e. inl (job_found runs r x p (is ∙ e))
     ] refl e
-found_in r x p false e = inr (whole_found r (is_some (next_run_phase x.phase (list_all is_settled x.jobs))) p e)
+found_in runs r x p false e = inr (whole_found r (whole_goes_on_in x.phase runs r x) p e)
 
 record Found (runs : List RunState) (p : Place) : Type 0 where
   run : ℕ
-  before : NoneBefore first_in_run runs run
+  before : NoneBefore (first_in_run runs) runs run
   state : RunState
   was : run_at runs run ≡ Some state
-  found : FoundIn run state p
+  found : FoundIn runs run state p
 
 place_found : (runs : List RunState) (p : Place) → first_place runs ≡ Some p → Found runs p
 place_found runs p e =
-    let first = first_at first_in_run runs p (sym (first_place_by_run runs) ∙ e) in
-    let from = from_and_then (first_in_run first.at) (slice_get runs first.at) p first.here in
+    let first = first_at (first_in_run runs) runs p (sym (first_place_by_run runs) ∙ e) in
+    let from = from_and_then (first_in_run runs first.at) (slice_get runs first.at) p first.here in
     record {
       run = first.at;
       before = first.before;
       state = from.value;
       was = from.is;
-      found = found_in first.at from.value p (is_live from.value.phase) from.gives;
+      found = found_in runs first.at from.value p (is_live from.value.phase) from.gives;
     }
-
--- ---- a rule at a job changes that job alone
-
-record ChangesJob (runs next : List RunState) (r j : ℕ) : Type 0 where
-  change : JobState → JobState
-  is : with_job r j change runs ≡ next
-
-changes_job : (runs next : List RunState) (r j : ℕ) (p : Place) → IsAt r j p → rule_at runs p ≡ Some next → ChangesJob runs next r j
-changes_job runs next r j (Opening s k) at is =
-    let from = from_and_then (opening_rule runs s k) (job_at runs s k) next is in
-    let made = if_some (is_blocked from.value.phase && needs_have_settled runs s k)
-    (with_job s k (decided runs s k) runs) next from.gives in
-    record {
-      change = decided runs s k;
-      is = ap (λ a. with_job a j (decided runs s k) runs) (sym at.0)
-          ∙ ap (λ b. with_job s b (decided runs s k) runs) (sym at.1) ∙ made.1;
-    }
-changes_job runs next r j (AtLeg p) at is =
-    let from = from_and_then (leg_rule runs p) (leg_at runs p) next is in
-    let made = from_map (λ phase. with_leg p (leg_in_phase phase) runs) (next_leg_phase from.value.phase) next from.gives in
-    let change : JobState → JobState = λ job. record job { legs = changed_at p.leg (leg_in_phase made.value) job.legs } in
-    record { change = change; is = ap (λ a. with_job a j change runs) (sym at.0) ∙ ap (λ b. with_job p.run b change runs) (sym at.1) ∙ made.gives }
-changes_job runs next r j (Closing s k) at is =
-    let from = from_and_then (closing_rule runs s k) (job_at runs s k) next is in
-    let made = if_some (is_done from.value) (with_job s k (settled_as (result_at runs s k from.value)) runs) next from.gives in
-    let change = settled_as (result_at runs s k from.value) in
-    record { change = change; is = ap (λ a. with_job a j change runs) (sym at.0) ∙ ap (λ b. with_job s b change runs) (sym at.1) ∙ made.1 }
-changes_job runs next r j (Whole s) at is = absurd at
 
 -- ---- what settled needs a change of one job can add
 
@@ -230,39 +214,136 @@ module _ (x : RunState) (j : ℕ) (change : JobState → JobState) where
     had_without j (results_so_far (changed_at j change x.jobs)) (results_so_far x.jobs) same_results is (needs_at (needs_in x) k),
   )
 
-still_none : (blocked had has : Bool) (p : Place) (later : Option Place) → (has ≡ true → had ≡ true)
-    → (if blocked && had then Some p else later) ≡ None → (if blocked && has then Some p else later) ≡ None
-still_none false had has p later was e = e
-still_none true true has p later was e = cc
-still_none true false true p later was e = let is : false ≡ true = was refl in cc
-still_none true false false p later was e = e
+-- ---- what has no rule has none after a change that keeps back who was kept back
 
-jobs_rest : (r : ℕ) (x : RunState) (j : ℕ) (change : JobState → JobState) → NoneBefore (first_in_job r x) x.jobs j
-    → NoneBefore (first_in_job r (record x { jobs = changed_at j change x.jobs })) (changed_at j change x.jobs)
-    (job_again (record x { jobs = changed_at j change x.jobs }) j)
-jobs_rest r x j change before k lt =
-    let now : RunState = record x { jobs = changed_at j change x.jobs } in
-    let had = needs_had_settled x j change k (has_settled now j) refl lt in
-    ap (option_and_then (first_in_job r now k)) (at_another j change x.jobs k (λ e. absurd (omega (arith, had.0, e))))
-    ∙ elim (slice_get x.jobs k) as
-    (λ o. option_and_then (first_in_job r x k) o ≡ None → option_and_then (first_in_job r now k) o ≡ None) [
-      | None ↦ λ e. refl
-      | Some y ↦ λ e.
-          still_none (is_blocked y.phase) (needs_settled_in x k) (needs_settled_in now k) (Opening r k) (first_of_open r k y) had.1 e
-    ] (before k had.0)
+or_nothing : {X : Type 0} (a b : Option X) → option_or a b ≡ None → (a ≡ None) × (b ≡ None)
+or_nothing None b e = (refl, e)
+or_nothing (Some x) b e = cc
+
+or_neither_some : {X : Type 0} (a b : Option X) → a ≡ None → b ≡ None → option_or a b ≡ None
+or_neither_some a b e f = ap (λ o. option_or o b) e ∙ f
+
+if_nothing : {X : Type 0} (b : Bool) (x : X) → (if b then Some x else None) ≡ None → b ≡ false
+if_nothing true x e = cc
+if_nothing false x e = refl
+
+nothing_if : {X : Type 0} (b : Bool) (x : X) → b ≡ false → (if b then Some x else None) ≡ None
+nothing_if b x e = ap (λ c. if c then Some x else None) e
+
+none_still : {X Y : Type 0} (f g : X → Option Y) (xs : List X) → AllByRecursion (λ x. f x ≡ None → g x ≡ None) xs
+    → first_some f xs ≡ None → first_some g xs ≡ None
+none_still f g [] h e = refl
+none_still f g (x ∷ xs) h e =
+    let parts = or_nothing (f x) (first_some f xs) e in
+    or_neither_some (g x) (first_some g xs) (h.0 parts.0) (none_still f g xs h.1 parts.1)
+
+-- a list without an answer has none to another question, which has none where the first has none
+none_placed : {X Y : Type 0} (f g : ℕ × X → Option Y) (xs : List X)
+    → ((i : ℕ) (x : X) → slice_get xs i ≡ Some x → f (i, x) ≡ None → g (i, x) ≡ None)
+    → first_some f (placed xs) ≡ None → first_some g (placed xs) ≡ None
+none_placed {X} f g xs h e =
+    none_still f g (placed xs)
+    (all_weaken (λ (v : ℕ × X). slice_get xs v.0 ≡ Some v.1) (λ v. f v ≡ None → g v ≡ None) (λ v at. h v.0 v.1 at) (placed xs)
+    (placed_get xs)) e
+
+still_none : (blocked had has : Bool) (p : Place) (later after : Option Place) → (has ≡ true → had ≡ true) → (later ≡ None → after ≡ None)
+    → (if blocked && had then Some p else later) ≡ None → (if blocked && has then Some p else after) ≡ None
+still_none false had has p later after was rests e = rests e
+still_none true true has p later after was rests e = cc
+still_none true false true p later after was rests e = let is : false ≡ true = was refl in cc
+still_none true false false p later after was rests e = rests e
+
+module _ (runs next : List RunState) (keeps : KeepsBack runs next) where
+  leg_rests : (phase : LegPhase) (r j l : ℕ) (z : LegState) → leg_at runs (leg_place r j l) ≡ Some z
+      → goes_on_in phase runs (leg_place r j l) ≡ false → goes_on_in phase next (leg_place r j l) ≡ false
+  leg_rests leg.New r j l z at e = cc
+  leg_rests leg.Waiting r j l z at e = keeps (Holder.a_leg (leg_place r j l)) (z, at) e
+  leg_rests leg.Ready r j l z at e = refl
+  leg_rests leg.Running r j l z at e = refl
+  leg_rests leg.Stopping r j l z at e = refl
+  leg_rests (leg.Ended o) r j l z at e = refl
+
+  open_rests : (r j : ℕ) (x : RunState) (y : JobState) → run_at runs r ≡ Some x → slice_get x.jobs j ≡ Some y
+      → first_of_open runs r j y ≡ None → first_of_open next r j y ≡ None
+  open_rests r j x y at_run at_job e =
+      let parts = or_nothing (first_of_legs runs r j y.legs) (if is_done y then Some (Closing r j) else None) e in
+      let at = job_in_run runs r j x at_run ∙ at_job in
+      or_neither_some (first_of_legs next r j y.legs) (if is_done y then Some (Closing r j) else None)
+      (none_placed (λ l. if goes_on runs (leg_place r j l.0) l.1 then Some (AtLeg (leg_place r j l.0)) else None)
+      (λ l. if goes_on next (leg_place r j l.0) l.1 then Some (AtLeg (leg_place r j l.0)) else None) y.legs
+      (λ l z was none.
+      nothing_if (goes_on next (leg_place r j l) z) (AtLeg (leg_place r j l))
+      (leg_rests z.phase r j l z (leg_in_job runs (leg_place r j l) y at ∙ was)
+      (if_nothing (goes_on runs (leg_place r j l) z) (AtLeg (leg_place r j l)) none))) parts.0)
+      parts.1
+
+  -- a job whose needs have not settled since
+  job_rests : (r j : ℕ) (x now : RunState) (y : JobState) → run_at runs r ≡ Some x → slice_get x.jobs j ≡ Some y
+      → (needs_settled_in now j ≡ true → needs_settled_in x j ≡ true)
+      → first_in_job runs r x j y ≡ None → first_in_job next r now j y ≡ None
+  job_rests r j x now y at_run at_job had e =
+      still_none (is_blocked y.phase) (needs_settled_in x j) (needs_settled_in now j) (Opening r j) (first_of_open runs r j y)
+      (first_of_open next r j y) had (open_rests r j x y at_run at_job) e
+
+  jobs_of_run_rest : (r : ℕ) (x : RunState) (live : Bool) → run_at runs r ≡ Some x
+      → (if live then first_in_jobs runs r x x.jobs else None) ≡ None → (if live then first_in_jobs next r x x.jobs else None) ≡ None
+  jobs_of_run_rest r x true at e =
+      none_placed (λ j. first_in_job runs r x j.0 j.1) (λ j. first_in_job next r x j.0 j.1) x.jobs
+      (λ j y was none. job_rests r j x x y at was (λ h. h) none) e
+  jobs_of_run_rest r x false at e = refl
+
+  whole_rests : (phase : RunPhase) (r : ℕ) (x : RunState) → run_at runs r ≡ Some x → whole_goes_on_in phase runs r x ≡ false
+      → whole_goes_on_in phase next r x ≡ false
+  whole_rests run.Waiting r x at e = keeps (Holder.a_run r) (x, at) e
+  whole_rests run.Live r x at e = e
+  whole_rests run.Ended r x at e = refl
+
+  run_rests : (r : ℕ) (x : RunState) → run_at runs r ≡ Some x → first_in_run runs r x ≡ None → first_in_run next r x ≡ None
+  run_rests r x at e =
+      let parts = or_nothing (if is_live x.phase then first_in_jobs runs r x x.jobs else None) (first_of_whole runs r x) e in
+      or_neither_some (if is_live x.phase then first_in_jobs next r x x.jobs else None) (first_of_whole next r x)
+      (jobs_of_run_rest r x (is_live x.phase) at parts.0)
+      (nothing_if (whole_goes_on_in x.phase next r x) (Whole r)
+      (whole_rests x.phase r x at (if_nothing (whole_goes_on_in x.phase runs r x) (Whole r) parts.1)))
+
+  -- the runs before the place's own are as they were
+  runs_rest : (r : ℕ) → ((k : ℕ) → k < r → run_at next k ≡ run_at runs k) → NoneBefore (first_in_run runs) runs r
+      → NoneBefore (first_in_run next) next r
+  runs_rest r same before k lt =
+      ap (option_and_then (first_in_run next k)) (same k lt)
+      ∙ elim (run_at runs k) as
+      (λ o. run_at runs k ≡ o → option_and_then (first_in_run runs k) o ≡ None → option_and_then (first_in_run next k) o ≡ None) [
+        | None ↦ λ is e. refl
+        | Some x ↦ λ is e. run_rests k x is e
+      ] refl (before k lt)
+
+  jobs_rest : (r : ℕ) (x : RunState) (j : ℕ) (change : JobState → JobState) → run_at runs r ≡ Some x
+      → NoneBefore (first_in_job runs r x) x.jobs j
+      → NoneBefore (first_in_job next r (record x { jobs = changed_at j change x.jobs })) (changed_at j change x.jobs)
+      (job_again (record x { jobs = changed_at j change x.jobs }) j)
+  jobs_rest r x j change at before k lt =
+      let now : RunState = record x { jobs = changed_at j change x.jobs } in
+      let had = needs_had_settled x j change k (has_settled now j) refl lt in
+      ap (option_and_then (first_in_job next r now k)) (at_another j change x.jobs k (λ e. absurd (omega (arith, had.0, e))))
+      ∙ elim (slice_get x.jobs k) as
+      (λ o. slice_get x.jobs k ≡ o → option_and_then (first_in_job runs r x k) o ≡ None
+      → option_and_then (first_in_job next r now k) o ≡ None) [
+        | None ↦ λ is e. refl
+        | Some y ↦ λ is e. job_rests r k x now y at is had.1 e
+      ] refl (before k had.0)
 
 -- ---- in the table
 
-rests_from : (next : List RunState) (r j : ℕ) (y : RunState) → NoneBefore first_in_run next r → run_at next r ≡ Some y
-    → NoneBefore (first_in_job r y) y.jobs j → RestBefore next (record { run = r; job = j })
+rests_from : (next : List RunState) (r j : ℕ) (y : RunState) → NoneBefore (first_in_run next) next r → run_at next r ≡ Some y
+    → NoneBefore (first_in_job next r y) y.jobs j → RestBefore next (record { run = r; job = j })
 rests_from next r j y before is rest = (
   before,
   λ run at live. let same : y ≡ run = let two : Some y ≡ Some run = sym is ∙ at in cc in
-      subst (λ (v : RunState). NoneBefore (first_in_job r v) v.jobs j) same rest,
+      subst (λ (v : RunState). NoneBefore (first_in_job next r v) v.jobs j) same rest,
 )
 
 again_at : (next : List RunState) (r j : ℕ) (y : RunState) (p : Place) → IsAt r j p → run_at next r ≡ Some y
-    → look_again next p ≡ record { run = r; job = job_again y j }
+    → look_near next p ≡ record { run = r; job = job_again y j }
 again_at next r j y (Opening s k) at is =
     ap (λ a. record { run = a; job = option_map_or (λ run. job_again run k) (run_at next a) k }) at.0
     ∙ ap (λ b. record { run = r; job = option_map_or (λ run. job_again run b) (run_at next r) b }) at.1
@@ -277,48 +358,49 @@ again_at next r j y (Closing s k) at is =
     ∙ ap (λ o. record { run = r; job = option_map_or (λ run. job_again run j) o j }) is
 again_at next r j y (Whole s) at is = absurd at
 
-run_of_job : (r j : ℕ) (p : Place) → IsAt r j p → run_of_place p ≡ r
-run_of_job r j (Opening s k) at = at.0
-run_of_job r j (AtLeg p) at = at.0
-run_of_job r j (Closing s k) at = at.0
-run_of_job r j (Whole s) at = absurd at
+module _ (runs : List RunState) (m : Moved) (p : Place) (fit : RunsFit runs) (first : first_place runs ≡ Some p)
+    (is : rule_at runs p ≡ Some m) (quiet : frees runs p ≡ false) where
+  after_job : (r j : ℕ) (x : RunState) → IsAt r j p → run_at runs r ≡ Some x → NoneBefore (first_in_run runs) runs r
+      → NoneBefore (first_in_job runs r x) x.jobs j → RestBefore m.runs (look_near m.runs p)
+  after_job r j x at was before_run before =
+      let keeps = quiet_keeps_back runs m p fit first is quiet in
+      let made = quiet_at_job runs m p r j fit at quiet is in
+      let change : RunState → RunState = λ run. record run { jobs = changed_at j made.change run.jobs } in
+      let now : run_at m.runs r ≡ Some (change x) =
+      ap (λ xs. slice_get xs r) (sym made.is) ∙ at_changed r change runs ∙ ap (option_map change) was in
+      let others : (k : ℕ) → k < r → run_at m.runs k ≡ run_at runs k =
+      λ k lt. ap (λ xs. slice_get xs k) (sym made.is) ∙ at_another r change runs k (λ e. absurd (omega (arith, e, lt))) in
+      subst (RestBefore m.runs) (sym (again_at m.runs r j (change x) p at now))
+      (rests_from m.runs r (job_again (change x) j) (change x) (runs_rest runs m.runs keeps r others before_run) now
+      (jobs_rest runs m.runs keeps r x j made.change was before))
 
--- the runs before the place's own are as they were
-runs_rest : (runs next : List RunState) (p : Place) (r : ℕ) → rule_at runs p ≡ Some next → run_of_place p ≡ r
-    → NoneBefore first_in_run runs r → NoneBefore first_in_run next r
-runs_rest runs next p r is own before k lt =
-    ap (option_and_then (first_in_run k)) (own_run_alone runs next p k is (λ e. absurd (omega (arith, e, own, lt)))) ∙ before k lt
+  after_whole : (r : ℕ) → p ≡ Whole r → NoneBefore (first_in_run runs) runs r → RestBefore m.runs (look_near m.runs p)
+  after_whole r whole before =
+      let keeps = quiet_keeps_back runs m p fit first is quiet in
+      let made = quiet_in_run runs m r (sym (ap (rule_at runs) whole) ∙ is) in
+      let others : (k : ℕ) → k < r → run_at m.runs k ≡ run_at runs k =
+      λ k lt. ap (λ xs. slice_get xs k) (sym made.is) ∙ at_another r made.change runs k (λ e. absurd (omega (arith, e, lt))) in
+      let again : look_near m.runs p ≡ record { run = r; job = 0 } = ap (look_near m.runs) whole in
+      let rest : RestBefore m.runs (record { run = r; job = 0 }) =
+      (runs_rest runs m.runs keeps r others before, λ run at live k lt. absurd (omega (arith, lt))) in
+      subst (RestBefore m.runs) (sym again) rest
 
-after_job : (runs next : List RunState) (p : Place) (r j : ℕ) (x : RunState) → rule_at runs p ≡ Some next → IsAt r j p
-    → run_at runs r ≡ Some x → NoneBefore first_in_run runs r → NoneBefore (first_in_job r x) x.jobs j
-    → RestBefore next (look_again next p)
-after_job runs next p r j x is at was before_run before =
-    let made = changes_job runs next r j p at is in
-    let change : RunState → RunState = λ run. record run { jobs = changed_at j made.change run.jobs } in
-    let now : run_at next r ≡ Some (change x) =
-    ap (λ xs. slice_get xs r) (sym made.is) ∙ at_changed r change runs ∙ ap (option_map change) was in
-    subst (RestBefore next) (sym (again_at next r j (change x) p at now))
-    (rests_from next r (job_again (change x) j) (change x) (runs_rest runs next p r is (run_of_job r j p at) before_run) now
-    (jobs_rest r x j made.change before))
-
-after_whole : (runs next : List RunState) (p : Place) (r : ℕ) → rule_at runs p ≡ Some next → p ≡ Whole r
-    → NoneBefore first_in_run runs r → RestBefore next (look_again next p)
-after_whole runs next p r is whole before =
-    let own : run_of_place p ≡ r = ap run_of_place whole in
-    let again : look_again next p ≡ record { run = r; job = 0 } = ap (look_again next) whole in
-    let rest : RestBefore next (record { run = r; job = 0 }) =
-    (runs_rest runs next p r is own before, λ run at live k lt. absurd (omega (arith, lt))) in
-    subst (RestBefore next) (sym again) rest
-
-pub rest_after_rule : (runs next : List RunState) (p : Place) → first_place runs ≡ Some p → rule_at runs p ≡ Some next
-    → RestBefore next (look_again next p)
-rest_after_rule runs next p first is =
-    let at = place_found runs p first in
-    elim (at.found) [
-      | inl f ↦ after_job runs next p at.run f.job at.state is f.is_at at.was at.before f.before
-      | inr whole ↦ after_whole runs next p at.run is whole at.before
-    ]
+  after_quiet : RestBefore m.runs (look_near m.runs p)
+  after_quiet =
+      let at = place_found runs p first in
+      elim (at.found) [
+        | inl f ↦ after_job at.run f.job at.state f.is_at at.was at.before f.before
+        | inr whole ↦ after_whole at.run whole at.before
+      ]
 
 -- before the first place of a table there is none
 pub rest_before_all : (runs : List RunState) → RestBefore runs (record { run = 0; job = 0 })
 rest_before_all runs = (λ k lt. absurd (omega (arith, lt)), λ run at live k lt. absurd (omega (arith, lt)))
+
+pub rest_after_rule : (runs : List RunState) (m : Moved) (p : Place) → RunsFit runs → first_place runs ≡ Some p → rule_at runs p ≡ Some m
+    → RestBefore m.runs (look_again (frees runs p) m.runs p)
+rest_after_rule runs m p fit first is =
+    elim (frees runs p) as (λ b. frees runs p ≡ b → RestBefore m.runs (look_again b m.runs p)) [
+      | true ↦ λ freed. rest_before_all m.runs
+      | false ↦ λ quiet. after_quiet runs m p fit first is quiet
+    ] refl

@@ -1,6 +1,6 @@
 -- Each settling rule lowers the count of phases before it.
 use Rattle.std.specs.Prelude.{◌≡◌, ℕ, zero, suc, ◌+◌, ◌*◌, ◌<◌, ◌&&◌, List, [], ◌∷◌, length, sum_by, Bool, true, false, Some}
-use Rattle.std.specs.Prelude.{option_and_then, slice_get, if◌then◌else◌}
+use Rattle.std.specs.Prelude.{option_and_then, slice_get, if◌then◌else◌, refl}
 use Rattle.std.specs.List.{enumerate_from, list_all}
 use Rattle.std.specs.Option.{option_map_or}
 use Rattle.std.proofs.Common.{arith, ap, subst, sym, ◌∙◌, lit<}
@@ -8,13 +8,17 @@ use Rattle.std.proofs.lemmas.Bool.{and_parts}
 use Rattle.std.proofs.lemmas.List.Sums.{sum_by-cons}
 use Rattle.std.proofs.lemmas.List.Folds.{sum_by-replicate}
 use Rattle.wf_value.specs.declared.outcome.JobResult.TheVariants as result
+use Rattle.wf_value.specs.declared.outcome.Outcome.TheVariants as outcome
 use Rattle.run_plan.specs.PlanOf.{plan_of}
 use Rattle.run_plan.specs.declared.planned.PlannedJob.{PlannedJob}
 use Rattle.run_table.specs.FirstOf.{changed_at}
-use Rattle.run_table.specs.Places.{LegPlace, run_at, job_at, leg_at, with_run, with_job, with_leg}
-use Rattle.run_table.specs.Rules.{rule_at, opening_rule, leg_rule, closing_rule, whole_rule, is_blocked, is_open, new_leg, opened}
-use Rattle.run_table.specs.Rules.{settled_as, may_run, decided, next_leg_phase, leg_in_phase, has_ended, result_at, is_settled}
-use Rattle.run_table.specs.Rules.{next_run_phase, run_in_phase}
+use Rattle.run_table.specs.Places.{LegPlace, run_at, job_at, leg_at, with_run, with_job}
+use Rattle.run_table.specs.Arrivals.{arrived, is_in_group_of_run, started}
+use Rattle.run_table.specs.Groups.{may_start}
+use Rattle.run_table.specs.Moves.{Holder, Moved, without_moves}
+use Rattle.run_table.specs.Rules.{rule_at, opening_rule, leg_rule, leg_rule_in, closing_rule, whole_rule, whole_rule_in, newcomer_rule}
+use Rattle.run_table.specs.Rules.{decided, may_run, result_at, with_leg_in}
+use Rattle.run_table.specs.StateWords.{has_ended, is_blocked, is_open, is_settled, leg_in_phase, new_leg, opened, run_in_phase, settled_as}
 use Rattle.run_table.specs.Settling.{first_place, first_rule, leg_phases_left, leg_left, job_phases_left, job_left, legs_in_plan}
 use Rattle.run_table.specs.Settling.{run_phases_left, run_left, left}
 use Rattle.run_table.specs.TableState.{LegState, JobState, RunState}
@@ -27,8 +31,10 @@ use Rattle.run_table.specs.declared.phases.RunPhase.TheVariants as run
 use Rattle.run_table.specs.declared.place.Place.{Place}
 use Rattle.run_table.specs.declared.place.Place.TheVariants.{Opening, AtLeg, Closing, Whole}
 use Rattle.run_table.proofs.JobKeeps.{JobIn, job_in, leg_in, with_job_of, with_leg_of}
-use Rattle.run_table.proofs.Optional.{from_and_then, from_map, if_some}
-use Rattle.run_table.proofs.RuleKeeps.{is_blocked_blocked, is_open_open}
+use Rattle.run_table.proofs.JobPhases.{is_blocked_blocked, is_open_open}
+use Rattle.run_table.proofs.Optional.{from_and_then, if_some}
+use Rattle.run_table.proofs.RuleKeeps.{run_ended}
+use Rattle.run_table.proofs.StopsLower.{arrival_lowers}
 
 -- ---- sums over a list that is changed at one place
 
@@ -111,23 +117,42 @@ job_lowers_all runs r j f y at less =
 
 -- ---- the rules
 
-leg_phase_lowered : (before after : LegPhase) → next_leg_phase before ≡ Some after → leg_phases_left after < leg_phases_left before
-leg_phase_lowered leg.New after h = let e : leg.Waiting ≡ after = cc in subst (λ (r : LegPhase). leg_phases_left r < 5) e (lit< tt)
-leg_phase_lowered leg.Waiting after h = let e : leg.Ready ≡ after = cc in subst (λ (r : LegPhase). leg_phases_left r < 4) e (lit< tt)
-leg_phase_lowered leg.Ready after h = cc
-leg_phase_lowered leg.Running after h = cc
-leg_phase_lowered leg.Stopping after h = cc
-leg_phase_lowered (leg.Ended r) after h = cc
-
-leg_rule_lowers : (runs next : List RunState) (p : LegPlace) (z : LegState) → leg_at runs p ≡ Some z → leg_rule runs p z ≡ Some next
-    → left next < left runs
-leg_rule_lowers runs next p z was h =
-    let made = from_map (λ (phase : LegPhase). with_leg p (leg_in_phase phase) runs) (next_leg_phase z.phase) next h in
+leg_goes_lower : (runs : List RunState) (p : LegPlace) (z : LegState) (to : LegPhase) → leg_at runs p ≡ Some z
+    → leg_phases_left to < leg_phases_left z.phase → left (with_leg_in to p runs) < left runs
+leg_goes_lower runs p z to was lower =
     let at = leg_in runs p z was in
-    let less = leg_lowers (planned_legs runs p.run p.job) at.job p.leg (leg_in_phase made.value) z at.leg_is
-    (leg_phase_lowered z.phase made.value made.is) in
-    subst (λ (v : List RunState). left v < left runs) made.gives
-    (job_lowers_all runs p.run p.job (with_leg_of p.leg (leg_in_phase made.value)) at.job at.place less)
+    let less = leg_lowers (planned_legs runs p.run p.job) at.job p.leg (leg_in_phase to) z at.leg_is lower in
+    job_lowers_all runs p.run p.job (with_leg_of p.leg (leg_in_phase to)) at.job at.place less
+
+left_by : (phase is : LegPhase) (to : ℕ) → phase ≡ is → to < leg_phases_left is → to < leg_phases_left phase
+left_by phase is to e less = subst (λ (v : LegPhase). to < leg_phases_left v) (sym e) less
+
+newcomer_lowers : (runs : List RunState) (p : LegPlace) (z : LegState) → leg_at runs p ≡ Some z → z.phase ≡ leg.New
+    → left (newcomer_rule runs p).runs < left runs
+newcomer_lowers runs p z was is =
+    elim (is_in_group_of_run runs p) as
+    (λ b. left (if b then without_moves (with_leg_in (leg.Ended outcome.Cancelled) p runs)
+    else arrived (Holder.a_leg p) (with_leg_in leg.Waiting p runs)).runs < left runs) [
+      | true ↦ leg_goes_lower runs p z (leg.Ended outcome.Cancelled) was (left_by z.phase leg.New 0 is (lit< tt))
+      | false ↦
+          let waits = leg_goes_lower runs p z leg.Waiting was (left_by z.phase leg.New 4 is (lit< tt)) in
+          let rest = arrival_lowers (Holder.a_leg p) (with_leg_in leg.Waiting p runs) in
+          omega (arith, waits, rest)
+    ]
+
+leg_rule_lowers : (runs : List RunState) (m : Moved) (p : LegPlace) (z : LegState) (phase : LegPhase) → leg_at runs p ≡ Some z
+    → z.phase ≡ phase → leg_rule_in phase runs p ≡ Some m → left m.runs < left runs
+leg_rule_lowers runs m p z leg.New was is h =
+    let same : newcomer_rule runs p ≡ m = cc in
+    subst (λ (v : Moved). left v.runs < left runs) same (newcomer_lowers runs p z was is)
+leg_rule_lowers runs m p z leg.Waiting was is h =
+    let taken = if_some (may_start runs (Holder.a_leg p)) (started (Holder.a_leg p) (with_leg_in leg.Ready p runs)) m h in
+    subst (λ (v : Moved). left v.runs < left runs) taken.1
+    (leg_goes_lower runs p z leg.Ready was (left_by z.phase leg.Waiting 3 is (lit< tt)))
+leg_rule_lowers runs m p z leg.Ready was is h = cc
+leg_rule_lowers runs m p z leg.Running was is h = cc
+leg_rule_lowers runs m p z leg.Stopping was is h = cc
+leg_rule_lowers runs m p z (leg.Ended r) was is h = cc
 
 decided_lowered : (may : Bool) (planned : ℕ) (stopping : Bool) (y : JobState) → y.phase ≡ job.Blocked
     → job_left planned ((if may then opened planned else settled_as (if stopping then result.Cancelled else result.Skipped)) y)
@@ -139,56 +164,57 @@ decided_lowered false planned stopping y blocked =
     let before : job_phases_left planned y.phase ≡ 2 + 5 * planned = ap (job_phases_left planned) blocked in
     omega (arith, before)
 
-opening_rule_lowers : (runs next : List RunState) (r j : ℕ) (y : JobState) → job_at runs r j ≡ Some y → opening_rule runs r j y ≡ Some next
-    → left next < left runs
-opening_rule_lowers runs next r j y was h =
-    let taken = if_some (is_blocked y.phase && needs_have_settled runs r j) (with_job r j (decided runs r j) runs) next h in
+opening_rule_lowers : (runs : List RunState) (m : Moved) (r j : ℕ) (y : JobState) → job_at runs r j ≡ Some y
+    → opening_rule runs r j y ≡ Some m → left m.runs < left runs
+opening_rule_lowers runs m r j y was h =
+    let taken = if_some (is_blocked y.phase && needs_have_settled runs r j) (without_moves (with_job r j (decided runs r j) runs)) m h in
     let blocked = is_blocked_blocked y.phase (and_parts (is_blocked y.phase) (needs_have_settled runs r j) taken.0).0 in
     let less = decided_lowered (may_run runs r j) (planned_legs runs r j) (is_stopping runs r) y blocked in
-    subst (λ (v : List RunState). left v < left runs) taken.1 (job_lowers_all runs r j (decided runs r j) y (job_in runs r j y was) less)
+    subst (λ (v : Moved). left v.runs < left runs) taken.1 (job_lowers_all runs r j (decided runs r j) y (job_in runs r j y was) less)
 
-closing_rule_lowers : (runs next : List RunState) (r j : ℕ) (y : JobState) → job_at runs r j ≡ Some y → closing_rule runs r j y ≡ Some next
-    → left next < left runs
-closing_rule_lowers runs next r j y was h =
+closing_rule_lowers : (runs : List RunState) (m : Moved) (r j : ℕ) (y : JobState) → job_at runs r j ≡ Some y
+    → closing_rule runs r j y ≡ Some m → left m.runs < left runs
+closing_rule_lowers runs m r j y was h =
     let close = settled_as (result_at runs r j y) in
-    let taken = if_some (is_open y.phase && list_all has_ended y.legs) (with_job r j close runs) next h in
+    let taken = if_some (is_open y.phase && list_all has_ended y.legs) (without_moves (with_job r j close runs)) m h in
     let is_open = is_open_open y.phase (and_parts (is_open y.phase) (list_all has_ended y.legs) taken.0).0 in
     let before : job_phases_left (planned_legs runs r j) y.phase ≡ 1 = ap (job_phases_left (planned_legs runs r j)) is_open in
     let less : job_left (planned_legs runs r j) (close y) < job_left (planned_legs runs r j) y = omega (arith, before) in
-    subst (λ (v : List RunState). left v < left runs) taken.1 (job_lowers_all runs r j close y (job_in runs r j y was) less)
+    subst (λ (v : Moved). left v.runs < left runs) taken.1 (job_lowers_all runs r j close y (job_in runs r j y was) less)
 
-run_phase_lowered : (before after : RunPhase) (all_settled : Bool) → next_run_phase before all_settled ≡ Some after
-    → run_phases_left after < run_phases_left before
-run_phase_lowered run.Waiting after all_settled h =
-    let e : run.Live ≡ after = cc in subst (λ (r : RunPhase). run_phases_left r < 2) e (lit< tt)
-run_phase_lowered run.Live after true h = let e : run.Ended ≡ after = cc in subst (λ (r : RunPhase). run_phases_left r < 1) e (lit< tt)
-run_phase_lowered run.Live after false h = cc
-run_phase_lowered run.Ended after all_settled h = cc
+run_goes_lower : (runs : List RunState) (r : ℕ) (x : RunState) (to : RunPhase) → run_at runs r ≡ Some x
+    → run_phases_left to < run_phases_left x.phase → left (with_run r (run_in_phase to) runs) < left runs
+run_goes_lower runs r x to was lower =
+    let less : run_left (run_in_phase to x) < run_left x = omega (arith, lower) in
+    run_lowers runs r (run_in_phase to) x was less
 
-whole_rule_lowers : (runs next : List RunState) (r : ℕ) (x : RunState) → run_at runs r ≡ Some x → whole_rule runs r x ≡ Some next
-    → left next < left runs
-whole_rule_lowers runs next r x was h =
-    let made = from_map (λ (phase : RunPhase). with_run r (run_in_phase phase) runs)
-    (next_run_phase x.phase (list_all is_settled x.jobs)) next h in
-    let lower = run_phase_lowered x.phase made.value (list_all is_settled x.jobs) made.is in
-    let less : run_left (run_in_phase made.value x) < run_left x = omega (arith, lower) in
-    subst (λ (v : List RunState). left v < left runs) made.gives (run_lowers runs r (run_in_phase made.value) x was less)
+whole_rule_lowers : (runs : List RunState) (m : Moved) (r : ℕ) (x : RunState) (phase : RunPhase) → run_at runs r ≡ Some x
+    → x.phase ≡ phase → whole_rule_in phase runs r x ≡ Some m → left m.runs < left runs
+whole_rule_lowers runs m r x run.Waiting was is h =
+    let taken = if_some (may_start runs (Holder.a_run r)) (started (Holder.a_run r) (with_run r (run_in_phase run.Live) runs)) m h in
+    subst (λ (v : Moved). left v.runs < left runs) taken.1
+    (run_goes_lower runs r x run.Live was (subst (λ (v : RunPhase). 1 < run_phases_left v) (sym is) (lit< tt)))
+whole_rule_lowers runs m r x run.Live was is h =
+    let taken = if_some (list_all is_settled x.jobs) (run_ended runs r x) m h in
+    subst (λ (v : Moved). left v.runs < left runs) taken.1
+    (run_goes_lower runs r x run.Ended was (subst (λ (v : RunPhase). 0 < run_phases_left v) (sym is) (lit< tt)))
+whole_rule_lowers runs m r x run.Ended was is h = cc
 
-pub rule_lowers : (runs next : List RunState) (place : Place) → rule_at runs place ≡ Some next → left next < left runs
-rule_lowers runs next (Opening r j) h =
-    let made = from_and_then (opening_rule runs r j) (job_at runs r j) next h in
-    opening_rule_lowers runs next r j made.value made.is made.gives
-rule_lowers runs next (AtLeg p) h =
-    let made = from_and_then (leg_rule runs p) (leg_at runs p) next h in
-    leg_rule_lowers runs next p made.value made.is made.gives
-rule_lowers runs next (Closing r j) h =
-    let made = from_and_then (closing_rule runs r j) (job_at runs r j) next h in
-    closing_rule_lowers runs next r j made.value made.is made.gives
-rule_lowers runs next (Whole r) h =
-    let made = from_and_then (whole_rule runs r) (run_at runs r) next h in
-    whole_rule_lowers runs next r made.value made.is made.gives
+pub rule_lowers : (runs : List RunState) (m : Moved) (place : Place) → rule_at runs place ≡ Some m → left m.runs < left runs
+rule_lowers runs m (Opening r j) h =
+    let made = from_and_then (opening_rule runs r j) (job_at runs r j) m h in
+    opening_rule_lowers runs m r j made.value made.is made.gives
+rule_lowers runs m (AtLeg p) h =
+    let made = from_and_then (leg_rule runs p) (leg_at runs p) m h in
+    leg_rule_lowers runs m p made.value made.value.phase made.is refl made.gives
+rule_lowers runs m (Closing r j) h =
+    let made = from_and_then (closing_rule runs r j) (job_at runs r j) m h in
+    closing_rule_lowers runs m r j made.value made.is made.gives
+rule_lowers runs m (Whole r) h =
+    let made = from_and_then (whole_rule runs r) (run_at runs r) m h in
+    whole_rule_lowers runs m r made.value made.value.phase made.is refl made.gives
 
-pub first_rule_lowers : (runs next : List RunState) → first_rule runs ≡ Some next → left next < left runs
-first_rule_lowers runs next h =
-    let made = from_and_then (rule_at runs) (first_place runs) next h in
-    rule_lowers runs next made.value made.gives
+pub first_rule_lowers : (runs : List RunState) (m : Moved) → first_rule runs ≡ Some m → left m.runs < left runs
+first_rule_lowers runs m h =
+    let made = from_and_then (rule_at runs) (first_place runs) m h in
+    rule_lowers runs m made.value made.gives

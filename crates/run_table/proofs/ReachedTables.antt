@@ -19,20 +19,22 @@ use Rattle.run_plan.specs.declared.reply.Reply.TheVariants as reply
 use Rattle.run_table.specs.FirstOf.{changed_at}
 use Rattle.run_table.specs.Fitting.{first_fit, place_of_lease}
 use Rattle.run_table.specs.Histories.{WasAnswered, after, replies}
-use Rattle.run_table.specs.Moves.{Step}
+use Rattle.run_table.specs.Moves.{Holder, Move, Step}
 use Rattle.run_table.specs.Places.{LegPlace, leg_at, with_job, with_leg, with_run}
 use Rattle.run_table.specs.Rules.{leg_in_phase}
 use Rattle.run_table.specs.Sound.{IsSound}
-use Rattle.run_table.specs.Step.{empty, at_rest, unchanged, admission_answer, new_run, admitting, admitted, claim_answer, claiming_runner}
+use Rattle.run_table.specs.Step.{empty, at_rest_after, entered, lease_end_moves, unchanged, admission_answer, new_run, admitting, admitted, claim_answer, claiming_runner}
 use Rattle.run_table.specs.Step.{leased_leg, lease_at, leasing, serving_nothing, claiming, report_answer, reporting_runner}
 use Rattle.run_table.specs.Step.{with_ended, reporting, reported, stepped}
 use Rattle.run_table.specs.Step.{cancel_answer, cancelling, cancelled, losing, lost, refused, released}
+use Rattle.run_table.specs.StopMoves.{stop_holder}
 use Rattle.run_table.specs.Stops.{after_end, outcome_of_loss, stopped_run, stops_others, with_stopped_legs}
 use Rattle.run_table.specs.TableState.{LegState, JobState, RunState, TableState}
 use Rattle.run_table.specs.Turns.{runner_named, with_runner}
 use Rattle.run_table.specs.declared.phases.LegPhase.TheVariants as leg
-use Rattle.run_table.proofs.AdmitKeeps.{admit_keeps, same_reads}
+use Rattle.run_table.proofs.AdmitKeeps.{same_reads}
 use Rattle.run_table.proofs.ClaimKeeps.{fitting_leg, had_changes, leasing_keeps, serving_keeps}
+use Rattle.run_table.proofs.Entered.{entered_keeps, entered_settles}
 use Rattle.run_table.proofs.Found.{before_the_end}
 use Rattle.run_table.proofs.Kept.{IsKept, kept_from_sound, kept_settles}
 use Rattle.run_table.proofs.JobKeeps.{leg_in}
@@ -109,7 +111,7 @@ after_end_keeps_events p o r runs =
       | false ↦ one
     ]
 
-with_ended_keeps_leases : (lease : ℕ) (o : Outcome) (q : LegPlace) (runs : List RunState) → had_at (with_ended lease o runs) q ≡ had_at runs q
+pub with_ended_keeps_leases : (lease : ℕ) (o : Outcome) (q : LegPlace) (runs : List RunState) → had_at (with_ended lease o runs) q ≡ had_at runs q
 with_ended_keeps_leases lease o q runs =
     elim (place_of_lease runs lease) as (λ place. had_at (option_map_or (λ p. after_end p o runs) place runs) q ≡ had_at runs q) [
       | None ↦ refl
@@ -146,11 +148,11 @@ either_reads t c None change h = h refl
 either_reads t c (Some r) change h = unchanged_reads t c r
 
 -- the table settles, with the leases that it had
-rest_reads : (t : TableState) (c : Command) (mid : TableState) (r : Reply) → IsKept mid
+rest_reads : (t : TableState) (c : Command) (moves : List Move) (mid : TableState) (r : Reply) → IsKept mid
     → ((i : ℕ) (a : Admitted) → admitted_at t.runs i ≡ Some a → admitted_at mid.runs i ≡ Some a)
-    → ((p : LegPlace) (n : ℕ) → had_at mid.runs p ≡ Some n → (had_at t.runs p ≡ Some n) ⊎ NewLease t c (at_rest mid r) p n)
-    → Reads t c (at_rest mid r)
-rest_reads t c mid r kept events leases =
+    → ((p : LegPlace) (n : ℕ) → had_at mid.runs p ≡ Some n → (had_at t.runs p ≡ Some n) ⊎ NewLease t c (at_rest_after moves mid r) p n)
+    → Reads t c (at_rest_after moves mid r)
+rest_reads t c moves mid r kept events leases =
     let settling = settling_settles mid.runs kept.fit in
     record {
       same_admitted = (λ i a e. settling.stay.same_admitted i ∙ events i a e);
@@ -160,9 +162,12 @@ rest_reads t c mid r kept events leases =
 admit_reads : (t : TableState) (event : Admitted) → IsSound t → Reads t (command.Admit event) (admitted t event)
 admit_reads t event s =
     either_reads t (command.Admit event) (admission_answer t event) (admitting t event)
-    (λ none. rest_reads t (command.Admit event) (record t { runs = t.runs ++ new_run event ∷ [] }) (reply.Created (length t.runs + 1))
-    (admit_keeps t event (kept_from_sound t s) none) events_stay
-    (λ p n e. inl (sym (same_reads t.runs event (λ z. z.lease) p) ∙ e)))
+    (λ none.
+    let arrival = entered_settles t event (kept_from_sound t s).fit in
+    rest_reads t (command.Admit event) (entered t event).moves (record t { runs = (entered t event).runs })
+    (reply.Created (length t.runs + 1)) (entered_keeps t event (kept_from_sound t s) none)
+    (λ i a e. arrival.stay.same_admitted i ∙ events_stay i a e)
+    (λ p n e. inl (sym (same_reads t.runs event (λ z. z.lease) p) ∙ sym (arrival.same_had p) ∙ e)))
   where
     none_some : (a : Admitted) → None ≡ Some a → ⊥
     none_some a e = cc
@@ -186,7 +191,7 @@ leasing_reads t claim p s none fit =
     let ready = fitting_leg claim.labels t.runs p fit in
     let changes = had_changes t.runs p ready.leg_of (λ _. leased_leg lease) ready.is in
     let at = leg_in t.runs p ready.leg_of ready.is in
-    rest_reads t (command.Claim claim)
+    rest_reads t (command.Claim claim) []
     (record {
       last_lease = lease;
       runs = with_leg p (λ _. leased_leg lease) t.runs;
@@ -214,7 +219,7 @@ claiming_reads : (t : TableState) (claim : Claimed) → IsSound t → claim_answ
 claiming_reads t claim s none =
     elim (first_fit claim.labels t.runs) as (λ o. first_fit claim.labels t.runs ≡ o
     → Reads t (command.Claim claim) (option_map_or (leasing t claim) o (serving_nothing t claim))) [
-      | None ↦ λ is. rest_reads t (command.Claim claim)
+      | None ↦ λ is. rest_reads t (command.Claim claim) []
           (record t { runners = with_runner t.runners (claiming_runner claim None given.Nothing) }) reply.Nothing
           (serving_keeps t claim (kept_from_sound t s) none) (λ i a e. e) (λ p n e. inl e)
       | Some p ↦ λ is. leasing_reads t claim p s none is
@@ -223,7 +228,7 @@ claiming_reads t claim s none =
 report_reads : (t : TableState) (report : Reported) → IsSound t → Reads t (command.Done report) (reported t report)
 report_reads t report s =
     either_reads t (command.Done report) (report_answer t report) (reporting t report)
-    (λ none. rest_reads t (command.Done report)
+    (λ none. rest_reads t (command.Done report) (lease_end_moves report.lease report.result t.runs)
     (record t { runs = with_ended report.lease report.result t.runs; runners = with_runner t.runners (reporting_runner report) }) reply.Ok
     (report_keeps t report (kept_from_sound t s) none)
     (λ i a e. with_ended_keeps_events report.lease report.result i t.runs ∙ e)
@@ -236,7 +241,7 @@ cancel_reads t id s =
     let found = run_to_cancel t id none in
     let stop = stopped_run_settles t.runs (kept_from_sound t s).fit (id - 1) found.0 found.1 in
     let next = with_run (id - 1) stopped_run t.runs in
-    rest_reads t (command.Cancel id) (record t { runs = next }) reply.Ok (kept_settles t next (kept_from_sound t s) stop)
+    rest_reads t (command.Cancel id) (stop_holder (Holder.a_run (id - 1)) t.runs).moves (record t { runs = next }) reply.Ok (kept_settles t next (kept_from_sound t s) stop)
     (λ i a e. stop.stay.same_admitted i ∙ e) (λ p n e. inl (sym (stop.same_had p) ∙ e)))
 
 loss_reads : (t : TableState) (name : List ℕ) → IsSound t → Reads t (command.Lost name) (lost t name)
@@ -252,7 +257,7 @@ loss_reads t name s =
             | None ↦ λ none. unchanged_reads t asked (refused LeaseNotHeld)
             | Some lease ↦ λ holds.
                 let outcome = outcome_of_loss t.runs lease in
-                rest_reads t asked
+                rest_reads t asked (lease_end_moves lease outcome t.runs)
                 (record t { runs = with_ended lease outcome t.runs; runners = with_runner t.runners (released runner) }) reply.Ok
                 (loss_keeps t name runner lease (kept_from_sound t s) is holds)
                 (λ i a e. with_ended_keeps_events lease outcome i t.runs ∙ e)

@@ -1,7 +1,6 @@
 -- A report keeps what a table keeps: the leg of the lease ends, and its runner holds it no more.
 use Rattle.std.specs.Prelude.{◌≡◌, ℕ, ◌≤◌, List, nat_eq, Bool, true, false, is_some, Option, Some, None, option_and_then, if◌then◌else◌}
 use Rattle.std.specs.Prelude.{refl}
-use Rattle.std.specs.List.{AllByRecursion}
 use Rattle.std.specs.Option.{option_map_or}
 use Rattle.std.proofs.Common.{ap, sym, ◌∙◌, subst, inl, inr}
 use Rattle.std.proofs.lemmas.Bool.{eqb-true, eq-eqb, true≢false}
@@ -11,44 +10,32 @@ use Rattle.wf_value.specs.declared.outcome.Outcome.{Outcome}
 use Rattle.wf_value.specs.declared.outcome.Outcome.TheVariants as outcome
 use Rattle.run_plan.specs.declared.command.Done.{Done as Reported}
 use Rattle.run_plan.specs.declared.reply.Reply.{Reply}
-use Rattle.run_table.specs.FirstOf.{placed}
 use Rattle.run_table.specs.Fitting.{has_lease, place_of_lease}
-use Rattle.run_table.specs.Places.{LegPlace, leg_at, leg_places_of_job, leg_places_of_run, leg_places, with_job, with_leg}
+use Rattle.run_table.specs.Places.{LegPlace, leg_at, leg_places, with_job, with_leg}
 use Rattle.run_table.specs.Rules.{leg_in_phase, outcome_of}
 use Rattle.run_plan.specs.LastCommand.{is_last_report}
 use Rattle.run_table.specs.Sound.{LeaseFits, IsLastOf}
 use Rattle.run_table.specs.Parallel.{is_at_work}
 use Rattle.run_table.specs.Step.{refused, released, report_answer, reporting_runner, with_ended}
 use Rattle.run_table.specs.Stops.{after_end, outcome_of_loss, stops_others, with_stopped_legs}
-use Rattle.run_table.specs.TableState.{LegState, JobState, RunState, RunnerState, TableState}
+use Rattle.run_table.specs.TableState.{LegState, RunnerState, TableState}
 use Rattle.run_table.specs.Turns.{is_named, runner_named, answer_of_turn, with_runner, holds_this}
 use Rattle.run_table.specs.declared.phases.LegPhase.{LegPhase}
 use Rattle.run_table.specs.declared.phases.LegPhase.TheVariants as leg
 use Rattle.run_table.proofs.AdmitKeeps.{nothing_in_or}
 use Rattle.run_table.proofs.AtWork.{fewer_at_work}
 use Rattle.run_table.proofs.ClaimKeeps.{had_changes, works_changes}
-use Rattle.run_table.proofs.Found.{find_passes, none_found, each_of_flat_map, each_of_map, each_of_placed}
+use Rattle.run_table.proofs.Found.{find_passes, none_found}
+use Rattle.run_table.proofs.HolderPlaces.{each_leg_place}
 use Rattle.run_table.proofs.JobKeeps.{leg_in, leg_stays, job_is_now, job_is_open, with_leg_of}
-use Rattle.run_table.proofs.Kept.{IsKept, KeptIsHad, kept_settles, kept_still_had, deliveries_still_differ}
+use Rattle.run_table.proofs.Kept.{IsKept, KeptIsHad, StillHad, kept_settles, kept_still_had, deliveries_still_differ}
 use Rattle.run_table.proofs.LeaseReads.{ChangesAt, place_or_another, lease_ended, leases_same, none_is_not_some}
 use Rattle.run_table.proofs.LegReads.{had_at, works_at, had_is, had_from_leg, works_from_leg, leg_from_had, work_parts}
-use Rattle.run_table.proofs.RunnerPut.{put, each_put, names_still_differ, holds_at, holds_changes}
+use Rattle.run_table.proofs.Settles.{StayFit, stay_on}
+use Rattle.run_table.proofs.RunFits.{plan_at_same}
+use Rattle.run_table.proofs.RunnerOrder.{names_still_rise}
+use Rattle.run_table.proofs.RunnerPut.{each_put, holds_at, holds_changes, stood}
 use Rattle.run_table.proofs.StopKeeps.{stop_settles}
-
--- ---- the places of all legs
-
-each_leg_place : (P : LegPlace → Type 0) (runs : List RunState) (p : LegPlace) (z : LegState) → AllByRecursion P (leg_places runs)
-    → leg_at runs p ≡ Some z → P p
-each_leg_place P runs p z all e =
-    let at = leg_in runs p z e in
-    let of_runs = each_of_flat_map P leg_places_of_run (placed runs) all in
-    let of_run = each_of_placed
-    (λ (x : ℕ × RunState). AllByRecursion P (leg_places_of_run x)) runs p.run at.place.run of_runs at.place.run_is in
-    let of_jobs = each_of_flat_map P (leg_places_of_job p.run) (placed at.place.run.jobs) of_run in
-    let of_job = each_of_placed
-    (λ (y : ℕ × JobState). AllByRecursion P (leg_places_of_job p.run y)) at.place.run.jobs p.job at.job of_jobs at.place.job_is in
-    let of_legs = each_of_map P (λ (l : ℕ × LegState). record { run = p.run; job = p.job; leg = l.0 }) (placed at.job.legs) of_job in
-    each_of_placed (λ (l : ℕ × LegState). P (record { run = p.run; job = p.job; leg = l.0 })) at.job.legs p.leg z of_legs at.leg_is
 
 -- ---- the leg of a lease
 
@@ -60,7 +47,7 @@ holds_it lease (Some x) e =
       | Some n ↦ λ f. ap Some (eqb-true n lease f)
     ] e
 
-has_it : (lease : ℕ) (o : Option LegState) → option_map_or (has_lease lease) o false ≡ true → option_and_then (λ y. y.lease) o ≡ Some lease
+pub has_it : (lease : ℕ) (o : Option LegState) → option_map_or (has_lease lease) o false ≡ true → option_and_then (λ y. y.lease) o ≡ Some lease
 has_it lease None e = cc
 has_it lease (Some z) e =
     elim (z.lease) as (λ h. option_map_or (λ held. nat_eq held lease) h false ≡ true → h ≡ Some lease) [
@@ -92,23 +79,19 @@ ended_fits outcome.Cancelled lease n e = tt
 
 module _ (t : TableState) (new : RunnerState) (lease : ℕ) (result : Outcome) (s : IsKept t)
     (held : holds_this lease (runner_named t.runners new.name) ≡ true) (free : new.holds ≡ None)
-    (own : IsLastOf new.name new.number new.last) (kept_had : KeptIsHad (had_at t.runs) new.last) where
-  runner_place : ℕ
-  runner_place = (put t.runners new).place
+    (own : IsLastOf new.name new.number new.last) (kept_had : KeptIsHad t.runs new.last) where
+  held_here : holds_at t.runners new.name ≡ Some lease
+  held_here = holds_it lease (runner_named t.runners new.name) held
 
-  held_here : holds_at t.runners (put t.runners new).place ≡ Some lease
-  held_here = ap (option_and_then (λ (x : RunnerState). x.holds)) (put t.runners new).was
-      ∙ holds_it lease (runner_named t.runners new.name) held
-
-  holds_no_more : ChangesAt (holds_at t.runners) (holds_at (with_runner t.runners new)) (put t.runners new).place None
+  holds_no_more : ChangesAt (holds_at t.runners) (holds_at (with_runner t.runners new)) new.name None
   holds_no_more =
-      subst (λ (o : Option ℕ). ChangesAt (holds_at t.runners) (holds_at (with_runner t.runners new)) (put t.runners new).place o) free
+      subst (λ (o : Option ℕ). ChangesAt (holds_at t.runners) (holds_at (with_runner t.runners new)) new.name o) free
       (holds_changes t.runners new)
 
   -- a leg with the lease is the one at work
-  work_at : (p : LegPlace) → had_at t.runs p ≡ Some lease → works_at t.runs p ≡ Some lease
+  pub work_at : (p : LegPlace) → had_at t.runs p ≡ Some lease → works_at t.runs p ≡ Some lease
   work_at p had =
-      let (q, works) = s.agree.held_is_work (put t.runners new).place lease held_here in
+      let (q, works) = s.agree.held_is_work new.name lease held_here in
       ap (works_at t.runs) (s.agree.differ p q lease had (s.agree.work_is_had q lease works)) ∙ works
 
   ended_keeps : (p : LegPlace) → had_at t.runs p ≡ Some lease
@@ -128,6 +111,7 @@ module _ (t : TableState) (new : RunnerState) (lease : ℕ) (result : Outcome) (
       (ended_fits result z.lease lease from.gives) in
       let changes = had_changes t.runs p z f from.is in
       let same = same_had p z from.is changes in
+      let still : StillHad t.runs next = λ q n h. (same q ∙ h, plan_at_same t.runs next q.run q.job (stay.same_admitted q.run)) in
       record {
         few_runs = subst (λ (n : ℕ). n ≤ 100000) (sym stay.same_length) s.few_runs;
         deliveries_differ = deliveries_still_differ t.runs next stay.same_admitted s.deliveries_differ;
@@ -137,15 +121,14 @@ module _ (t : TableState) (new : RunnerState) (lease : ℕ) (result : Outcome) (
         agree = leases_same t.last_lease (had_at t.runs) (works_at next) (had_at next) (works_at next)
             (holds_at (with_runner t.runners new)) (holds_at (with_runner t.runners new)) same (λ q. refl) (λ k. refl)
             (lease_ended t.last_lease (had_at t.runs) (works_at t.runs) (works_at next) (holds_at t.runners)
-            (holds_at (with_runner t.runners new)) p (put t.runners new).place lease s.agree work_here held_here
+            (holds_at (with_runner t.runners new)) p new.name lease s.agree work_here held_here
             (works_changes t.runs p z f from.is) holds_no_more);
         last_lease_in_range = s.last_lease_in_range;
-        names_differ = names_still_differ t.runners new s.names_differ;
+        runners_in_order = names_still_rise t.runners new s.runners_in_order;
         lasts_are_own = each_put t.runners new (λ x. IsLastOf x.name x.number x.last) own s.lasts_are_own;
         kept_are_had =
-            each_put t.runners new (λ x. KeptIsHad (had_at next) x.last)
-            (kept_still_had (had_at t.runs) (had_at next) (λ q n h. same q ∙ h) new.last kept_had)
-            (λ k x e. kept_still_had (had_at t.runs) (had_at next) (λ q n h. same q ∙ h) x.last (s.kept_are_had k x e));
+            each_put t.runners new (λ x. KeptIsHad next x.last) (kept_still_had t.runs next still new.last kept_had)
+            (λ k x e. kept_still_had t.runs next still x.last (s.kept_are_had k x e));
       }
     where
       worked_before : (q p : LegPlace) (n : ℕ)
@@ -190,10 +173,30 @@ module _ (t : TableState) (new : RunnerState) (lease : ℕ) (result : Outcome) (
             (stop_settles ended kept.fit p.run p.job (with_leg_of p.leg f is_in.job) (job_is_now t.runs p z f is_in) is_open)
       ]
 
+  after_end_stays : (p : LegPlace) → had_at t.runs p ≡ Some lease → StayFit t.runs (after_end p result t.runs)
+  after_end_stays p had =
+      let f = leg_in_phase (leg.Ended result) in
+      let ended = with_leg p f t.runs in
+      let from = leg_from_had t.runs p lease had in
+      let z = from.value in
+      let is_in = leg_in t.runs p z from.is in
+      let working = (work_parts (is_at_work z.phase) z.lease lease (sym (works_from_leg t.runs p z from.is) ∙ work_at p had)).0 in
+      let unended = at_work_is_unended z.phase working in
+      let fits = ended_fits result z.lease lease from.gives in
+      let stay = leg_stays t.runs s.fit p z f is_in unended fits in
+      let is_open = job_is_open t.runs s.fit p z f is_in unended fits in
+      elim (stops_others t.runs p result) as
+      (λ b. StayFit t.runs (if b then with_job p.run p.job with_stopped_legs ended else ended)) [
+        | false ↦ stay
+        | true ↦
+            stay_on t.runs ended (with_job p.run p.job with_stopped_legs ended) stay
+            (stop_settles ended stay.fit p.run p.job (with_leg_of p.leg f is_in.job) (job_is_now t.runs p z f is_in) is_open).stay
+      ]
+
   -- that leg is found
   lost_lease : place_of_lease t.runs lease ≡ None → ⊥
   lost_lease none =
-      let (p, works) = s.agree.held_is_work (put t.runners new).place lease held_here in
+      let (p, works) = s.agree.held_is_work new.name lease held_here in
       let from = leg_from_had t.runs p lease (s.agree.work_is_had p lease works) in
       let test = λ (q : LegPlace). option_map_or (has_lease lease) (leg_at t.runs q) false in
       let fails = each_leg_place (λ q. test q ≡ false) t.runs p from.value (none_found test (leg_places t.runs) none) from.is in
@@ -217,18 +220,48 @@ module _ (t : TableState) (new : RunnerState) (lease : ℕ) (result : Outcome) (
             after_end_keeps p (sym (had_is t.runs p) ∙ has)
       ] refl
 
+  pub lease_end_stays : StayFit t.runs (with_ended lease result t.runs)
+  lease_end_stays =
+      elim (place_of_lease t.runs lease) as
+      (λ o. place_of_lease t.runs lease ≡ o → StayFit t.runs (option_map_or (λ p. after_end p result t.runs) o t.runs)) [
+        | None ↦ λ is. absurd (lost_lease is)
+        | Some p ↦ λ is.
+            let test = λ (q : LegPlace). option_map_or (has_lease lease) (leg_at t.runs q) false in
+            let has = has_it lease (leg_at t.runs p) (find_passes test (leg_places t.runs) p is) in
+            after_end_stays p (sym (had_is t.runs p) ∙ has)
+      ] refl
+
 -- ---- a report
+
+pub held_for_report : (t : TableState) (report : Reported) → report_answer t report ≡ None
+    → holds_this report.lease (runner_named t.runners report.runner) ≡ true
+held_for_report t report none =
+    let runner = runner_named t.runners report.runner in
+    let looked = nothing_in_or (answer_of_turn runner report.number (is_last_report report))
+    (if holds_this report.lease runner then None else Some (refused LeaseNotHeld)) none in
+    not_held (holds_this report.lease runner) (refused LeaseNotHeld) looked.1
 
 pub report_keeps : (t : TableState) (report : Reported) → IsKept t → report_answer t report ≡ None
     → IsKept (record t { runs = with_ended report.lease report.result t.runs; runners = with_runner t.runners (reporting_runner report) })
 report_keeps t report s none =
-    let runner = runner_named t.runners report.runner in
-    let looked = nothing_in_or (answer_of_turn runner report.number (is_last_report report))
-    (if holds_this report.lease runner then None else Some (refused LeaseNotHeld)) none in
-    lease_ends t (reporting_runner report) report.lease report.result s
-    (not_held (holds_this report.lease runner) (refused LeaseNotHeld) looked.1) refl (refl, refl) tt
+    lease_ends t (reporting_runner report) report.lease report.result s (held_for_report t report none) refl (refl, refl) tt
+
+pub report_stays : (t : TableState) (report : Reported) → IsKept t → report_answer t report ≡ None
+    → StayFit t.runs (with_ended report.lease report.result t.runs)
+report_stays t report s none =
+    lease_end_stays t (reporting_runner report) report.lease report.result s (held_for_report t report none) refl (refl, refl) tt
 
 -- ---- a runner is lost
+
+pub held_for_loss : (t : TableState) (name : List ℕ) (runner : RunnerState) (lease : ℕ) → runner_named t.runners name ≡ Some runner
+    → runner.holds ≡ Some lease
+    → (runner_named t.runners runner.name ≡ Some runner) × (holds_this lease (runner_named t.runners runner.name) ≡ true)
+held_for_loss t name runner lease named holds =
+    let same : runner.name ≡ name = (bytes_eq-Decides runner.name name).0 (find_passes (is_named name) t.runners runner named) in
+    let is : runner_named t.runners runner.name ≡ Some runner = ap (runner_named t.runners) same ∙ named in (
+      is,
+      ap (holds_this lease) is ∙ ap (λ h. option_map_or (λ n. nat_eq n lease) h false) holds ∙ eq-eqb lease lease refl,
+    )
 
 pub loss_keeps : (t : TableState) (name : List ℕ) (runner : RunnerState) (lease : ℕ) → IsKept t → runner_named t.runners name ≡ Some runner
     → runner.holds ≡ Some lease
@@ -238,10 +271,15 @@ pub loss_keeps : (t : TableState) (name : List ℕ) (runner : RunnerState) (leas
           with_runner t.runners (released runner);
     })
 loss_keeps t name runner lease s named holds =
-    let same : runner.name ≡ name = (bytes_eq-Decides runner.name name).0 (find_passes (is_named name) t.runners runner named) in
-    let is : runner_named t.runners runner.name ≡ Some runner = ap (runner_named t.runners) same ∙ named in
-    let held : holds_this lease (runner_named t.runners runner.name) ≡ true =
-    ap (holds_this lease) is ∙ ap (λ h. option_map_or (λ n. nat_eq n lease) h false) holds ∙ eq-eqb lease lease refl in
-    let at = put t.runners (released runner) in
-    lease_ends t (released runner) lease (outcome_of_loss t.runs lease) s held refl (s.lasts_are_own at.place runner (at.was ∙ is))
-    (s.kept_are_had at.place runner (at.was ∙ is))
+    let held = held_for_loss t name runner lease named holds in
+    let at = stood t.runners runner.name in
+    lease_ends t (released runner) lease (outcome_of_loss t.runs lease) s held.1 refl (s.lasts_are_own at.place runner (at.was ∙ held.0))
+    (s.kept_are_had at.place runner (at.was ∙ held.0))
+
+pub loss_stays : (t : TableState) (name : List ℕ) (runner : RunnerState) (lease : ℕ) → IsKept t → runner_named t.runners name ≡ Some runner
+    → runner.holds ≡ Some lease → StayFit t.runs (with_ended lease (outcome_of_loss t.runs lease) t.runs)
+loss_stays t name runner lease s named holds =
+    let held = held_for_loss t name runner lease named holds in
+    let at = stood t.runners runner.name in
+    lease_end_stays t (released runner) lease (outcome_of_loss t.runs lease) s held.1 refl
+    (s.lasts_are_own at.place runner (at.was ∙ held.0)) (s.kept_are_had at.place runner (at.was ∙ held.0))

@@ -78,7 +78,7 @@ events_kept [] r x y lt is same = absurd (omega arith)
 events_kept (z ∷ xs) zero x y lt is same = ap (λ e. e ∷ events xs) (same ∙ ap (λ w. w.admitted) is)
 events_kept (z ∷ xs) (suc r) x y lt is same = ap (λ es. z.admitted ∷ es) (events_kept xs r x y (omega arith) is same)
 
-length_kept : (xs : List RunState) (r : ℕ) (y : RunState) → length (slice_set xs r y) ≡ length xs
+pub length_kept : (xs : List RunState) (r : ℕ) (y : RunState) → length (slice_set xs r y) ≡ length xs
 length_kept xs r y = length-set xs r y
 
 pub still_numbered : (xs : List RunState) (numbers : List ℕ) (r : ℕ) (x y : RunState) → r < length xs → x ≡ get_or xs r x

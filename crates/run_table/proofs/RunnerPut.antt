@@ -1,119 +1,149 @@
--- The runners after one is put among them.
-use Rattle.std.specs.Prelude.{◌≡◌, ℕ, zero, suc, ◌<◌, List, [], ◌∷◌, ◌++◌, length, true, false, Option, Some, None, option_and_then}
-use Rattle.std.specs.Prelude.{slice_get, slice_set, refl}
-use Rattle.std.specs.List.{position}
-use Rattle.std.specs.Option.{option_map_or}
-use Rattle.std.proofs.Common.{arith, ap, sym, ◌∙◌, subst, inl, inr}
-use Rattle.std.proofs.lemmas.Bool.{cases_eq}
+-- The runners after one is put among them, by their names.
+use Rattle.std.specs.Prelude.{◌≡◌, ℕ, zero, suc, ◌<◌, List, [], ◌∷◌, cond, filter, find, length, true, false, Option, Some, None}
+use Rattle.std.specs.Prelude.{option_and_then, slice_get, refl}
+use Rattle.std.specs.List.{AllByRecursion, position}
+use Rattle.std.specs.Option.{option_or}
+use Rattle.std.specs.Ordering.{is_lt}
+use Rattle.std.specs.declared.cmp.Ordering.TheVariants.{Less, Equal, Greater}
+use Rattle.std.proofs.Common.{arith, ap, sym, ◌∙◌, get_or}
+use Rattle.std.proofs.lemmas.Bool.{true≢false}
+use Rattle.std.proofs.lemmas.List.Folds.{find-append}
+use Rattle.std.proofs.lemmas.Map.Lookups.{exact_bytes}
 use Rattle.std.proofs.lemmas.Option.{slice_get_past}
 use Rattle.std.proofs.lemmas.Slice.Eq.{bytes_eq-Decides}
-use Rattle.run_table.specs.Sound.{NamesDiffer}
+use Rattle.wf_value.proofs.Rising.{name_cmp, Equal-from_same, names_apart}
 use Rattle.run_table.specs.TableState.{RunnerState}
-use Rattle.run_table.specs.Turns.{is_named, runner_named, with_runner}
-use Rattle.run_table.proofs.Found.{found_at, found_nowhere, none_found, each_at, find_passes, at_the_end, before_the_end}
+use Rattle.run_table.specs.Turns.{is_named, is_below, is_above, names_rise, runner_named, with_runner}
+use Rattle.run_table.proofs.Found.{all_append, each_at, find_passes, found_at, found_nowhere, none_found}
 use Rattle.run_table.proofs.LeaseReads.{ChangesAt}
+use Rattle.run_table.proofs.RunnerOrder.{after_less, after_greater, all_filter, find_gone, find_kept}
 
-at_set : {X : Type 0} (xs : List X) (i : ℕ) (y : X) → i < length xs → slice_get (slice_set xs i y) i ≡ Some y
-at_set [] i y lt = absurd (omega arith)
-at_set (x ∷ xs) zero y lt = refl
-at_set (x ∷ xs) (suc i) y lt = at_set xs i y (omega arith)
+-- ---- a runner and its name
 
-beside_set : {X : Type 0} (xs : List X) (i : ℕ) (y : X) (k : ℕ) → (k ≡ i → ⊥) → slice_get (slice_set xs i y) k ≡ slice_get xs k
-beside_set [] i y k n = refl
-beside_set (x ∷ xs) zero y zero n = absurd (n refl)
-beside_set (x ∷ xs) zero y (suc k) n = refl
-beside_set (x ∷ xs) (suc i) y zero n = refl
-beside_set (x ∷ xs) (suc i) y (suc k) n = beside_set xs i y k (λ e. n (ap suc e))
+-- the runner of a name has it
+pub has_the_name : (runners : List RunnerState) (name : List ℕ) (x : RunnerState) → runner_named runners name ≡ Some x → x.name ≡ name
+has_the_name runners name x found = (bytes_eq-Decides x.name name).0 (find_passes (is_named name) runners x found)
 
--- the place that the runner gets, and what was there before
-pub record Put (runners : List RunnerState) (new : RunnerState) : Type 0 where
+-- ---- the place at which a runner stood, past the end where there was none of its name
+
+pub record Stood (runners : List RunnerState) (name : List ℕ) : Type 0 where
   pub place : ℕ
-  pub here : slice_get (with_runner runners new) place ≡ Some new
-  pub elsewhere : (k : ℕ) → (k ≡ place → ⊥) → slice_get (with_runner runners new) k ≡ slice_get runners k
-  pub was : slice_get runners place ≡ runner_named runners new.name
+  pub was : slice_get runners place ≡ runner_named runners name
 
-pub put : (runners : List RunnerState) (new : RunnerState) → Put runners new
-put runners new =
-    let at = λ (o : Option ℕ). option_map_or (λ i. slice_set runners i new) o (runners ++ new ∷ []) in
-    elim (position (is_named new.name) runners) as (λ o. position (is_named new.name) runners ≡ o → Put runners new) [
-      | Some i ↦ λ is.
-          let there = found_at (is_named new.name) runners i is in
-          record {
-            place = i;
-            here = ap (λ xs. slice_get xs i) (ap at is) ∙ at_set runners i new there.within;
-            elsewhere = (λ k n. ap (λ xs. slice_get xs k) (ap at is) ∙ beside_set runners i new k n);
-            was = sym there.is;
-          }
-      | None ↦ λ is.
-          record {
-            place = length runners;
-            here = ap (λ xs. slice_get xs (length runners)) (ap at is) ∙ at_the_end runners new;
-            elsewhere = (λ k n. ap (λ xs. slice_get xs k) (ap at is) ∙ before_the_end runners new k n);
-            was = slice_get_past runners (length runners) (omega arith) ∙ sym (found_nowhere (is_named new.name) runners is);
-          }
+pub stood : (runners : List RunnerState) (name : List ℕ) → Stood runners name
+stood runners name =
+    elim (position (is_named name) runners) as (λ o. position (is_named name) runners ≡ o → Stood runners name) [
+      | Some i ↦ λ is. record { place = i; was = sym (found_at (is_named name) runners i is).is }
+      | None ↦ λ is. record {
+        place = length runners;
+        was = slice_get_past runners (length runners) (omega arith) ∙ sym (found_nowhere (is_named name) runners is);
+      }
+    ] refl
+
+at_place : {X : Type 0} (xs : List X) (k : ℕ) (x d : X) → slice_get xs k ≡ Some x → (k < length xs) × (get_or xs k d ≡ x)
+at_place [] k x d e = cc
+at_place (y ∷ ys) zero x d e = (omega arith, cc)
+at_place (y ∷ ys) (suc k) x d e = let more = at_place ys k x d e in (omega (arith, more.0), more.1)
+
+-- no two places have one name
+pub apart : (runners : List RunnerState) → names_rise runners ≡ true → (a b : ℕ) (x y : RunnerState) → slice_get runners a ≡ Some x
+    → slice_get runners b ≡ Some y → x.name ≡ y.name → a ≡ b
+apart runners h a b x y at bt same =
+    let one = at_place runners a x x at in
+    let other = at_place runners b y x bt in
+    let name = λ (r : RunnerState). r.name in
+    names_apart name runners a b x h one.0 other.0 (ap name one.1 ∙ same ∙ sym (ap name other.1))
+
+-- so a runner is found by its name
+pub found_by_name : (runners : List RunnerState) → names_rise runners ≡ true → (k : ℕ) (x : RunnerState) → slice_get runners k ≡ Some x
+    → runner_named runners x.name ≡ Some x
+found_by_name runners h k x at =
+    let is_it : is_named x.name x ≡ true = (bytes_eq-Decides x.name x.name).1 refl in
+    elim (runner_named runners x.name) as (λ o. runner_named runners x.name ≡ o → o ≡ Some x) [
+      | None ↦ λ is. absurd (true≢false (sym is_it
+          ∙ each_at (λ (y : RunnerState). is_named x.name y ≡ false) runners k x (none_found (is_named x.name) runners is) at))
+      | Some y ↦ λ is.
+          let s = stood runners x.name in
+          let place = apart runners h s.place k y x (s.was ∙ is) at (has_the_name runners x.name y is) in
+          sym (s.was ∙ is) ∙ ap (slice_get runners) place ∙ at
     ] refl
 
 -- ---- what is kept
+
+all_from_each : {X : Type 0} (P : X → Type 0) (xs : List X) → ((k : ℕ) (x : X) → slice_get xs k ≡ Some x → P x) → AllByRecursion P xs
+all_from_each P [] h = tt
+all_from_each P (x ∷ xs) h = (h zero x refl, all_from_each P xs (λ k y e. h (suc k) y e))
+
+or_none : {X : Type 0} (o : Option X) → option_or o None ≡ o
+or_none None = refl
+or_none (Some x) = refl
 
 module _ (runners : List RunnerState) (new : RunnerState) where
   -- each runner is the new one or was there
   pub each_put : (P : RunnerState → Type 0) → P new → ((k : ℕ) (x : RunnerState) → slice_get runners k ≡ Some x → P x)
       → (k : ℕ) (x : RunnerState) → slice_get (with_runner runners new) k ≡ Some x → P x
   each_put P now each k x e =
-      let p = put runners new in
-      elim (cases_eq k p.place) [
-        | inl s ↦ let same : new ≡ x =
-            let two : Some new ≡ Some x = sym p.here ∙ ap (slice_get (with_runner runners new)) (sym s) ∙ e in cc in subst P same now
-        | inr n ↦ each k x (sym (p.elsewhere k n) ∙ e)
-      ]
+      let all = all_from_each P runners each in
+      each_at P (with_runner runners new) k x
+      (all_append P (filter (is_below new.name) runners) (new ∷ filter (is_above new.name) runners)
+      (all_filter (is_below new.name) P runners all) (now, all_filter (is_above new.name) P runners all)) e
 
-  -- a runner of its name stands at its place
-  only_here : NamesDiffer runners → (k : ℕ) (x : RunnerState) → slice_get runners k ≡ Some x → x.name ≡ new.name
-      → k ≡ (put runners new).place
-  only_here differ k x e same =
-      let p = put runners new in
-      let is_named_so : is_named new.name x ≡ true = (bytes_eq-Decides x.name new.name).1 same in
-      elim (runner_named runners new.name) as (λ o. runner_named runners new.name ≡ o → k ≡ p.place) [
-        | Some old ↦ λ is.
-            let old_name = (bytes_eq-Decides old.name new.name).0 (find_passes (is_named new.name) runners old is) in
-            differ k p.place x old e (p.was ∙ is) (same ∙ sym old_name)
-        | None ↦ λ is.
-            let not_named = each_at (λ y. is_named new.name y ≡ false) runners k x (none_found (is_named new.name) runners is) e in
-            let clash : true ≡ false = sym is_named_so ∙ not_named in
-            cc
+  found_in_parts : (name : List ℕ)
+      → runner_named (with_runner runners new) name
+      ≡ option_or (find (is_named name) (filter (is_below new.name) runners))
+      (cond (is_named name new) (Some new) (find (is_named name) (filter (is_above new.name) runners)))
+  found_in_parts name = find-append (is_named name) (filter (is_below new.name) runners) (new ∷ filter (is_above new.name) runners)
+
+  -- the new one is found by its name
+  pub found_new : runner_named (with_runner runners new) new.name ≡ Some new
+  found_new =
+      let is_it : is_named new.name new ≡ true = (bytes_eq-Decides new.name new.name).1 refl in
+      let none = find_gone (is_named new.name) (is_below new.name)
+      (λ x named. ap is_lt (Equal-from_same x.name new.name ((bytes_eq-Decides x.name new.name).0 named))) runners in
+      let back = find (is_named new.name) (filter (is_above new.name) runners) in
+      found_in_parts new.name ∙ ap (λ o. option_or o (cond (is_named new.name new) (Some new) back)) none
+      ∙ ap (λ b. cond b (Some new) back) is_it
+
+  -- and each other as it was
+  pub found_other : (name : List ℕ) → (name ≡ new.name → ⊥) → runner_named (with_runner runners new) name ≡ runner_named runners name
+  found_other name other =
+      let test = is_named name in
+      let same = λ (x : RunnerState) (named : is_named name x ≡ true). (bytes_eq-Decides x.name name).0 named in
+      let front = find test (filter (is_below new.name) runners) in
+      let back = find test (filter (is_above new.name) runners) in
+      let parts : runner_named (with_runner runners new) name ≡ option_or front back =
+      found_in_parts name ∙ ap (λ b. option_or front (cond b (Some new) back)) (not_new name other) in
+      elim (name_cmp name new.name) as (λ o. name_cmp name new.name ≡ o → runner_named (with_runner runners new) name ≡ runner_named runners name) [
+        | Less ↦ λ lt.
+            let kept = find_kept test (is_below new.name)
+            (λ x named. ap is_lt (ap (λ n. name_cmp n new.name) (same x named) ∙ lt)) runners in
+            let gone = find_gone test (is_above new.name)
+            (λ x named. ap is_lt (ap (name_cmp new.name) (same x named) ∙ after_less name new.name lt)) runners in
+            parts ∙ ap (λ o. option_or o back) kept ∙ ap (option_or (runner_named runners name)) gone ∙ or_none (runner_named runners name)
+        | Equal ↦ λ eq. absurd (other (exact_bytes name new.name eq))
+        | Greater ↦ λ gt.
+            let gone = find_gone test (is_below new.name)
+            (λ x named. ap is_lt (ap (λ n. name_cmp n new.name) (same x named) ∙ gt)) runners in
+            let kept = find_kept test (is_above new.name)
+            (λ x named. ap is_lt (ap (name_cmp new.name) (same x named) ∙ after_greater name new.name gt)) runners in
+            parts ∙ ap (λ o. option_or o back) gone ∙ kept
       ] refl
-
-  pub names_still_differ : NamesDiffer runners → NamesDiffer (with_runner runners new)
-  names_still_differ differ a b x y ea eb same =
-      let p = put runners new in
-      let is_new = λ (k : ℕ) (z : RunnerState) (s : k ≡ p.place) (e : slice_get (with_runner runners new) k ≡ Some z). some_same z
-      (sym p.here ∙ ap (slice_get (with_runner runners new)) (sym s) ∙ e) in
-      elim (cases_eq a p.place) [
-        | inl s ↦ elim (cases_eq b p.place) [
-          | inl t ↦ s ∙ sym t
-          | inr n ↦ absurd
-              (n (only_here differ b y (sym (p.elsewhere b n) ∙ eb) (sym same ∙ sym (ap (λ (z : RunnerState). z.name) (is_new a x s ea)))))
-        ]
-        | inr n ↦ elim (cases_eq b p.place) [
-          | inl t ↦ absurd
-              (n (only_here differ a x (sym (p.elsewhere a n) ∙ ea) (same ∙ sym (ap (λ (z : RunnerState). z.name) (is_new b y t eb)))))
-          | inr m ↦ differ a b x y (sym (p.elsewhere a n) ∙ ea) (sym (p.elsewhere b m) ∙ eb) same
-        ]
-      ]
     where
-      some_same : (z : RunnerState) → Some new ≡ Some z → new ≡ z
-      some_same z e = cc
+      not_new : (name : List ℕ) → (name ≡ new.name → ⊥) → is_named name new ≡ false
+      not_new name other =
+          elim (is_named name new) as (λ b. is_named name new ≡ b → b ≡ false) [
+            | true ↦ λ named. absurd (other (sym ((bytes_eq-Decides new.name name).0 named)))
+            | false ↦ λ _. refl
+          ] refl
 
--- ---- the leases that runners hold
+-- ---- the leases that runners hold, by their names
 
-abbrev pub holds_at : List RunnerState → ℕ → Option ℕ
-holds_at runners k = option_and_then (λ x. x.holds) (slice_get runners k)
+abbrev pub holds_at : List RunnerState → List ℕ → Option ℕ
+holds_at runners name = option_and_then (λ x. x.holds) (runner_named runners name)
 
 pub holds_changes : (runners : List RunnerState) (new : RunnerState)
-    → ChangesAt (holds_at runners) (holds_at (with_runner runners new)) (put runners new).place new.holds
-holds_changes runners new =
-    let p = put runners new in
-    record {
-      here = ap (option_and_then (λ (x : RunnerState). x.holds)) p.here;
-      elsewhere = (λ k n. ap (option_and_then (λ (x : RunnerState). x.holds)) (p.elsewhere k n));
-    }
+    → ChangesAt (holds_at runners) (holds_at (with_runner runners new)) new.name new.holds
+holds_changes runners new = record {
+  here = ap (option_and_then (λ (x : RunnerState). x.holds)) (found_new runners new);
+  elsewhere = (λ name n. ap (option_and_then (λ (x : RunnerState). x.holds)) (found_other runners new name n));
+}

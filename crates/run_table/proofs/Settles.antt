@@ -64,7 +64,7 @@ settles_on a b c f g = record {
   same_works = (λ p. g.same_works p ∙ f.same_works p);
 }
 
-same_events : (runs next : List RunState) (r : ℕ) → ((s : ℕ) → s ≤ r → admitted_at next s ≡ admitted_at runs s)
+pub same_events : (runs next : List RunState) (r : ℕ) → ((s : ℕ) → s ≤ r → admitted_at next s ≡ admitted_at runs s)
     → SameUpTo r (events next) (events runs)
 same_events runs next r same s le =
     slice_get-map (λ (run : RunState). run.admitted) next s ∙ same s le ∙ sym (slice_get-map (λ (run : RunState). run.admitted) runs s)

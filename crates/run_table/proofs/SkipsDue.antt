@@ -15,11 +15,11 @@ use Rattle.run_plan.specs.declared.command.Command.TheVariants as command
 use Rattle.run_plan.specs.declared.reply.Reply.{Reply}
 use Rattle.run_table.specs.Fitting.{first_fit, place_of_lease}
 use Rattle.run_table.specs.Histories.{after}
-use Rattle.run_table.specs.Moves.{Step}
+use Rattle.run_table.specs.Moves.{Holder, Step}
 use Rattle.run_table.specs.Places.{LegPlace, with_job, with_leg, with_run}
 use Rattle.run_table.specs.Rules.{leg_in_phase}
 use Rattle.run_table.specs.Sound.{IsSound}
-use Rattle.run_table.specs.Step.{empty, unchanged, admission_answer, new_run, admitting, admitted, claim_answer, leased_leg, leasing}
+use Rattle.run_table.specs.Step.{empty, entered, unchanged, admission_answer, new_run, admitting, admitted, claim_answer, leased_leg, leasing}
 use Rattle.run_table.specs.Step.{serving_nothing, claiming, claimed, report_answer, with_ended, reporting, reported, stepped}
 use Rattle.run_table.specs.Step.{cancel_answer, cancelling, cancelled, losing, lost, refused, released}
 use Rattle.run_table.specs.Skips.{SkipsAreDue}
@@ -27,14 +27,16 @@ use Rattle.run_table.specs.Stops.{after_end, outcome_of_loss, stopped_run, stops
 use Rattle.run_table.specs.TableState.{JobState, RunState, TableState}
 use Rattle.run_table.specs.Turns.{runner_named}
 use Rattle.run_table.specs.declared.phases.LegPhase.TheVariants as leg
-use Rattle.run_table.proofs.AdmitKeeps.{admit_keeps, job_is_blocked}
+use Rattle.run_table.proofs.AdmitKeeps.{all_fit, job_is_blocked}
 use Rattle.run_table.proofs.ClaimKeeps.{leasing_keeps}
-use Rattle.run_table.proofs.Decided.{JobDecided, Decided, decided_stays, job_change_decided, leg_change_decided, settled_decided}
+use Rattle.run_table.proofs.Decided.{JobDecided, Decided, decided_stays, job_change_decided, leg_change_decided}
+use Rattle.run_table.proofs.Entered.{entered_settles}
 use Rattle.run_table.proofs.Found.{at_the_end, before_the_end}
 use Rattle.run_table.proofs.JobKeeps.{job_in}
 use Rattle.run_table.proofs.Kept.{kept_from_sound}
 use Rattle.run_table.proofs.NeedsSettled.{result_in}
 use Rattle.run_table.proofs.ReportKeeps.{loss_keeps, report_keeps}
+use Rattle.run_table.proofs.RulesDecided.{arrival_decided, settled_decided}
 use Rattle.run_table.proofs.RunFits.{job_in_run}
 use Rattle.run_table.proofs.StepKeeps.{empty_is_sound, run_to_cancel, stepped_is_sound}
 use Rattle.run_table.proofs.StopDecided.{stopped_decided}
@@ -78,8 +80,11 @@ answered_or_changed t (Some reply) change all h = all
 admitted_decided : (t : TableState) (event : Admitted) → IsSound t → Decided t.runs → Decided (admitted t event).table.runs
 admitted_decided t event s all =
     answered_or_changed t (admission_answer t event) (admitting t event) all
-    (λ none. settled_decided (t.runs ++ new_run event ∷ []) (admit_keeps t event (kept_from_sound t s) none).fit
-    (new_run_decided t.runs event all))
+    (λ none.
+    let fit = (kept_from_sound t s).fit in
+    settled_decided (entered t event).runs (entered_settles t event fit).stay.fit
+    (arrival_decided (Holder.a_run (length t.runs)) (t.runs ++ new_run event ∷ []) (all_fit t.runs event fit)
+    (new_run_decided t.runs event all)))
 
 claiming_decided : (t : TableState) (claim : Claimed) → IsSound t → Decided t.runs → claim_answer t claim ≡ None
     → Decided (claiming t claim).table.runs

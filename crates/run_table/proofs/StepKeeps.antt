@@ -1,5 +1,5 @@
 -- Every step keeps what every table keeps, and the empty table keeps it.
-use Rattle.std.specs.Prelude.{◌≡◌, ℕ, ◌+◌, ◌-◌, List, [], ◌∷◌, ◌++◌, Option, Some, None, refl}
+use Rattle.std.specs.Prelude.{◌≡◌, ℕ, ◌+◌, ◌-◌, List, Option, Some, None, refl}
 use Rattle.std.specs.Option.{option_map_or}
 use Rattle.std.proofs.Common.{arith}
 use Rattle.wf_value.specs.declared.code.Code.TheVariants.{LeaseNotHeld, NoRun, NoRunner}
@@ -13,7 +13,7 @@ use Rattle.run_table.specs.Fitting.{first_fit}
 use Rattle.run_table.specs.Moves.{Step}
 use Rattle.run_table.specs.Places.{LegPlace, run_at, with_leg, with_run}
 use Rattle.run_table.specs.Sound.{IsSound}
-use Rattle.run_table.specs.Step.{empty, unchanged, admission_answer, new_run, admitting, admitted, claim_answer, claiming_runner}
+use Rattle.run_table.specs.Step.{empty, entered, unchanged, admission_answer, admitting, admitted, claim_answer, claiming_runner}
 use Rattle.run_table.specs.Step.{leased_leg, lease_at, leasing, serving_nothing, claiming, claimed, report_answer, reporting_runner}
 use Rattle.run_table.specs.Step.{answer_of_run, cancel_answer, cancelling, cancelled, losing, lost, refused, released}
 use Rattle.run_table.specs.Stops.{outcome_of_loss, stopped_run}
@@ -21,10 +21,12 @@ use Rattle.run_table.specs.Step.{with_ended, reporting, reported, stepped, step}
 use Rattle.run_table.specs.TableState.{RunState, TableState}
 use Rattle.run_table.specs.Turns.{runner_named, with_runner}
 use Rattle.run_plan.specs.declared.last_command.ClaimReply.TheVariants as given
-use Rattle.run_table.proofs.AdmitKeeps.{admit_keeps}
 use Rattle.run_table.proofs.ClaimKeeps.{serving_keeps, leasing_keeps}
+use Rattle.run_table.proofs.CommandsOneEach.{ended_one_each, leased_one_each, stopped_one_each}
+use Rattle.run_table.proofs.Entered.{entered_keeps, entered_one_each}
 use Rattle.run_table.proofs.Kept.{kept_from_sound, kept_settles, rest_is_sound}
-use Rattle.run_table.proofs.ReportKeeps.{loss_keeps, report_keeps}
+use Rattle.run_table.proofs.OneEach.{none_of_each}
+use Rattle.run_table.proofs.ReportKeeps.{loss_keeps, loss_stays, report_keeps, report_stays}
 use Rattle.run_table.proofs.StopKeeps.{stopped_run_settles}
 
 -- a command is answered from the table as it is, or changes it
@@ -36,14 +38,15 @@ answered_or_changed t (Some reply) change s h = s
 admitted_is_sound : (t : TableState) (event : Admitted) → IsSound t → IsSound (admitted t event).table
 admitted_is_sound t event s =
     answered_or_changed t (admission_answer t event) (admitting t event) s
-    (λ none. rest_is_sound (record t { runs = t.runs ++ new_run event ∷ [] }) (admit_keeps t event (kept_from_sound t s) none))
+    (λ none. rest_is_sound (record t { runs = (entered t event).runs }) (entered_keeps t event (kept_from_sound t s) none)
+    (entered_one_each t event (kept_from_sound t s).fit s.one_of_each_group))
 
 claiming_is_sound : (t : TableState) (claim : Claimed) → IsSound t → claim_answer t claim ≡ None → IsSound (claiming t claim).table
 claiming_is_sound t claim s none =
     elim (first_fit claim.labels t.runs) as
     (λ o. first_fit claim.labels t.runs ≡ o → IsSound (option_map_or (leasing t claim) o (serving_nothing t claim)).table) [
       | None ↦ λ is. rest_is_sound (record t { runners = with_runner t.runners (claiming_runner claim None given.Nothing) })
-          (serving_keeps t claim (kept_from_sound t s) none)
+          (serving_keeps t claim (kept_from_sound t s) none) s.one_of_each_group
       | Some p ↦ λ is. leased_is_sound p is
     ] refl
   where
@@ -58,6 +61,7 @@ claiming_is_sound t claim s none =
               (claiming_runner claim (Some (t.last_lease + 1)) (given.Lease (lease_at t.runs p (t.last_lease + 1))));
         })
         (leasing_keeps t claim p (kept_from_sound t s) none is)
+        (leased_one_each t.runs (kept_from_sound t s).fit claim.labels p (t.last_lease + 1) is s.one_of_each_group)
 
 claimed_is_sound : (t : TableState) (claim : Claimed) → IsSound t → IsSound (claimed t claim).table
 claimed_is_sound t claim s = answered_or_changed t (claim_answer t claim) (claiming t claim) s (claiming_is_sound t claim s)
@@ -67,7 +71,9 @@ reported_is_sound t report s =
     answered_or_changed t (report_answer t report) (reporting t report) s
     (λ none. rest_is_sound
     (record t { runs = with_ended report.lease report.result t.runs; runners = with_runner t.runners (reporting_runner report) })
-    (report_keeps t report (kept_from_sound t s) none))
+    (report_keeps t report (kept_from_sound t s) none)
+    (ended_one_each report.lease report.result t.runs (kept_from_sound t s).fit (report_stays t report (kept_from_sound t s) none)
+    s.one_of_each_group))
 
 -- a run is there where its cancel has no answer yet
 run_there : (o : Option RunState) → option_map_or (λ (x : RunState). answer_of_run x.phase x.stopping) o (Some (refused NoRun)) ≡ None
@@ -88,6 +94,7 @@ cancelled_is_sound t id s = answered_or_changed t (cancel_answer t id) (cancelli
         rest_is_sound (record t { runs = next })
         (kept_settles t next (kept_from_sound t s)
         (stopped_run_settles t.runs (kept_from_sound t s).fit (id - 1) found.0 found.1))
+        (stopped_one_each (id - 1) t.runs (kept_from_sound t s).fit s.one_of_each_group)
 
 lost_is_sound : (t : TableState) (name : List ℕ) → IsSound t → IsSound (lost t name).table
 lost_is_sound t name s =
@@ -106,6 +113,8 @@ lost_is_sound t name s =
                       with_runner t.runners (released runner);
                 })
                 (loss_keeps t name runner lease (kept_from_sound t s) is holds)
+                (ended_one_each lease (outcome_of_loss t.runs lease) t.runs (kept_from_sound t s).fit
+                (loss_stays t name runner lease (kept_from_sound t s) is holds) s.one_of_each_group)
           ] refl
     ] refl
 
@@ -135,10 +144,11 @@ empty_is_sound = record {
   leases_are_given = (λ p x n e f. cc);
   leases_differ = (λ p q x y n e f g h. cc);
   last_lease_in_range = omega arith;
-  names_differ = (λ a b x y e f g. cc);
+  runners_in_order = refl;
   work_is_held = (λ p x n e f g. absurd (no_element p x e));
   held_is_at_work = (λ k x n e f. absurd (no_element k x e));
   held_once = (λ a b x y n e f g h. cc);
+  one_of_each_group = none_of_each;
   no_rule_applies = refl;
   lasts_are_own = (λ k x e. absurd (no_element k x e));
   kept_leases_are_legs = (λ k x e. absurd (no_element k x e));

@@ -19,6 +19,8 @@ use Rattle.run_plan.specs.declared.command.Command.TheVariants as command
 use Rattle.run_plan.specs.declared.reply.Reply.TheVariants as reply
 use Rattle.run_table.specs.Fitting.{place_of_lease}
 use Rattle.run_table.specs.LegContext.{context_at}
+use Rattle.run_table.specs.Arrivals.{started}
+use Rattle.run_table.specs.Moves.{Holder, without_moves}
 use Rattle.run_table.specs.Places.{with_job}
 use Rattle.run_table.specs.Rules.{decided, may_run, new_leg, opened, rule_at, settled_as}
 use Rattle.run_table.specs.Settling.{settled, first_place, first_rule, left}
@@ -32,6 +34,7 @@ use Rattle.run_table.specs.declared.phases.JobPhase.TheVariants as job
 use Rattle.run_table.specs.declared.phases.RunPhase.{RunPhase}
 use Rattle.run_table.specs.declared.phases.RunPhase.TheVariants as run
 use Rattle.run_table.specs.declared.place.Place.TheVariants.{Opening, Whole}
+use Rattle.run_table.proofs.OnTables.{on_tables}
 
 -- a run of the event with this body
 abbrev run_with : List ℕ → RunPhase → List JobState → RunState
@@ -56,11 +59,13 @@ failed_leg = record { phase = leg.Ended outcome.Failure; lease = Some 1 }
 
 -- a new leg without a group waits, and then is ready
 new_leg_becomes_ready : settled (one_job (new_leg ∷ []) ∷ []) ≡ one_job (ready_leg ∷ []) ∷ []
+unfolding on_tables
 new_leg_becomes_ready = refl
 
 -- legs go on by number, each as far as it can before the next
 legs_by_number : first_rule (one_job (record { phase = leg.Waiting; lease = None } ∷ new_leg ∷ []) ∷ [])
-    ≡ Some (one_job (ready_leg ∷ new_leg ∷ []) ∷ [])
+    ≡ Some (started (Holder.a_leg (record { run = 0; job = 0; leg = 0 })) (one_job (ready_leg ∷ new_leg ∷ []) ∷ []))
+unfolding on_tables
 legs_by_number = refl
 
 -- a plan of one job with one leg and this continue-on-error
@@ -110,6 +115,7 @@ running_leg_rests = refl
 
 -- a waiting run without a group becomes live, and no job of it opens before that
 waiting_run_becomes_live : first_place (run_of run.Waiting (record { phase = job.Blocked; legs = [] } ∷ []) ∷ []) ≡ Some (Whole 0)
+unfolding on_tables
 waiting_run_becomes_live = refl
 
 -- a blocked job of a live run opens where it needs no other
@@ -117,7 +123,7 @@ blocked_job_opens : (body : List ℕ) → needs_at (plan_graph (plan_of body)) 0
     → first_place (run_with body run.Live (blocked_job ∷ []) ∷ []) ≡ Some (Opening 0 0)
 blocked_job_opens body needs =
     let runs = run_with body run.Live (blocked_job ∷ []) ∷ [] in
-    ap (λ places. if is_some (if all_have_results (None ∷ []) places then Some (with_job 0 0 (decided runs 0 0) runs) else None)
+    ap (λ places. if is_some (if all_have_results (None ∷ []) places then Some (without_moves (with_job 0 0 (decided runs 0 0) runs)) else None)
     then Some (Opening 0 0) else None) needs
 
 -- and waits where it needs a job that is open
@@ -125,7 +131,7 @@ blocked_job_waits : (body : List ℕ) → needs_at (plan_graph (plan_of body)) 0
     → first_place (run_with body run.Live (blocked_job ∷ open_job (leased_leg 1 ∷ []) ∷ []) ∷ []) ≡ None
 blocked_job_waits body needs =
     let runs = run_with body run.Live (blocked_job ∷ open_job (leased_leg 1 ∷ []) ∷ []) ∷ [] in
-    ap (λ places. if is_some (if all_have_results (None ∷ None ∷ []) places then Some (with_job 0 0 (decided runs 0 0) runs) else None)
+    ap (λ places. if is_some (if all_have_results (None ∷ None ∷ []) places then Some (without_moves (with_job 0 0 (decided runs 0 0) runs)) else None)
     then Some (Opening 0 0) else None) needs
 
 -- with the legs of its plan
@@ -140,11 +146,11 @@ stopping_with body job = record (run_with body run.Live (job ∷ [])) { stopping
 stopping_job_is_cancelled : (body : List ℕ) → needs_have_settled (stopping_with body blocked_job) 0 0 ≡ true
     → may_run (stopping_with body blocked_job) 0 0 ≡ false
     → rule_at (stopping_with body blocked_job) (Opening 0 0)
-    ≡ Some (stopping_with body (record { phase = job.Settled result.Cancelled; legs = [] }))
+    ≡ Some (without_moves (stopping_with body (record { phase = job.Settled result.Cancelled; legs = [] })))
 stopping_job_is_cancelled body needs may =
     let runs = stopping_with body blocked_job in
-    ap (λ b. if b then Some (with_job 0 0 (decided runs 0 0) runs) else None) needs
-    ∙ ap (λ b. Some (with_job 0 0 (if b then opened (planned_legs runs 0 0) else settled_as result.Cancelled) runs)) may
+    ap (λ b. if b then Some (without_moves (with_job 0 0 (decided runs 0 0) runs)) else None) needs
+    ∙ ap (λ b. Some (without_moves (with_job 0 0 (if b then opened (planned_legs runs 0 0) else settled_as result.Cancelled) runs))) may
 
 -- each rule lowers what is left: a job that settles by one, a leg that goes on by one
 left_of_one_job : left (one_job (new_leg ∷ []) ∷ []) ≡ 7

@@ -26,14 +26,14 @@ use Rattle.run_table.specs.declared.phases.RunPhase.{RunPhase}
 use Rattle.run_table.specs.declared.phases.RunPhase.TheVariants as run
 use Rattle.run_table.proofs.JobKeeps.{job_in, job_keeps, live_fits, open_is_live, with_job_of}
 use Rattle.run_table.proofs.LegReads.{work_of, had_in_job, works_in_job}
+use Rattle.run_table.proofs.JobPhases.{all_legs, is_open_open, no_legs}
 use Rattle.run_table.proofs.Optional.{from_and_then, from_map}
-use Rattle.run_table.proofs.RuleKeeps.{all_legs, is_open_open, no_legs}
 use Rattle.run_table.proofs.RunFits.{JobFits, RunFits, RunsFit}
 use Rattle.run_table.proofs.Settles.{Keeps, Settles, one_settles}
 
 -- ---- a leg
 
-lease_still_fits : (phase : LegPhase) (lease : Option ℕ) → LeaseFits phase lease → LeaseFits (stopped_phase phase) lease
+pub lease_still_fits : (phase : LegPhase) (lease : Option ℕ) → LeaseFits phase lease → LeaseFits (stopped_phase phase) lease
 lease_still_fits leg.New lease fits = tt
 lease_still_fits leg.Waiting lease fits = tt
 lease_still_fits leg.Ready lease fits = tt
@@ -49,7 +49,7 @@ works_still leg.Running = refl
 works_still leg.Stopping = refl
 works_still (leg.Ended r) = refl
 
-same_work : (z : LegState) → work_of (stopped z) ≡ work_of z
+pub same_work : (z : LegState) → work_of (stopped z) ≡ work_of z
 same_work z = ap (λ (b : Bool). if b then z.lease else None) (works_still z.phase)
 
 -- ---- the legs of a job

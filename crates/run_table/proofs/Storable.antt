@@ -1,9 +1,9 @@
 -- The runs of a table can be stored: a new leg would have a rule, and no job has more legs than its plan.
-use Rattle.std.specs.Prelude.{◌≡◌, ◌⊎◌, ℕ, zero, suc, ◌≤◌, List, [], ◌∷◌, ◌++◌, map, flat_map, length, Bool, true, false, is_some, Option, Some, None, option_map, option_and_then}
+use Rattle.std.specs.Prelude.{◌≡◌, ℕ, zero, suc, ◌≤◌, List, [], ◌∷◌, map, flat_map, length, Bool, true, false, is_some, Option, Some, None, option_and_then}
 use Rattle.std.specs.Prelude.{if◌then◌else◌, slice_get, refl}
 use Rattle.std.specs.List.{AllByRecursion, list_all}
 use Rattle.std.specs.Option.{option_map_or}
-use Rattle.std.proofs.Common.{arith, ap, subst, sym, ◌∙◌, inl, inr}
+use Rattle.std.proofs.Common.{arith, ap, subst, ◌∙◌, inl, inr}
 use Rattle.std.proofs.lemmas.Bool.{and_parts}
 use Rattle.wf_value.specs.declared.outcome.JobResult.{JobResult}
 use Rattle.run_plan.specs.PlanOf.{plan_of}
@@ -11,22 +11,22 @@ use Rattle.run_plan.specs.declared.planned.PlannedJob.{PlannedJob}
 use Rattle.run_plan.proofs.FewLegs.{few_planned}
 use Rattle.run_table.specs.FirstOf.{placed}
 use Rattle.run_table.specs.JobResults.{settled_result}
-use Rattle.run_table.specs.Places.{LegPlace, job_at, leg_at, run_at, with_leg}
-use Rattle.run_table.specs.Rules.{has_ended, is_live, is_settled, job_places, leg_in_phase, leg_rule, next_leg_phase, outcome_of, places, result_at, run_places}
+use Rattle.run_table.specs.Places.{LegPlace, job_at, leg_at, run_at}
+use Rattle.run_table.specs.Rules.{has_ended, is_live, is_settled, job_places, leg_rule, leg_rule_in, outcome_of, places, result_at, run_places}
 use Rattle.run_table.specs.Settling.{applies, first_place}
 use Rattle.run_table.specs.Sound.{IsSound, LegsFit, PhaseFits}
-use Rattle.run_table.specs.Stored.{IsStorable, LegsAreFew, NoLegIsNew, is_new}
+use Rattle.run_table.specs.Stored.{IsStorable, LegsAreFew, is_new}
 use Rattle.run_table.specs.TableState.{LegState, JobState, RunState, TableState}
 use Rattle.run_table.specs.Words.{planned_legs}
 use Rattle.run_table.specs.declared.place.Place.{Place}
-use Rattle.run_table.specs.declared.place.Place.TheVariants.{Opening, AtLeg, Closing, Whole}
+use Rattle.run_table.specs.declared.place.Place.TheVariants.{AtLeg, Closing, Whole}
 use Rattle.run_table.specs.declared.phases.LegPhase.{LegPhase}
 use Rattle.run_table.specs.declared.phases.LegPhase.TheVariants as leg
 use Rattle.run_table.specs.declared.phases.JobPhase.{JobPhase}
 use Rattle.run_table.specs.declared.phases.JobPhase.TheVariants as job
 use Rattle.run_table.specs.declared.phases.RunPhase.{RunPhase}
 use Rattle.run_table.specs.declared.phases.RunPhase.TheVariants as run
-use Rattle.run_table.proofs.Found.{each_at, each_of_append, each_of_flat_map, each_of_map, each_of_placed, none_found}
+use Rattle.run_table.proofs.Found.{each_of_append, each_of_flat_map, each_of_map, each_of_placed, none_found}
 
 -- ---- the legs of a job are few
 
@@ -93,7 +93,7 @@ rests_at runs p z y x none run_is job_is leg_is live =
 new_goes_on : (runs : List RunState) (p : LegPlace) (x : LegState) → leg_at runs p ≡ Some x → x.phase ≡ leg.New → applies runs (AtLeg p) ≡ true
 new_goes_on runs p x at new =
     ap (λ o. is_some (option_and_then (leg_rule runs p) o)) at
-    ∙ ap (λ phase. is_some (option_map (λ next. with_leg p (leg_in_phase next) runs) (next_leg_phase phase))) new
+    ∙ ap (λ phase. is_some (leg_rule_in phase runs p)) new
 
 all_at : {X : Type 0} (test : X → Bool) (xs : List X) (k : ℕ) (x : X) → list_all test xs ≡ true → slice_get xs k ≡ Some x → test x ≡ true
 all_at test [] k x all at = cc

@@ -1,36 +1,24 @@
--- The concurrency groups of a table, and the law of their moves over all commands. GitHub Docs, "Control the concurrency
--- of workflows and jobs". Which group a run or a leg is in, and whether it has cancel-in-progress, its plan says: here
--- these are parameters.
-use Rattle.std.specs.Prelude.{ℕ, ◌≤◌, List, [], ◌∷◌, ◌++◌, length, map, filter, find, Bool, true, false, ◌&&◌, ◌||◌, Option}
+-- The concurrency groups of a table: who is pending in a group, and who is running. GitHub Docs, "Control the concurrency
+-- of workflows and jobs": at most one job or workflow of a group runs, and at most one is pending.
+use Rattle.std.specs.Prelude.{◌≡◌, List, ◌++◌, map, filter, find, Bool, true, false, ◌&&◌, ◌||◌, not, Option}
+use Rattle.std.specs.List.{list_any}
 use Rattle.std.specs.Option.{option_map_or}
 use Rattle.std.specs.Str.{bytes_eq}
-use Rattle.run_plan.specs.declared.command.Command.{Command}
+use Rattle.group_name.specs.Group.{Group}
 use Rattle.run_table.specs.FirstOf.{placed}
 use Rattle.run_table.specs.Fitting.{is_stopping_leg}
-use Rattle.run_table.specs.GroupChanges.{GroupState, base_moves, beyond_base}
-use Rattle.run_table.specs.GroupLaw.{KeepsLaw}
-use Rattle.run_table.specs.GroupWords.{holder_of}
-use Rattle.run_table.specs.Histories.{after}
-use Rattle.run_table.specs.Moves.{Holder, Move}
+use Rattle.run_table.specs.GroupChanges.{GroupState}
+use Rattle.run_table.specs.GroupOf.{group_at}
+use Rattle.run_table.specs.Moves.{Holder}
 use Rattle.run_table.specs.Places.{leg_at, leg_places, run_at}
-use Rattle.run_table.specs.Rules.{is_live}
-use Rattle.run_table.specs.Sound.{IsSound}
-use Rattle.run_table.specs.Step.{stepped}
-use Rattle.run_table.specs.TableState.{TableState}
+use Rattle.run_table.specs.StateWords.{is_live}
+use Rattle.run_table.specs.TableState.{RunState}
 use Rattle.run_table.specs.declared.phases.LegPhase.{LegPhase}
 use Rattle.run_table.specs.declared.phases.LegPhase.TheVariants as leg
 use Rattle.run_table.specs.declared.phases.RunPhase.{RunPhase}
 use Rattle.run_table.specs.declared.phases.RunPhase.TheVariants as run
 
--- what the plans of a table say: the key of a holder's group, if it has one, and whether it has cancel-in-progress
-pub record Groups : Type 0 where
-  pub key_of : TableState → Holder → Option (List ℕ)
-  pub cancels : TableState → Holder → Bool
-
-abbrev pub is_in : Groups → TableState → List ℕ → Holder → Bool
-is_in groups t key h = option_map_or (bytes_eq key) (groups.key_of t h) false
-
--- ---- pending and running
+-- ---- waiting, and holding
 
 abbrev pub run_waits : RunPhase → Bool
 run_waits run.Waiting = true
@@ -54,59 +42,73 @@ leg_holds leg.Running = true
 leg_holds leg.Stopping = true
 leg_holds (leg.Ended r) = false
 
-abbrev pub waits : TableState → Holder → Bool
-waits t (Holder.a_run r) = option_map_or (λ x. run_waits x.phase) (run_at t.runs r) false
-waits t (Holder.a_leg p) = option_map_or (λ x. leg_waits x.phase) (leg_at t.runs p) false
+abbrev pub waits : List RunState → Holder → Bool
+waits runs (Holder.a_run r) = option_map_or (λ x. run_waits x.phase) (run_at runs r) false
+waits runs (Holder.a_leg p) = option_map_or (λ x. leg_waits x.phase) (leg_at runs p) false
 
-abbrev pub holds : TableState → Holder → Bool
-holds t (Holder.a_run r) = option_map_or (λ x. is_live x.phase) (run_at t.runs r) false
-holds t (Holder.a_leg p) = option_map_or (λ x. leg_holds x.phase) (leg_at t.runs p) false
+abbrev pub holds : List RunState → Holder → Bool
+holds runs (Holder.a_run r) = option_map_or (λ x. is_live x.phase) (run_at runs r) false
+holds runs (Holder.a_leg p) = option_map_or (λ x. leg_holds x.phase) (leg_at runs p) false
 
-abbrev pub is_told_to_stop : TableState → Holder → Bool
-is_told_to_stop t (Holder.a_run r) = option_map_or (λ x. x.stopping) (run_at t.runs r) false
-is_told_to_stop t (Holder.a_leg p) = option_map_or (λ x. is_stopping_leg x.phase) (leg_at t.runs p) false
+abbrev pub is_told_to_stop : List RunState → Holder → Bool
+is_told_to_stop runs (Holder.a_run r) = option_map_or (λ x. x.stopping) (run_at runs r) false
+is_told_to_stop runs (Holder.a_leg p) = option_map_or (λ x. is_stopping_leg x.phase) (leg_at runs p) false
 
 -- ---- the holders of a group: those runs and legs that have arrived in it and not ended
 
+abbrev pub same_group : Group → Group → Bool
+same_group g h = bytes_eq g.repository h.repository && bytes_eq g.folded h.folded
+
+abbrev pub is_in : List RunState → Group → Holder → Bool
+is_in runs g h = option_map_or (same_group g) (group_at runs h) false
+
+abbrev pub is_pending_in : List RunState → Group → Holder → Bool
+is_pending_in runs g h = is_in runs g h && waits runs h
+
+abbrev pub is_running_in : List RunState → Group → Holder → Bool
+is_running_in runs g h = is_in runs g h && holds runs h
+
 -- all runs and legs
-abbrev pub all_holders : TableState → List Holder
-all_holders t = map (λ r. Holder.a_run r.0) (placed t.runs) ++ map (λ p. Holder.a_leg p) (leg_places t.runs)
+abbrev pub all_holders : List RunState → List Holder
+all_holders runs = map (λ r. Holder.a_run r.0) (placed runs) ++ map (λ p. Holder.a_leg p) (leg_places runs)
 
-abbrev pub holders_in : Groups → TableState → List ℕ → List Holder
-holders_in groups t key = filter (λ h. is_in groups t key h && (waits t h || holds t h)) (all_holders t)
+abbrev pub holders_in : List RunState → Group → List Holder
+holders_in runs g = filter (λ h. is_pending_in runs g h || is_running_in runs g h) (all_holders runs)
 
-abbrev pub pending_in : Groups → TableState → List ℕ → List Holder
-pending_in groups t key = filter (waits t) (holders_in groups t key)
+abbrev pub pending_in : List RunState → Group → List Holder
+pending_in runs g = filter (is_pending_in runs g) (all_holders runs)
 
-abbrev pub running_in : Groups → TableState → List ℕ → List Holder
-running_in groups t key = filter (holds t) (holders_in groups t key)
+abbrev pub running_in : List RunState → Group → List Holder
+running_in runs g = filter (is_running_in runs g) (all_holders runs)
 
--- in each group at most one holder is pending, and at most one is running
-pub record HasOneEach (groups : Groups) (t : TableState) : Type 0 where
-  pub pending : (key : List ℕ) → length (pending_in groups t key) ≤ 1
-  pub running : (key : List ℕ) → length (running_in groups t key) ≤ 1
+-- In each group at most one holder is pending, and at most one is running.
+pub record HasOneEach (runs : List RunState) : Type 0 where
+  pub pending : (g : Group) (h k : Holder) → is_pending_in runs g h ≡ true → is_pending_in runs g k ≡ true → h ≡ k
+  pub running : (g : Group) (h k : Holder) → is_running_in runs g h ≡ true → is_running_in runs g k ≡ true → h ≡ k
 
--- who holds a group, where it has one each
-abbrev pub group_state : Groups → TableState → List ℕ → GroupState
-group_state groups t key =
-    let one : Option Holder = find (holds t) (holders_in groups t key) in
-    record { running = one; stopping = option_map_or (is_told_to_stop t) one false; pending = find (waits t) (holders_in groups t key) }
+-- The same while a newcomer waits that is to arrive: of the others at most one is pending, and at most one is running.
+pub record HasOneBeside (runs : List RunState) (newcomer : Holder) : Type 0 where
+  pub pending : (g : Group) (h k : Holder) → (h ≡ newcomer → ⊥) → (k ≡ newcomer → ⊥) → is_pending_in runs g h ≡ true
+      → is_pending_in runs g k ≡ true → h ≡ k
+  pub running : (g : Group) (h k : Holder) → is_running_in runs g h ≡ true → is_running_in runs g k ≡ true → h ≡ k
 
--- ---- over all commands
+-- ---- who may start
 
--- the moves of a group, those of each step by the groups of the table after it
-abbrev pub moves_in : Groups → List ℕ → TableState → List Move → List Move
-moves_in groups key t moves = filter (λ m. is_in groups t key (holder_of m)) moves
+-- whether a holder of the group is running
+abbrev pub is_taken : List RunState → Group → Bool
+is_taken runs g = list_any (is_running_in runs g) (all_holders runs)
 
-abbrev pub group_moves : Groups → List ℕ → TableState → List Command → List Move
-group_moves groups key t [] = []
-group_moves groups key t (c ∷ cs) =
-    moves_in groups key (stepped t c).table (stepped t c).moves ++ group_moves groups key (stepped t c).table cs
+-- nothing keeps back what has no group
+abbrev pub may_start : List RunState → Holder → Bool
+may_start runs h = option_map_or (λ g. not (is_taken runs g)) (group_at runs h) true
 
--- From every sound table with one holder of each kind: the moves of each group, behind those of the holders that it has
--- already, keep the law, and the table after all commands has one of each kind again. (A statement: not proved yet.)
-pub record GroupLawHolds (groups : Groups) : Type 0 where
-  pub law : (t : TableState) (cs : List Command) (key : List ℕ) → IsSound t → HasOneEach groups t
-      → KeepsLaw (beyond_base (groups.cancels (after t cs)) (group_state groups t key))
-      (base_moves (group_state groups t key) ++ group_moves groups key t cs)
-  pub one_each : (t : TableState) (cs : List Command) → IsSound t → HasOneEach groups t → HasOneEach groups (after t cs)
+-- ---- who holds a group, where it has at most one holder of each kind
+
+abbrev pub group_state : List RunState → Group → GroupState
+group_state runs g =
+    let one : Option Holder = find (is_running_in runs g) (all_holders runs) in
+    record {
+      running = one;
+      stopping = option_map_or (is_told_to_stop runs) one false;
+      pending = find (is_pending_in runs g) (all_holders runs);
+    }

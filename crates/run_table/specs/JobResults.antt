@@ -23,6 +23,10 @@ settled_result (job.Settled r) = Some r
 abbrev pub results_so_far : List JobState → List (Option JobResult)
 results_so_far jobs = map (λ j. settled_result j.phase) jobs
 
+-- the results of the jobs that have settled
+abbrev pub results_of : List JobState → List JobResult
+results_of jobs = filter_map (λ j. settled_result j.phase) jobs
+
 -- the results that the jobs of a run have so far
 abbrev pub job_results : List RunState → ℕ → List (Option JobResult)
 job_results runs r = option_map_or (λ run. results_so_far run.jobs) (run_at runs r) []

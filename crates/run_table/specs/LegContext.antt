@@ -38,16 +38,19 @@ abbrev pub name_or_path : List ℕ → List ℕ → List ℕ
 name_or_path [] path = path
 name_or_path (c ∷ name) path = c ∷ name
 
--- the members of `github` that are the service's
-abbrev pub github_of : LegFacts → List (List ℕ × Scalar)
-github_of leg =
-    let event = event_of leg.event.body in
+-- the members of `github` that are the service's, in the run of an event that has this id and number
+abbrev pub github_of_run : Admitted → List ℕ → List ℕ → List (List ℕ × Scalar)
+github_of_run admitted id number =
+    let event = event_of admitted.body in
     (codes "workflow", Text (name_or_path event.workflow.name event.path))
     ∷ (codes "repository", Text event.repo)
-    ∷ (codes "event_name", Text leg.event.event)
-    ∷ (codes "run_id", Text leg.run_id)
-    ∷ (codes "run_number", Text leg.run_number)
+    ∷ (codes "event_name", Text admitted.event)
+    ∷ (codes "run_id", Text id)
+    ∷ (codes "run_number", Text number)
     ∷ (codes "run_attempt", Text (codes "1")) ∷ []
+
+abbrev pub github_of : LegFacts → List (List ℕ × Scalar)
+github_of leg = github_of_run leg.event leg.run_id leg.run_number
 
 -- `strategy`: as many legs as there are may run at once where the job sets no bound
 abbrev pub strategy_of : LegFacts → List (List ℕ × Scalar)

@@ -12,6 +12,9 @@ pub record LegPlace : Type 0 where
   pub job : ℕ
   pub leg : ℕ
 
+abbrev pub leg_place : ℕ → ℕ → ℕ → LegPlace
+leg_place r j l = record { run = r; job = j; leg = l }
+
 -- ---- reading
 
 abbrev pub run_at : List RunState → ℕ → Option RunState

@@ -4,6 +4,7 @@ use Rattle.std.specs.Option.{option_map_or}
 use Rattle.run_plan.specs.PlanOf.{plan_of}
 use Rattle.run_plan.specs.declared.planned.PlannedJob.{PlannedJob}
 use Rattle.run_table.specs.FirstOf.{placed}
+use Rattle.run_table.specs.Moves.{Move, Moved, and_then, without_moves}
 use Rattle.run_table.specs.Rules.{places, rule_at}
 use Rattle.run_table.specs.declared.place.Place.{Place}
 use Rattle.run_table.specs.TableState.{LegState, JobState, RunState}
@@ -21,8 +22,8 @@ applies runs place = is_some (rule_at runs place)
 abbrev pub first_place : List RunState → Option Place
 first_place runs = find (applies runs) (places runs)
 
--- the runs after the rule there
-abbrev pub first_rule : List RunState → Option (List RunState)
+-- what the rule there makes of the runs
+abbrev pub first_rule : List RunState → Option Moved
 first_rule runs = option_and_then (rule_at runs) (first_place runs)
 
 -- ---- how much is left: each rule lowers it
@@ -66,9 +67,15 @@ left runs = sum_by run_left runs
 -- ---- again and again
 
 -- the rule taken at most so often
-abbrev pub settled_within : ℕ → List RunState → List RunState
-settled_within zero runs = runs
-settled_within (suc n) runs = option_map_or (settled_within n) (first_rule runs) runs
+abbrev pub settled_within : ℕ → List RunState → Moved
+settled_within zero runs = without_moves runs
+settled_within (suc n) runs = option_map_or (λ m. and_then m (settled_within n)) (first_rule runs) (without_moves runs)
+
+abbrev pub settling : List RunState → Moved
+settling runs = settled_within (left runs) runs
 
 abbrev pub settled : List RunState → List RunState
-settled runs = settled_within (left runs) runs
+settled runs = (settling runs).runs
+
+abbrev pub settling_moves : List RunState → List Move
+settling_moves runs = (settling runs).moves

@@ -1,22 +1,25 @@
 -- What every table keeps, whatever its commands were: each rule in the words of GitHub Docs, "Workflow syntax for
--- GitHub Actions" (jobs, jobs.<job_id>.strategy, jobs.<job_id>.runs-on), where these have them; leases,
--- numbers of commands and kept replies are own.
+-- GitHub Actions" (jobs, jobs.<job_id>.strategy, jobs.<job_id>.runs-on), and "Control the concurrency of workflows and jobs",
+-- where these have them; leases, numbers of commands and kept replies are own.
 use Rattle.std.specs.Prelude.{◌≡◌, ◌⊎◌, ℕ, ◌≤◌, List, [], length, Bool, true, false, slice_get, Option, Some, None, IsSome}
 use Rattle.std.specs.List.{list_all}
 use Rattle.wf_value.specs.declared.outcome.JobResult.{JobResult}
 use Rattle.wf_value.specs.declared.outcome.JobResult.TheVariants as result
 use Rattle.wf_value.specs.declared.outcome.Outcome.TheVariants as outcome
 use Rattle.run_plan.specs.PlanOf.{plan_of}
+use Rattle.run_table.specs.Groups.{HasOneEach}
 use Rattle.run_table.specs.Parallel.{is_at_work, legs_at_work, most_at_work}
 use Rattle.run_table.specs.Places.{LegPlace, run_at, job_at, leg_at}
 use Rattle.run_table.specs.Rules.{has_ended, is_settled, result_at}
 use Rattle.run_table.specs.Settling.{first_place}
-use Rattle.run_table.specs.Step.{last_number}
+use Rattle.run_table.specs.Step.{last_number, lease_at}
 use Rattle.run_table.specs.TableState.{LegState, JobState, RunState, RunnerState, TableState}
+use Rattle.run_table.specs.Turns.{names_rise}
 use Rattle.run_table.specs.Words.{needs_have_settled, planned_legs}
 use Rattle.run_plan.specs.declared.last_command.LastCommand.{LastCommand}
 use Rattle.run_plan.specs.declared.last_command.LastCommand.TheVariants as last
 use Rattle.run_plan.specs.declared.last_command.ClaimReply.TheVariants as given
+use Rattle.run_plan.specs.declared.reply.Lease.{Lease}
 use Rattle.run_table.specs.declared.phases.LegPhase.{LegPhase}
 use Rattle.run_table.specs.declared.phases.LegPhase.TheVariants as leg
 use Rattle.run_table.specs.declared.phases.JobPhase.{JobPhase}
@@ -73,7 +76,7 @@ abbrev pub ParallelIsBounded : List RunState → Type 0
 ParallelIsBounded runs =
     (r j : ℕ) (x : JobState) (most : ℕ) → job_at runs r j ≡ Some x → most_at_work runs r j ≡ Some most → legs_at_work x ≤ most
 
--- ---- leases of legs
+-- ---- leases of legs, by their phases
 
 -- a leg that no runner has claimed has no lease, and one that runs, or has ended by itself, has one
 abbrev pub LeaseFits : LegPhase → Option ℕ → Type 0
@@ -89,6 +92,18 @@ LeaseFits (leg.Ended outcome.Cancelled) lease = Unit {0}
 abbrev pub LeasesFit : List RunState → Type 0
 LeasesFit runs = (p : LegPlace) (x : LegState) → leg_at runs p ≡ Some x → LeaseFits x.phase x.lease
 
+-- ---- what each run keeps by itself
+
+-- within a step too, while the runs settle
+pub record RunsAreSound (runs : List RunState) : Type 0 where
+  pub jobs_are_the_plans : JobsAreThePlans runs
+  pub run_phases_fit : RunPhasesFit runs
+  pub jobs_fit : JobsFit runs
+  pub needs_settled_first : NeedsComeFirst runs
+  pub leases_fit : LeasesFit runs
+
+-- ---- leases of legs, given and held
+
 -- leases are numbers from 1 to the last
 abbrev pub LeasesAreGiven : ℕ → List RunState → Type 0
 LeasesAreGiven last runs = (p : LegPlace) (x : LegState) (n : ℕ) → leg_at runs p ≡ Some x → x.lease ≡ Some n → (1 ≤ n) × (n ≤ last)
@@ -100,9 +115,6 @@ LeasesDiffer runs =
     → p ≡ q
 
 -- ---- runners
-
-abbrev pub NamesDiffer : List RunnerState → Type 0
-NamesDiffer runners = (a b : ℕ) (x y : RunnerState) → slice_get runners a ≡ Some x → slice_get runners b ≡ Some y → x.name ≡ y.name → a ≡ b
 
 -- some runner holds the lease
 abbrev pub IsHeld : List RunnerState → ℕ → Type 0
@@ -135,14 +147,15 @@ IsLastOf name number (last.Done report) = (report.runner ≡ name) × (report.nu
 abbrev pub LastsAreOwn : List RunnerState → Type 0
 LastsAreOwn runners = (k : ℕ) (x : RunnerState) → slice_get runners k ≡ Some x → IsLastOf x.name x.number x.last
 
--- some leg has the lease
-abbrev pub IsALegs : List RunState → ℕ → Type 0
-IsALegs runs n = (p : LegPlace) × (x : LegState) × (leg_at runs p ≡ Some x) × (x.lease ≡ Some n)
+-- some leg has the lease, which tells its run, its job, its number and its combination
+abbrev pub IsALegs : List RunState → Lease → Type 0
+IsALegs runs told =
+    (p : LegPlace) × (x : LegState) × (leg_at runs p ≡ Some x) × (x.lease ≡ Some told.lease) × (told ≡ lease_at runs p told.lease)
 
 -- a kept lease is some leg's
 abbrev pub KeptIsALegs : List RunState → LastCommand → Type 0
 KeptIsALegs runs (last.Claim claim given.Nothing) = Unit {0}
-KeptIsALegs runs (last.Claim claim (given.Lease lease)) = (1 ≤ lease.lease) × IsALegs runs lease.lease
+KeptIsALegs runs (last.Claim claim (given.Lease told)) = (1 ≤ told.lease) × IsALegs runs told
 KeptIsALegs runs (last.Done report) = Unit {0}
 
 abbrev pub KeptLeasesAreLegs : List RunState → List RunnerState → Type 0
@@ -158,11 +171,12 @@ pub record IsSound (t : TableState) : Type 0 where
   pub jobs_fit : JobsFit t.runs
   pub needs_settled_first : NeedsComeFirst t.runs
   pub parallel_bounded : ParallelIsBounded t.runs
+  pub one_of_each_group : HasOneEach t.runs
   pub leases_fit : LeasesFit t.runs
   pub leases_are_given : LeasesAreGiven t.last_lease t.runs
   pub leases_differ : LeasesDiffer t.runs
   pub last_lease_in_range : t.last_lease ≤ last_number
-  pub names_differ : NamesDiffer t.runners
+  pub runners_in_order : names_rise t.runners ≡ true
   pub work_is_held : WorkIsHeld t.runs t.runners
   pub held_is_at_work : HeldIsAtWork t.runs t.runners
   pub held_once : HeldOnce t.runners

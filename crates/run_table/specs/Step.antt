@@ -1,6 +1,7 @@
--- One step of the table: what a command is answered, and the table after it. A command is either answered from
--- the table as it is, which then stays: the refusals, in the order of their checks, a delivery that is known, a
--- command that is repeated, what a runner asks, and what is looked at. Or it changes the table, which settles then.
+-- One step of the table: what a command is answered, the table after it, and the moves of groups on the way. A command is either
+-- answered from the table as it is, which then stays: the refusals, in the order of their checks, a delivery that is known, a
+-- command that is repeated, what a runner asks, and what is looked at. Or it changes the table, which settles then: the moves
+-- of its own change come first.
 use Rattle.std.specs.Prelude.{ℕ, ◌+◌, ◌-◌, ◌&&◌, List, [], ◌∷◌, ◌++◌, map, length, Bool, false, not, is_some, nat_le, Option, Some, None}
 use Rattle.std.specs.Prelude.{option_map, if◌then◌else◌}
 use Rattle.std.specs.List.{position}
@@ -23,11 +24,13 @@ use Rattle.run_plan.specs.declared.command.Command.TheVariants as command
 use Rattle.run_plan.specs.declared.reply.Lease.{Lease as Leased}
 use Rattle.run_plan.specs.declared.reply.Reply.{Reply}
 use Rattle.run_plan.specs.declared.reply.Reply.TheVariants as reply
+use Rattle.run_table.specs.Arrivals.{arrived}
 use Rattle.run_table.specs.Fitting.{first_fit, is_told_to_stop, place_of_lease}
-use Rattle.run_table.specs.Moves.{Step}
-use Rattle.run_table.specs.Places.{LegPlace, run_at, with_leg, with_run}
-use Rattle.run_table.specs.Settling.{settled}
-use Rattle.run_table.specs.Stops.{after_end, outcome_of_loss, stopped_run}
+use Rattle.run_table.specs.Moves.{Holder, Move, Moved, Step}
+use Rattle.run_table.specs.Places.{LegPlace, run_at, with_leg}
+use Rattle.run_table.specs.Settling.{settled, settling_moves}
+use Rattle.run_table.specs.StopMoves.{end_moves, stop_holder}
+use Rattle.run_table.specs.Stops.{after_end, outcome_of_loss}
 use Rattle.run_table.specs.TableState.{LegState, JobState, RunState, RunnerState, TableState}
 use Rattle.run_table.specs.Turns.{runner_named, answer_of_turn, with_runner, holds_lease, holds_this}
 use Rattle.run_table.specs.ViewText.{Seen, seen_of, seen_text}
@@ -55,9 +58,13 @@ last_number = 999999999
 abbrev pub unchanged : TableState → Reply → Step
 unchanged t reply = record { table = t; reply = reply; moves = [] }
 
--- the table settled, with a reply
+-- the table settled, with a reply, after these moves
+abbrev pub at_rest_after : List Move → TableState → Reply → Step
+at_rest_after moves t reply = record { table = record t { runs = settled t.runs }; reply = reply; moves = moves ++ settling_moves t.runs }
+
+-- after none
 abbrev pub at_rest : TableState → Reply → Step
-at_rest t reply = record { table = record t { runs = settled t.runs }; reply = reply; moves = [] }
+at_rest t reply = at_rest_after [] t reply
 
 -- ---- admit
 
@@ -77,8 +84,13 @@ blocked_job = record { phase = job.Blocked; legs = [] }
 abbrev pub new_run : Admitted → RunState
 new_run event = record { admitted = event; phase = run.Waiting; stopping = false; jobs = map (λ _. blocked_job) (plan_of event.body) }
 
+-- the new run arrives in its group
+abbrev pub entered : TableState → Admitted → Moved
+entered t event = arrived (Holder.a_run (length t.runs)) (t.runs ++ new_run event ∷ [])
+
 abbrev pub admitting : TableState → Admitted → Step
-admitting t event = at_rest (record t { runs = t.runs ++ new_run event ∷ [] }) (reply.Created (length t.runs + 1))
+admitting t event =
+    at_rest_after (entered t event).moves (record t { runs = (entered t event).runs }) (reply.Created (length t.runs + 1))
 
 abbrev pub admitted : TableState → Admitted → Step
 admitted t event = option_map_or (unchanged t) (admission_answer t event) (admitting t event)
@@ -146,9 +158,13 @@ reporting_runner report = record { name = report.runner; number = report.number;
 abbrev pub with_ended : ℕ → Outcome → List RunState → List RunState
 with_ended lease outcome runs = option_map_or (λ p. after_end p outcome runs) (place_of_lease runs lease) runs
 
+-- with the moves that this makes
+abbrev pub lease_end_moves : ℕ → Outcome → List RunState → List Move
+lease_end_moves lease outcome runs = option_map_or (λ p. end_moves p outcome runs) (place_of_lease runs lease) []
+
 abbrev pub reporting : TableState → Reported → Step
 reporting t report =
-    at_rest (record t {
+    at_rest_after (lease_end_moves report.lease report.result t.runs) (record t {
       runs = with_ended report.lease report.result t.runs;
       runners =
           with_runner t.runners (reporting_runner report);
@@ -179,7 +195,8 @@ abbrev pub cancel_answer : TableState → ℕ → Option Reply
 cancel_answer t id = option_map_or (λ run. answer_of_run run.phase run.stopping) (run_at t.runs (id - 1)) (Some (refused NoRun))
 
 abbrev pub cancelling : TableState → ℕ → Step
-cancelling t id = at_rest (record t { runs = with_run (id - 1) stopped_run t.runs }) reply.Ok
+cancelling t id =
+    let stopped = stop_holder (Holder.a_run (id - 1)) t.runs in at_rest_after stopped.moves (record t { runs = stopped.runs }) reply.Ok
 
 abbrev pub cancelled : TableState → ℕ → Step
 cancelled t id = option_map_or (unchanged t) (cancel_answer t id) (cancelling t id)
@@ -198,7 +215,7 @@ released runner = record runner { holds = None }
 -- the leg of the lease ends, and its runner is put in its own place
 abbrev pub losing : TableState → RunnerState → ℕ → Step
 losing t runner lease =
-    at_rest (record t {
+    at_rest_after (lease_end_moves lease (outcome_of_loss t.runs lease) t.runs) (record t {
       runs = with_ended lease (outcome_of_loss t.runs lease) t.runs;
       runners =
           with_runner t.runners runner;

@@ -10,8 +10,8 @@ use Rattle.needs_graph.specs.Results.{is_failure}
 use Rattle.run_table.specs.Places.{LegPlace, plan_at, with_job, with_leg}
 use Rattle.run_table.specs.FirstOf.{changed_at, placed}
 use Rattle.run_table.specs.Fitting.{is_told_to_stop}
-use Rattle.run_table.specs.Rules.{is_open, leg_in_phase, settled_as}
-use Rattle.run_table.specs.WithinRun.{may_run_in}
+use Rattle.run_table.specs.RunConditions.{may_run_in}
+use Rattle.run_table.specs.StateWords.{is_open, leg_in_phase, settled_as}
 use Rattle.run_table.specs.TableState.{LegState, JobState, RunState}
 use Rattle.run_table.specs.Words.{passes_over}
 use Rattle.run_table.specs.declared.phases.LegPhase.{LegPhase}

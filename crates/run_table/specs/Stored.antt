@@ -1,16 +1,15 @@
 -- What is stored of a table. Of a lease that is kept as a reply it is the number alone: its run, its job, its leg and its
 -- combination follow from the runs. Own.
-use Rattle.std.specs.Prelude.{◌≡◌, ℕ, ◌≤◌, List, length, map, Bool, true, false, Option, Some, None}
+use Rattle.std.specs.Prelude.{◌≡◌, ℕ, ◌≤◌, List, length, map, false, Option, Some, None}
 use Rattle.run_plan.specs.declared.last_command.ClaimReply.TheVariants as given
 use Rattle.run_plan.specs.declared.last_command.LastCommand.{LastCommand}
 use Rattle.run_plan.specs.declared.last_command.LastCommand.TheVariants as last
 use Rattle.run_table.specs.Places.{LegPlace, job_at, leg_at}
 use Rattle.run_table.specs.Sound.{JobsAreThePlans}
+pub use Rattle.run_table.specs.StateWords.{is_new}
 use Rattle.run_table.specs.TableState.{LegState, JobState, RunState, RunnerState, TableState}
 use Rattle.run_table.specs.declared.parts.LastParts.{LastParts}
 use Rattle.run_table.specs.declared.parts.LastParts.TheVariants as stored
-use Rattle.run_table.specs.declared.phases.LegPhase.{LegPhase}
-use Rattle.run_table.specs.declared.phases.LegPhase.TheVariants as leg
 
 -- a runner: its last numbered command with the lease that it was given, and the lease that it holds
 pub record StoredRunner : Type 0 where
@@ -38,14 +37,6 @@ abbrev pub stored_table : TableState → StoredTable
 stored_table t = record { last_lease = t.last_lease; runs = t.runs; runners = map stored_runner t.runners }
 
 -- ---- what can be stored: the jobs of a run are counted by its plan, those of a leg in four bytes, and a new leg is not told apart
-
-abbrev pub is_new : LegPhase → Bool
-is_new leg.New = true
-is_new leg.Waiting = false
-is_new leg.Ready = false
-is_new leg.Running = false
-is_new leg.Stopping = false
-is_new (leg.Ended r) = false
 
 -- after settling none is
 abbrev pub NoLegIsNew : List RunState → Type 0

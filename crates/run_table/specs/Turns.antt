@@ -1,10 +1,12 @@
 -- The numbered commands of runners: each command of a runner has the number after its last one, or is the
 -- last one again and gets the kept reply (own).
-use Rattle.std.specs.Prelude.{ℕ, ◌+◌, ◌&&◌, List, [], ◌∷◌, ◌++◌, find, Bool, false, nat_eq, is_some, Option, Some, None, option_map}
-use Rattle.std.specs.Prelude.{slice_set, if◌then◌else◌}
-use Rattle.std.specs.List.{position}
+use Rattle.std.specs.Prelude.{ℕ, ◌+◌, ◌&&◌, List, ◌∷◌, ◌++◌, filter, find, Bool, false, nat_eq, is_some, Option, Some, None, option_map}
+use Rattle.std.specs.Prelude.{if◌then◌else◌}
+use Rattle.std.specs.Cmp.Lexicographic.{slice_cmp}
 use Rattle.std.specs.Option.{option_map_or}
+use Rattle.std.specs.Ordering.{is_lt, nat_cmp}
 use Rattle.std.specs.Str.{bytes_eq}
+use Rattle.wf_value.specs.Names.{rises_by}
 use Rattle.wf_value.specs.declared.refusal.Refusal.TheVariants.{Turn}
 use Rattle.run_plan.specs.LastCommand.{kept_reply}
 use Rattle.run_plan.specs.ReplyText.{carries_text}
@@ -43,10 +45,27 @@ answer_of_turn runner number same =
 abbrev pub needs_text : Option Reply → Bool
 needs_text answer = option_map_or carries_text answer false
 
--- the runners with this one in the place of that of its name, or at the end
+-- the runner, where it has the name
+abbrev pub kept_named : List ℕ → RunnerState → Option RunnerState
+kept_named name runner = if is_named name runner then Some runner else None
+
+-- ---- runners in the order of their names
+
+-- each name is above the one before it, by their bytes: so no two runners have one
+abbrev pub names_rise : List RunnerState → Bool
+names_rise runners = rises_by (λ r. r.name) runners
+
+abbrev pub is_below : List ℕ → RunnerState → Bool
+is_below name runner = is_lt (slice_cmp nat_cmp runner.name name)
+
+abbrev pub is_above : List ℕ → RunnerState → Bool
+is_above name runner = is_lt (slice_cmp nat_cmp name runner.name)
+
+-- the runners below it, the runner, which takes the place of the one of its name, and those above it
 abbrev pub with_runner : List RunnerState → RunnerState → List RunnerState
-with_runner runners runner =
-    option_map_or (λ i. slice_set runners i runner) (position (is_named runner.name) runners) (runners ++ runner ∷ [])
+with_runner runners runner = filter (is_below runner.name) runners ++ runner ∷ filter (is_above runner.name) runners
+
+-- ---- what a runner holds
 
 abbrev pub holds_lease : Option RunnerState → Bool
 holds_lease runner = option_map_or (λ r. is_some r.holds) runner false

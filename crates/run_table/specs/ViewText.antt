@@ -1,14 +1,13 @@
 -- The view of a run, and its text.
-use Rattle.std.specs.Prelude.{ℕ, ◌-◌, List, ◌++◌, map, flat_map, filter_map, Bool, is_some, codes, Option, option_map}
+use Rattle.std.specs.Prelude.{ℕ, ◌-◌, List, ◌++◌, map, flat_map, Bool, is_some, codes, Option, option_map}
 use Rattle.std.specs.Prelude.{slice_get, if◌then◌else◌}
 use Rattle.std.specs.List.{list_any, zip, join_with_byte}
 use Rattle.std.specs.Fmt.{decimal}
 use Rattle.wf_value.specs.Words.{outcome_word, result_word}
-use Rattle.wf_value.specs.declared.outcome.JobResult.{JobResult}
 use Rattle.needs_graph.specs.Results.{conclusion_of}
 use Rattle.run_plan.specs.PlanOf.{plan_of}
 use Rattle.run_plan.specs.declared.planned.PlannedJob.{PlannedJob}
-use Rattle.run_table.specs.JobResults.{settled_result}
+pub use Rattle.run_table.specs.JobResults.{results_of}
 use Rattle.run_table.specs.RunNumber.{events, run_number}
 use Rattle.run_table.specs.TableState.{LegState, JobState, RunState}
 use Rattle.run_table.specs.declared.phases.LegPhase.{LegPhase}
@@ -63,10 +62,6 @@ abbrev pub status_text : RunPhase → List JobState → List ℕ
 status_text phase.Waiting jobs = codes "pending"
 status_text phase.Live jobs = live_text (was_claimed jobs)
 status_text phase.Ended jobs = codes "completed"
-
--- the results of the jobs that have settled
-abbrev pub results_of : List JobState → List JobResult
-results_of jobs = filter_map (λ j. settled_result j.phase) jobs
 
 -- `-` before the end
 abbrev pub conclusion_text : RunPhase → List JobState → List ℕ

@@ -1,69 +1,66 @@
--- The first place with a rule, and the first leg that is sought, within one run: no plain rule looks beyond it, and
--- of the others a leg's labels ask for the events alone.
-use Rattle.std.specs.Prelude.{ℕ, ◌&&◌, List, Bool, false, is_some, Option, Some, None, option_map, slice_get}
-use Rattle.std.specs.Prelude.{if◌then◌else◌}
+-- The first place with a rule, and the first leg that is sought, run by run and job by job. Of the rules those of a waiting
+-- run and of a waiting leg look beyond their run, at who runs in their group, and a leg's labels ask for the events alone.
+use Rattle.std.specs.Prelude.{ℕ, ◌&&◌, List, Bool, true, false, Option, Some, None, option_map, if◌then◌else◌}
 use Rattle.std.specs.List.{list_all, position}
 use Rattle.std.specs.Option.{option_or, option_map_or}
-use Rattle.needs_graph.specs.Ancestors.{needs_at}
-use Rattle.needs_graph.specs.Conditions.{condition_value, ancestor_results as results_of_ancestors}
 use Rattle.needs_graph.specs.Results.{fails_job}
-use Rattle.run_plan.specs.PlanOf.{plan_of}
-use Rattle.wf_value.specs.declared.condition.Condition.{Condition}
-use Rattle.wf_value.specs.declared.condition.Condition.TheVariants as condition
 use Rattle.run_table.specs.FirstOf.{placed, first_some}
 use Rattle.run_table.specs.Fitting.{is_ready, is_served, has_lease}
+use Rattle.run_table.specs.Groups.{may_start}
+use Rattle.run_table.specs.Moves.{Holder}
 use Rattle.run_table.specs.Parallel.{has_room}
-use Rattle.run_table.specs.Places.{LegPlace}
-use Rattle.run_table.specs.Rules.{is_live, is_blocked, is_done, is_settled, leg_end, leg_in_phase, next_leg_phase, next_run_phase}
+pub use Rattle.run_table.specs.Places.{LegPlace, leg_place}
+pub use Rattle.run_table.specs.RunConditions.{condition_in, may_run_in, needs_settled_in}
+use Rattle.run_table.specs.Rules.{leg_end}
+use Rattle.run_table.specs.StateWords.{is_live, is_blocked, is_done, is_settled}
 use Rattle.run_table.specs.TableState.{LegState, JobState, RunState}
 use Rattle.run_table.specs.declared.place.Place.{Place}
 use Rattle.run_table.specs.declared.place.Place.TheVariants.{Opening, AtLeg, Closing, Whole}
-use Rattle.run_table.specs.JobResults.{needs_in, results_so_far}
-use Rattle.run_table.specs.Words.{all_have_results}
-
--- ---- a job that is blocked
-
--- whether the jobs that it needs directly have all settled
-abbrev pub needs_settled_in : RunState → ℕ → Bool
-needs_settled_in run j = all_have_results (results_so_far run.jobs) (needs_at (needs_in run) j)
-
--- the condition that the run's plan gives it
-abbrev pub condition_in : RunState → ℕ → Condition
-condition_in run j = option_map_or (λ planned. planned.condition) (slice_get (plan_of run.admitted.body) j) condition.Never
-
--- the value of that condition
-abbrev pub may_run_in : RunState → ℕ → Bool
-may_run_in run j =
-    condition_value (condition_in run j) (results_of_ancestors (needs_in run) (results_so_far run.jobs) j) run.stopping
+use Rattle.run_table.specs.declared.phases.LegPhase.{LegPhase}
+use Rattle.run_table.specs.declared.phases.LegPhase.TheVariants as leg
+use Rattle.run_table.specs.declared.phases.RunPhase.{RunPhase}
+use Rattle.run_table.specs.declared.phases.RunPhase.TheVariants as run
 
 -- ---- the first place with a rule
 
-abbrev pub goes_on : LegState → Bool
-goes_on l = is_some (next_leg_phase l.phase)
+-- whether the leg there has a rule
+abbrev pub goes_on_in : LegPhase → List RunState → LegPlace → Bool
+goes_on_in leg.New runs p = true
+goes_on_in leg.Waiting runs p = may_start runs (Holder.a_leg p)
+goes_on_in leg.Ready runs p = false
+goes_on_in leg.Running runs p = false
+goes_on_in leg.Stopping runs p = false
+goes_on_in (leg.Ended r) runs p = false
 
--- the leg after its rule
-abbrev pub next_leg : LegState → Option LegState
-next_leg l = option_map (λ next. leg_in_phase next l) (next_leg_phase l.phase)
+abbrev pub goes_on : List RunState → LegPlace → LegState → Bool
+goes_on runs p l = goes_on_in l.phase runs p
 
-abbrev pub leg_place : ℕ → ℕ → ℕ → LegPlace
-leg_place r j l = record { run = r; job = j; leg = l }
+abbrev pub first_of_legs : List RunState → ℕ → ℕ → List LegState → Option Place
+first_of_legs runs r j legs =
+    first_some (λ l. if goes_on runs (leg_place r j l.0) l.1 then Some (AtLeg (leg_place r j l.0)) else None) (placed legs)
 
 -- of a job that does not open: its first leg with a rule, else where it settles
-abbrev pub first_of_open : ℕ → ℕ → JobState → Option Place
-first_of_open r j job =
-    option_or (option_map (λ l. AtLeg (leg_place r j l)) (position goes_on job.legs)) (if is_done job then Some (Closing r j) else None)
+abbrev pub first_of_open : List RunState → ℕ → ℕ → JobState → Option Place
+first_of_open runs r j job = option_or (first_of_legs runs r j job.legs) (if is_done job then Some (Closing r j) else None)
 
-abbrev pub first_in_job : ℕ → RunState → ℕ → JobState → Option Place
-first_in_job r run j job = if is_blocked job.phase && needs_settled_in run j then Some (Opening r j) else first_of_open r j job
+abbrev pub first_in_job : List RunState → ℕ → RunState → ℕ → JobState → Option Place
+first_in_job runs r run j job =
+    if is_blocked job.phase && needs_settled_in run j then Some (Opening r j) else first_of_open runs r j job
 
-abbrev pub first_in_jobs : ℕ → RunState → List JobState → Option Place
-first_in_jobs r run jobs = first_some (λ j. first_in_job r run j.0 j.1) (placed jobs)
+abbrev pub first_in_jobs : List RunState → ℕ → RunState → List JobState → Option Place
+first_in_jobs runs r run jobs = first_some (λ j. first_in_job runs r run j.0 j.1) (placed jobs)
 
-abbrev pub first_of_whole : ℕ → RunState → Option Place
-first_of_whole r run = if is_some (next_run_phase run.phase (list_all is_settled run.jobs)) then Some (Whole r) else None
+-- whether the run itself has a rule
+abbrev pub whole_goes_on_in : RunPhase → List RunState → ℕ → RunState → Bool
+whole_goes_on_in run.Waiting runs r x = may_start runs (Holder.a_run r)
+whole_goes_on_in run.Live runs r x = list_all is_settled x.jobs
+whole_goes_on_in run.Ended runs r x = false
 
-abbrev pub first_in_run : ℕ → RunState → Option Place
-first_in_run r run = option_or (if is_live run.phase then first_in_jobs r run run.jobs else None) (first_of_whole r run)
+abbrev pub first_of_whole : List RunState → ℕ → RunState → Option Place
+first_of_whole runs r x = if whole_goes_on_in x.phase runs r x then Some (Whole r) else None
+
+abbrev pub first_in_run : List RunState → ℕ → RunState → Option Place
+first_in_run runs r x = option_or (if is_live x.phase then first_in_jobs runs r x x.jobs else None) (first_of_whole runs r x)
 
 -- ---- the first leg that fits
 

@@ -2,18 +2,25 @@ ghost use Rattle.std.specs.Prelude.{◌≡◌, ◌<◌, ◌+◌, ◌-◌, true, 
 ghost use Rattle.std.specs.Option.{option_map_or};
 ghost use Rattle.wf_value.specs.declared.code.Code.TheVariants.{LastCounter};
 ghost use Rattle.wf_value.specs.Gives.{Gives};
+ghost use Rattle.run_table.specs.Fitting.{first_fit};
+ghost use Rattle.run_table.specs.Groups.{HasOneEach};
+ghost use Rattle.run_table.specs.Sound.{IsSound, RunsAreSound};
 ghost use Rattle.run_table.specs.Step.{admission_answer, admitted, admitting, answer_of_run, answered, beat_answer};
 ghost use Rattle.run_table.specs.Step.{cancel_answer, cancelled, claim_answer, fetch_answer, losing, loss_answer, lost};
 ghost use Rattle.run_table.specs.Step.{claimed, claiming, empty, is_free};
 ghost use Rattle.run_table.specs.Step.{lease_answer, lease_at, leasing, look_answer, outcome, refused, report_answer};
-ghost use Rattle.run_table.specs.Step.{reported, reporting, seen, serving_nothing, step, unchanged};
+ghost use Rattle.run_table.specs.Step.{reported, reporting, seen, serving_nothing, step, unchanged, with_ended};
+ghost use Rattle.run_table.specs.Stops.{outcome_of_loss};
+ghost use Rattle.run_table.specs.Turns.{names_rise};
 
 use crate::fit::{first_fit, is_told_to_stop, outcome_of_loss};
+use crate::holder::Holder;
 use crate::leg::Leg;
 use crate::phases::RunPhase;
 use crate::place::LegPlace;
 use crate::run::Run;
-use crate::runner::{Runner, holds_lease, holds_this, put_runner, runner_named};
+use crate::runner::{Runner, holds_lease, holds_this};
+use crate::runners::Runners;
 use crate::runs::{MOST_RUNS, Runs};
 use crate::turns::{answer_to_claim, answer_to_report};
 use crate::view::{RunView, look};
@@ -22,14 +29,14 @@ use run_plan::{
 };
 use std::alloc::Global;
 use std::marker::Model;
-use wf_value::{Chars, Code, Refusal, TryCopy, copy_items};
+use wf_value::{Chars, Code, Refusal, TryCopy};
 
 /// What a table holds: the last lease that was given, the runs and the runners.
 #[derive(Drop)]
 pub struct Content {
     last_lease: u32,
     runs: Runs,
-    runners: Vec<Runner>,
+    runners: Runners,
 }
 
 impl Model for Content {
@@ -37,7 +44,7 @@ impl Model for Content {
 
     ghost Value = { TableState };
 
-    ghost view = { λ t. record { last_lease = t.last_lease; runs = t.runs; runners = t.runners.items } };
+    ghost view = { λ t. record { last_lease = t.last_lease; runs = t.runs; runners = t.runners } };
 }
 
 impl Content {
@@ -48,7 +55,7 @@ impl Content {
         Content {
             last_lease: 0,
             runs: Runs::new(alloc),
-            runners: Vec::new(alloc),
+            runners: Runners::new(alloc),
         }
     }
 
@@ -65,7 +72,8 @@ impl Content {
     }
 
     pub(crate) fn runners(&self) -> &[Runner]
-        ensures { result.now ≡ self.now.runners }
+        ensures runners { result.now ≡ self.now.runners }
+        ensures rise { names_rise self.now.runners ≡ true }
     {
         self.runners.as_slice()
     }
@@ -74,6 +82,7 @@ impl Content {
     /// are replies. The error is 50 alone, and the table is then as it was. What is answered from
     /// the table as it is, without a text, is answered memory or not.
     pub(crate) fn step(&mut self, alloc: Global, command: &Command) -> Result<Reply, Refusal>
+        requires { IsSound self.old }
         ensures step { Gives (λ reply. (self.new, reply)) result (Ok (step self.old command.now)) }
         ensures err { OnErr result (self.new ≡ self.old) }
         ensures answers { is_free (answered self.old command.now) ≡ true → IsOk result }
@@ -93,6 +102,7 @@ impl Content {
     // ---- admit
 
     fn admit(&mut self, alloc: Global, prepared: &Prepared) -> Result<Reply, Refusal>
+        requires { IsSound self.old }
         ensures step { Gives (λ reply. (self.new, reply)) result (Ok (outcome (admitted self.old prepared.now))) }
         ensures err { OnErr result (self.new ≡ self.old) }
         ensures answers { is_free (admission_answer self.old prepared.now) ≡ true → IsOk result }
@@ -108,13 +118,15 @@ impl Content {
 
     /// Makes a run of the event.
     fn enter(&mut self, alloc: Global, prepared: &Prepared) -> Result<Reply, Refusal>
-        requires { length self.old.runs < 100000 }
+        requires sound { IsSound self.old }
+        requires few { length self.old.runs < 100000 }
         ensures step { Gives (λ reply. (self.new, reply)) result (Ok (outcome (admitting self.old prepared.now))) }
         ensures err { OnErr result (self.new ≡ self.old) }
     {
         let place = self.runs.len();
         let run = Run::of_event(alloc, prepared)?;
-        self.runs.add(run)?;
+        self.runs.add(alloc, run)?;
+        self.runs.arrive(&Holder::Run(place));
         self.runs.settle();
         Ok(Reply::Created(id_of(place)))
     }
@@ -122,11 +134,12 @@ impl Content {
     // ---- claim
 
     fn claim(&mut self, alloc: Global, claim: &Claim) -> Result<Reply, Refusal>
+        requires { IsSound self.old }
         ensures step { Gives (λ reply. (self.new, reply)) result (Ok (outcome (claimed self.old claim.now))) }
         ensures err { OnErr result (self.new ≡ self.old) }
         ensures answers { is_free (claim_answer self.old claim.now) ≡ true → IsOk result }
     {
-        let runner = runner_named(&self.runners, &claim.runner);
+        let runner = self.runners.named(&claim.runner);
         if let Some(reply) = answer_to_claim(alloc, runner, claim)? {
             return Ok(reply);
         }
@@ -137,6 +150,7 @@ impl Content {
     }
 
     fn claim_in_turn(&mut self, alloc: Global, claim: &Claim) -> Result<Reply, Refusal>
+        requires { IsSound self.old }
         ensures step { Gives (λ reply. (self.new, reply)) result
             (Ok (outcome (option_map_or (unchanged self.old) (lease_answer self.old claim.now) (claiming self.old claim.now)))) }
         ensures err { OnErr result (self.new ≡ self.old) }
@@ -151,18 +165,21 @@ impl Content {
 
     /// No leg is ready for the runner.
     fn serve_nothing(&mut self, alloc: Global, claim: &Claim) -> Result<Reply, Refusal>
+        requires { IsSound self.old }
         ensures step { Gives (λ reply. (self.new, reply)) result (Ok (outcome (serving_nothing self.old claim.now))) }
         ensures err { OnErr result (self.new ≡ self.old) }
     {
         let runner = Runner::claiming(alloc, claim, None, ClaimReply::Nothing)?;
-        put_runner(&mut self.runners, runner)?;
+        self.runners.put(runner)?;
         self.runs.settle();
         Ok(Reply::Nothing)
     }
 
     /// Hands the leg to the runner, under a new lease: all memory is taken before the first change.
     fn lease(&mut self, alloc: Global, claim: &Claim, place: LegPlace) -> Result<Reply, Refusal>
+        requires sound { IsSound self.old }
         requires run { place.run < 100000 }
+        requires fits { first_fit claim.now.labels self.old.runs ≡ Some place }
         requires left { self.old.last_lease < 999999999 }
         ensures step { Gives (λ reply. (self.new, reply)) result (Ok (outcome (leasing self.old claim.now place))) }
         ensures err { OnErr result (self.new ≡ self.old) }
@@ -171,7 +188,7 @@ impl Content {
         let told = lease_at(alloc, &self.runs, place, lease)?;
         let kept = ClaimReply::Lease(told.copy(alloc)?);
         let runner = Runner::claiming(alloc, claim, Some(lease), kept)?;
-        put_runner(&mut self.runners, runner)?;
+        self.runners.put(runner)?;
         self.last_lease = lease.get();
         self.runs
             .set_leg(place.run, place.job, place.leg, Leg::leased(lease));
@@ -182,11 +199,12 @@ impl Content {
     // ---- done
 
     fn report(&mut self, alloc: Global, report: &Done) -> Result<Reply, Refusal>
+        requires { IsSound self.old }
         ensures step { Gives (λ reply. (self.new, reply)) result (Ok (outcome (reported self.old report.now))) }
         ensures err { OnErr result (self.new ≡ self.old) }
         ensures answers { is_free (report_answer self.old report.now) ≡ true → IsOk result }
     {
-        let runner = runner_named(&self.runners, &report.runner);
+        let runner = self.runners.named(&report.runner);
         if let Some(reply) = answer_to_report(alloc, runner, report)? {
             return Ok(reply);
         }
@@ -198,11 +216,13 @@ impl Content {
 
     /// The leg of the lease ends.
     fn end(&mut self, alloc: Global, report: &Done) -> Result<Reply, Refusal>
+        requires sound { IsSound self.old }
+        requires due { report_answer self.old report.now ≡ None }
         ensures step { Gives (λ reply. (self.new, reply)) result (Ok (outcome (reporting self.old report.now))) }
         ensures err { OnErr result (self.new ≡ self.old) }
     {
         let runner = Runner::reporting(alloc, report)?;
-        put_runner(&mut self.runners, runner)?;
+        self.runners.put(runner)?;
         self.runs.end(report.lease, report.result);
         self.runs.settle();
         Ok(Reply::Ok)
@@ -214,7 +234,7 @@ impl Content {
     fn beat(&self, beat: &Beat) -> Reply
         ensures { result ≡ beat_answer self.now beat.now }
     {
-        let runner = runner_named(&self.runners, &beat.runner);
+        let runner = self.runners.named(&beat.runner);
         if runner.is_none() {
             refused(Code::NoRunner)
         } else if !holds_this(runner, beat.lease) {
@@ -230,6 +250,7 @@ impl Content {
 
     /// The run is stopped. It takes no memory.
     fn cancel(&mut self, id: Number) -> Reply
+        requires { IsSound self.old }
         ensures { (self.new, result) ≡ outcome (cancelled self.old id) }
     {
         if let Some(reply) = self.answer_to_cancel(id) {
@@ -252,11 +273,12 @@ impl Content {
     // ---- lost
 
     fn lose(&mut self, alloc: Global, name: &RunnerName) -> Result<Reply, Refusal>
+        requires { IsSound self.old }
         ensures step { Gives (λ reply. (self.new, reply)) result (Ok (outcome (lost self.old name.now))) }
         ensures err { OnErr result (self.new ≡ self.old) }
         ensures answers { is_free (loss_answer self.old name.now) ≡ true → IsOk result }
     {
-        match runner_named(&self.runners, name) {
+        match self.runners.named(name) {
             Some(runner) => match runner.holds {
                 Some(lease) => {
                     let runner = runner.released(alloc)?;
@@ -270,10 +292,12 @@ impl Content {
 
     /// The leg of the lease ends. The runner had it, and is released.
     fn end_lost(&mut self, runner: Runner, lease: Number) -> Result<Reply, Refusal>
+        requires ends { RunsAreSound (with_ended lease (outcome_of_loss self.old.runs lease) self.old.runs) }
+        requires one_each { HasOneEach (with_ended lease (outcome_of_loss self.old.runs lease) self.old.runs) }
         ensures step { Gives (λ reply. (self.new, reply)) result (Ok (outcome (losing self.old runner lease))) }
         ensures err { OnErr result (self.new ≡ self.old) }
     {
-        put_runner(&mut self.runners, runner)?;
+        self.runners.put(runner)?;
         let outcome = outcome_of_loss(lease, &self.runs);
         self.runs.end(lease, outcome);
         self.runs.settle();
@@ -318,7 +342,7 @@ impl TryCopy for Content {
         Ok(Content {
             last_lease: self.last_lease,
             runs: self.runs.copy(alloc)?,
-            runners: copy_items(alloc, &self.runners)?,
+            runners: self.runners.copy(alloc)?,
         })
     }
 }

@@ -4,6 +4,7 @@ ghost use Rattle.std.specs.Prelude.{◌≡◌, None, find, option_and_then};
 ghost use Rattle.std.specs.List.{slice_index_or};
 ghost use Rattle.std.specs.Option.{option_copied};
 ghost use Rattle.needs_graph.specs.Ancestors.{needs_at};
+ghost use Rattle.run_plan.specs.PlanOf.{plan_of};
 ghost use Rattle.run_table.specs.Cells.{states};
 ghost use Rattle.run_table.specs.JobResults.{direct_needs, has_id, needs_in, results_so_far};
 ghost use Rattle.run_table.specs.LegContext.{under};
@@ -44,13 +45,20 @@ fn place_of_id<'p>(plan: &[PlannedJob], places: &'p [usize], id: &str) -> Option
 }
 
 /// The result of the job at a place, once it has one.
-fn result_at(jobs: &[Job], place: usize) -> Option<JobResult>
+pub(crate) fn result_at(jobs: &[Job], place: usize) -> Option<JobResult>
     ensures { result ≡ slice_index_or (results_so_far (states jobs.now)) place None }
 {
     match jobs.get(place) {
         Some(job) => job.phase().result(),
         None => None,
     }
+}
+
+/// The place of the job of an id, where the job at a place needs it directly.
+pub(crate) fn place_of_need(run: &Run, j: usize, id: &str) -> Option<usize>
+    ensures { result ≡ find (has_id (plan_of run.now.admitted.body) id.now) (needs_at (needs_in run.now) j) }
+{
+    place_of_id(run.prepared().plan().as_slice(), needs(run, j), id).copied()
 }
 
 /// The result of the job of an id, where the job at a place needs it directly. It takes no memory.

@@ -1,20 +1,27 @@
 //! Laws over runs and tables.
 
-ghost use Rattle.std.specs.Prelude.{◌≡◌, ◌<◌, ℕ, List, Some, None};
+ghost use Rattle.std.specs.Prelude.{◌≡◌, ◌<◌, ◌≤◌, ℕ, List, [], ◌∷◌, ◌++◌, length, false, true, Some, None};
 ghost use Rattle.run_plan.specs.declared.command.Command.{Command};
+ghost use Rattle.group_name.specs.Group.{Group};
+ghost use Rattle.run_table.specs.GroupHistories.{IsOf, NeverBegan, all_moves, asks_for_cancelling};
+ghost use Rattle.run_table.specs.GroupLaw.{KeepsLaw};
+ghost use Rattle.run_table.specs.GroupWords.{has_arrived, has_ended, has_started, next_displaced, was_stopped};
+ghost use Rattle.run_table.specs.Groups.{pending_in, running_in};
 ghost use Rattle.run_table.specs.Histories.{WasAnswered, after, replies};
+ghost use Rattle.run_table.specs.Moves.{Holder, Move, Moved, and_then};
 ghost use Rattle.run_table.specs.Places.{LegPlace, leg_at, run_at};
-ghost use Rattle.run_table.specs.Rules.{rule_at, run_of_place};
-ghost use Rattle.run_table.specs.Settling.{first_place, first_rule, left, settled};
+ghost use Rattle.run_table.specs.Rules.{IsNoArrival, rule_at, run_of_place};
+ghost use Rattle.run_table.specs.Settling.{first_place, first_rule, left, settled, settling};
 ghost use Rattle.run_table.specs.Skips.{SkipsAreDue};
 ghost use Rattle.run_table.specs.Sound.{IsSound, NeedsComeFirst, ParallelIsBounded};
 ghost use Rattle.run_table.specs.Step.{empty, lease_at, stepped};
 ghost use Rattle.run_table.specs.TableState.{LegState, RunState, TableState};
 ghost use Rattle.run_table.specs.declared.place.Place.{Place};
+ghost use Rattle.wf_value.specs.declared.outcome.Outcome.{Outcome};
 
 /// Settling ends: each rule lowers the number of phases that are before the runs.
 pub fn each_rule_lowers()
-    ensures { (runs next : List RunState) → first_rule runs ≡ Some next → left next < left runs }
+    ensures { (runs : List RunState) (next : Moved) → first_rule runs ≡ Some next → left next.runs < left runs }
 {}
 
 /// After settling no rule applies.
@@ -24,13 +31,14 @@ pub fn settled_runs_rest()
 
 /// A rule that is taken first makes no difference to where settling ends.
 pub fn rules_lead_to_one_end()
-    ensures { (runs next : List RunState) → first_rule runs ≡ Some next → settled runs ≡ settled next }
+    ensures { (runs : List RunState) (next : Moved) → first_rule runs ≡ Some next → settling runs ≡ and_then next settling }
 {}
 
-/// The rule at a place changes no run but the place's own: no plain rule looks beyond it.
-pub fn plain_rules_touch_one_run()
-    ensures { (runs next : List RunState) (place : Place) (r : ℕ)
-        → rule_at runs place ≡ Some next → (r ≡ run_of_place place → ⊥) → run_at next r ≡ run_at runs r }
+/// The rule at a place changes no run but the place's own, unless a leg arrives there: its arrival may end and stop holders of
+/// its group in other runs.
+pub fn rules_touch_one_run()
+    ensures { (runs : List RunState) (next : Moved) (place : Place) (r : ℕ) → rule_at runs place ≡ Some next
+        → IsNoArrival runs place → (r ≡ run_of_place place → ⊥) → run_at next.runs r ≡ run_at runs r }
 {}
 
 /// A step keeps what every table keeps, from any table that keeps it, also one that no commands reach.
@@ -54,6 +62,43 @@ pub fn skips_are_due()
 pub fn max_parallel_bounds_each_job()
     ensures sound { (t : TableState) → IsSound t → ParallelIsBounded t.runs }
     ensures reached { (commands : List Command) → ParallelIsBounded (after empty commands).runs }
+{}
+
+/// In each concurrency group at most one run or leg is pending and at most one is running, of all runs and legs of the table.
+pub fn groups_have_one_holder_of_each_kind()
+    ensures pending { (t : TableState) (cs : List Command) (g : Group) → IsSound t → length (pending_in (after t cs).runs g) ≤ 1 }
+    ensures running { (t : TableState) (cs : List Command) (g : Group) → IsSound t → length (running_in (after t cs).runs g) ≤ 1 }
+{}
+
+/// The law of concurrency groups: over all commands, from any table that keeps what tables keep, the moves of each group keep it,
+/// behind those of the holders that the group has already.
+pub fn every_group_keeps_its_law()
+    ensures { (t : TableState) (cs : List Command) (g : Group) → IsSound t → KeepsLaw (asks_for_cancelling g t cs) (all_moves g t cs) }
+{}
+
+/// Between the start of a holder and its end no other holder of its group starts.
+pub fn nobody_starts_before_the_holder_has_ended()
+    ensures { (t : TableState) (cs : List Command) (g : Group) (before between after_it : List Move) (h k : Holder) → IsSound t
+        → all_moves g t cs ≡ before ++ Move.start h ∷ (between ++ Move.start k ∷ after_it) → has_ended h between ≡ true }
+{}
+
+/// A pending holder that a newcomer displaces never begins: all jobs of a run end as cancelled and it has no leg, and a leg ends as
+/// cancelled. In no table on the way has a leg of it a lease.
+pub fn displaced_holders_never_begin()
+    ensures cancelled { (t : TableState) (cs : List Command) (g : Group) (before after_it : List Move) (newcomer h : Holder) → IsSound t
+        → all_moves g t cs ≡ before ++ Move.arrive newcomer ∷ after_it → next_displaced before ≡ Some h
+        → NeverBegan (after t cs).runs h }
+    ensures unleased { (t : TableState) (first second : List Command) (g : Group) (before after_it : List Move) (newcomer h : Holder)
+        → IsSound t → all_moves g t (first ++ second) ≡ before ++ Move.arrive newcomer ∷ after_it → next_displaced before ≡ Some h
+        → (p : LegPlace) (leg : LegState) → IsOf h p → leg_at (after t first).runs p ≡ Some leg → leg.lease ≡ None }
+{}
+
+/// The latest arrival is displaced by nobody but a later one: a holder that ends though it has neither started nor been told to
+/// stop had arrived before the newcomer, which has arrived just then.
+pub fn only_later_arrivals_displace()
+    ensures { (t : TableState) (cs : List Command) (g : Group) (before after_it : List Move) (r : Outcome) (h : Holder) → IsSound t
+        → all_moves g t cs ≡ before ++ Move.end_with r h ∷ after_it → has_started h before ≡ false → was_stopped h before ≡ false
+        → (earlier : List Move) × (newcomer : Holder) × (before ≡ earlier ++ Move.arrive newcomer ∷ []) × (has_arrived h earlier ≡ true) }
 {}
 
 /// A leg that no claim was answered with never has a lease: one that has a lease was the answer to a claim.

@@ -6,7 +6,6 @@ ghost use Rattle.run_table.specs.Parallel.{is_at_work};
 ghost use Rattle.run_table.specs.Rules.{has_ended, leg_in_phase, new_leg, outcome_of};
 ghost use Rattle.run_table.specs.Step.{leased_leg};
 ghost use Rattle.run_table.specs.Stops.{stopped};
-ghost use Rattle.run_table.specs.WithinRun.{goes_on, next_leg};
 
 use crate::phases::LegPhase;
 use run_plan::Number;
@@ -51,16 +50,13 @@ impl Leg {
         }
     }
 
-    /// The leg as it goes on, where it has a rule.
-    pub(crate) fn next(&self) -> Option<Leg>
-        ensures { result ≡ next_leg self.now }
+    /// The leg in another phase.
+    pub(crate) fn in_phase(&self, phase: LegPhase) -> Leg
+        ensures { result ≡ leg_in_phase phase self.now }
     {
-        match self.phase.next() {
-            Some(phase) => Some(Leg {
-                phase,
-                lease: self.lease,
-            }),
-            None => None,
+        Leg {
+            phase,
+            lease: self.lease,
         }
     }
 
@@ -82,12 +78,6 @@ impl Leg {
             phase: self.phase.stopped(),
             lease: self.lease,
         }
-    }
-
-    pub(crate) fn goes_on(&self) -> bool
-        ensures { result ≡ goes_on self.now }
-    {
-        self.phase.next().is_some()
     }
 
     pub(crate) fn has_ended(&self) -> bool

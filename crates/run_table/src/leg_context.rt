@@ -3,11 +3,11 @@ ghost use Rattle.std.specs.Option.{option_copied};
 ghost use Rattle.wf_value.specs.Words.{result_word};
 ghost use Rattle.wf_value.specs.declared.scalar.Scalar.TheVariants.{Text};
 ghost use Rattle.wf_expr.specs.ScalarView.{shown};
-ghost use Rattle.wf_reader.specs.Event.{event_of};
-ghost use Rattle.run_table.specs.LegContext.{contexts_of, github_of, inner_value, matrix_of, name_or_path, service_value, strategy_of};
+ghost use Rattle.run_table.specs.LegContext.{contexts_of, github_of, inner_value, matrix_of, service_value, strategy_of};
 ghost use Rattle.run_table.specs.LegContext.{result_of_need, under};
 
 use crate::direct_needs::result_of_need;
+use crate::github_context::github_member;
 use crate::run::Run;
 use run_plan::{PlannedJob, Prepared};
 use std::marker::Model;
@@ -115,27 +115,7 @@ impl<'a> LegContext<'a> {
     fn github(&self, name: &str) -> Option<ScalarView<'_>>
         ensures { option_map shown result ≡ under name.now (github_of self.now) }
     {
-        match name {
-            "workflow" => Some(ScalarView::Text(self.workflow_name())),
-            "repository" => Some(ScalarView::Text(self.event().repo().as_str())),
-            "event_name" => Some(ScalarView::Text(self.event().event().as_str())),
-            "run_id" => Some(ScalarView::Text(self.run_id)),
-            "run_number" => Some(ScalarView::Text(self.run_number)),
-            "run_attempt" => Some(ScalarView::Text("1")),
-            _ => None,
-        }
-    }
-
-    /// The workflow's name, or its path where it has none.
-    fn workflow_name(&self) -> &str
-        ensures { let event = event_of self.now.event.body in result.now ≡ name_or_path event.workflow.name event.path }
-    {
-        let name = self.event().workflow_name().as_str();
-        if name.is_empty() {
-            self.event().path().as_str()
-        } else {
-            name
-        }
+        github_member(self.event(), self.run_id, self.run_number, name)
     }
 
     fn strategy(&self, name: &str) -> Option<ScalarView<'_>>

@@ -37,7 +37,8 @@ pub enum RunPhase {
 impl LegPhase {
     ghost use Rattle.run_table.specs.Fitting.{is_ready, is_stopping_leg};
     ghost use Rattle.run_table.specs.Parallel.{is_at_work};
-    ghost use Rattle.run_table.specs.Rules.{next_leg_phase, outcome_of};
+    ghost use Rattle.run_table.specs.Groups.{leg_holds, leg_waits};
+    ghost use Rattle.run_table.specs.StateWords.{is_new, outcome_of};
     ghost use Rattle.run_table.specs.Stops.{stopped_phase};
 
     pub(crate) fn is_ready(self) -> bool
@@ -84,14 +85,35 @@ impl LegPhase {
         }
     }
 
-    /// The phase that settling gives the leg, where it gives one.
-    pub(crate) fn next(self) -> Option<LegPhase>
-        ensures { result ≡ next_leg_phase self }
+    /// Whether the leg has not arrived yet.
+    pub(crate) fn is_new(self) -> bool
+        ensures { result ≡ is_new self }
     {
         match self {
-            LegPhase::New => Some(LegPhase::Waiting),
-            LegPhase::Waiting => Some(LegPhase::Ready),
-            LegPhase::Ready | LegPhase::Running | LegPhase::Stopping | LegPhase::Ended(_) => None,
+            LegPhase::New => true,
+            LegPhase::Waiting | LegPhase::Ready | LegPhase::Running => false,
+            LegPhase::Stopping | LegPhase::Ended(_) => false,
+        }
+    }
+
+    /// Whether the leg waits for its concurrency group.
+    pub(crate) fn waits(self) -> bool
+        ensures { result ≡ leg_waits self }
+    {
+        match self {
+            LegPhase::Waiting => true,
+            LegPhase::New | LegPhase::Ready => false,
+            LegPhase::Running | LegPhase::Stopping | LegPhase::Ended(_) => false,
+        }
+    }
+
+    /// Whether the leg holds its concurrency group.
+    pub(crate) fn holds(self) -> bool
+        ensures { result ≡ leg_holds self }
+    {
+        match self {
+            LegPhase::Stopping | LegPhase::Running | LegPhase::Ready => true,
+            LegPhase::New | LegPhase::Waiting | LegPhase::Ended(_) => false,
         }
     }
 
@@ -108,7 +130,7 @@ impl LegPhase {
 
 impl JobPhase {
     ghost use Rattle.run_table.specs.JobResults.{settled_result};
-    ghost use Rattle.run_table.specs.Rules.{is_blocked, is_open};
+    ghost use Rattle.run_table.specs.StateWords.{is_blocked, is_open};
 
     pub(crate) fn is_blocked(self) -> bool
         ensures { result ≡ is_blocked self }
@@ -140,7 +162,8 @@ impl JobPhase {
 }
 
 impl RunPhase {
-    ghost use Rattle.run_table.specs.Rules.{is_live, next_run_phase};
+    ghost use Rattle.run_table.specs.Groups.{run_waits};
+    ghost use Rattle.run_table.specs.StateWords.{is_live};
 
     pub(crate) fn is_live(self) -> bool
         ensures { result ≡ is_live self }
@@ -151,14 +174,13 @@ impl RunPhase {
         }
     }
 
-    /// The phase that settling gives the run, where it gives one.
-    pub(crate) fn next(self, all_settled: bool) -> Option<RunPhase>
-        ensures { result ≡ next_run_phase self all_settled }
+    /// Whether the run waits for its concurrency group.
+    pub(crate) fn waits(self) -> bool
+        ensures { result ≡ run_waits self }
     {
         match self {
-            RunPhase::Waiting => Some(RunPhase::Live),
-            RunPhase::Live if all_settled => Some(RunPhase::Ended),
-            RunPhase::Live | RunPhase::Ended => None,
+            RunPhase::Waiting => true,
+            RunPhase::Live | RunPhase::Ended => false,
         }
     }
 }

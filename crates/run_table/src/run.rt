@@ -89,7 +89,7 @@ impl Run {
         self.jobs.as_slice()
     }
 
-    fn job_count(&self) -> usize
+    pub(crate) fn job_count(&self) -> usize
         ensures { result ≡ length self.now.jobs }
     {
         self.jobs.len()

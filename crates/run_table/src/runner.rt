@@ -1,7 +1,6 @@
-ghost use Rattle.std.specs.Prelude.{◌≡◌, find, Ok, None, Some, option_map, OnErr, false};
-ghost use Rattle.std.specs.List.{position};
+ghost use Rattle.std.specs.Prelude.{◌≡◌, Ok, None, Some, option_map, false};
 ghost use Rattle.wf_value.specs.Gives.{Gives};
-ghost use Rattle.run_table.specs.Turns.{holds_lease, holds_this, is_named, runner_named, with_runner};
+ghost use Rattle.run_table.specs.Turns.{holds_lease, holds_this};
 
 use run_plan::{Claim, ClaimReply, Done, LastCommand, Number, RunnerName};
 use std::alloc::Global;
@@ -92,23 +91,6 @@ impl TryCopy for Runner {
     }
 }
 
-/// The runner of a name.
-pub fn runner_named<'a>(runners: &'a [Runner], name: &RunnerName) -> Option<&'a Runner>
-    ensures { option_map (λ r. r.now) result ≡ runner_named runners.now name.now }
-{
-    runners
-        .iter()
-        .find(|runner| runner.name.as_str() == name.as_str())
-}
-
-fn position_named(runners: &[Runner], name: &RunnerName) -> Option<usize>
-    ensures { result ≡ position (is_named name.now) runners.now }
-{
-    runners
-        .iter()
-        .position(|runner| runner.name.as_str() == name.as_str())
-}
-
 /// Whether the runner, if there is one, holds a lease.
 pub fn holds_lease(runner: Option<&Runner>) -> bool
     ensures { result ≡ holds_lease (option_map (λ r. r.now) runner.entry) }
@@ -127,16 +109,4 @@ pub fn holds_this(runner: Option<&Runner>, lease: Number) -> bool
         Some(runner) => runner.holds_this(lease),
         None => false,
     }
-}
-
-/// Puts the runner in the place of that of its name, or at the end. At an error the runners are as they were.
-pub fn put_runner(runners: &mut Vec<Runner>, runner: Runner) -> Result<(), Refusal>
-    ensures put { Gives (λ _. runners.new.items) result (Ok (with_runner runners.old.items runner)) }
-    ensures err { OnErr result (runners.new.items ≡ runners.old.items) }
-{
-    match position_named(runners, &runner.name) {
-        Some(i) => runners[i] = runner,
-        None => runners.push(runner)?,
-    }
-    Ok(())
 }

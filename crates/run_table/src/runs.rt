@@ -13,8 +13,10 @@ ghost use Rattle.run_table.specs.Words.{combo_at, job_id, passes_over};
 
 mod changes;
 mod ending;
+mod groups;
 mod settling;
 
+use crate::groups::RunGroups;
 use crate::job::Job;
 use crate::leg::Leg;
 use crate::leg_view::LegView;
@@ -34,10 +36,13 @@ pub struct Runs {
     runs: Vec<Run>,
     /// The number of each, among the runs of its workflow.
     numbers: Vec<usize>,
+    /// What each, and its legs, ask of concurrency groups.
+    groups: Vec<RunGroups>,
 }
 
 impl Model for Runs {
     ghost use Rattle.std.specs.Prelude.{List};
+    ghost use Rattle.run_table.specs.BoundGroups.{AreBound};
     ghost use Rattle.run_table.specs.RunNumber.{AreNumbered};
     ghost use Rattle.run_table.specs.TableState.{RunState};
 
@@ -45,7 +50,7 @@ impl Model for Runs {
 
     ghost view = { λ r. r.runs.items };
 
-    ghost invariant = { λ r. AreNumbered r.runs.items r.numbers.items };
+    ghost invariant = { λ r. AreNumbered r.runs.items r.numbers.items × AreBound r.runs.items r.groups.items };
 }
 
 impl Runs {
@@ -55,6 +60,7 @@ impl Runs {
         Runs {
             runs: Vec::new(alloc),
             numbers: Vec::new(alloc),
+            groups: Vec::new(alloc),
         }
     }
 
@@ -177,14 +183,23 @@ impl Runs {
         job.legs().get(place.leg)
     }
 
-    /// Adds a run at the end. At an error it is not added.
-    pub(crate) fn add(&mut self, run: Run) -> Result<(), Refusal>
+    /// Adds a run at the end, with what it and its legs ask of groups. At an error it is not added.
+    pub(crate) fn add(&mut self, alloc: Global, run: Run) -> Result<(), Refusal>
         requires { length self.old < 100000 }
         ensures added { Gives (λ _. self.new) result (Ok (self.old ++ run ∷ [])) }
         ensures err { OnErr result (self.new ≡ self.old) }
     {
         let number = count_same(&run, &self.runs) + 1;
-        push_both(&mut self.runs, &mut self.numbers, run, number)
+        let asked = RunGroups::bind(alloc, &run, self.runs.len() + 1, number)?;
+        let numbers = &mut self.numbers;
+        push_all(
+            &mut self.runs,
+            numbers,
+            &mut self.groups,
+            run,
+            number,
+            asked,
+        )
     }
 }
 
@@ -193,6 +208,7 @@ impl TryCopy for Runs {
         Ok(Runs {
             runs: copy_items(alloc, &self.runs)?,
             numbers: Vec::from_slice(alloc, self.numbers.as_slice())?,
+            groups: copy_items(alloc, &self.groups)?,
         })
     }
 }
@@ -239,6 +255,32 @@ fn push_both(
         Err(error) => {
             let _ = numbers.pop();
             Err(Refusal::from(error))
+        }
+    }
+}
+
+/// Adds a run with its number and what it asks of groups, or none of these.
+fn push_all(
+    runs: &mut Vec<Run>,
+    numbers: &mut Vec<usize>,
+    groups: &mut Vec<RunGroups>,
+    run: Run,
+    number: usize,
+    asked: RunGroups,
+) -> Result<(), Refusal>
+    ensures run { Gives (λ _. runs.new.items) result (Ok (runs.old.items ++ run ∷ [])) }
+    ensures number { OnOk result (numbers.new.items ≡ numbers.old.items ++ number ∷ []) }
+    ensures asked { OnOk result (groups.new.items ≡ groups.old.items ++ asked ∷ []) }
+    ensures same_runs { OnErr result (runs.new.items ≡ runs.old.items) }
+    ensures same_numbers { OnErr result (numbers.new.items ≡ numbers.old.items) }
+    ensures same_groups { OnErr result (groups.new.items ≡ groups.old.items) }
+{
+    groups.push(asked)?;
+    match push_both(runs, numbers, run, number) {
+        Ok(()) => Ok(()),
+        Err(refusal) => {
+            let _ = groups.pop();
+            Err(refusal)
         }
     }
 }

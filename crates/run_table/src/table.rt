@@ -3,6 +3,7 @@ ghost use Rattle.wf_value.specs.Gives.{Gives};
 ghost use Rattle.run_table.specs.Sound.{IsSound};
 ghost use Rattle.run_table.specs.Stored.{IsStorable};
 ghost use Rattle.run_table.specs.Step.{answered, empty, is_free, seen, step};
+ghost use Rattle.run_table.specs.Turns.{names_rise};
 
 use crate::content::Content;
 use crate::run::Run;
@@ -62,6 +63,7 @@ impl Table {
     /// The last lease that was given, 0 where none was. It takes no memory.
     pub fn last_lease(&self) -> u32
         ensures lease { result ≡ self.now.last_lease }
+        ensures sound { IsSound self.now }
         ensures most { result ≤ 999999999 }
     {
         self.content.last_lease()
@@ -76,9 +78,10 @@ impl Table {
         self.content.runs()
     }
 
-    /// The runners. It takes no memory.
+    /// The runners, in the order of their names. It takes no memory.
     pub fn runners(&self) -> &[Runner]
-        ensures { result.now ≡ self.now.runners }
+        ensures runners { result.now ≡ self.now.runners }
+        ensures rise { names_rise self.now.runners ≡ true }
     {
         self.content.runners()
     }

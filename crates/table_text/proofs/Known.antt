@@ -15,7 +15,7 @@ use Rattle.wf_reader.specs.Body.{json_of}
 use Rattle.wf_reader.specs.Event.{event_faults, event_faults_in, event_of}
 use Rattle.wf_reader.specs.Faults.{fault, required, unless_faulty}
 use Rattle.run_plan.specs.Admitted.{Admitted}
-use Rattle.run_plan.specs.PlanOf.{faults_of, run_faults}
+use Rattle.run_plan.specs.PlanOf.{faults_of, plan_faults}
 use Rattle.run_plan.specs.SmallText.{is_of_short_length, is_short, is_label_byte, are_labels}
 use Rattle.table_text.specs.declared.not_read.NotRead.{NotRead}
 use Rattle.table_text.specs.declared.not_read.NotRead.TheVariants.{NoMemory, NoSpelling}
@@ -122,7 +122,7 @@ begun x (f ∷ fs) gs is h = cc
 -- a longer body has a fault
 long_body : (b : List ℕ) → nat_le (length b) 65536 ≡ false → faults_of b ≡ [] → ⊥
 long_body b long h =
-    begun (Numbered TooLong) (event_faults b) (run_faults (event_of b).workflow)
+    begun (Numbered TooLong) (event_faults b) (plan_faults (event_of b).workflow)
     (ap (λ t. if t then required NotJson event_faults_in (json_of b) else fault TooLong) long) h
 
 -- it has 65,536 bytes at most

@@ -13,6 +13,7 @@ use Rattle.wf_value.specs.declared.outcome.Outcome.TheVariants as outcome
 use Rattle.run_table.specs.Places.{job_at}
 use Rattle.run_table.specs.Stored.{IsStorable, stored_runner, stored_table}
 use Rattle.run_table.specs.TableState.{LegState, JobState, RunState, RunnerState, TableState}
+use Rattle.run_table.specs.Turns.{names_rise}
 use Rattle.run_table.specs.declared.phases.JobPhase.{JobPhase}
 use Rattle.run_table.specs.declared.phases.JobPhase.TheVariants as job_phase
 use Rattle.run_table.specs.declared.phases.LegPhase.{LegPhase}
@@ -20,7 +21,7 @@ use Rattle.run_table.specs.declared.phases.LegPhase.TheVariants as leg_phase
 use Rattle.run_table.specs.declared.phases.RunPhase.{RunPhase}
 use Rattle.run_table.specs.declared.phases.RunPhase.TheVariants as run_phase
 use Rattle.table_text.specs.Commands.{admit}
-use Rattle.table_text.specs.Tables.{IsLease, flag_byte, job, job_byte, jobs_planned, leg, leg_byte, names_rise, run, run_byte, runner, table}
+use Rattle.table_text.specs.Tables.{IsLease, flag_byte, job, job_byte, jobs_planned, leg, leg_byte, run, run_byte, runner, table}
 use Rattle.table_text.specs.Format.{word_bytes}
 use Rattle.table_text.specs.Writing.{HasByte, JobHasBytes, RunHasBytes}
 
@@ -75,7 +76,7 @@ pub all_behind : {X Y : Type 0} (P : Y → Type 0) (f : X → Y) (xs : List X) �
 all_behind P f [] all = tt
 all_behind P f (x ∷ xs) all = (all.0, all_behind P f xs all.1)
 
-pub rises_over : {X Y : Type 0} (name : Y → List ℕ) (f : X → Y) (xs : List X) → rises_by name (map f xs) ≡ rises_by (λ x. name (f x)) xs
+rises_over : {X Y : Type 0} (name : Y → List ℕ) (f : X → Y) (xs : List X) → rises_by name (map f xs) ≡ rises_by (λ x. name (f x)) xs
 rises_over name f [] = refl
 rises_over name f (x ∷ []) = refl
 rises_over name f (x ∷ y ∷ ys) = ap (λ b. is_lt (slice_cmp nat_cmp (name (f x)) (name (f y))) && b) (rises_over name f (y ∷ ys))
@@ -143,9 +144,10 @@ table_bytes t old a b c d e lease runs runners one two three four five same_leas
     ++ (word_bytes (length (map stored_runner t.runners)) ++ l)))) (sym (flat_map-map runner.spelling stored_runner t.runners))
 
 pub table_takes : (t : TableState) → t.last_lease ≤ 999999999 → length t.runs ≤ 100000 → AllByRecursion run.Takes t.runs → length t.runners ≤ 4294967295
-    → AllByRecursion (λ (r : RunnerState). runner.Takes (stored_runner r)) t.runners → names_rise (stored_table t).runners ≡ true → table.Takes (stored_table t)
+    → AllByRecursion (λ (r : RunnerState). runner.Takes (stored_runner r)) t.runners → names_rise t.runners ≡ true → table.Takes (stored_table t)
 table_takes t low few runs most runners rise =
-    let same = length-map t.runners stored_runner in (
+    let same = length-map t.runners stored_runner in
+    let rises = rises_over (λ r. r.name) stored_runner t.runners ∙ rise in (
       (omega (arith, low), le-leb t.last_lease 999999999 low),
-      ((omega arith, few, runs), ((omega arith, omega (arith, same, most), all_seen runner.Takes stored_runner t.runners runners), rise)),
+      ((omega arith, few, runs), ((omega arith, omega (arith, same, most), all_seen runner.Takes stored_runner t.runners runners), rises)),
     )

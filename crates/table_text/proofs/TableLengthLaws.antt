@@ -12,8 +12,8 @@ use Rattle.table_text.specs.Commands.{admit, command_bytes}
 use Rattle.table_text.specs.Format.{text_bytes, word_bytes}
 use Rattle.table_text.specs.Lengths.{command_length, fields_length, length_of, text_length}
 use Rattle.table_text.specs.TableLengths.{job_length, last_length, run_length, runner_length, table_length}
-use Rattle.table_text.specs.Tables.{flag_byte, job, kept, last_command, lease, leg, run, run_byte, runner, table}
-use Rattle.table_text.specs.Tables.Kept.{nothing, leased, done}
+use Rattle.table_text.specs.Tables.{flag_byte, job, job_byte, kept, kept_parts, last_command, last_parts, lease, leg, leg_byte, run, run_byte, runner, table}
+use Rattle.table_text.specs.declared.kept.Kept.TheVariants as replied
 use Rattle.table_text.proofs.LengthLaws.{behind_one, length_admit, length_command, length_counted, length_text, length_two, length_word, sum_same}
 
 length_leg : (l : LegState) → length_of leg l ≡ 5
@@ -53,17 +53,17 @@ length_run r =
 
 length_last : (l : LastParts) → length_of last_command l ≡ last_length l
 length_last (last.Claim claim None) =
-    length_two (command_bytes (asked.Claim claim)) (kept.spelling nothing) (command_length (asked.Claim claim)) 5 (length_command (asked.Claim claim)) (length_kept 0 0)
+    length_two (command_bytes (asked.Claim claim)) (kept.spelling replied.Nothing) (command_length (asked.Claim claim)) 5 (length_command (asked.Claim claim)) (length_kept 0 0)
     ∙ omega arith
   where
     length_kept : (b n : ℕ) → length (b ∷ word_bytes n) ≡ 5
     length_kept b n = behind_one (word_bytes n) (length_word n) ∙ omega arith
 length_last (last.Claim claim (Some n)) =
-    length_two (command_bytes (asked.Claim claim)) (kept.spelling (leased n)) (command_length (asked.Claim claim)) 5 (length_command (asked.Claim claim))
+    length_two (command_bytes (asked.Claim claim)) (kept.spelling (replied.Leased n)) (command_length (asked.Claim claim)) 5 (length_command (asked.Claim claim))
     (behind_one (word_bytes n) (length_word n) ∙ omega arith)
     ∙ omega arith
 length_last (last.Done report) =
-    length_two (command_bytes (asked.Done report)) (kept.spelling done) (command_length (asked.Done report)) 5 (length_command (asked.Done report))
+    length_two (command_bytes (asked.Done report)) (kept.spelling replied.Done) (command_length (asked.Done report)) 5 (length_command (asked.Done report))
     (behind_one (word_bytes 0) (length_word 0) ∙ omega arith)
     ∙ omega arith
 

@@ -28,9 +28,11 @@ use Rattle.table_text.specs.ReadingCommands.{admit_at, command_at, number_at, sm
 use Rattle.table_text.specs.ReadingTables.{course_at, flag_at, job_at, job_phase_at, job_phases, kept_at, kept_of, last_at, last_lease_at, last_of, last_with, lease_at}
 use Rattle.table_text.specs.ReadingTables.{claim_with, lease_of, leg_at, leg_phase_at, leg_phases, of_byte, report_with, run_at, run_phase_at, run_phases, runner_at, runners_at, runs_at}
 use Rattle.table_text.specs.ReadingTables.{table_at, with_lease, without_lease}
-use Rattle.table_text.specs.Tables.{IsLease, Kept, flag_byte, is_last_lease, job, job_byte, jobs_planned, kept, kept_parts, last_command, last_parts, lease}
+use Rattle.table_text.specs.Tables.{IsLease, flag_byte, is_last_lease, job, job_byte, jobs_planned, kept, kept_parts, last_command, last_parts, lease}
 use Rattle.table_text.specs.Tables.{lease_word, leg, leg_byte, names_rise, run, run_byte, runner, table}
-use Rattle.table_text.specs.Tables.Kept.{nothing, leased, done}
+use Rattle.table_text.specs.declared.kept.Kept.{Kept}
+use Rattle.table_text.specs.declared.kept.Kept.TheVariants as replied
+use Rattle.table_text.proofs.Bytes.{AreBytes, AreBytes-drop}
 use Rattle.table_text.proofs.CommandReaders.{admit_reads, chosen, command_reads, number_reads, small_text_reads}
 use Rattle.table_text.proofs.FormReaders.{byte_reads, follow_reads, row_reads, some_reads}
 use Rattle.table_text.proofs.Readers.{Fronts, Reads, bind_some, both, counted_reads, only_reads, pair_reads, parts_reads, some_bind, word_reads}
@@ -186,31 +188,31 @@ run_reads =
 -- ---- runners
 
 kept_there : (k : Kept) → kept_of (kept_parts k) ≡ Some k
-kept_there nothing = refl
-kept_there (leased n) = refl
-kept_there done = refl
+kept_there replied.Nothing = refl
+kept_there (replied.Leased n) = refl
+kept_there replied.Done = refl
 
 bare : (k : Kept) (l : Option ℕ) (found : Kept) → without_lease k l ≡ Some found → (k ≡ found) × (l ≡ None)
 bare k None found h = (same_Some k found h, refl)
 bare k (Some n) found h = absurd (none-some found h)
 
-with_one : (l : Option ℕ) (found : Kept) → with_lease l ≡ Some found → (n : ℕ) × (l ≡ Some n) × (leased n ≡ found)
+with_one : (l : Option ℕ) (found : Kept) → with_lease l ≡ Some found → (n : ℕ) × (l ≡ Some n) × (replied.Leased n ≡ found)
 with_one None found h = absurd (none-some found h)
-with_one (Some n) found h = (n, refl, same_Some (leased n) found h)
+with_one (Some n) found h = (n, refl, same_Some (replied.Leased n) found h)
 
 kept_back : (a : ℕ × Option ℕ) (k : Kept) → kept_of a ≡ Some k → kept_parts k ≡ a
 kept_back (b, l) k h =
-    let third : Option Kept = if b == 2 then without_lease done l else None in
+    let third : Option Kept = if b == 2 then without_lease replied.Done l else None in
     let second : Option Kept = if b == 1 then with_lease l else third in
     let same : (c : ℕ) (m : Option ℕ) (of : Kept) → (b == c) ≡ true → kept_parts of ≡ (c, m) → l ≡ m → of ≡ k → kept_parts k ≡ (b, l) =
     λ c m of is parts same_lease found.
     ap kept_parts (sym found) ∙ parts ∙ ap (λ n. (n, m)) (sym (eqb-true b c is)) ∙ ap (λ (o : Option ℕ). (b, o)) (sym same_lease) in
-    elim (chosen (b == 0) (without_lease nothing l) second (Some k) h) [
-      | inl zero ↦ (let by = bare nothing l k zero.1 in same 0 None nothing zero.0 refl by.1 by.0)
+    elim (chosen (b == 0) (without_lease replied.Nothing l) second (Some k) h) [
+      | inl zero ↦ (let by = bare replied.Nothing l k zero.1 in same 0 None replied.Nothing zero.0 refl by.1 by.0)
       | inr more ↦ elim (chosen (b == 1) (with_lease l) third (Some k) more.1) [
-        | inl one ↦ (let by = with_one l k one.1 in same 1 (Some by.0) (leased by.0) one.0 refl by.1 by.2)
-        | inr most ↦ elim (chosen (b == 2) (without_lease done l) None (Some k) most.1) [
-          | inl two ↦ (let by = bare done l k two.1 in same 2 None done two.0 refl by.1 by.0)
+        | inl one ↦ (let by = with_one l k one.1 in same 1 (Some by.0) (replied.Leased by.0) one.0 refl by.1 by.2)
+        | inr most ↦ elim (chosen (b == 2) (without_lease replied.Done l) None (Some k) most.1) [
+          | inl two ↦ (let by = bare replied.Done l k two.1 in same 2 None replied.Done two.0 refl by.1 by.0)
           | inr none ↦ absurd (none-some k none.1)
         ]
       ]
@@ -226,14 +228,14 @@ last_there (last.Claim claim (Some n)) = refl
 last_there (last.Done report) = refl
 
 claim_back : (claim : Claim) (k : Kept) (l : LastParts) → claim_with claim k ≡ Some l → last_parts l ≡ (asked.Claim claim, k)
-claim_back claim nothing l h = ap last_parts (sym (same_Some (last.Claim claim None) l h))
-claim_back claim (leased n) l h = ap last_parts (sym (same_Some (last.Claim claim (Some n)) l h))
-claim_back claim done l h = absurd (none-some l h)
+claim_back claim replied.Nothing l h = ap last_parts (sym (same_Some (last.Claim claim None) l h))
+claim_back claim (replied.Leased n) l h = ap last_parts (sym (same_Some (last.Claim claim (Some n)) l h))
+claim_back claim replied.Done l h = absurd (none-some l h)
 
 report_back : (report : Done) (k : Kept) (l : LastParts) → report_with report k ≡ Some l → last_parts l ≡ (asked.Done report, k)
-report_back report nothing l h = absurd (none-some l h)
-report_back report (leased n) l h = absurd (none-some l h)
-report_back report done l h = ap last_parts (sym (same_Some (last.Done report) l h))
+report_back report replied.Nothing l h = absurd (none-some l h)
+report_back report (replied.Leased n) l h = absurd (none-some l h)
+report_back report replied.Done l h = ap last_parts (sym (same_Some (last.Done report) l h))
 
 last_back_of : (c : Command) (k : Kept) (l : LastParts) → last_with c k ≡ Some l → last_parts l ≡ (c, k)
 last_back_of (asked.Admit event) k l h = absurd (none-some l h)

@@ -18,13 +18,18 @@ use Rattle.run_table.specs.declared.phases.LegPhase.{LegPhase}
 use Rattle.run_table.specs.declared.phases.LegPhase.TheVariants as leg_phase
 use Rattle.run_table.specs.declared.phases.RunPhase.{RunPhase}
 use Rattle.run_table.specs.declared.phases.RunPhase.TheVariants as run_phase
+use Rattle.table_text.specs.declared.kept.Kept.{Kept}
+use Rattle.table_text.specs.declared.kept.Kept.TheVariants as replied
 use Rattle.table_text.specs.Commands.{is_numbered}
 use Rattle.table_text.specs.Reading.{Reader, byte_at, counted_at, follow_at, items_at, only_at, pair_at, parts_at, some_at, word_at}
 use Rattle.table_text.specs.ReadingCommands.{admit_at, command_at, number_at, small_text_at}
-use Rattle.table_text.specs.Tables.{Kept, flag_byte, is_last_lease, job_byte, jobs_planned, leg_byte, names_rise, run_byte}
-use Rattle.table_text.specs.Tables.Kept.{nothing, leased, done}
+use Rattle.table_text.specs.Tables.{flag_byte, is_last_lease, job_byte, jobs_planned, leg_byte, names_rise, run_byte}
 
--- 0 is none, and other numbers are leases up to 999,999,999
+-- 0 is none
+abbrev pub lease_told : ℕ → Option ℕ
+lease_told n = if n == 0 then None else Some n
+
+-- and other numbers are leases up to 999,999,999
 abbrev pub lease_of : ℕ → Option (Option ℕ)
 lease_of n = if n == 0 then Some None else (if is_numbered n then Some (Some n) else None)
 
@@ -48,6 +53,9 @@ job_phases =
 abbrev pub run_phases : List RunPhase
 run_phases = run_phase.Waiting ∷ run_phase.Live ∷ run_phase.Ended ∷ []
 
+abbrev pub flags : List Bool
+flags = false ∷ true ∷ []
+
 unfoldable pub leg_phase_at : Reader LegPhase
 leg_phase_at bytes = only_at (λ p. not (is_new p)) (some_at (of_byte leg_byte leg_phases) byte_at) bytes
 
@@ -58,7 +66,7 @@ unfoldable pub run_phase_at : Reader RunPhase
 run_phase_at bytes = some_at (of_byte run_byte run_phases) byte_at bytes
 
 unfoldable pub flag_at : Reader Bool
-flag_at bytes = some_at (of_byte flag_byte (false ∷ true ∷ [])) byte_at bytes
+flag_at bytes = some_at (of_byte flag_byte flags) byte_at bytes
 
 unfoldable pub leg_at : Reader LegState
 leg_at bytes = parts_at (λ (p : LegPhase × Option ℕ). record { phase = p.0; lease = p.1 }) (pair_at leg_phase_at lease_at) bytes
@@ -83,26 +91,26 @@ without_lease kept (Some n) = None
 
 abbrev pub with_lease : Option ℕ → Option Kept
 with_lease None = None
-with_lease (Some n) = Some (leased n)
+with_lease (Some n) = Some (replied.Leased n)
 
 abbrev pub kept_of : ℕ × Option ℕ → Option Kept
 kept_of p =
-    if p.0 == 0 then without_lease nothing p.1
+    if p.0 == 0 then without_lease replied.Nothing p.1
     else (if p.0 == 1 then with_lease p.1
-    else (if p.0 == 2 then without_lease done p.1 else None))
+    else (if p.0 == 2 then without_lease replied.Done p.1 else None))
 
 unfoldable pub kept_at : Reader Kept
 kept_at bytes = some_at kept_of (pair_at byte_at lease_at) bytes
 
 abbrev pub claim_with : Claim → Kept → Option LastParts
-claim_with claim nothing = Some (last.Claim claim None)
-claim_with claim (leased n) = Some (last.Claim claim (Some n))
-claim_with claim done = None
+claim_with claim replied.Nothing = Some (last.Claim claim None)
+claim_with claim (replied.Leased n) = Some (last.Claim claim (Some n))
+claim_with claim replied.Done = None
 
 abbrev pub report_with : Done → Kept → Option LastParts
-report_with report nothing = None
-report_with report (leased n) = None
-report_with report done = Some (last.Done report)
+report_with report replied.Nothing = None
+report_with report (replied.Leased n) = None
+report_with report replied.Done = Some (last.Done report)
 
 abbrev pub last_with : Command → Kept → Option LastParts
 last_with (asked.Admit event) kept = None

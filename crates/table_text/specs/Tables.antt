@@ -19,7 +19,9 @@ use Rattle.run_table.specs.declared.phases.LegPhase.{LegPhase}
 use Rattle.run_table.specs.declared.phases.LegPhase.TheVariants as leg_phase
 use Rattle.run_table.specs.declared.phases.RunPhase.{RunPhase}
 use Rattle.run_table.specs.declared.phases.RunPhase.TheVariants as run_phase
-use Rattle.table_text.specs.Commands.{admit, command, number, small_text}
+use Rattle.table_text.specs.declared.kept.Kept.{Kept}
+use Rattle.table_text.specs.declared.kept.Kept.TheVariants as replied
+use Rattle.table_text.specs.Commands.{admit, command, is_numbered, number, small_text}
 use Rattle.table_text.specs.Format.{Format, byte, counted, follow, only, pair, parts, row, word, word_bytes}
 
 -- ---- leases
@@ -85,26 +87,20 @@ run = parts (λ (r : RunState). (r.admitted, (r.phase, (r.stopping, r.jobs))))
 
 -- ---- runners
 
--- what is kept of the reply to a last command: nothing to a claim, a lease, or ok to a report
-pub data Kept : Type 0 where
-  nothing : Kept
-  leased : ℕ → Kept
-  done : Kept
-
--- its byte, and its lease
+-- What is kept of the reply to a last command: nothing to a claim, a lease, or ok to a report. Its byte, and its lease.
 abbrev pub kept_parts : Kept → ℕ × Option ℕ
-kept_parts nothing = (0, None)
-kept_parts (leased n) = (1, Some n)
-kept_parts done = (2, None)
+kept_parts replied.Nothing = (0, None)
+kept_parts (replied.Leased n) = (1, Some n)
+kept_parts replied.Done = (2, None)
 
 abbrev pub kept : Format Kept
 kept = parts kept_parts (pair byte lease)
 
 -- the command, and what is kept of its reply
 abbrev pub last_parts : LastParts → Command × Kept
-last_parts (last.Claim claim None) = (asked.Claim claim, nothing)
-last_parts (last.Claim claim (Some n)) = (asked.Claim claim, leased n)
-last_parts (last.Done report) = (asked.Done report, done)
+last_parts (last.Claim claim None) = (asked.Claim claim, replied.Nothing)
+last_parts (last.Claim claim (Some n)) = (asked.Claim claim, replied.Leased n)
+last_parts (last.Done report) = (asked.Done report, replied.Done)
 
 abbrev pub last_command : Format LastParts
 last_command = parts last_parts (pair command kept)

@@ -43,7 +43,7 @@ fn prepared_of(
 }
 
 #[tactic(auto, unfolding(crate::specs::ReadingCommands::admit_at, crate::specs::ReadingCommands::body_at))]
-fn admit_at(alloc: Global, bytes: &[u8]) -> Result<(Prepared, &[u8]), NotRead>
+pub(crate) fn admit_at(alloc: Global, bytes: &[u8]) -> Result<(Prepared, &[u8]), NotRead>
     ensures { Finds (λ f. (f.0, f.1.now)) result (admit_at bytes.now) }
 {
     let (delivery, rest) = small_text_at::<DeliveryForm>(alloc, bytes)?;

@@ -3,15 +3,16 @@ ghost use Rattle.run_plan.specs.SmallText.{is_label_byte, short_text_of};
 ghost use Rattle.table_text.specs.Commands.{is_numbered};
 ghost use Rattle.table_text.specs.Reading.{Finds, items_at, kept};
 ghost use Rattle.table_text.specs.ReadingCommands.{labels_at, number_at, result_at, result_of, small_text_at};
+ghost use Rattle.table_text.specs.ReadingTables.{lease_at, lease_of, lease_told};
 
 use crate::front::{text_at, word_at};
 use crate::not_read::NotRead;
-use run_plan::{Form, Label, LabelForm, Labels, SmallText};
+use run_plan::{Form, Label, LabelForm, Labels, Number, SmallText};
 use std::alloc::Global;
 use wf_value::Outcome;
 
-/// The highest number of a command.
-const MOST: u32 = 999_999_999;
+/// The highest number of a command, and of a lease.
+pub(crate) const MOST: u32 = 999_999_999;
 
 /// How many labels a runner has at most.
 const MOST_LABELS: u32 = 16;
@@ -43,6 +44,42 @@ pub(crate) fn number_at(bytes: &[u8]) -> Result<(u32, &[u8]), NotRead>
     let (value, rest) = word_at(bytes)?;
     let value = numbered(value)?;
     Ok((value, rest))
+}
+
+/// The number, where it is 0 or that of a lease.
+fn lease_number(value: u32) -> Result<u32, NotRead>
+    ensures gives { Finds (λ n. lease_told n) result (lease_of value) }
+    ensures most { IfOk result (λ n. n ≤ 999999999) }
+{
+    if value == 0 {
+        return Ok(0);
+    }
+    if is_within(value, MOST) {
+        return Ok(value);
+    }
+    Err(NotRead::NoSpelling)
+}
+
+/// The number of the lease at the front, 0 where there is none, and what stands behind it.
+#[tactic(auto, unfolding(crate::specs::ReadingTables::lease_at))]
+pub(crate) fn lease_at(bytes: &[u8]) -> Result<(u32, &[u8]), NotRead>
+    ensures gives { Finds (λ f. (lease_told f.0, f.1.now)) result (lease_at bytes.now) }
+    ensures most { IfOk result (λ f. f.0 ≤ 999999999) }
+{
+    let (value, rest) = word_at(bytes)?;
+    let lease = lease_number(value)?;
+    Ok((lease, rest))
+}
+
+/// The lease of this number, where there is one.
+pub(crate) fn lease_told(value: u32) -> Option<Number>
+    requires { value ≤ 999999999 }
+    ensures { result ≡ lease_told value }
+{
+    if value == 0 {
+        return None;
+    }
+    Some(Number::new(value))
 }
 
 /// The text, where it is of the form.

@@ -1,6 +1,17 @@
-ghost use Rattle.table_text.specs.Reading.{Finds, bytes_at, text_at, word_at};
+ghost use Rattle.table_text.specs.Reading.{Finds, byte_at, bytes_at, text_at, word_at};
 
 use crate::not_read::NotRead;
+
+/// The byte at the front, and what stands behind it.
+#[tactic(auto, unfolding(crate::specs::Reading::byte_at))]
+pub(crate) fn byte_at(bytes: &[u8]) -> Result<(u8, &[u8]), NotRead>
+    ensures { Finds (λ f. (f.0, f.1.now)) result (byte_at bytes.now) }
+{
+    match bytes {
+        [] => Err(NotRead::NoSpelling),
+        [byte, rest @ ..] => Ok((*byte, rest)),
+    }
+}
 
 /// The number in the first four bytes, and what stands behind it.
 #[tactic(auto, unfolding(crate::specs::Reading::word_at))]

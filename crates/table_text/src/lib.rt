@@ -4,18 +4,21 @@
 mod command_at;
 mod fields;
 mod front;
+mod kept;
 pub mod laws;
 mod lengths;
 mod not_read;
-mod order;
+mod phases_at;
 mod push;
 mod push_table;
 mod read;
+mod runners_at;
+mod runs_at;
+mod table_at;
 mod table_lengths;
 mod write;
 
 pub use lengths::{batch_length, command_length};
-pub use order::runners_rise;
-pub use read::{read_batch, read_command};
+pub use read::{read_batch, read_command, read_parts};
 pub use table_lengths::table_length;
 pub use write::{write_batch, write_command, write_table};

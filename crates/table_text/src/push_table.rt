@@ -1,11 +1,11 @@
 //! The parts of a table's spelling, each appended to bytes.
 
-ghost use Rattle.std.specs.Prelude.{◌≡◌, [], ◌∷◌, ◌++◌, ◌≤◌, length, flat_map, true, OnOk};
+ghost use Rattle.std.specs.Prelude.{◌≡◌, [], ◌∷◌, ◌++◌, ◌≤◌, length, flat_map, OnOk};
 ghost use Rattle.std.specs.List.{AllByRecursion};
 ghost use Rattle.run_table.specs.Stored.{is_new, stored_last, stored_runner, stored_table};
 ghost use Rattle.run_table.specs.TableState.{JobState, RunState, RunnerState};
 ghost use Rattle.table_text.specs.Format.{word_bytes};
-ghost use Rattle.table_text.specs.Tables.{flag_byte, job, job_byte, last_command, lease, leg, leg_byte, names_rise, run, run_byte, runner, table};
+ghost use Rattle.table_text.specs.Tables.{flag_byte, job, job_byte, last_command, lease, leg, leg_byte, run, run_byte, runner, table};
 ghost use Rattle.table_text.specs.Writing.{HasByte, JobHasBytes, RunHasBytes};
 
 use crate::push::{push_admit, push_claim, push_done, push_number, push_small_text, push_word};
@@ -209,10 +209,9 @@ fn push_runner_list(out: &mut Vec<u8>, list: &[Runner]) -> Result<(), AllocError
 
 // ---- tables
 
-/// Appends the spelling of a table whose runners stand in the order of their names.
+/// Appends the spelling of a table.
 pub(crate) fn push_table(out: &mut Vec<u8>, value: &Table) -> Result<(), AllocError>
-    requires rise { names_rise (stored_table value.now).runners ≡ true }
-    requires most { length value.now.runners ≤ 4294967295 }
+    requires { length value.now.runners ≤ 4294967295 }
     ensures takes { OnOk result (table.Takes (stored_table value.now)) }
     ensures bytes { OnOk result (out.new.items ≡ out.old.items ++ table.spelling (stored_table value.now)) }
 {

@@ -3,10 +3,13 @@ ghost use Rattle.std.specs.Option.{option_map};
 ghost use Rattle.wf_value.specs.Gives.{no_memory};
 ghost use Rattle.table_text.specs.Commands.{batch, command};
 ghost use Rattle.table_text.specs.Format.{StandsAtFront};
+ghost use Rattle.table_text.specs.Tables.{table};
 
 use crate::command_at::{batch_at, command_at};
 use crate::not_read::NotRead;
+use crate::table_at::table_at;
 use run_plan::Command;
+use run_table::Parts;
 use std::alloc::Global;
 use wf_value::{Code, Refusal};
 
@@ -30,6 +33,19 @@ pub fn read_batch(alloc: Global, bytes: &[u8]) -> Result<Option<(Vec<Command>, &
     ensures refused { IfErr result (λ e. e ≡ no_memory) }
 {
     match batch_at(alloc, bytes) {
+        Ok(found) => Ok(Some(found)),
+        Err(NotRead::NoSpelling) => Ok(None),
+        Err(NotRead::NoMemory) => Err(Refusal::Numbered(Code::NoMemory)),
+    }
+}
+
+/// The parts of the table that is spelled at the front of the bytes, and the bytes behind it, or `None` where no front of them spells
+/// a table. Where memory is refused the answer is 50, and nothing is known.
+pub fn read_parts(alloc: Global, bytes: &[u8]) -> Result<Option<(Parts, &[u8])>, Refusal>
+    ensures front { IfOk result (λ found. StandsAtFront table bytes.now (option_map (λ f. (f.0, f.1.now)) found)) }
+    ensures refused { IfErr result (λ e. e ≡ no_memory) }
+{
+    match table_at(alloc, bytes) {
         Ok(found) => Ok(Some(found)),
         Err(NotRead::NoSpelling) => Ok(None),
         Err(NotRead::NoMemory) => Err(Refusal::Numbered(Code::NoMemory)),

@@ -1,9 +1,9 @@
-ghost use Rattle.std.specs.Prelude.{◌≡◌, ◌≤◌, IfErr, OnErr, OnOk, length, true};
+ghost use Rattle.std.specs.Prelude.{◌≡◌, ◌≤◌, IfErr, OnErr, OnOk, length};
 ghost use Rattle.run_table.specs.Stored.{stored_table};
 ghost use Rattle.wf_value.specs.Gives.{no_memory};
 ghost use Rattle.table_text.specs.Commands.{batch, command};
 ghost use Rattle.table_text.specs.Format.{Appends};
-ghost use Rattle.table_text.specs.Tables.{names_rise, table};
+ghost use Rattle.table_text.specs.Tables.{table};
 
 use crate::push::{push_command, push_commands, push_word};
 use crate::push_table::push_table;
@@ -39,11 +39,9 @@ pub fn write_batch(alloc: Global, out: &mut Vec<u8>, commands: &[Command]) -> Re
     Ok(())
 }
 
-/// Appends the spelling of a table whose runners stand in the order of their names. Where memory is refused, which is 50, the bytes are as
-/// they were.
+/// Appends the spelling of a table. Where memory is refused, which is 50, the bytes are as they were.
 pub fn write_table(alloc: Global, out: &mut Vec<u8>, stored: &Table) -> Result<(), Refusal>
-    requires rise { names_rise (stored_table stored.now).runners ≡ true }
-    requires most { length stored.now.runners ≤ 4294967295 }
+    requires { length stored.now.runners ≤ 4294967295 }
     ensures ok { OnOk result (Appends table out.old.items (stored_table stored.now) out.new.items) }
     ensures err { OnErr result (out.new.items ≡ out.old.items) }
     ensures refused { IfErr result (λ e. e ≡ no_memory) }

@@ -15,5 +15,6 @@ pub mod StrategyParts
 pub mod WorkflowParts
 mod ConcurrencyRows
 mod ConditionRows
+pub mod OnLiterals
 mod Rows
 mod StrategyRows

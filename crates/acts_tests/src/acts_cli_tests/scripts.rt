@@ -30,6 +30,19 @@ impl Script {
         Ok(Script { lines, answers })
     }
 
+    /// A further run, of this workflow.
+    pub fn admit(&mut self, delivery: &str, workflow: &str, answer: &str) -> Result<(), Refusal> {
+        self.lines.push_str("admit ")?;
+        self.lines.push_str(delivery)?;
+        self.lines
+            .push_str(r#" push {"repo":"o/r","path":"ci.json","workflow":"#)?;
+        self.lines.push_str(workflow)?;
+        self.lines.push_str("}\n")?;
+        self.answers.push_str(answer)?;
+        self.answers.push_str("\n")?;
+        Ok(())
+    }
+
     pub fn add(&mut self, line: &str, answer: &str) -> Result<(), Refusal> {
         self.lines.push_str(line)?;
         self.lines.push_str("\n")?;

@@ -171,14 +171,13 @@ const BODIES: [(&str, u64); 18] = [
         \"b\":{\"runs-on\":\"x\",\"strategy\":{\"matrix\":{\"include\":[]}}}}}}",
         22,
     ),
-    // Runs keep no groups yet.
     (
         "{\"repo\":\"r\",\"path\":\"p\",\"workflow\":{\"concurrency\":\"g\",\"jobs\":{\"a\":{\"runs-on\":\"x\"}}}}",
-        16,
+        0,
     ),
     (
         "{\"repo\":\"r\",\"path\":\"p\",\"workflow\":{\"jobs\":{\"a\":{\"runs-on\":\"x\",\"concurrency\":\"g\"}}}}",
-        16,
+        0,
     ),
     (
         "{\"repo\":\"r\",\"path\":\"p\",\"workflow\":{\"concurrency\":\"g\",\"jobs\":{\"a\":{\"runs-on\":\"x\",\"needs\":\"a\"}}}}",

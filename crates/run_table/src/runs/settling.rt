@@ -1,26 +1,33 @@
 //! Settling: one rule after another, until none applies.
 
-ghost use Rattle.std.specs.Prelude.{◌≡◌, ◌<◌, ◌^◌, false, if◌then◌else◌, is_some, Some, None, IfSome, option_and_then, filter_map};
+ghost use Rattle.std.specs.Prelude.{◌≡◌, ◌<◌, ◌^◌, true, false, if◌then◌else◌, is_some, Some, None, IfSome, option_map, option_and_then, filter_map};
 ghost use Rattle.std.specs.List.{list_any};
 ghost use Rattle.std.specs.Option.{option_map_or};
 ghost use Rattle.needs_graph.specs.Results.{fails_job, gathered, is_cancelled};
 ghost use Rattle.run_table.specs.FirstOf.{first_some, placed};
-ghost use Rattle.run_table.specs.LookAgain.{RestBefore, at_job_again, look_again};
+ghost use Rattle.run_table.specs.LookAgain.{RestBefore, at_job_again, frees, is_new_at, look_again};
+ghost use Rattle.run_table.specs.Groups.{HasOneEach};
 ghost use Rattle.run_table.specs.Places.{job_at, leg_at, run_at, with_job};
-ghost use Rattle.run_table.specs.Rules.{closing_rule, decided, leg_end, leg_rule, may_run, outcome_of, rule_at, whole_rule};
+ghost use Rattle.run_table.specs.Rules.{closing_rule, decided, leg_end, leg_rule, may_run, newcomer_rule, rule_at, whole_rule, with_leg_in};
 ghost use Rattle.run_table.specs.Settling.{first_rule, settled};
-ghost use Rattle.run_table.specs.WithinRun.{failing, next_leg};
+ghost use Rattle.run_table.specs.Sound.{RunsAreSound};
+ghost use Rattle.run_table.specs.StateWords.{outcome_of};
+ghost use Rattle.run_table.specs.WithinRun.{failing};
 ghost use Rattle.run_table.specs.Words.{is_stopping};
 
-use crate::first_place::{first_place, has_settled_jobs};
+use crate::first_place::first_place;
+use crate::holder::Holder;
 use crate::leg::Leg;
+use crate::phases::{LegPhase, RunPhase};
 use crate::place::{JobPlace, LegPlace, Place};
 use crate::runs::Runs;
-use wf_value::JobResult;
+use wf_value::{JobResult, Outcome};
 
 impl Runs {
     /// Takes one rule after another, until none applies.
     pub(crate) fn settle(&mut self)
+        requires sound { RunsAreSound self.old }
+        requires one_each { HasOneEach self.old }
         ensures { self.new ≡ settled self.old }
     {
         let mut from = JobPlace { run: 0, job: 0 };
@@ -31,29 +38,56 @@ impl Runs {
 
     /// Takes the rule at the first place where one applies, and says from where the next is to be looked for.
     fn take_first_rule(&mut self, from: JobPlace) -> Option<JobPlace>
-        requires { RestBefore self.old from }
-        ensures took { first_rule self.old ≡ (if is_some result then Some self.new else None) }
+        requires sound { RunsAreSound self.old }
+        requires one_each { HasOneEach self.old }
+        requires rest { RestBefore self.old from }
+        ensures took { option_map (λ next. next.runs) (first_rule self.old) ≡ (if is_some result then Some self.new else None) }
         ensures kept { is_some result ≡ false → self.new ≡ self.old }
         ensures rest { IfSome result (λ next. RestBefore self.new next) }
     {
-        match first_place(&self.runs, from) {
+        match first_place(self, from) {
             Some(place) => {
+                let frees = self.frees(&place);
                 self.take_rule(place);
-                Some(self.look_again(&place))
+                Some(self.look_again(&place, frees))
             }
             None => None,
         }
     }
 
     /// From where to look for the next rule, after the one at the place: none has become due before.
-    fn look_again(&self, place: &Place) -> JobPlace
-        ensures { result ≡ look_again self.now place.now }
+    fn look_again(&self, place: &Place, freed: bool) -> JobPlace
+        ensures { result ≡ look_again freed self.now place.now }
     {
+        if freed {
+            return JobPlace { run: 0, job: 0 };
+        }
         match place {
             Place::Opening(r, j) => self.at_job_again(*r, *j),
             Place::AtLeg(leg) => self.at_job_again(leg.run, leg.job),
             Place::Closing(r, j) => self.at_job_again(*r, *j),
             Place::Whole(r) => JobPlace { run: *r, job: 0 },
+        }
+    }
+
+    /// Whether the rule there may set a run or a leg of another run on its way: a leg arrives there in a group, and so may end or stop
+    /// others, or a live run of a group ends.
+    fn frees(&self, place: &Place) -> bool
+        ensures { result ≡ frees self.now place.now }
+    {
+        match place {
+            Place::AtLeg(leg) => self.is_new(*leg) && self.has_group(&Holder::Leg(*leg)),
+            Place::Whole(r) => self.holds(&Holder::Run(*r)) && self.has_group(&Holder::Run(*r)),
+            Place::Opening(_, _) | Place::Closing(_, _) => false,
+        }
+    }
+
+    fn is_new(&self, leg: LegPlace) -> bool
+        ensures { result ≡ is_new_at self.now leg }
+    {
+        match self.leg(leg) {
+            Some(leg) => leg.phase.is_new(),
+            None => false,
         }
     }
 
@@ -71,7 +105,9 @@ impl Runs {
 
     /// Takes the rule at a place, where one applies.
     fn take_rule(&mut self, place: Place)
-        ensures { IfSome (rule_at self.old place) (λ next. self.new ≡ next) }
+        requires sound { RunsAreSound self.old }
+        requires one_each { HasOneEach self.old }
+        ensures { IfSome (rule_at self.old place) (λ next. self.new ≡ next.runs) }
     {
         match place {
             Place::Opening(r, j) => self.decide(r, j),
@@ -114,24 +150,55 @@ impl Runs {
         }
     }
 
-    fn next_leg(&self, place: LegPlace) -> Option<Leg>
-        ensures { result ≡ option_and_then next_leg (leg_at self.now place) }
+    /// A new leg arrives, and a waiting one becomes ready where it may start.
+    fn move_leg(&mut self, place: LegPlace)
+        requires sound { RunsAreSound self.old }
+        requires one_each { HasOneEach self.old }
+        ensures { IfSome (option_and_then (leg_rule self.old place) (leg_at self.old place)) (λ next. self.new ≡ next.runs) }
     {
-        self.leg(place)?.next()
+        match self.leg_phase(place) {
+            Some(LegPhase::New) => self.begin_leg(place),
+            Some(LegPhase::Waiting) => self.set_leg_phase(place, LegPhase::Ready),
+            _ => {}
+        }
     }
 
-    /// The leg goes on to its next phase, where it has one.
-    fn move_leg(&mut self, place: LegPlace)
-        ensures { IfSome (option_and_then (leg_rule self.old place) (leg_at self.old place)) (λ next. self.new ≡ next) }
+    fn leg_phase(&self, place: LegPlace) -> Option<LegPhase>
+        ensures { result ≡ option_map (λ leg. leg.phase) (leg_at self.now place) }
     {
-        if let Some(leg) = self.next_leg(place) {
-            self.set_leg(place.run, place.job, place.leg, leg);
+        Some(self.leg(place)?.phase)
+    }
+
+    fn set_leg_phase(&mut self, place: LegPlace, phase: LegPhase)
+        ensures { self.new ≡ with_leg_in phase place self.old }
+    {
+        match self.leg(place) {
+            Some(leg) => {
+                let leg = leg.in_phase(phase);
+                self.set_leg(place.run, place.job, place.leg, leg);
+            }
+            None => {}
+        }
+    }
+
+    /// The leg arrives in its group and waits. One whose group is its own run's is cancelled instead.
+    fn begin_leg(&mut self, place: LegPlace)
+        requires new { is_new_at self.old place ≡ true }
+        requires sound { RunsAreSound self.old }
+        requires one_each { HasOneEach self.old }
+        ensures { self.new ≡ (newcomer_rule self.old place).runs }
+    {
+        if self.is_in_group_of_run(place) {
+            self.set_leg_phase(place, LegPhase::Ended(Outcome::Cancelled));
+        } else {
+            self.set_leg_phase(place, LegPhase::Waiting);
+            self.arrive(&Holder::Leg(place));
         }
     }
 
     /// The open job settles with its result, where its legs have ended.
     fn close(&mut self, r: usize, j: usize)
-        ensures { IfSome (option_and_then (closing_rule self.old r j) (job_at self.old r j)) (λ next. self.new ≡ next) }
+        ensures { IfSome (option_and_then (closing_rule self.old r j) (job_at self.old r j)) (λ next. self.new ≡ next.runs) }
     {
         if let Some(job) = self.job(r, j) {
             let settled = self.result(r, j, job.legs());
@@ -179,13 +246,15 @@ impl Runs {
         None
     }
 
-    /// The run goes on to its next phase, where it has one.
+    /// A waiting run becomes live, and a live one ends.
     fn move_run(&mut self, r: usize)
-        ensures { IfSome (option_and_then (whole_rule self.old r) (run_at self.old r)) (λ next. self.new ≡ next) }
+        ensures { IfSome (option_and_then (whole_rule self.old r) (run_at self.old r)) (λ next. self.new ≡ next.runs) }
     {
         if let Some(run) = self.runs.get(r) {
-            if let Some(phase) = run.phase().next(has_settled_jobs(run)) {
-                self.set_run_phase(r, phase);
+            match run.phase() {
+                RunPhase::Waiting => self.set_run_phase(r, RunPhase::Live),
+                RunPhase::Live => self.set_run_phase(r, RunPhase::Ended),
+                RunPhase::Ended => {}
             }
         }
     }

@@ -1,7 +1,10 @@
 use Rattle.std.proofs.Common.{ap, ◌∙◌, Ok}
 use Rattle.run_table.specs.Places.{with_leg}
+use Rattle.run_table.specs.Step.{leased_leg}
+use Rattle.run_table.specs.TableState.{TableState}
 use Rattle.run_table.proofs.Doors.{given}
 use Rattle.run_table.proofs.Leased.{leased_table}
+use Rattle.run_table.proofs.BeforeSettling.{leased_may_settle, so_settles}
 use Rattle.run_table.proofs.content.Content.lease.Goals as goal
 
 pub returns-clause-step : goal.returns-clause-step
@@ -11,8 +14,30 @@ returns-clause-step c =
     ∙ ap (λ p. with_leg p (λ _. c.leased.result) c.self.inside.runs) c.place.view_is
     ∙ ap (λ x. with_leg c.args.place (λ _. x) c.self.inside.runs) c.leased.ensures in
     ap Ok
-    (leased_table c.self.inside.last_lease c.self.inside.runs c.self.inside.runners.items c.args.self.now c.args.claim.now c.args.place
+    (leased_table c.self.inside.last_lease c.self.inside.runs c.self.inside.runners c.args.self.now c.args.claim.now c.args.place
     c.new-lease.result c.get-self-inside.result c.in_ok-told.told c.in_ok-copy.field-0 c.in_ok-runner.runner
-    c.put_runner.new.runners.items c.set_leg.new.self c.settle.new.self c.self.view_is c.new-lease.ensures
+    c.put.new.self c.set_leg.new.self c.settle.new.self c.self.view_is c.new-lease.ensures
     c.get-self-inside.ensures.value (given _ _ c.in_ok-told.ensures) (given _ _ c.in_ok-copy.ensures)
-    (given _ _ c.in_ok-runner.ensures) (given _ _ c.in_ok-put_runner.ensures.put) moved c.settle.ensures)
+    (given _ _ c.in_ok-runner.ensures) (given _ _ c.in_ok-put.ensures.put) moved c.settle.ensures)
+
+pub settle-requires-clause-sound : goal.settle-requires-clause-sound
+settle-requires-clause-sound c =
+    let t = c.args.self.now in
+    let moved =
+    c.set_leg.ensures
+    ∙ ap (λ p. with_leg p (λ _. c.leased.result) c.self.inside.runs) c.place.view_is
+    ∙ ap (λ x. with_leg c.args.place (λ _. x) c.self.inside.runs) c.leased.ensures
+    ∙ ap (λ (s : TableState). with_leg c.args.place (λ _. leased_leg c.new-lease.result) s.runs) c.self.view_is in
+    (so_settles (with_leg c.args.place (λ _. leased_leg c.new-lease.result) t.runs) c.set_leg.new.self moved
+    (leased_may_settle t c.args.claim.now.labels c.args.place c.new-lease.result c.requires.sound c.requires.fits)).sound
+
+pub settle-requires-clause-one_each : goal.settle-requires-clause-one_each
+settle-requires-clause-one_each c =
+    let t = c.args.self.now in
+    let moved =
+    c.set_leg.ensures
+    ∙ ap (λ p. with_leg p (λ _. c.leased.result) c.self.inside.runs) c.place.view_is
+    ∙ ap (λ x. with_leg c.args.place (λ _. x) c.self.inside.runs) c.leased.ensures
+    ∙ ap (λ (s : TableState). with_leg c.args.place (λ _. leased_leg c.new-lease.result) s.runs) c.self.view_is in
+    (so_settles (with_leg c.args.place (λ _. leased_leg c.new-lease.result) t.runs) c.set_leg.new.self moved
+    (leased_may_settle t c.args.claim.now.labels c.args.place c.new-lease.result c.requires.sound c.requires.fits)).one_each

@@ -1,11 +1,21 @@
-use Rattle.std.proofs.Common.{◌≡◌}
+use Rattle.std.proofs.Common.{◌≡◌, List}
+use Rattle.run_table.specs.Groups.{HasOneEach}
 use Rattle.run_table.specs.LookAgain.{RestBefore}
 use Rattle.run_table.specs.Settling.{settled, left}
+use Rattle.run_table.specs.Sound.{RunsAreSound}
+use Rattle.run_table.specs.TableState.{RunState}
+use Rattle.run_table.specs.declared.place.JobPlace.{JobPlace}
 use Rattle.run_table.proofs.runs.Runs.settle.Given as goal
 
 -- settling from here gives what settling from the start gives, and no rule applies before the place to look from
+pub record Settling (start runs : List RunState) (from : JobPlace) : Type 0 where
+  pub same_end : settled runs ≡ settled start
+  pub sound : RunsAreSound runs
+  pub one_each : HasOneEach runs
+  pub rest : RestBefore runs from
+
 abbrev pub invariant-loop-next : goal.invariant-loop-next
-invariant-loop-next l = (settled l.self ≡ settled l.fn.self) × RestBefore l.self l.from
+invariant-loop-next l = Settling l.fn.self l.self l.from
 
 abbrev pub decreases-loop-next : goal.decreases-loop-next
 decreases-loop-next l = left l.self

@@ -5,12 +5,12 @@ use Rattle.run_table.specs.TableState.{RunState}
 use Rattle.run_table.specs.Stops.{stopped_run}
 use Rattle.run_table.proofs.Doors.{changed_within, changed_past}
 use Rattle.run_table.proofs.StoppedRuns.{stopped_admitted}
-use Rattle.run_table.proofs.RunNumbers.{still_numbered}
+use Rattle.run_table.proofs.StillBound.{still_kept}
 use Rattle.run_table.proofs.runs.Runs.stop.Goals as goal
 
 pub invariant_of-self : goal.invariant_of-self
 invariant_of-self c =
-    still_numbered c.self.inside.runs.items c.self.inside.numbers.items c.args.r c.index_mut-run.result.now c.stop.new.self
+    still_kept c.self.inside.runs.items c.self.inside.numbers.items c.self.inside.groups.items c.args.r c.index_mut-run.result.now c.stop.new.self
     (search rules) c.index_mut-run.ensures.value (ap (λ x. x.admitted) c.stop.ensures ∙ stopped_admitted c.index_mut-run.result.now) c.self.invariant
 
 pub returns-then-r-len : goal.returns-then-r-len

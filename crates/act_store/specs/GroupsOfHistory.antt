@@ -1,0 +1,19 @@
+-- Concurrency groups over the history of a store. GitHub Docs, "Control the concurrency of workflows and jobs": at most one run or job of
+-- a group is in progress and at most one is pending.
+use Rattle.std.specs.Prelude.{◌≡◌, ◌≤◌, List, ◌++◌, length}
+use Rattle.group_name.specs.Group.{Group}
+use Rattle.run_table.specs.GroupHistories.{all_moves, asks_for_cancelling}
+use Rattle.run_table.specs.GroupLaw.{KeepsLaw}
+use Rattle.run_table.specs.Groups.{pending_in, running_in}
+use Rattle.run_table.specs.TableState.{TableState}
+use Rattle.act_store.specs.Entries.{commands_of, table_after}
+use Rattle.act_store.specs.declared.entry.Entry.{Entry}
+
+-- After each front of the history every group has at most one holder of each kind, of all runs and legs of the table; and the moves of
+-- every group over the whole of it, behind those that stand for the holders it had at the base, keep the group law.
+pub record KeepsGroups (base : TableState) (history : List Entry) : Type 0 where
+  pub one_pending : (before behind : List Entry) (g : Group) → history ≡ before ++ behind
+      → length (pending_in (table_after base before).runs g) ≤ 1
+  pub one_running : (before behind : List Entry) (g : Group) → history ≡ before ++ behind
+      → length (running_in (table_after base before).runs g) ≤ 1
+  pub law : (g : Group) → KeepsLaw (asks_for_cancelling g base (commands_of history)) (all_moves g base (commands_of history))

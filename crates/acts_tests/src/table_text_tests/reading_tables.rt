@@ -1,0 +1,167 @@
+//! Tables are read from their stored bytes. What is read, and what is not, is worked out by hand from the format.
+
+use super::tables::{ROWS, Row, bytes_of};
+use crate::holds::holds;
+use crate::run_plan_tests::expect_twice;
+use run_plan::Number;
+use run_table::{JobPhase, LastParts, LegPhase, Parts, RunParts, RunPhase, RunnerParts};
+use std::alloc::Global;
+use std::process::Abort;
+use table_text::read_parts;
+use wf_value::Refusal;
+
+/// A run: its phase, whether it has been told to stop, the phase of its one job, that of its leg, and the lease of the leg, 0 where it has
+/// none.
+type RunSeen = (&'static str, bool, &'static str, &'static str, u32);
+
+/// A runner: its name, its last number, the kind of its last command, the lease that this was given and the one that it holds, 0 where
+/// there is none.
+type RunnerSeen = (&'static str, u32, &'static str, u32, u32);
+
+/// The run of a table, and its runners.
+type Seen = (RunSeen, &'static [RunnerSeen]);
+
+/// What the rows have.
+const SEEN: [Seen; 7] = [
+    (("live", false, "open", "ready", 0), &[]),
+    (
+        ("live", false, "open", "running", 1),
+        &[("r1", 1, "claim", 1, 1)],
+    ),
+    (
+        ("ended", false, "success", "success", 1),
+        &[("r1", 2, "done", 0, 0)],
+    ),
+    (
+        ("live", true, "open", "stopping", 1),
+        &[("r1", 1, "claim", 1, 1)],
+    ),
+    (
+        ("live", false, "open", "ready", 0),
+        &[("r1", 1, "claim", 0, 0)],
+    ),
+    (
+        ("live", false, "open", "running", 1),
+        &[("r1", 1, "claim", 1, 1), ("r2", 1, "claim", 0, 0)],
+    ),
+    (("ended", true, "cancelled", "cancelled", 0), &[]),
+];
+
+fn run_word(phase: RunPhase) -> &'static str {
+    match phase {
+        RunPhase::Waiting => "waiting",
+        RunPhase::Live => "live",
+        RunPhase::Ended => "ended",
+    }
+}
+
+fn job_word(phase: JobPhase) -> &'static str {
+    match phase {
+        JobPhase::Blocked => "blocked",
+        JobPhase::Open => "open",
+        JobPhase::Settled(result) => result.word(),
+    }
+}
+
+fn leg_word(phase: LegPhase) -> &'static str {
+    match phase {
+        LegPhase::New => "new",
+        LegPhase::Waiting => "waiting",
+        LegPhase::Ready => "ready",
+        LegPhase::Running => "running",
+        LegPhase::Stopping => "stopping",
+        LegPhase::Ended(outcome) => outcome.word(),
+    }
+}
+
+fn lease_or_0(lease: Option<Number>) -> u32 {
+    match lease {
+        Some(number) => number.get(),
+        None => 0,
+    }
+}
+
+/// That a run is the one of delivery `d1`, and is as this says.
+fn expect_run(rt: &impl Abort, run: &RunParts, seen: &RunSeen) {
+    holds!(rt; run.prepared.delivery().as_str() == "d1");
+    holds!(rt; run_word(run.phase) == seen.0);
+    holds!(rt; run.stopping == seen.1);
+    let jobs = run.jobs.as_slice();
+    holds!(rt; jobs.len() == 1);
+    holds!(rt; job_word(jobs[0].phase) == seen.2);
+    let legs = jobs[0].legs.as_slice();
+    holds!(rt; legs.len() == 1);
+    holds!(rt; leg_word(legs[0].phase) == seen.3);
+    holds!(rt; lease_or_0(legs[0].lease) == seen.4);
+}
+
+/// The kind of a last command, and the lease that was given for it.
+fn last_seen(last: &LastParts) -> (&'static str, u32) {
+    match last {
+        LastParts::Claim(_, given) => ("claim", lease_or_0(*given)),
+        LastParts::Done(_) => ("done", 0),
+    }
+}
+
+fn expect_runner(rt: &impl Abort, runner: &RunnerParts, seen: &RunnerSeen) {
+    let last = last_seen(&runner.last);
+    holds!(rt; runner.name.as_str() == seen.0);
+    holds!(rt; runner.number.get() == seen.1);
+    holds!(rt; last.0 == seen.2);
+    holds!(rt; last.1 == seen.3);
+    holds!(rt; lease_or_0(runner.holds) == seen.4);
+}
+
+fn expect_runners(rt: &impl Abort, runners: &[RunnerParts], seen: &[RunnerSeen]) {
+    holds!(rt; runners.len() == seen.len());
+    for (runner, want) in runners.iter().zip(seen) {
+        expect_runner(rt, runner, want);
+    }
+}
+
+/// The parts at the front of the bytes, which have to be there, and how many bytes are left behind them.
+fn parts_of(rt: &impl Abort, alloc: Global, bytes: &[u8]) -> Result<(Parts, usize), Refusal> {
+    match read_parts(alloc, bytes)? {
+        Some((parts, rest)) => Ok((parts, rest.len())),
+        None => panic!(rt; "no table"),
+    }
+}
+
+fn expect_empty(rt: &impl Abort, alloc: Global) -> Result<(), Refusal> {
+    let (parts, left) = parts_of(rt, alloc, &[0; 14])?;
+    holds!(rt; left == 2);
+    holds!(rt; parts.last_lease == 0);
+    holds!(rt; parts.runs.is_empty());
+    holds!(rt; parts.runners.is_empty());
+    Ok(())
+}
+
+/// That the bytes of a row, with one more behind them, are read as its table, and that this one is left.
+fn expect_row(rt: &impl Abort, alloc: Global, row: &Row<'_>, seen: &Seen) -> Result<(), Refusal> {
+    let mut bytes = bytes_of(alloc, row)?;
+    bytes.push(7)?;
+    let (parts, left) = parts_of(rt, alloc, bytes.as_slice())?;
+    holds!(rt; left == 1);
+    holds!(rt; parts.last_lease == row.1 as u32);
+    holds!(rt; parts.runs.len() == 1);
+    expect_run(rt, &parts.runs.as_slice()[0], &seen.0);
+    expect_runners(rt, parts.runners.as_slice(), seen.1);
+    Ok(())
+}
+
+fn reads_tables(rt: &impl Abort, alloc: Global) -> Result<(), Refusal> {
+    expect_empty(rt, alloc)?;
+    for (row, seen) in ROWS.iter().zip(&SEEN) {
+        expect_row(rt, alloc, row, seen)?;
+    }
+    Ok(())
+}
+
+#[test]
+fn tables_are_read_as_the_format_says(rt: HostRuntime) {
+    expect_twice(
+        &rt,
+        reads_tables(&rt, rt.alloc()),
+        reads_tables(&rt, rt.alloc()),
+    );
+}

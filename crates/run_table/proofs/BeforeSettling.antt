@@ -1,0 +1,124 @@
+-- What a command makes of the runs of a table before they settle: each run still fits, and each group has at most one holder of each kind.
+use Rattle.std.specs.Prelude.{◌≡◌, ℕ, List, [], ◌∷◌, ◌++◌, true, false, length, Some, None, refl}
+use Rattle.std.proofs.Common.{ap, sym, ◌∙◌, subst}
+use Rattle.run_plan.specs.Admitted.{Admitted}
+use Rattle.run_plan.specs.declared.command.Done.{Done as Reported}
+use Rattle.run_table.specs.Arrivals.{arrived}
+use Rattle.run_table.specs.Fitting.{first_fit}
+use Rattle.run_table.specs.Groups.{HasOneBeside, HasOneEach, waits}
+use Rattle.run_table.specs.Moves.{Holder}
+use Rattle.run_table.specs.Places.{LegPlace, with_leg, with_run}
+use Rattle.run_table.specs.Sound.{IsSound, RunsAreSound}
+use Rattle.run_table.specs.StateWords.{has_ended}
+use Rattle.run_table.specs.Step.{entered, leased_leg, new_run, report_answer, with_ended}
+use Rattle.run_table.specs.Stops.{outcome_of_loss, stopped_run}
+use Rattle.run_table.specs.TableState.{RunState, RunnerState, TableState}
+use Rattle.run_table.specs.Turns.{runner_named}
+use Rattle.run_table.specs.declared.phases.LegPhase.{LegPhase}
+use Rattle.run_table.proofs.AdmitKeeps.{all_fit}
+use Rattle.run_table.proofs.ClaimKeeps.{fitting_leg}
+use Rattle.run_table.proofs.CommandsOneEach.{ended_one_each, leased_one_each, stopped_one_each}
+use Rattle.run_table.proofs.Entered.{beside_new_run, entered_one_each, entered_settles, new_run_waits}
+use Rattle.run_table.proofs.HoldersKeep.{run_stop_settles}
+use Rattle.run_table.proofs.JobKeeps.{leg_in, leg_stays}
+use Rattle.run_table.proofs.Kept.{kept_from_sound}
+use Rattle.run_table.proofs.ReportKeeps.{loss_stays, report_stays}
+use Rattle.run_table.proofs.RunFits.{RunsFit}
+use Rattle.run_table.proofs.SoundRuns.{sound_runs}
+
+-- the runs fit, and no group has two holders of a kind
+pub record MaySettle (runs : List RunState) : Type 0 where
+  pub sound : RunsAreSound runs
+  pub one_each : HasOneEach runs
+
+table_fits : (t : TableState) → IsSound t → RunsFit t.runs
+table_fits t s = (kept_from_sound t s).fit
+
+pub table_settles : (t : TableState) → IsSound t → MaySettle t.runs
+table_settles t s = record { sound = sound_runs t.runs (table_fits t s); one_each = s.one_of_each_group }
+
+-- runs that are those
+pub so_settles : (runs new : List RunState) → new ≡ runs → MaySettle runs → MaySettle new
+so_settles runs new is may = subst MaySettle (sym is) may
+
+-- ---- a run is entered
+
+-- it may arrive
+pub record MayArrive (runs : List RunState) (newcomer : Holder) : Type 0 where
+  pub is_pending : waits runs newcomer ≡ true
+  pub sound : RunsAreSound runs
+  pub one_beside : HasOneBeside runs newcomer
+
+pub new_run_arrives : (t : TableState) (event : Admitted) → IsSound t → MayArrive (t.runs ++ new_run event ∷ []) (Holder.a_run (length t.runs))
+new_run_arrives t event s = record {
+  is_pending = new_run_waits t.runs event;
+  sound = sound_runs (t.runs ++ new_run event ∷ []) (all_fit t.runs event (table_fits t s));
+  one_beside = beside_new_run t.runs event (table_fits t s) s.one_of_each_group;
+}
+
+pub entered_may_settle : (t : TableState) (event : Admitted) → IsSound t → MaySettle (entered t event).runs
+entered_may_settle t event s = record {
+  sound = sound_runs (entered t event).runs (entered_settles t event (table_fits t s)).stay.fit;
+  one_each = entered_one_each t event (table_fits t s) s.one_of_each_group;
+}
+
+-- the same of what the code has in its hands
+pub entering_arrives : (t : TableState) (event : Admitted) (runs added : List RunState) (run : RunState) (place : ℕ) → IsSound t
+    → runs ≡ t.runs → added ≡ runs ++ run ∷ [] → run ≡ new_run event → place ≡ length runs → MayArrive added (Holder.a_run place)
+entering_arrives t event runs added run place s runs_are added_is run_is place_is =
+    let same : added ≡ t.runs ++ new_run event ∷ [] = added_is ∙ ap (λ v. runs ++ v ∷ []) run_is ∙ ap (λ xs. xs ++ new_run event ∷ []) runs_are in
+    let at : place ≡ length t.runs = place_is ∙ ap (λ (xs : List RunState). length xs) runs_are in
+    subst (λ (xs : List RunState). MayArrive xs (Holder.a_run place)) (sym same)
+    (subst (λ (n : ℕ). MayArrive (t.runs ++ new_run event ∷ []) (Holder.a_run n)) (sym at) (new_run_arrives t event s))
+
+pub entering_settles : (t : TableState) (event : Admitted) (runs added new : List RunState) (run : RunState) (place : ℕ) → IsSound t
+    → runs ≡ t.runs → added ≡ runs ++ run ∷ [] → run ≡ new_run event → place ≡ length runs
+    → new ≡ (arrived (Holder.a_run place) added).runs → MaySettle new
+entering_settles t event runs added new run place s runs_are added_is run_is place_is new_is =
+    let same : added ≡ t.runs ++ new_run event ∷ [] = added_is ∙ ap (λ v. runs ++ v ∷ []) run_is ∙ ap (λ xs. xs ++ new_run event ∷ []) runs_are in
+    let at : place ≡ length t.runs = place_is ∙ ap (λ (xs : List RunState). length xs) runs_are in
+    let is : new ≡ (entered t event).runs =
+    new_is ∙ ap (λ n. (arrived (Holder.a_run n) added).runs) at ∙ ap (λ xs. (arrived (Holder.a_run (length t.runs)) xs).runs) same in
+    subst MaySettle (sym is) (entered_may_settle t event s)
+
+-- ---- a leg is leased
+
+pub leased_may_settle : (t : TableState) (labels : List (List ℕ)) (p : LegPlace) (lease : ℕ) → IsSound t
+    → first_fit labels t.runs ≡ Some p → MaySettle (with_leg p (λ _. leased_leg lease) t.runs)
+leased_may_settle t labels p lease s fits =
+    let ready = fitting_leg labels t.runs p fits in
+    let z = ready.leg_of in
+    let unended : has_ended z ≡ false = ap (λ (phase : LegPhase). has_ended (record z { phase = phase })) ready.ready in
+    let stay = leg_stays t.runs (table_fits t s) p z (λ _. leased_leg lease) (leg_in t.runs p z ready.is) unended refl in
+    record {
+      sound = sound_runs (with_leg p (λ _. leased_leg lease) t.runs) stay.fit;
+      one_each = leased_one_each t.runs (table_fits t s) labels p lease fits s.one_of_each_group;
+    }
+
+-- ---- a leg ends
+
+pub reported_may_settle : (t : TableState) (report : Reported) → IsSound t → report_answer t report ≡ None
+    → MaySettle (with_ended report.lease report.result t.runs)
+reported_may_settle t report s none =
+    let stay = report_stays t report (kept_from_sound t s) none in
+    record {
+      sound = sound_runs (with_ended report.lease report.result t.runs) stay.fit;
+      one_each = ended_one_each report.lease report.result t.runs (table_fits t s) stay s.one_of_each_group;
+    }
+
+pub lost_may_settle : (t : TableState) (name : List ℕ) (runner : RunnerState) (lease : ℕ) → IsSound t → runner_named t.runners name ≡ Some runner
+    → runner.holds ≡ Some lease → MaySettle (with_ended lease (outcome_of_loss t.runs lease) t.runs)
+lost_may_settle t name runner lease s named holds =
+    let stay = loss_stays t name runner lease (kept_from_sound t s) named holds in
+    record {
+      sound = sound_runs (with_ended lease (outcome_of_loss t.runs lease) t.runs) stay.fit;
+      one_each = ended_one_each lease (outcome_of_loss t.runs lease) t.runs (table_fits t s) stay s.one_of_each_group;
+    }
+
+-- ---- a run is stopped
+
+pub stopped_may_settle : (t : TableState) (r : ℕ) → IsSound t → MaySettle (with_run r stopped_run t.runs)
+stopped_may_settle t r s = record {
+  sound = sound_runs (with_run r stopped_run t.runs) (run_stop_settles t.runs r (table_fits t s)).stay.fit;
+  one_each = stopped_one_each r t.runs (table_fits t s) s.one_of_each_group;
+}

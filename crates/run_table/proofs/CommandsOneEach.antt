@@ -1,0 +1,86 @@
+-- The change that a command makes of legs and runs keeps that a group has at most one pending and at most one running holder.
+use Rattle.std.specs.Prelude.{◌≡◌, ℕ, List, true, false, Some, None, if◌then◌else◌, refl}
+use Rattle.std.specs.Option.{option_map_or}
+use Rattle.std.proofs.Common.{ap, inl, inr, ◌∙◌}
+use Rattle.wf_value.specs.declared.outcome.Outcome.{Outcome}
+use Rattle.run_table.specs.Fitting.{first_fit, place_of_lease}
+use Rattle.run_table.specs.Groups.{HasOneEach, holds, leg_holds}
+use Rattle.run_table.specs.Moves.{Holder}
+use Rattle.run_table.specs.Places.{LegPlace, with_job, with_leg, with_run}
+use Rattle.run_table.specs.StateWords.{has_ended, leg_in_phase}
+use Rattle.run_table.specs.Step.{leased_leg, with_ended}
+use Rattle.run_table.specs.Stops.{after_end, stopped_run, stops_others, with_stopped_legs}
+use Rattle.run_table.specs.TableState.{RunState}
+use Rattle.run_table.specs.declared.phases.LegPhase.{LegPhase}
+use Rattle.run_table.specs.declared.phases.LegPhase.TheVariants as leg
+use Rattle.run_table.proofs.ClaimKeeps.{fitting_leg}
+use Rattle.run_table.proofs.HoldersFade.{leg_fades, leg_passes, legs_stop_fades, passes, run_stop_fades, waits_before_leg}
+use Rattle.run_table.proofs.HoldersKeep.{run_stop_settles}
+use Rattle.run_table.proofs.JobKeeps.{leg_in, leg_stays}
+use Rattle.run_table.proofs.OneEach.{Fades, fades_not, fades_on, fading_keeps, groups_stay}
+use Rattle.run_table.proofs.OneEachRules.{set_holds}
+use Rattle.run_table.proofs.RunFits.{RunsFit}
+use Rattle.run_table.proofs.Settles.{StayFit}
+
+bad : false ≡ true → ⊥
+bad e = cc
+
+-- ---- a leg is leased: it held its group already
+
+module _ (runs : List RunState) (fit : RunsFit runs) (labels : List (List ℕ)) (p : LegPlace) (lease : ℕ)
+    (fits : first_fit labels runs ≡ Some p) where
+  ready_held : holds runs (Holder.a_leg p) ≡ true
+  ready_held =
+      let ready = fitting_leg labels runs p fits in
+      ap (passes (leg_passes leg_holds)) ready.is ∙ ap leg_holds ready.ready
+
+  pub leased_fades : Fades runs (with_leg p (λ _. leased_leg lease) runs)
+  leased_fades =
+      let ready = fitting_leg labels runs p fits in
+      record {
+        waited = waits_before_leg (λ _. leased_leg lease) p runs (λ z e. absurd (bad e));
+        held = (λ h e.
+            elim (set_holds runs p ready.leg_of ready.is (λ _. leased_leg lease) h e) [
+              | inl same ↦ ap (holds runs) same ∙ ready_held
+              | inr before ↦ before
+            ]);
+      }
+
+  pub leased_one_each : HasOneEach runs → HasOneEach (with_leg p (λ _. leased_leg lease) runs)
+  leased_one_each each =
+      let ready = fitting_leg labels runs p fits in
+      let z = ready.leg_of in
+      let unended : has_ended z ≡ false = ap (λ (phase : LegPhase). has_ended (record z { phase = phase })) ready.ready in
+      let next = with_leg p (λ _. leased_leg lease) runs in
+      fading_keeps runs next
+      (groups_stay runs next fit (leg_stays runs fit p z (λ _. leased_leg lease) (leg_in runs p z ready.is) unended refl)) leased_fades each
+
+-- ---- a leg ends
+
+after_end_fades : (p : LegPlace) (o : Outcome) (runs : List RunState) → Fades runs (after_end p o runs)
+after_end_fades p o runs =
+    let ended = with_leg p (leg_in_phase (leg.Ended o)) runs in
+    let first = leg_fades (leg_in_phase (leg.Ended o)) p runs (λ z e. absurd (bad e)) (λ z e. absurd (bad e)) in
+    elim (stops_others runs p o) as (λ b. Fades runs (if b then with_job p.run p.job with_stopped_legs ended else ended)) [
+      | true ↦ fades_on runs ended (with_job p.run p.job with_stopped_legs ended) first (legs_stop_fades p.run p.job ended)
+      | false ↦ first
+    ]
+
+with_ended_fades : (lease : ℕ) (o : Outcome) (runs : List RunState) → Fades runs (with_ended lease o runs)
+with_ended_fades lease o runs =
+    elim (place_of_lease runs lease) as (λ place. Fades runs (option_map_or (λ p. after_end p o runs) place runs)) [
+      | None ↦ fades_not runs
+      | Some p ↦ after_end_fades p o runs
+    ]
+
+pub ended_one_each : (lease : ℕ) (o : Outcome) (runs : List RunState) → RunsFit runs → StayFit runs (with_ended lease o runs)
+    → HasOneEach runs → HasOneEach (with_ended lease o runs)
+ended_one_each lease o runs fit stay each =
+    fading_keeps runs (with_ended lease o runs) (groups_stay runs (with_ended lease o runs) fit stay) (with_ended_fades lease o runs) each
+
+-- ---- a run is stopped
+
+pub stopped_one_each : (r : ℕ) (runs : List RunState) → RunsFit runs → HasOneEach runs → HasOneEach (with_run r stopped_run runs)
+stopped_one_each r runs fit each =
+    let next = with_run r stopped_run runs in
+    fading_keeps runs next (groups_stay runs next fit (run_stop_settles runs r fit).stay) (run_stop_fades r runs) each

@@ -1,0 +1,124 @@
+-- A new run, which arrives in its group, keeps what a table keeps.
+use Rattle.std.specs.Prelude.{◌≡◌, ◌⊎◌, ℕ, ◌<◌, List, [], ◌∷◌, ◌++◌, length, Bool, true, false, Option, Some, None, option_map}
+use Rattle.std.specs.Prelude.{option_and_then, slice_get, refl}
+use Rattle.std.proofs.Common.{arith, ap, inl, inr, sym, ◌∙◌}
+use Rattle.std.proofs.lemmas.Bool.{cases_eq}
+use Rattle.std.proofs.lemmas.Option.{slice_get-map, slice_get_within}
+use Rattle.run_plan.specs.Admitted.{Admitted}
+use Rattle.run_plan.specs.PlanOf.{plan_of}
+use Rattle.run_plan.specs.declared.planned.PlannedJob.{PlannedJob}
+use Rattle.run_table.specs.Arrivals.{arrived}
+use Rattle.run_table.specs.Groups.{HasOneBeside, HasOneEach, holds, leg_holds, leg_waits, run_waits, waits}
+use Rattle.run_table.specs.Moves.{Holder}
+use Rattle.run_table.specs.Places.{LegPlace, leg_at}
+use Rattle.run_table.specs.RunNumber.{events}
+use Rattle.run_table.specs.StateWords.{is_live}
+use Rattle.run_table.specs.Step.{admission_answer, blocked_job, entered, new_run}
+use Rattle.run_table.specs.TableState.{RunState, TableState}
+use Rattle.run_table.specs.declared.phases.LegPhase.{LegPhase}
+use Rattle.run_table.proofs.AdmitKeeps.{admit_keeps, all_fit}
+use Rattle.run_table.proofs.ArrivalKeeps.{arrival_one_each}
+use Rattle.run_table.proofs.Found.{at_the_end, before_the_end}
+use Rattle.run_table.proofs.GroupStays.{leg_group_same, leg_needs_settled, run_group_stays}
+use Rattle.run_table.proofs.HoldersFade.{by_run, job_passes, leg_passes, passes, run_passes}
+use Rattle.run_table.proofs.HoldersKeep.{arrival_settles}
+use Rattle.run_table.proofs.JobKeeps.{leg_in}
+use Rattle.run_table.proofs.Kept.{IsKept, kept_settles}
+use Rattle.run_table.proofs.LegFacts.{SameUpTo, facts_stay}
+use Rattle.run_table.proofs.NeedsSettled.{result_in}
+use Rattle.run_table.proofs.OneEach.{Comes, GroupsStay, newcomer_besides}
+use Rattle.run_table.proofs.RunFits.{RunsFit}
+use Rattle.run_table.proofs.Settles.{Settles, same_events}
+
+-- ---- who waits and who holds
+
+no_leg_of_blocked : (test : LegPhase → Bool) (l : ℕ) (o : Option PlannedJob)
+    → passes (job_passes test l) (option_map (λ _. blocked_job) o) ≡ false
+no_leg_of_blocked test l None = refl
+no_leg_of_blocked test l (Some planned) = refl
+
+no_leg_of_new_run : (test : LegPhase → Bool) (j l : ℕ) (event : Admitted) → run_passes test j l (new_run event) ≡ false
+no_leg_of_new_run test j l event =
+    ap (passes (job_passes test l)) (slice_get-map (λ _. blocked_job) (plan_of event.body) j)
+    ∙ no_leg_of_blocked test l (slice_get (plan_of event.body) j)
+
+bad : false ≡ true → ⊥
+bad e = cc
+
+module _ (runs : List RunState) (event : Admitted) where
+  leg_before_it : (test : LegPhase → Bool) (p : LegPlace)
+      → passes (leg_passes test) (leg_at (runs ++ new_run event ∷ []) p) ≡ true → passes (leg_passes test) (leg_at runs p) ≡ true
+  leg_before_it test p e =
+      let next = runs ++ new_run event ∷ [] in
+      let asked = run_passes test p.job p.leg in
+      let of_run = sym (by_run test next p) ∙ e in
+      elim (cases_eq p.run (length runs)) [
+        | inl same ↦
+            let none = ap (passes asked) (ap (slice_get next) same ∙ at_the_end runs (new_run event)) ∙ no_leg_of_new_run test p.job p.leg event in
+            absurd (bad (sym none ∙ of_run))
+        | inr other ↦ by_run test runs p ∙ ap (passes asked) (sym (before_the_end runs (new_run event) p.run other)) ∙ of_run
+      ]
+
+  pub waited : (h : Holder) → waits (runs ++ new_run event ∷ []) h ≡ true → (h ≡ Holder.a_run (length runs)) ⊎ (waits runs h ≡ true)
+  waited (Holder.a_run r) e =
+      elim (cases_eq r (length runs)) [
+        | inl same ↦ inl (ap Holder.a_run same)
+        | inr other ↦ inr (ap (passes (λ (x : RunState). run_waits x.phase)) (sym (before_the_end runs (new_run event) r other)) ∙ e)
+      ]
+  waited (Holder.a_leg p) e = inr (leg_before_it leg_waits p e)
+
+  pub held : (h : Holder) → holds (runs ++ new_run event ∷ []) h ≡ true → holds runs h ≡ true
+  held (Holder.a_run r) e =
+      let live = passes (λ (x : RunState). is_live x.phase) in
+      elim (cases_eq r (length runs)) [
+        | inl same ↦ absurd (bad (sym (ap live (ap (slice_get (runs ++ new_run event ∷ [])) same ∙ at_the_end runs (new_run event))) ∙ e))
+        | inr other ↦ ap live (sym (before_the_end runs (new_run event) r other)) ∙ e
+      ]
+  held (Holder.a_leg p) e = leg_before_it leg_holds p e
+
+  pub new_run_waits : waits (runs ++ new_run event ∷ []) (Holder.a_run (length runs)) ≡ true
+  new_run_waits = ap (passes (λ (x : RunState). run_waits x.phase)) (at_the_end runs (new_run event))
+
+  -- ---- groups stay
+
+  same_up_to : (r : ℕ) → r < length runs → SameUpTo r (events (runs ++ new_run event ∷ [])) (events runs)
+  same_up_to r within =
+      same_events runs (runs ++ new_run event ∷ []) r
+      (λ s le. ap (option_map (λ (v : RunState). v.admitted))
+      (before_the_end runs (new_run event) s (λ m. absurd (omega (arith, le, within, m)))))
+
+  pub groups_before : RunsFit runs → GroupsStay runs (runs ++ new_run event ∷ [])
+  groups_before fit (Holder.a_run r) there =
+      run_group_stays runs (runs ++ new_run event ∷ []) r (same_up_to r (slice_get_within runs r there.0 there.1))
+  groups_before fit (Holder.a_leg p) there =
+      let next = runs ++ new_run event ∷ [] in
+      let at = leg_in runs p there.0 there.1 in
+      let within = slice_get_within runs p.run at.place.run at.place.run_is in
+      let before = before_the_end runs (new_run event) p.run (λ m. absurd (omega (arith, within, m))) in
+      leg_group_same runs next p
+      (facts_stay runs next p (same_up_to p.run within) (leg_needs_settled runs fit p there.0 there.1)
+      (λ j a had. ap (option_and_then (λ (v : RunState). result_in v j)) before ∙ had))
+
+  pub beside_new_run : RunsFit runs → HasOneEach runs → HasOneBeside (runs ++ new_run event ∷ []) (Holder.a_run (length runs))
+  beside_new_run fit each =
+      let next = runs ++ new_run event ∷ [] in
+      let comes : Comes runs next (Holder.a_run (length runs)) = record { waited = waited; held = held } in
+      newcomer_besides runs next (Holder.a_run (length runs)) (groups_before fit) comes each
+
+  new_run_one_each : RunsFit runs → HasOneEach runs → HasOneEach (arrived (Holder.a_run (length runs)) (runs ++ new_run event ∷ [])).runs
+  new_run_one_each fit each =
+      arrival_one_each (runs ++ new_run event ∷ []) (all_fit runs event fit) (Holder.a_run (length runs)) new_run_waits (beside_new_run fit each)
+
+-- ---- in a table
+
+pub entered_settles : (t : TableState) (event : Admitted) → RunsFit t.runs → Settles (t.runs ++ new_run event ∷ []) (entered t event).runs
+entered_settles t event fit = arrival_settles (Holder.a_run (length t.runs)) (t.runs ++ new_run event ∷ []) (all_fit t.runs event fit)
+
+pub entered_keeps : (t : TableState) (event : Admitted) → IsKept t → admission_answer t event ≡ None
+    → IsKept (record t { runs = (entered t event).runs })
+entered_keeps t event s none =
+    kept_settles (record t { runs = t.runs ++ new_run event ∷ [] }) (entered t event).runs (admit_keeps t event s none)
+    (entered_settles t event s.fit)
+
+pub entered_one_each : (t : TableState) (event : Admitted) → RunsFit t.runs → HasOneEach t.runs → HasOneEach (entered t event).runs
+entered_one_each t event fit each = new_run_one_each t.runs event fit each

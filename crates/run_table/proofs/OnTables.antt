@@ -1,0 +1,14 @@
+-- What a row unfolds to compute with the groups and the contexts of a table whose bodies are written out.
+use Rattle.std.specs.Prelude.{⊤}
+use Rattle.std.specs.Fmt.{digits}
+use Rattle.group_name.proofs.OnLiterals.{group_name_on_literals}
+use Rattle.run_table.specs.GroupOf.{cancels_in_progress, group_at, run_facts_at}
+use Rattle.run_table.specs.JobResults.{direct_needs, has_id}
+use Rattle.run_table.specs.LegContext.{context_at, facts_at}
+use Rattle.wf_reader.proofs.OnLiterals.{wf_reader_on_literals}
+
+-- `unfolding on_tables` lets `refl` compute a step
+unfoldable pub on_tables : ⊤
+unfolding wf_reader_on_literals group_name_on_literals digits group_at cancels_in_progress run_facts_at context_at facts_at
+    direct_needs has_id
+on_tables = tt

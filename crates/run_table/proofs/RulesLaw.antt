@@ -1,0 +1,367 @@
+-- Each settling rule keeps the law of every group, and so does settling.
+use Rattle.std.specs.Prelude.{◌≡◌, ℕ, zero, suc, List, [], ◌∷◌, ◌&&◌, Bool, true, false, Option, Some, None, if◌then◌else◌}
+use Rattle.std.specs.Prelude.{slice_get, refl}
+use Rattle.std.specs.List.{list_all}
+use Rattle.std.specs.Option.{option_map_or}
+use Rattle.std.proofs.Common.{ap, sym, ◌∙◌, subst}
+use Rattle.std.proofs.lemmas.Bool.{and_parts, true≢false}
+use Rattle.wf_value.specs.declared.outcome.JobResult.{JobResult}
+use Rattle.wf_value.specs.declared.outcome.JobResult.TheVariants as result
+use Rattle.wf_value.specs.declared.outcome.Outcome.TheVariants as outcome
+use Rattle.group_name.specs.Group.{Group}
+use Rattle.needs_graph.specs.Results.{conclusion_of}
+use Rattle.run_table.specs.Arrivals.{arrived, displaced, is_in_group_of_run, room_made, started}
+use Rattle.run_table.specs.GroupOf.{cancels_in_progress, group_at}
+use Rattle.run_table.specs.GroupWords.{holder_of, same_holder}
+use Rattle.run_table.specs.Groups.{HasOneEach, holds, is_in, leg_waits, may_start, run_waits, waits}
+use Rattle.run_table.specs.JobResults.{results_of}
+use Rattle.run_table.specs.Moves.{Holder, Move, Moved, and_then, without_moves}
+use Rattle.run_table.specs.Places.{LegPlace, job_at, leg_at, run_at, with_job, with_run}
+use Rattle.run_table.specs.Rules.{closing_rule, decided, leg_rule, leg_rule_in, may_run, newcomer_rule, opening_rule, result_at, rule_at}
+use Rattle.run_table.specs.Rules.{whole_rule, whole_rule_in, with_leg_in}
+use Rattle.run_table.specs.Settling.{first_place, first_rule, settled_within}
+use Rattle.run_table.specs.Sound.{LegsFit, PhaseFits}
+use Rattle.run_table.specs.StateWords.{has_ended, is_blocked, is_done, is_live, is_open, is_settled, leg_in_phase, opened}
+use Rattle.run_table.specs.StateWords.{run_in_phase, settled_as}
+use Rattle.run_table.specs.TableState.{LegState, JobState, RunState}
+use Rattle.run_table.specs.Words.{is_stopping, needs_have_settled, planned_legs}
+use Rattle.run_table.specs.declared.phases.JobPhase.{JobPhase}
+use Rattle.run_table.specs.declared.phases.JobPhase.TheVariants as job
+use Rattle.run_table.specs.declared.phases.LegPhase.{LegPhase}
+use Rattle.run_table.specs.declared.phases.LegPhase.TheVariants as leg
+use Rattle.run_table.specs.declared.phases.RunPhase.{RunPhase}
+use Rattle.run_table.specs.declared.phases.RunPhase.TheVariants as run
+use Rattle.run_table.specs.declared.place.Place.{Place}
+use Rattle.run_table.specs.declared.place.Place.TheVariants.{Opening, AtLeg, Closing, Whole}
+use Rattle.run_table.proofs.ArrivalLaw.{arrival_goes_on}
+use Rattle.run_table.proofs.ChangesTold.{leg_tells, new_legs_same, only_none, only_one, quiet_job_tells, run_tells}
+use Rattle.run_table.proofs.GroupSaid.{own_holder}
+use Rattle.run_table.proofs.GroupsKept.{Grows, cancels_kept, grows_on, is_in_kept, stays_grows}
+use Rattle.run_table.proofs.HolderStatus.{Goes, Status, ends_at_once, goes_over, goes_to_arrive, goes_to_start, goes_unseen, leg_status}
+use Rattle.run_table.proofs.HolderStatus.{run_status}
+use Rattle.run_table.proofs.HolderStatus.{status, status_by, status_in_job, status_of_leg, status_of_run}
+use Rattle.run_table.proofs.HoldersFade.{holds_before_leg, job_fades, leg_fades, leg_passes, passes, waits_before_leg}
+use Rattle.run_table.proofs.HoldersKeep.{arrival_settles, asked_settles, displaced_settles}
+use Rattle.run_table.proofs.JobKeeps.{open_is_live}
+use Rattle.run_table.proofs.JobPhases.{is_open_open}
+use Rattle.run_table.proofs.LawSoFar.{GoesOn, end_is_quiet, goes_on_still, goes_on_then, quiet_goes_on, start_is_quiet}
+use Rattle.run_table.proofs.LawSoFar.{unmoved_is_quiet}
+use Rattle.run_table.proofs.LivePlaces.{LivePlace, first_place_is_live}
+use Rattle.run_table.proofs.OneEach.{Comes, IsOneOf, groups_stay, newcomer_besides, one_that_waits}
+use Rattle.run_table.proofs.OneEachRules.{decided_fades, ended_fades, first_rule_one_each, live_waits, set_itself, set_waits}
+use Rattle.run_table.proofs.Optional.{from_and_then, if_some}
+use Rattle.run_table.proofs.OwnMoves.{own}
+use Rattle.run_table.proofs.RuleKeeps.{newcomer_waits, run_ended}
+use Rattle.run_table.proofs.RunFits.{RunsFit, job_in_run, jobs_fit}
+use Rattle.run_table.proofs.SettlingKeeps.{first_rule_settles, settles_within}
+use Rattle.run_table.proofs.StopsTold.{Tells, goes_by}
+use Rattle.run_table.proofs.Unbegun.{AllStill, LegUnbegun, There, leg_all_still, live_job_still, opened_still, phase_still, still_of_all}
+
+bad : false ≡ true → ⊥
+bad e = cc
+
+-- ---- a job that opens
+
+no_legs_yet : (planned : ℕ) (gathered : JobResult) (phase : JobPhase) (legs : List LegState) → LegsFit planned gathered phase legs
+    → is_blocked phase ≡ true → legs ≡ []
+no_legs_yet planned gathered job.Blocked legs fits e = fits
+no_legs_yet planned gathered job.Open legs fits e = cc
+no_legs_yet planned gathered (job.Settled r) legs fits e = cc
+
+decided_same : (may stopping : Bool) (n l : ℕ) (y : JobState) → y.legs ≡ []
+    → status_in_job l ((if may then opened n else settled_as (if stopping then result.Cancelled else result.Skipped)) y) ≡ status_in_job l y
+decided_same true stopping n l y none = new_legs_same n l y.legs none
+decided_same false stopping n l y none = refl
+
+same_job : (y z : JobState) → Some y ≡ Some z → y ≡ z
+same_job y z e = cc
+
+same_leg : (y z : LegState) → Some y ≡ Some z → y ≡ z
+same_leg y z e = cc
+
+same_run : (x y : RunState) → Some x ≡ Some y → x ≡ y
+same_run x y e = cc
+
+opening_tells : (runs : List RunState) → RunsFit runs → (r j : ℕ) (y : JobState) → job_at runs r j ≡ Some y → is_blocked y.phase ≡ true
+    → Tells runs (without_moves (with_job r j (decided runs r j) runs))
+opening_tells runs fit r j y was blocked =
+    quiet_job_tells r j (decided runs r j) runs
+    (λ l z is.
+    let same : z ≡ y = same_job z y (sym is ∙ was) in
+    let none : z.legs ≡ [] =
+    ap (λ (x : JobState). x.legs) same
+    ∙ no_legs_yet (planned_legs runs r j) (result_at runs r j y) y.phase y.legs (jobs_fit runs fit r j y was) blocked in
+    decided_same (may_run runs r j) (is_stopping runs r) (planned_legs runs r j) l z none)
+
+-- ---- a leg
+
+-- a leg that is in this phase goes on with its moves
+leg_goes_by : (runs : List RunState) (p : LegPlace) (z : LegState) (phase : LegPhase) (to : LegPhase) (moves : List Move)
+    → leg_at runs p ≡ Some z → z.phase ≡ phase → Goes (Holder.a_leg p) (leg_status phase) (own (Holder.a_leg p) moves) (leg_status to)
+    → (y : LegState) → leg_at runs p ≡ Some y
+    → Goes (Holder.a_leg p) (status_of_leg y) (own (Holder.a_leg p) moves) (status_of_leg (leg_in_phase to y))
+leg_goes_by runs p z phase to moves was is goes y at =
+    let same : y.phase ≡ phase = ap (λ (x : LegState). x.phase) (same_leg y z (sym at ∙ was)) ∙ is in
+    subst (λ (ph : LegPhase). Goes (Holder.a_leg p) (leg_status ph) (own (Holder.a_leg p) moves) (leg_status to)) (sym same) goes
+
+none_is_not_there : (o : Option LegState) (z : LegState) → o ≡ Some z → o ≡ None → ⊥
+none_is_not_there o z some none = cc
+
+own_itself : (h : Holder) (m : Move) → holder_of m ≡ h → own h (m ∷ []) ≡ m ∷ []
+own_itself h m is = ap (λ b. if b then m ∷ [] else []) (ap (same_holder h) is ∙ own_holder h)
+
+leg_set_tells : (runs : List RunState) (p : LegPlace) (z : LegState) (phase to : LegPhase) (m : Move) → leg_at runs p ≡ Some z
+    → z.phase ≡ phase
+    → holder_of m ≡ Holder.a_leg p → Goes (Holder.a_leg p) (leg_status phase) (m ∷ []) (leg_status to)
+    → Tells runs (record { runs = with_leg_in to p runs; moves = m ∷ [] })
+leg_set_tells runs p z phase to m was is of_it goes =
+    leg_tells p (leg_in_phase to) runs (m ∷ [])
+    (leg_goes_by runs p z phase to (m ∷ []) was is
+    (goes_by (Holder.a_leg p) (leg_status phase) (leg_status to) (own (Holder.a_leg p) (m ∷ [])) (m ∷ []) (sym (own_itself
+    (Holder.a_leg p) m of_it))
+    goes))
+    (λ none. absurd (none_is_not_there (leg_at runs p) z was none)) (only_one (Holder.a_leg p) m of_it)
+
+unseen_tells : (runs : List RunState) (p : LegPlace) (z : LegState) → leg_at runs p ≡ Some z → z.phase ≡ leg.New
+    → Tells runs (without_moves (with_leg_in (leg.Ended outcome.Cancelled) p runs))
+unseen_tells runs p z was is =
+    leg_tells p (leg_in_phase (leg.Ended outcome.Cancelled)) runs []
+    (leg_goes_by runs p z leg.New (leg.Ended outcome.Cancelled) [] was is (goes_unseen (Holder.a_leg p))) (λ none. refl)
+    (only_none (Holder.a_leg p))
+
+-- ---- what has not begun
+
+not_live : true ≡ false → ⊥
+not_live e = cc
+
+ended_unbegun : (z : LegState) → LegUnbegun z → LegUnbegun (leg_in_phase (leg.Ended outcome.Cancelled) z)
+ended_unbegun z un = record { no_lease = un.no_lease; cancelled = (λ o e. cc) }
+
+decided_unbegun : (may stopping : Bool) (n l : ℕ) (y : JobState) → There LegUnbegun (slice_get y.legs l)
+    → There LegUnbegun (slice_get ((if may then opened n else settled_as (if stopping then result.Cancelled else result.Skipped)) y).legs l)
+decided_unbegun true stopping n l y all = opened_still n l
+decided_unbegun false stopping n l y all = all
+
+live_run : (runs : List RunState) (r : ℕ) → LivePlace runs (Opening r 0) → (x : RunState) → run_at runs r ≡ Some x → is_live x.phase ≡ true
+live_run runs r live x at = ap (λ (v : RunState). is_live v.phase) (same_run x live.0 (sym at ∙ live.1)) ∙ ap is_live live.2
+
+-- a run with a job that is done is live
+closing_run : (runs : List RunState) → RunsFit runs → (r j : ℕ) (y : JobState) → job_at runs r j ≡ Some y → is_done y ≡ true
+    → (x : RunState)
+    → run_at runs r ≡ Some x → is_live x.phase ≡ true
+closing_run runs fit r j y was done x at =
+    let in_run : slice_get x.jobs j ≡ Some y = sym (job_in_run runs r j x at) ∙ was in
+    let is_open_now = is_open_open y.phase (and_parts (is_open y.phase) (list_all has_ended y.legs) done).0 in
+    ap is_live (open_is_live x.phase x.stopping x.jobs j y (fit r x at).phase_fits in_run is_open_now)
+
+-- ---- a run
+
+run_set_tells : (runs : List RunState) (r : ℕ) (x : RunState) (to : RunPhase) (m : Move) → run_at runs r ≡ Some x
+    → holder_of m ≡ Holder.a_run r → Goes (Holder.a_run r) (status_of_run x) (m ∷ []) (run_status to x.stopping)
+    → Tells runs (record { runs = with_run r (run_in_phase to) runs; moves = m ∷ [] })
+run_set_tells runs r x to m was of_it goes =
+    run_tells r (run_in_phase to) runs (m ∷ []) (λ y. refl)
+    (λ y at. subst
+    (λ (v : RunState). Goes (Holder.a_run r) (status_of_run v) (own (Holder.a_run r) (m ∷ [])) (run_status to v.stopping))
+    (sym (same_run y x (sym at ∙ was)))
+    (goes_by (Holder.a_run r) (status_of_run x) (run_status to x.stopping) (own (Holder.a_run r) (m ∷ [])) (m ∷ [])
+    (sym (own_itself (Holder.a_run r) m of_it)) goes))
+    (λ none. absurd (none_is_not_a_run (run_at runs r) x was none)) (only_one (Holder.a_run r) m of_it)
+  where
+    none_is_not_a_run : (o : Option RunState) (x : RunState) → o ≡ Some x → o ≡ None → ⊥
+    none_is_not_a_run o x some none = cc
+
+waiting_is_unstopped : (stopping : Bool) (jobs : List JobState) (phase : RunPhase) → phase ≡ run.Waiting → PhaseFits phase stopping jobs
+    → stopping ≡ false
+waiting_is_unstopped stopping jobs run.Waiting e fits = fits.0
+waiting_is_unstopped stopping jobs run.Live e fits = cc
+waiting_is_unstopped stopping jobs run.Ended e fits = cc
+
+-- ---- the rules, on the way to a table that is reached; `later` is one that follows
+
+module _ (reached later : List RunState) (g : Group) (cancels : Holder → Bool) (on : Grows reached later)
+    (asks : (h : Holder) → cancels h ≡ true → cancels_in_progress later h ≡ true) where
+  -- the groups are those of the table that is reached
+  abbrev pub Keeps : List RunState → Moved → Type 0
+  Keeps runs m = GoesOn (is_in reached g) cancels runs m
+
+  agrees : (runs : List RunState) → RunsFit runs → Grows runs reached → (h : Holder) → IsOneOf runs h → is_in reached g h ≡ is_in runs g h
+  agrees runs fit grows = is_in_kept runs reached fit grows g
+
+  asked_now : (runs : List RunState) → RunsFit runs → Grows runs reached → (h : Holder) → IsOneOf runs h → cancels h ≡ true
+      → cancels_in_progress runs h ≡ true
+  asked_now runs fit grows h there e =
+      sym (cancels_kept runs later fit (grows_on runs reached later grows on) h there) ∙ asks h e
+
+  -- ---- an arrival
+
+  then_agrees : (now : List RunState) (n : Holder) → RunsFit now → Grows (arrived n now).runs reached → group_at now n ≡ Some g
+      → (h : Holder) → IsOneOf (displaced g n now).runs h → is_in reached g h ≡ is_in (displaced g n now).runs g h
+  then_agrees now n fit grows its =
+      let c = cancels_in_progress now n in
+      let mid = (displaced g n now).runs in
+      let fit_mid = (displaced_settles g n now fit).stay.fit in
+      let made = room_made c n now g in
+      let same : (arrived n now).runs ≡ made.runs =
+      ap (λ o. (option_map_or (room_made c n now) o (without_moves now)).runs) its in
+      let after : Grows made.runs reached = subst (λ (rs : List RunState). Grows rs reached) same grows in
+      agrees mid fit_mid (grows_on mid made.runs reached (stays_grows mid made.runs (asked_settles c g mid fit_mid).stay) after)
+
+  pub arrival_keeps : (before now : List RunState) (n : Holder) → RunsFit before → RunsFit now
+      → Tells before (record { runs = now; moves = Move.arrive n ∷ [] }) → status before n ≡ Status.unarrived → Comes before now n
+      → waits now n ≡ true → ((h : Holder) → IsOneOf before h → group_at now h ≡ group_at before h) → HasOneEach before
+      → AllStill before now → Grows (arrived n now).runs reached → Keeps before (arrived n now)
+  arrival_keeps before now n fit_before fit set unseen comes waiting stay each still grows moves so_far =
+      let fit_now : Grows now reached =
+      grows_on now (arrived n now).runs reached (stays_grows now (arrived n now).runs (arrival_settles n now fit).stay) grows in
+      arrival_goes_on (is_in reached g) cancels g before now n fit set unseen comes waiting
+      (newcomer_besides before now n stay comes each) (agrees now fit fit_now) still
+      (asked_now now fit fit_now n (one_that_waits now n waiting)) (then_agrees now n fit grows) moves so_far
+
+  -- ---- a leg goes on
+
+  newcomer_keeps : (runs : List RunState) (p : LegPlace) (z : LegState) → RunsFit runs → leg_at runs p ≡ Some z → z.phase ≡ leg.New
+      → HasOneEach runs → Grows (newcomer_rule runs p).runs reached → Keeps runs (newcomer_rule runs p)
+  newcomer_keeps runs p z fit was is each =
+      elim (is_in_group_of_run runs p) as
+      (λ b. Grows (if b then without_moves (with_leg_in (leg.Ended outcome.Cancelled) p runs)
+      else arrived (Holder.a_leg p) (with_leg_in leg.Waiting p runs)).runs reached
+      → Keeps runs (if b then without_moves (with_leg_in (leg.Ended outcome.Cancelled) p runs)
+      else arrived (Holder.a_leg p) (with_leg_in leg.Waiting p runs))) [
+        | true ↦ λ grows.
+            let next = with_leg_in (leg.Ended outcome.Cancelled) p runs in
+            quiet_goes_on (is_in reached g) cancels runs (without_moves next)
+            (unmoved_is_quiet (is_in reached g) cancels runs next (unseen_tells runs p z was is)
+            (leg_fades (leg_in_phase (leg.Ended outcome.Cancelled)) p runs (λ v e. absurd (bad e)) (λ v e. absurd (bad e))).waited
+            (still_of_all runs next (leg_all_still runs p (leg_in_phase (leg.Ended outcome.Cancelled)) ended_unbegun)))
+        | false ↦ λ grows.
+            let now = with_leg_in leg.Waiting p runs in
+            let stay = (newcomer_waits runs p z fit was is).stay in
+            let comes : Comes runs now (Holder.a_leg p) = record {
+              waited = set_waits runs p z was (leg_in_phase leg.Waiting);
+              held = holds_before_leg (leg_in_phase leg.Waiting) p runs (λ v e. absurd (bad e));
+            } in
+            arrival_keeps runs now (Holder.a_leg p) fit stay.fit
+            (leg_set_tells runs p z leg.New leg.Waiting (Move.arrive (Holder.a_leg p)) was is refl (goes_to_arrive (Holder.a_leg p)))
+            (ap (status_by status_of_leg) was ∙ ap leg_status is) comes
+            (ap (passes (leg_passes leg_waits)) (set_itself runs p z was (leg_in_phase leg.Waiting))) (groups_stay runs now fit stay) each
+            (leg_all_still runs p (leg_in_phase leg.Waiting) (λ v un. record { no_lease = un.no_lease; cancelled = (λ o e. cc) })) grows
+      ]
+
+  leg_rule_keeps : (runs : List RunState) (m : Moved) (p : LegPlace) (z : LegState) (phase : LegPhase) → RunsFit runs
+      → leg_at runs p ≡ Some z → z.phase ≡ phase → leg_rule_in phase runs p ≡ Some m → HasOneEach runs → Grows runs reached
+      → Grows m.runs reached → Keeps runs m
+  leg_rule_keeps runs m p z leg.New fit was is h each from grows =
+      let same : newcomer_rule runs p ≡ m = cc in
+      subst (λ (v : Moved). Grows v.runs reached → Keeps runs v) same (newcomer_keeps runs p z fit was is each) grows
+  leg_rule_keeps runs m p z leg.Waiting fit was is h each from grows =
+      let k = Holder.a_leg p in
+      let next = with_leg_in leg.Ready p runs in
+      let taken = if_some (may_start runs k) (started k next) m h in
+      let waiting : waits runs k ≡ true = ap (passes (leg_passes leg_waits)) was ∙ ap leg_waits is in
+      subst (λ (v : Moved). Keeps runs v) taken.1
+      (quiet_goes_on (is_in reached g) cancels runs (started k next)
+      (start_is_quiet (is_in reached g) cancels g runs (agrees runs fit from) next k
+      (leg_set_tells runs p z leg.Waiting leg.Ready (Move.start k) was is refl (goes_to_start k))
+      (waits_before_leg (leg_in_phase leg.Ready) p runs (λ v e. absurd (bad e)))
+      (still_of_all runs next (leg_all_still runs p (leg_in_phase leg.Ready) (λ v un. record {
+        no_lease = un.no_lease;
+        cancelled =
+            (λ o e. cc);
+      })))
+      waiting taken.0))
+  leg_rule_keeps runs m p z leg.Ready fit was is h each from grows = cc
+  leg_rule_keeps runs m p z leg.Running fit was is h each from grows = cc
+  leg_rule_keeps runs m p z leg.Stopping fit was is h each from grows = cc
+  leg_rule_keeps runs m p z (leg.Ended r) fit was is h each from grows = cc
+
+  -- ---- a run goes on
+
+  whole_rule_keeps : (runs : List RunState) (m : Moved) (r : ℕ) (x : RunState) (phase : RunPhase) → RunsFit runs → run_at runs r ≡ Some x
+      → x.phase ≡ phase → whole_rule_in phase runs r x ≡ Some m → Grows runs reached → Keeps runs m
+  whole_rule_keeps runs m r x run.Waiting fit was is h from =
+      let k = Holder.a_run r in
+      let next = with_run r (run_in_phase run.Live) runs in
+      let taken = if_some (may_start runs k) (started k next) m h in
+      let waiting : waits runs k ≡ true = ap (passes (λ (v : RunState). run_waits v.phase)) was ∙ ap run_waits is in
+      let unstopped : x.stopping ≡ false = waiting_is_unstopped x.stopping x.jobs x.phase is (fit r x was).phase_fits in
+      let goes : Goes k (status_of_run x) (Move.start k ∷ []) (run_status run.Live x.stopping) =
+      subst (λ (s : Status). Goes k s (Move.start k ∷ []) (run_status run.Live x.stopping)) (sym (ap (λ ph. run_status ph x.stopping) is))
+      (subst (λ (b : Bool). Goes k Status.waiting (Move.start k ∷ []) (Status.running b)) (sym unstopped) (goes_to_start k)) in
+      subst (λ (v : Moved). Keeps runs v) taken.1
+      (quiet_goes_on (is_in reached g) cancels runs (started k next)
+      (start_is_quiet (is_in reached g) cancels g runs (agrees runs fit from) next k (run_set_tells runs r x run.Live
+      (Move.start k) was refl goes)
+      (live_waits runs r) (phase_still runs r run.Live (λ y at before now. not_live now)) waiting taken.0))
+  whole_rule_keeps runs m r x run.Live fit was is h from =
+      let k = Holder.a_run r in
+      let next = with_run r (run_in_phase run.Ended) runs in
+      let taken = if_some (list_all is_settled x.jobs) (run_ended runs r x) m h in
+      let end = Move.end_with (conclusion_of (results_of x.jobs)) k in
+      let held : holds runs k ≡ true = ap (passes (λ (v : RunState). is_live v.phase)) was ∙ ap is_live is in
+      subst (λ (v : Moved). Keeps runs v) taken.1
+      (quiet_goes_on (is_in reached g) cancels runs (run_ended runs r x)
+      (end_is_quiet (is_in reached g) cancels runs next (conclusion_of (results_of x.jobs)) k
+      (run_set_tells runs r x run.Ended end was refl
+      (goes_over k (status_of_run x) (end ∷ []) (ends_at_once k (conclusion_of (results_of x.jobs))))) (ended_fades r runs).waited
+      (phase_still runs r run.Ended (λ y at before now.
+      true≢false (sym (ap (λ (v : RunState). is_live v.phase) (same_run y x (sym at ∙ was)) ∙ ap is_live is) ∙ before))) held))
+  whole_rule_keeps runs m r x run.Ended fit was is h from = cc
+
+  -- ---- at each place
+
+  rule_keeps : (runs : List RunState) (m : Moved) (place : Place) → RunsFit runs → LivePlace runs place → rule_at runs place ≡ Some m
+      → HasOneEach runs
+      → Grows runs reached → Grows m.runs reached → Keeps runs m
+  rule_keeps runs m (Opening r j) fit live h each from grows =
+      let made = from_and_then (opening_rule runs r j) (job_at runs r j) m h in
+      let next = with_job r j (decided runs r j) runs in
+      let taken = if_some (is_blocked made.value.phase && needs_have_settled runs r j) (without_moves next) m made.gives in
+      let blocked = (and_parts (is_blocked made.value.phase) (needs_have_settled runs r j) taken.0).0 in
+      subst (λ (v : Moved). Keeps runs v) taken.1
+      (quiet_goes_on (is_in reached g) cancels runs (without_moves next)
+      (unmoved_is_quiet (is_in reached g) cancels runs next (opening_tells runs fit r j made.value made.is blocked)
+      (decided_fades runs r j).waited
+      (live_job_still runs r j (decided runs r j) (live_run runs r live)
+      (decided_unbegun (may_run runs r j) (is_stopping runs r) (planned_legs runs r j)))))
+  rule_keeps runs m (AtLeg p) fit live h each from grows =
+      let made = from_and_then (leg_rule runs p) (leg_at runs p) m h in
+      leg_rule_keeps runs m p made.value made.value.phase fit made.is refl made.gives each from grows
+  rule_keeps runs m (Closing r j) fit live h each from grows =
+      let made = from_and_then (closing_rule runs r j) (job_at runs r j) m h in
+      let close = settled_as (result_at runs r j made.value) in
+      let next = with_job r j close runs in
+      let taken = if_some (is_done made.value) (without_moves next) m made.gives in
+      subst (λ (v : Moved). Keeps runs v) taken.1
+      (quiet_goes_on (is_in reached g) cancels runs (without_moves next)
+      (unmoved_is_quiet (is_in reached g) cancels runs next (quiet_job_tells r j close runs (λ l y is. refl))
+      (job_fades close r j runs (record { waited = (λ l y e. e); held = (λ l y e. e) })).waited
+      (live_job_still runs r j close (closing_run runs fit r j made.value made.is taken.0) (λ l y all. all))))
+  rule_keeps runs m (Whole r) fit live h each from grows =
+      let made = from_and_then (whole_rule runs r) (run_at runs r) m h in
+      whole_rule_keeps runs m r made.value made.value.phase fit made.is refl made.gives from
+
+  -- ---- settling
+
+  first_rule_keeps : (runs : List RunState) (m : Moved) → RunsFit runs → first_rule runs ≡ Some m → HasOneEach runs → Grows runs reached
+      → Grows m.runs reached → Keeps runs m
+  first_rule_keeps runs m fit h each from grows =
+      let made = from_and_then (rule_at runs) (first_place runs) m h in
+      rule_keeps runs m made.value fit (first_place_is_live runs made.value made.is) made.gives each from grows
+
+  pub settled_keeps : (n : ℕ) (runs : List RunState) → RunsFit runs → HasOneEach runs → Grows (settled_within n runs).runs reached
+      → Keeps runs (settled_within n runs)
+  settled_keeps zero runs fit each = λ grows. goes_on_still (is_in reached g) cancels runs
+  settled_keeps (suc n) runs fit each =
+      elim (first_rule runs) as
+      (λ o. first_rule runs ≡ o → Grows (option_map_or (λ m. and_then m (settled_within n)) o (without_moves runs)).runs reached
+      → Keeps runs (option_map_or (λ m. and_then m (settled_within n)) o (without_moves runs))) [
+        | None ↦ λ is grows. goes_on_still (is_in reached g) cancels runs
+        | Some m ↦ λ is grows.
+            let one = (first_rule_settles runs m fit is).stay in
+            let after = grows_on m.runs (settled_within n m.runs).runs reached
+            (stays_grows m.runs (settled_within n m.runs).runs (settles_within n m.runs one.fit).stay) grows in
+            goes_on_then (is_in reached g) cancels runs m (settled_within n)
+            (first_rule_keeps runs m fit is each (grows_on runs m.runs reached (stays_grows runs m.runs one) after) after)
+            (settled_keeps n m.runs one.fit (first_rule_one_each runs m fit is each) grows)
+      ] refl

@@ -1,0 +1,373 @@
+-- Runners in the order of their names: where the one of a name stands, or would.
+use Rattle.std.specs.Prelude.{◌≡◌, ◌⊎◌, ℕ, zero, suc, ◌<◌, ◌≤◌, List, [], ◌∷◌, ◌++◌, length, filter, find, Bool, true, false}
+use Rattle.std.specs.Prelude.{cond, if◌then◌else◌, is_some, Option, Some, None, option_and_then, slice_get, slice_set, OnErr, Result, Ok, Err, refl}
+use Rattle.std.specs.List.{AllByRecursion, AllWithin, insert}
+use Rattle.std.specs.List.Sorted.{IsPartitionedBy}
+use Rattle.std.specs.Cmp.Lexicographic.{nat_list_cmp_total}
+use Rattle.std.specs.Ordering.{is_lt, is_eq, ordering_reverse}
+use Rattle.std.specs.declared.cmp.Ordering.TheVariants.{Less, Equal, Greater}
+use Rattle.std.proofs.Common.{arith, ap, sym, ◌∙◌, subst, inl, inr, get_or, length-append}
+use Rattle.std.proofs.lemmas.Bool.{and_from, cases_lt, true≢false}
+use Rattle.std.proofs.lemmas.Map.Lookups.{exact_bytes}
+use Rattle.std.proofs.lemmas.Map.Text.{is_eq-slice_cmp}
+use Rattle.wf_value.specs.Gives.{Gives}
+use Rattle.wf_value.specs.declared.refusal.Refusal.{Refusal}
+use Rattle.wf_value.proofs.Rising.{name_cmp, Less-from_is_lt, Equal-from_same, rises_next, rises_rest, earlier_below}
+use Rattle.run_table.specs.TableState.{RunnerState}
+use Rattle.run_table.specs.Turns.{is_named, is_below, is_above, kept_named, names_rise, runner_named, with_runner}
+use Rattle.run_table.proofs.Doors.{given}
+use Rattle.run_table.proofs.Found.{all_weaken, all_append, each_at}
+
+-- ---- two names
+
+pub after_less : (x y : List ℕ) → name_cmp x y ≡ Less → name_cmp y x ≡ Greater
+after_less x y h = nat_list_cmp_total.antisymm y x ∙ ap ordering_reverse h
+
+pub after_greater : (x y : List ℕ) → name_cmp x y ≡ Greater → name_cmp y x ≡ Less
+after_greater x y h = nat_list_cmp_total.antisymm y x ∙ ap ordering_reverse h
+
+-- whether it is a runner's name, by their order
+pub named_by_order : (name : List ℕ) (x : RunnerState) → is_named name x ≡ is_eq (name_cmp x.name name)
+named_by_order name x = sym (is_eq-slice_cmp x.name name)
+
+-- ---- what a filter keeps
+
+module _ {X : Type 0} (test : X → Bool) where
+  pub filter_keeps : (x : X) (xs : List X) → test x ≡ true → filter test (x ∷ xs) ≡ x ∷ filter test xs
+  filter_keeps x xs e = ap (λ b. cond b (x ∷ filter test xs) (filter test xs)) e
+
+  pub filter_drops : (x : X) (xs : List X) → test x ≡ false → filter test (x ∷ xs) ≡ filter test xs
+  filter_drops x xs e = ap (λ b. cond b (x ∷ filter test xs) (filter test xs)) e
+
+  pub filter_all : (xs : List X) → AllByRecursion (λ x. test x ≡ true) xs → filter test xs ≡ xs
+  filter_all [] h = refl
+  filter_all (x ∷ xs) h = filter_keeps x xs h.0 ∙ ap (λ ys. x ∷ ys) (filter_all xs h.1)
+
+  pub filter_none : (xs : List X) → AllByRecursion (λ x. test x ≡ false) xs → filter test xs ≡ []
+  filter_none [] h = refl
+  filter_none (x ∷ xs) h = filter_drops x xs h.0 ∙ filter_none xs h.1
+
+  pub all_filter : (P : X → Type 0) (xs : List X) → AllByRecursion P xs → AllByRecursion P (filter test xs)
+  all_filter P [] h = tt
+  all_filter P (x ∷ xs) h =
+      elim (test x) as (λ b. AllByRecursion P (cond b (x ∷ filter test xs) (filter test xs))) [
+        | true ↦ (h.0, all_filter P xs h.1)
+        | false ↦ all_filter P xs h.1
+      ]
+
+  pub all_pass : (xs : List X) → AllByRecursion (λ x. test x ≡ true) (filter test xs)
+  all_pass [] = tt
+  all_pass (x ∷ xs) =
+      elim (test x) as (λ b. test x ≡ b → AllByRecursion (λ y. test y ≡ true) (cond b (x ∷ filter test xs) (filter test xs))) [
+        | true ↦ λ is. (is, all_pass xs)
+        | false ↦ λ is. all_pass xs
+      ] refl
+
+  -- the elements in front pass, and no later one does
+  pub front_counted : (xs : List X) (i : ℕ) → i ≤ length xs → AllWithin (λ x. test x ≡ true) xs 0 i
+      → AllWithin (λ x. test x ≡ false) xs i (length xs) → i ≡ length (filter test xs)
+  front_counted [] i le pass fail = omega arith
+  front_counted (x ∷ xs) zero le pass fail =
+      front_counted xs zero (omega arith) (λ k d lo hi. absurd (omega arith)) (λ k d lo hi. fail (suc k) d (omega arith) (omega arith))
+      ∙ ap length (sym (filter_drops x xs (fail zero x (omega arith) (omega arith))))
+  front_counted (x ∷ xs) (suc i) le pass fail =
+      ap suc (front_counted xs i (omega arith) (λ k d lo hi. pass (suc k) d (omega arith) (omega arith))
+      (λ k d lo hi. fail (suc k) d (omega arith) (omega arith)))
+      ∙ ap length (sym (filter_keeps x xs (pass zero x (omega arith) (omega arith))))
+
+-- what a test finds where another keeps all that it takes, or none of it
+module _ {X : Type 0} (test keep : X → Bool) where
+  pub find_kept : ((x : X) → test x ≡ true → keep x ≡ true) → (xs : List X) → find test (filter keep xs) ≡ find test xs
+  find_kept h [] = refl
+  find_kept h (x ∷ xs) =
+      elim (keep x) as (λ b. keep x ≡ b → find test (cond b (x ∷ filter keep xs) (filter keep xs)) ≡ cond (test x) (Some x) (find test xs)) [
+        | true ↦ λ is. ap (cond (test x) (Some x)) (find_kept h xs)
+        | false ↦ λ is. find_kept h xs ∙ sym (ap (λ b. cond b (Some x) (find test xs)) (not_taken x is))
+      ] refl
+    where
+      not_taken : (x : X) → keep x ≡ false → test x ≡ false
+      not_taken x lost =
+          elim (test x) as (λ b. test x ≡ b → b ≡ false) [
+            | true ↦ λ taken. absurd (true≢false (sym (h x taken) ∙ lost))
+            | false ↦ λ _. refl
+          ] refl
+
+  pub find_gone : ((x : X) → test x ≡ true → keep x ≡ false) → (xs : List X) → find test (filter keep xs) ≡ None
+  find_gone h [] = refl
+  find_gone h (x ∷ xs) =
+      elim (keep x) as (λ b. keep x ≡ b → find test (cond b (x ∷ filter keep xs) (filter keep xs)) ≡ None) [
+        | true ↦ λ is. ap (λ b. cond b (Some x) (find test (filter keep xs))) (not_taken x is) ∙ find_gone h xs
+        | false ↦ λ is. find_gone h xs
+      ] refl
+    where
+      not_taken : (x : X) → keep x ≡ true → test x ≡ false
+      not_taken x held =
+          elim (test x) as (λ b. test x ≡ b → b ≡ false) [
+            | true ↦ λ taken. absurd (true≢false (sym held ∙ h x taken))
+            | false ↦ λ _. refl
+          ] refl
+
+-- ---- runners above a name
+
+abbrev pub AreAbove : List ℕ → List RunnerState → Type 0
+AreAbove name runners = AllByRecursion (λ r. name_cmp name r.name ≡ Less) runners
+
+pub all_above : (name : List ℕ) (x : RunnerState) (xs : List RunnerState) → name_cmp name x.name ≡ Less → AreAbove x.name xs → AreAbove name xs
+all_above name x xs lt =
+    all_weaken (λ (r : RunnerState). name_cmp x.name r.name ≡ Less) (λ (r : RunnerState). name_cmp name r.name ≡ Less)
+    (λ r more. nat_list_cmp_total.trans name x.name r.name lt more) xs
+
+pub above_the_first : (x : RunnerState) (xs : List RunnerState) → names_rise (x ∷ xs) ≡ true → AreAbove x.name xs
+above_the_first x [] h = tt
+above_the_first x (y ∷ ys) h =
+    let name = λ (r : RunnerState). r.name in
+    let next = rises_next name x y ys h in
+    (next, all_above x.name y ys next (above_the_first y ys (rises_rest name x (y ∷ ys) h)))
+
+pub rise_from : (x : RunnerState) (xs : List RunnerState) → AreAbove x.name xs → names_rise xs ≡ true → names_rise (x ∷ xs) ≡ true
+rise_from x [] above h = refl
+rise_from x (y ∷ ys) above h = and_from _ _ (ap is_lt above.0) h
+
+above_is_above : (name : List ℕ) (x : RunnerState) → name_cmp name x.name ≡ Less → is_above name x ≡ true
+above_is_above name x h = ap is_lt h
+
+above_not_below : (name : List ℕ) (x : RunnerState) → name_cmp name x.name ≡ Less → is_below name x ≡ false
+above_not_below name x h = ap is_lt (after_less name x.name h)
+
+above_not_named : (name : List ℕ) (x : RunnerState) → name_cmp name x.name ≡ Less → is_named name x ≡ false
+above_not_named name x h = named_by_order name x ∙ ap is_eq (after_less name x.name h)
+
+none_named : (name : List ℕ) (xs : List RunnerState) → AreAbove name xs → runner_named xs name ≡ None
+none_named name [] h = refl
+none_named name (x ∷ xs) h = ap (λ b. cond b (Some x) (find (is_named name) xs)) (above_not_named name x h.0) ∙ none_named name xs h.1
+
+-- ---- the runners around a name
+
+-- the runner of the name, or none, before those above it
+pub record IsThere (runners : List RunnerState) (name : List ℕ) (back : List RunnerState) : Type 0 where
+  pub runner : RunnerState
+  pub is : back ≡ runner ∷ filter (is_above name) runners
+  pub found : runner_named runners name ≡ Some runner
+  pub named : is_named name runner ≡ true
+
+pub record IsAbsent (runners : List RunnerState) (name : List ℕ) (back : List RunnerState) : Type 0 where
+  pub is : back ≡ filter (is_above name) runners
+  pub found : runner_named runners name ≡ None
+
+pub record Around (runners : List RunnerState) (name : List ℕ) : Type 0 where
+  pub back : List RunnerState
+  pub whole : runners ≡ filter (is_below name) runners ++ back
+  pub ends : IsThere runners name back ⊎ IsAbsent runners name back
+
+first_below : (x : RunnerState) (xs : List RunnerState) (name : List ℕ) → name_cmp x.name name ≡ Less → Around xs name → Around (x ∷ xs) name
+first_below x xs name lt a =
+    let below : is_below name x ≡ true = ap is_lt lt in
+    let not_above : is_above name x ≡ false = ap is_lt (after_less x.name name lt) in
+    let other : is_named name x ≡ false = named_by_order name x ∙ ap is_eq lt in
+    let above = filter_drops (is_above name) x xs not_above in
+    let finds : runner_named (x ∷ xs) name ≡ runner_named xs name = ap (λ b. cond b (Some x) (find (is_named name) xs)) other in
+    record {
+      back = a.back;
+      whole = ap (λ ys. x ∷ ys) a.whole ∙ ap (λ ys. ys ++ a.back) (sym (filter_keeps (is_below name) x xs below));
+      ends = elim a.ends [
+        | inl there ↦ inl (record {
+          runner = there.runner;
+          is = there.is ∙ ap (λ ys. there.runner ∷ ys) (sym above);
+          found = finds ∙ there.found;
+          named = there.named;
+        })
+        | inr absent ↦ inr (record { is = absent.is ∙ sym above; found = finds ∙ absent.found })
+      ];
+    }
+
+module _ (xs : List RunnerState) (name : List ℕ) (above : AreAbove name xs) where
+  none_below : filter (is_below name) xs ≡ []
+  none_below = filter_none (is_below name) xs
+      (all_weaken (λ (r : RunnerState). name_cmp name r.name ≡ Less) (λ r. is_below name r ≡ false) (above_not_below name) xs above)
+
+  all_are_above : filter (is_above name) xs ≡ xs
+  all_are_above = filter_all (is_above name) xs
+      (all_weaken (λ (r : RunnerState). name_cmp name r.name ≡ Less) (λ r. is_above name r ≡ true) (above_is_above name) xs above)
+
+all_after : (xs : List RunnerState) (name : List ℕ) → AreAbove name xs → Around xs name
+all_after xs name above = record {
+  back = xs;
+  whole = ap (λ ys. ys ++ xs) (sym (none_below xs name above));
+  ends = inr (record { is = sym (all_are_above xs name above); found = none_named name xs above });
+}
+
+first_is_it : (x : RunnerState) (xs : List RunnerState) (name : List ℕ) → name_cmp x.name name ≡ Equal → AreAbove name xs → Around (x ∷ xs) name
+first_is_it x xs name eq above =
+    let same : x.name ≡ name = exact_bytes x.name name eq in
+    let back_equal : name_cmp name x.name ≡ Equal = Equal-from_same name x.name (sym same) in
+    let not_below : is_below name x ≡ false = ap is_lt eq in
+    let not_above : is_above name x ≡ false = ap is_lt back_equal in
+    let named : is_named name x ≡ true = named_by_order name x ∙ ap is_eq eq in
+    record {
+      back = x ∷ xs;
+      whole = ap (λ ys. ys ++ (x ∷ xs)) (sym (filter_drops (is_below name) x xs not_below ∙ none_below xs name above));
+      ends = inl (record {
+        runner = x;
+        is = ap (λ ys. x ∷ ys) (sym (filter_drops (is_above name) x xs not_above ∙ all_are_above xs name above));
+        found = ap (λ b. cond b (Some x) (find (is_named name) xs)) named;
+        named = named;
+      });
+    }
+
+pub around : (runners : List RunnerState) (name : List ℕ) → names_rise runners ≡ true → Around runners name
+around [] name h = record { back = []; whole = refl; ends = inr (record { is = refl; found = refl }) }
+around (x ∷ xs) name h =
+    let later = above_the_first x xs h in
+    elim (name_cmp x.name name) as (λ o. name_cmp x.name name ≡ o → Around (x ∷ xs) name) [
+      | Less ↦ λ lt. first_below x xs name lt (around xs name (rises_rest (λ (r : RunnerState). r.name) x xs h))
+      | Equal ↦ λ eq. first_is_it x xs name eq (subst (λ (n : List ℕ). AreAbove n xs) (exact_bytes x.name name eq) later)
+      | Greater ↦ λ gt.
+          let above = after_greater x.name name gt in
+          all_after (x ∷ xs) name (above, all_above name x xs above later)
+    ] refl
+
+-- ---- a search for the name
+
+-- a runner before one that is below the name is below it too
+pub parted_by_name : (runners : List RunnerState) (name : List ℕ) → names_rise runners ≡ true → IsPartitionedBy (is_below name) runners
+parted_by_name runners name h i j d le within below =
+    elim (cases_lt i j) [
+      | inl before ↦
+          ap is_lt (nat_list_cmp_total.trans (get_or runners i d).name (get_or runners j d).name name
+          (earlier_below (λ (r : RunnerState). r.name) runners i j d h before within) (Less-from_is_lt _ below))
+      | inr not_before ↦
+          let same : i ≡ j = omega (arith, le, not_before) in
+          subst (λ (k : ℕ). is_below name (get_or runners k d) ≡ true) (sym same) below
+    ]
+
+at_the_seam : {X : Type 0} (front back : List X) → slice_get (front ++ back) (length front) ≡ slice_get back 0
+at_the_seam [] back = refl
+at_the_seam (x ∷ front) back = at_the_seam front back
+
+set_at_the_seam : {X : Type 0} (front back : List X) (x y : X) → slice_set (front ++ x ∷ back) (length front) y ≡ front ++ y ∷ back
+set_at_the_seam [] back x y = refl
+set_at_the_seam (z ∷ front) back x y = ap (λ ys. z ∷ ys) (set_at_the_seam front back x y)
+
+inserted_at_the_seam : {X : Type 0} (front back : List X) (y : X) → insert (front ++ back) (length front) y ≡ front ++ y ∷ back
+inserted_at_the_seam [] back y = refl
+inserted_at_the_seam (z ∷ front) back y = ap (λ ys. z ∷ ys) (inserted_at_the_seam front back y)
+
+module _ (runners : List RunnerState) (name : List ℕ) (h : names_rise runners ≡ true) (place : ℕ)
+    (at : place ≡ length (filter (is_below name) runners)) where
+  stands : slice_get runners place ≡ slice_get (around runners name h).back 0
+  stands =
+      let a = around runners name h in
+      ap (slice_get runners) at ∙ ap (λ xs. slice_get xs (length (filter (is_below name) runners))) a.whole
+      ∙ at_the_seam (filter (is_below name) runners) a.back
+
+  not_above : (back : List RunnerState) → back ≡ filter (is_above name) runners → (x : RunnerState) → slice_get back 0 ≡ Some x
+      → is_named name x ≡ false
+  not_above back is x e =
+      let passes = each_at (λ (r : RunnerState). is_above name r ≡ true) (filter (is_above name) runners) 0 x
+      (all_pass (is_above name) runners) (ap (λ xs. slice_get xs 0) (sym is) ∙ e) in
+      above_not_named name x (Less-from_is_lt _ passes)
+
+  nothing_kept : (o : Option RunnerState) → ((x : RunnerState) → o ≡ Some x → is_named name x ≡ false) → option_and_then (kept_named name) o ≡ None
+  nothing_kept None h = refl
+  nothing_kept (Some x) h = ap (λ b. if b then Some x else None) (h x refl)
+
+  -- the runner of the name stands at the place, or none has it
+  pub found_there : option_and_then (kept_named name) (slice_get runners place) ≡ runner_named runners name
+  found_there =
+      let a = around runners name h in
+      ap (option_and_then (kept_named name)) stands ∙ elim a.ends [
+        | inl there ↦
+            ap (λ xs. option_and_then (kept_named name) (slice_get xs 0)) there.is
+            ∙ ap (λ b. if b then Some there.runner else None) there.named ∙ sym there.found
+        | inr absent ↦ nothing_kept (slice_get a.back 0) (not_above a.back absent.is) ∙ sym absent.found
+      ]
+
+  absent_is_unknown : (o : Option RunnerState) → o ≡ None → is_some o ≡ true → ⊥
+  absent_is_unknown o none known = true≢false (sym known ∙ ap is_some none)
+
+  there_is_known : (o : Option RunnerState) (x : RunnerState) → o ≡ Some x → is_some o ≡ false → ⊥
+  there_is_known o x found unknown = true≢false (sym (ap is_some found) ∙ unknown)
+
+  -- the place is among them where one has the name
+  pub place_within : is_some (runner_named runners name) ≡ true → place < length runners
+  place_within known =
+      let a = around runners name h in
+      elim a.ends [
+        | inl there ↦
+            let long = ap length a.whole ∙ length-append (filter (is_below name) runners) a.back in
+            let more = ap length there.is in
+            omega (arith, at, long, more)
+        | inr absent ↦ absurd (absent_is_unknown (runner_named runners name) absent.found known)
+      ]
+
+  pub place_in_range : place ≤ length runners
+  place_in_range =
+      let a = around runners name h in
+      let long = ap length a.whole ∙ length-append (filter (is_below name) runners) a.back in
+      omega (arith, at, long)
+
+  pub put_over : (new : RunnerState) → is_some (runner_named runners name) ≡ true → new.name ≡ name
+      → slice_set runners place new ≡ with_runner runners new
+  put_over new known same =
+      let a = around runners name h in
+      let front = filter (is_below name) runners in
+      elim a.ends [
+        | inl there ↦
+            ap (λ n. slice_set runners n new) at
+            ∙ ap (λ xs. slice_set xs (length front) new) (a.whole ∙ ap (λ back. front ++ back) there.is)
+            ∙ set_at_the_seam front (filter (is_above name) runners) there.runner new
+            ∙ ap (λ n. filter (is_below n) runners ++ new ∷ filter (is_above n) runners) (sym same)
+        | inr absent ↦ absurd (absent_is_unknown (runner_named runners name) absent.found known)
+      ]
+
+  pub put_between : (new : RunnerState) → is_some (runner_named runners name) ≡ false → new.name ≡ name
+      → insert runners place new ≡ with_runner runners new
+  put_between new unknown same =
+      let a = around runners name h in
+      let front = filter (is_below name) runners in
+      elim a.ends [
+        | inl there ↦ absurd (there_is_known (runner_named runners name) there.runner there.found unknown)
+        | inr absent ↦
+            ap (λ n. insert runners n new) at
+            ∙ ap (λ xs. insert xs (length front) new) (a.whole ∙ ap (λ back. front ++ back) absent.is)
+            ∙ inserted_at_the_seam front (filter (is_above name) runners) new
+            ∙ ap (λ n. filter (is_below n) runners ++ new ∷ filter (is_above n) runners) (sym same)
+      ]
+
+-- ---- the order is kept
+
+rise_filtered : (test : RunnerState → Bool) (xs : List RunnerState) → names_rise xs ≡ true → names_rise (filter test xs) ≡ true
+rise_filtered test [] h = refl
+rise_filtered test (x ∷ xs) h =
+    let rest = rise_filtered test xs (rises_rest (λ (r : RunnerState). r.name) x xs h) in
+    elim (test x) as (λ b. names_rise (cond b (x ∷ filter test xs) (filter test xs)) ≡ true) [
+      | true ↦
+          rise_from x (filter test xs)
+          (all_filter test (λ (r : RunnerState). name_cmp x.name r.name ≡ Less) xs (above_the_first x xs h)) rest
+      | false ↦ rest
+    ]
+
+rise_around : (front back : List RunnerState) (new : RunnerState) → names_rise front ≡ true
+    → AllByRecursion (λ r. is_below new.name r ≡ true) front → names_rise back ≡ true → AreAbove new.name back
+    → names_rise (front ++ new ∷ back) ≡ true
+rise_around [] back new h below k above = rise_from new back above k
+rise_around (x ∷ front) back new h below k above =
+    let lt : name_cmp x.name new.name ≡ Less = Less-from_is_lt _ below.0 in
+    rise_from x (front ++ new ∷ back)
+    (all_append (λ (r : RunnerState). name_cmp x.name r.name ≡ Less) front (new ∷ back) (above_the_first x front h)
+    (lt, all_above x.name new back lt above))
+    (rise_around front back new (rises_rest (λ (r : RunnerState). r.name) x front h) below.1 k above)
+
+pub names_still_rise : (runners : List RunnerState) (new : RunnerState) → names_rise runners ≡ true → names_rise (with_runner runners new) ≡ true
+names_still_rise runners new h =
+    rise_around (filter (is_below new.name) runners) (filter (is_above new.name) runners) new
+    (rise_filtered (is_below new.name) runners h) (all_pass (is_below new.name) runners) (rise_filtered (is_above new.name) runners h)
+    (all_weaken (λ r. is_above new.name r ≡ true) (λ (r : RunnerState). name_cmp new.name r.name ≡ Less) (λ r e. Less-from_is_lt _ e)
+    (filter (is_above new.name) runners) (all_pass (is_above new.name) runners))
+
+-- a call that put a runner among them, or left them
+pub put_keeps_order : (old new : List RunnerState) (x : RunnerState) (r : Result (Unit {0}) Refusal) → names_rise old ≡ true
+    → Gives (λ (_ : Unit {0}). new) r (Ok (with_runner old x)) → OnErr r (new ≡ old) → names_rise new ≡ true
+put_keeps_order old new x (Ok done) rise gave kept =
+    ap names_rise (sym (given (with_runner old x) new gave)) ∙ names_still_rise old x rise
+put_keeps_order old new x (Err e) rise gave kept = ap names_rise kept ∙ rise

@@ -1,0 +1,20 @@
+use Rattle.std.specs.Prelude.{List}
+use Rattle.std.proofs.Common.{ap, sym, subst, ◌∙◌}
+use Rattle.run_table.specs.Groups.{HasOneEach}
+use Rattle.run_table.specs.Sound.{RunsAreSound}
+use Rattle.run_table.specs.Step.{with_ended}
+use Rattle.run_table.specs.Stops.{outcome_of_loss}
+use Rattle.run_table.specs.TableState.{RunState, TableState}
+use Rattle.run_table.proofs.content.Content.end_lost.Goals as goal
+
+pub settle-requires-clause-sound : goal.settle-requires-clause-sound
+settle-requires-clause-sound c =
+    subst (λ (xs : List RunState). RunsAreSound xs)
+    (sym (c.end.ensures ∙ ap (λ o. with_ended c.args.lease o c.self.inside.runs) c.outcome_of_loss-outcome.ensures
+    ∙ ap (λ (s : TableState). with_ended c.args.lease (outcome_of_loss s.runs c.args.lease) s.runs) c.self.view_is)) c.requires.ends
+
+pub settle-requires-clause-one_each : goal.settle-requires-clause-one_each
+settle-requires-clause-one_each c =
+    subst (λ (xs : List RunState). HasOneEach xs)
+    (sym (c.end.ensures ∙ ap (λ o. with_ended c.args.lease o c.self.inside.runs) c.outcome_of_loss-outcome.ensures
+    ∙ ap (λ (s : TableState). with_ended c.args.lease (outcome_of_loss s.runs c.args.lease) s.runs) c.self.view_is)) c.requires.one_each

@@ -1,0 +1,134 @@
+ghost use Rattle.std.specs.Prelude.{◌≡◌, ◌<◌, [], filter, is_some, length, option_and_then, option_map, slice_get, slice_set, Ok, OnErr, true};
+ghost use Rattle.wf_value.specs.Gives.{Gives};
+ghost use Rattle.run_table.specs.Turns.{is_below, is_named, kept_named, names_rise, runner_named, with_runner};
+
+use crate::runner::Runner;
+use run_plan::RunnerName;
+use std::alloc::Global;
+use std::marker::Model;
+use wf_value::{Refusal, TryCopy, copy_items};
+
+/// The runners of a table, in the order of their names. A contract sees the list of them.
+#[derive(Drop)]
+pub struct Runners {
+    runners: Vec<Runner>,
+}
+
+impl Model for Runners {
+    ghost use Rattle.std.specs.Prelude.{◌≡◌, List, true};
+    ghost use Rattle.run_table.specs.TableState.{RunnerState};
+    ghost use Rattle.run_table.specs.Turns.{names_rise};
+
+    ghost Value = { List RunnerState };
+
+    ghost view = { λ r. r.runners.items };
+
+    ghost invariant = { λ r. names_rise r.runners.items ≡ true };
+}
+
+impl Runners {
+    pub(crate) fn new(alloc: Global) -> Self
+        ensures { result ≡ [] }
+    {
+        Runners {
+            runners: Vec::new(alloc),
+        }
+    }
+
+    pub(crate) fn as_slice(&self) -> &[Runner]
+        ensures runners { result.now ≡ self.now }
+        ensures rise { names_rise self.now ≡ true }
+    {
+        self.runners.as_slice()
+    }
+
+    /// The runner of a name.
+    pub(crate) fn named(&self, name: &RunnerName) -> Option<&Runner>
+        ensures { option_map (λ r. r.now) result ≡ runner_named self.now name.now }
+    {
+        runner_in(self.as_slice(), name)
+    }
+
+    /// Puts the runner where its name belongs, in the place of the one of its name. At an error the runners are as they were.
+    pub(crate) fn put(&mut self, runner: Runner) -> Result<(), Refusal>
+        ensures put { Gives (λ _. self.new) result (Ok (with_runner self.old runner)) }
+        ensures err { OnErr result (self.new ≡ self.old) }
+    {
+        put_in(&mut self.runners, runner)
+    }
+}
+
+impl TryCopy for Runners {
+    fn copy(&self, alloc: Global) -> Result<Self, Refusal> {
+        Ok(Runners {
+            runners: copy_items(alloc, &self.runners)?,
+        })
+    }
+}
+
+fn is_below(runner: &Runner, name: &RunnerName) -> bool
+    ensures { result ≡ is_below name.now runner.now }
+{
+    runner.name.as_str() < name.as_str()
+}
+
+fn is_named(runner: &Runner, name: &RunnerName) -> bool
+    ensures { result ≡ is_named name.now runner.now }
+{
+    runner.name.as_str() == name.as_str()
+}
+
+/// How many of the runners, which stand in the order of their names, have a name below this one.
+fn count_below(runners: &[Runner], name: &RunnerName) -> usize
+    requires { names_rise runners.now ≡ true }
+    ensures { result ≡ length (filter (is_below name.now) runners.now) }
+{
+    runners.partition_point(|runner| is_below(runner, name))
+}
+
+/// The runner at a place, where it has the name.
+fn named_at<'a>(runners: &'a [Runner], place: usize, name: &RunnerName) -> Option<&'a Runner>
+    ensures { option_map (λ r. r.now) result ≡ option_and_then (kept_named name.now) (slice_get runners.now place) }
+{
+    let runner = runners.get(place)?;
+    if is_named(runner, name) {
+        Some(runner)
+    } else {
+        None
+    }
+}
+
+fn runner_in<'a>(runners: &'a [Runner], name: &RunnerName) -> Option<&'a Runner>
+    requires { names_rise runners.now ≡ true }
+    ensures { option_map (λ r. r.now) result ≡ runner_named runners.now name.now }
+{
+    named_at(runners, count_below(runners, name), name)
+}
+
+fn is_known(runners: &[Runner], name: &RunnerName) -> bool
+    requires { names_rise runners.now ≡ true }
+    ensures { result ≡ is_some (runner_named runners.now name.now) }
+{
+    runner_in(runners, name).is_some()
+}
+
+fn replace(runners: &mut Vec<Runner>, place: usize, runner: Runner)
+    requires { place < length runners.old.items }
+    ensures { runners.new.items ≡ slice_set runners.old.items place runner }
+{
+    runners[place] = runner;
+}
+
+fn put_in(runners: &mut Vec<Runner>, runner: Runner) -> Result<(), Refusal>
+    requires { names_rise runners.old.items ≡ true }
+    ensures put { Gives (λ _. runners.new.items) result (Ok (with_runner runners.old.items runner)) }
+    ensures err { OnErr result (runners.new.items ≡ runners.old.items) }
+{
+    let place = count_below(runners, &runner.name);
+    if is_known(runners, &runner.name) {
+        replace(runners, place, runner);
+        return Ok(());
+    }
+    runners.insert(place, runner)?;
+    Ok(())
+}

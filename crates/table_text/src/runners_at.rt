@@ -1,0 +1,132 @@
+//! The runners of a table at the front of bytes.
+
+ghost use Rattle.std.specs.Prelude.{◌≡◌};
+ghost use Rattle.std.specs.Cmp.Lexicographic.{slice_cmp};
+ghost use Rattle.std.specs.Ordering.{is_lt, nat_cmp};
+ghost use Rattle.table_text.specs.Reading.{Finds, items_at, kept};
+ghost use Rattle.table_text.specs.ReadingTables.{claim_with, last_at, last_with, report_with, runner_at, runners_at};
+ghost use Rattle.table_text.specs.Tables.{names_rise};
+
+use crate::command_at::command_at;
+use crate::fields::{lease_at, lease_told, number_at, small_text_at};
+use crate::front::{byte_at, word_at};
+use crate::kept::{Kept, kept_of};
+use crate::not_read::NotRead;
+use run_plan::{Claim, Command, Done, Number, RunnerForm};
+use run_table::{LastParts, RunnerParts};
+use std::alloc::Global;
+
+/// A claim with what is kept of its reply.
+fn claim_with(claim: Claim, kept: Kept) -> Result<LastParts, NotRead>
+    ensures { Finds (λ l. l) result (claim_with claim kept) }
+{
+    match kept {
+        Kept::Nothing => Ok(LastParts::Claim(claim, None)),
+        Kept::Leased(given) => Ok(LastParts::Claim(claim, Some(given))),
+        Kept::Done => Err(NotRead::NoSpelling),
+    }
+}
+
+/// A report with what is kept of its reply.
+fn report_with(report: Done, kept: Kept) -> Result<LastParts, NotRead>
+    ensures { Finds (λ l. l) result (report_with report kept) }
+{
+    match kept {
+        Kept::Done => Ok(LastParts::Done(report)),
+        Kept::Nothing | Kept::Leased(_) => Err(NotRead::NoSpelling),
+    }
+}
+
+/// A claim or a report with what is kept of its reply.
+fn last_with(command: Command, kept: Kept) -> Result<LastParts, NotRead>
+    ensures { Finds (λ l. l) result (last_with command kept) }
+{
+    match command {
+        Command::Claim(claim) => claim_with(claim, kept),
+        Command::Done(report) => report_with(report, kept),
+        _ => Err(NotRead::NoSpelling),
+    }
+}
+
+/// The last command of a runner, with what is kept of its reply.
+#[tactic(auto, unfolding(crate::specs::ReadingTables::last_at, crate::specs::ReadingTables::kept_at))]
+fn last_at(alloc: Global, bytes: &[u8]) -> Result<(LastParts, &[u8]), NotRead>
+    ensures { Finds (λ f. (f.0, f.1.now)) result (last_at bytes.now) }
+{
+    let (command, rest) = command_at(alloc, bytes)?;
+    let (reply, rest) = byte_at(rest)?;
+    let (lease, rest) = lease_at(rest)?;
+    let kept = kept_of(reply, lease_told(lease))?;
+    let last = last_with(command, kept)?;
+    Ok((last, rest))
+}
+
+/// The runner at the front, and what stands behind it.
+#[tactic(auto, unfolding(crate::specs::ReadingTables::runner_at))]
+fn runner_at(alloc: Global, bytes: &[u8]) -> Result<(RunnerParts, &[u8]), NotRead>
+    ensures { Finds (λ f. (f.0, f.1.now)) result (runner_at bytes.now) }
+{
+    let (name, rest) = small_text_at::<RunnerForm>(alloc, bytes)?;
+    let (number, rest) = number_at(rest)?;
+    let (last, rest) = last_at(alloc, rest)?;
+    let (lease, rest) = lease_at(rest)?;
+    let runner = RunnerParts {
+        name,
+        number: Number::new(number),
+        last,
+        holds: lease_told(lease),
+    };
+    Ok((runner, rest))
+}
+
+/// So many runners, one behind the other, and what stands behind them.
+fn runner_list_at(
+    alloc: Global,
+    count: usize,
+    bytes: &[u8],
+) -> Result<(Vec<RunnerParts>, &[u8]), NotRead>
+    ensures { Finds (λ f. (f.0.items, f.1.now)) result (items_at runner_at count bytes.now) }
+{
+    let mut runners = Vec::new(alloc);
+    let mut rest = bytes;
+    for _ in 0..count {
+        let (runner, behind) = runner_at(alloc, rest)?;
+        runners.push(runner)?;
+        rest = behind;
+    }
+    Ok((runners, rest))
+}
+
+fn is_below(runner: &RunnerParts, next: &RunnerParts) -> bool
+    ensures { result ≡ is_lt (slice_cmp nat_cmp runner.now.name next.now.name) }
+{
+    runner.name.as_str() < next.name.as_str()
+}
+
+/// Whether each name is below the next one, by bytes.
+fn names_rise(runners: &[RunnerParts]) -> bool
+    ensures { result ≡ names_rise runners.now }
+{
+    runners.is_sorted_by(|runner, next| is_below(runner, next))
+}
+
+/// The runners, where they stand in the order of their names.
+fn rising(runners: Vec<RunnerParts>) -> Result<Vec<RunnerParts>, NotRead>
+    ensures { Finds (λ r. r.items) result (kept names_rise runners.items) }
+{
+    if names_rise(&runners) {
+        return Ok(runners);
+    }
+    Err(NotRead::NoSpelling)
+}
+
+/// The runners behind their count, and what stands behind them.
+#[tactic(auto, unfolding(crate::specs::ReadingTables::runners_at))]
+pub(crate) fn runners_at(alloc: Global, bytes: &[u8]) -> Result<(Vec<RunnerParts>, &[u8]), NotRead>
+    ensures { Finds (λ f. (f.0.items, f.1.now)) result (runners_at bytes.now) }
+{
+    let (count, rest) = word_at(bytes)?;
+    let (runners, rest) = runner_list_at(alloc, count as usize, rest)?;
+    let runners = rising(runners)?;
+    Ok((runners, rest))
+}
