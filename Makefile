@@ -33,7 +33,7 @@ bench: build
 sweep: build
 	sweeps/refused_growth/run $(ACTS)
 
-# The wrong bodies beyond those of the gate: of each crate, or of CRATE.
+# The wrong bodies beyond those of the gate: of each crate, of CRATE, or the one of CRATE=NAME/EDIT.
 wrong-bodies:
 	sweeps/wrong_bodies/run $(CRATE)
 

@@ -1,11 +1,8 @@
 mod Beginning
 mod Committing
-mod Deliveries
 mod Entering
 mod GroupsOfHistory
-mod EventsStay
 mod Histories
-mod KeptReplies
 mod Meanings
 mod OneTable
 mod Opening

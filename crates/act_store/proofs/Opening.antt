@@ -1,6 +1,6 @@
 -- What a disk that is opened stands for.
 use Rattle.std.proofs.Common.{◌≡◌, ℕ, ◌+◌, List, length, sym, subst, arith}
-use Rattle.std.specs.Prelude.{Some, None}
+use Rattle.std.specs.Prelude.{Some, None, IfErr, Result, Ok, Err}
 use Rattle.act_disk.specs.Images.{Only}
 use Rattle.gated_journal.specs.Layout.{Head, Reads}
 use Rattle.gated_journal.specs.TwoAreas.{area_on, standing, Spells}
@@ -15,6 +15,11 @@ use Rattle.act_store.specs.declared.found.Found.{Found}
 use Rattle.act_store.specs.declared.spelled.Spelled.{Spelled}
 use Rattle.act_store.proofs.Spelling.{SpellsNone}
 
+-- what holds of each error
+pub of_any_err : {T E : Type 0} (r : Result T E) (P : E → Type 0) → ((e : E) → P e) → IfErr r P
+of_any_err (Ok x) P each = tt
+of_any_err (Err e) P each = each e
+
 module _ (len : ℕ) (file : List ℕ) (long : length file ≡ len + len) where
   same_len : (other : ℕ) → length file ≡ other + other → other ≡ len
   same_len other is = omega (arith, long, is)
@@ -23,6 +28,9 @@ module _ (len : ℕ) (file : List ℕ) (long : length file ≡ len + len) where
   no_area_in none other is size = subst (λ (n : ℕ). standing n file ≡ None) (sym (same_len other is)) none
 
   module _ (chosen : Chosen) (is_chosen : IsChosen len (Some chosen) file) where
+    pub one_stands : IsAreaLength len → HasNoArea file → ⊥
+    one_stands size nothing = let shut = nothing len long size in absurd (cc (shut, is_chosen.0))
+
     pub found_in : (spelled : Spelled) → SpellsArea (area_on len chosen.side file) spelled.generation spelled.used spelled.table
         → IsFound (record { area = len; chosen = chosen; spelled = spelled }) file
     found_in spelled spells = record { long = long; stands = is_chosen.0; gate = is_chosen.1; spelled = spells }
@@ -35,7 +43,7 @@ module _ (len : ℕ) (file : List ℕ) (long : length file ≡ len + len) where
 
     pub no_table_in : IsAreaLength len → SpellsNone (area_on len chosen.side file) → HasNoTable file
     no_table_in size none = record {
-      some = λ nothing. let shut = nothing len long size in absurd (cc (shut, is_chosen.0));
+      some = one_stands size;
       none = λ table stands.
           let spells = subst (λ (n : ℕ). Spells n stands.side file stands.head stands.bodies) (same_len stands.len stands.long) stands.spells in
           none stands.head stands.bodies table (reads_there stands.side stands.head stands.bodies spells) stands.means;
@@ -53,6 +61,9 @@ module _ (found : Found) (file : List ℕ) (is_found : IsFound found file) where
     };
     whole = is_found.long;
   }
+
+  pub found_one : IsAreaLength found.area → HasNoArea file → ⊥
+  found_one size nothing = let shut = nothing found.area is_found.long size in absurd (cc (shut, is_found.stands))
 
   pub found_settled : (images : List ℕ → Type 0) → Only file images
       → IsSettled found.area found.chosen.side found.chosen.other found.spelled.generation found.spelled.used found.spelled.table images

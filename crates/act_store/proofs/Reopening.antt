@@ -5,15 +5,14 @@ use Rattle.run_plan.specs.declared.command.Command.{Command}
 use Rattle.run_plan.specs.declared.command.Command.TheVariants as command
 use Rattle.run_plan.specs.declared.reply.Reply.{Reply}
 use Rattle.run_plan.specs.declared.reply.Reply.TheVariants as reply
+use Rattle.run_table.specs.ExactlyOnce.{HasTurn, HaveNoLaterTurn, IsRefused}
 use Rattle.run_table.specs.Histories.{after, replies}
 use Rattle.run_table.specs.Step.{step, stepped}
 use Rattle.run_table.specs.TableState.{TableState}
 use Rattle.act_store.specs.Entries.{IsLegal, commands_of, replies_of, table_after}
-use Rattle.act_store.specs.Reopened.{HasTurn, HaveNoLaterTurn, IsRefused, Reopens}
+use Rattle.act_store.specs.Reopened.{Reopens}
 use Rattle.act_store.specs.declared.entry.Entry.{Entry}
-use Rattle.act_store.proofs.Deliveries.{after_keeps, created_again, created_at, place_of, place_stays}
 use Rattle.act_store.proofs.Histories.{table-append}
-use Rattle.act_store.proofs.KeptReplies.{HasKept, has_after, test_of, turn_again, turn_has}
 use Rattle.act_store.proofs.OneTable.{one_table}
 
 -- ---- the reply of an entry, and the tables behind it
@@ -41,6 +40,21 @@ fewer name number zero behind all = tt
 fewer name number (suc n) [] all = tt
 fewer name number (suc n) (e ∷ behind) all = (all.0, fewer name number n behind all.1)
 
+-- ---- the laws of the table's steps
+
+abbrev pub DeliveryLaw : Type 0
+DeliveryLaw =
+    (t : TableState) (event again : Admitted) (run : ℕ) (later : List Command) → (stepped t (command.Admit event)).reply ≡ reply.Created run
+    → again.delivery ≡ event.delivery
+    → step (after (stepped t (command.Admit event)).table later) (command.Admit again)
+        ≡ (after (stepped t (command.Admit event)).table later, reply.Created run)
+
+abbrev pub ReplyLaw : Type 0
+ReplyLaw =
+    (t : TableState) (c : Command) (runner : List ℕ) (number : ℕ) (later : List Command) → HasTurn c runner number
+    → (IsRefused (stepped t c).reply → ⊥) → HaveNoLaterTurn runner number later
+    → step (after (stepped t c).table later) c ≡ (after (stepped t c).table later, (stepped t c).reply)
+
 -- ---- what the table answers that was found
 
 module _ (base table : TableState) (history before behind : List Entry) (entry : Entry) (covered : ℕ)
@@ -63,26 +77,21 @@ module _ (base table : TableState) (history before behind : List Entry) (entry :
       (front_at before behind entry opens.left.count (omega (arith, opens.acknowledged, opens.left.from)))
       ∙ table-append base before (entry ∷ later)
 
-  pub delivery_again : (id : ℕ) (event again : Admitted) → entry.command ≡ command.Admit event → entry.reply ≡ reply.Created id
+  -- an admission that is asked again, by the law of the table's steps
+  pub delivery_again : DeliveryLaw → (id : ℕ) (event again : Admitted) → entry.command ≡ command.Admit event → entry.reply ≡ reply.Created id
       → again.delivery ≡ event.delivery → step table (command.Admit again) ≡ (table, reply.Created id)
-  delivery_again id event again asked created same =
-      let t = (stepped here (command.Admit event)).table in
+  delivery_again law id event again asked created same =
       let given : (stepped here (command.Admit event)).reply ≡ reply.Created id =
       ap (λ (c : Command). (stepped here c).reply) (sym asked) ∙ sym told ∙ created in
-      let at = created_at here event id given in
-      let is : table ≡ after t (commands_of later) = found ∙ ap (λ (c : Command). after (stepped here c).table (commands_of later)) asked in
-      let stays = place_stays event.delivery t (after t (commands_of later)) at.0 (after_keeps t (commands_of later)) at.2 in
-      created_again table again at.0
-      (ap (λ (d : List ℕ). place_of d table) same ∙ ap (λ (x : TableState). place_of event.delivery x) is ∙ stays)
-      ∙ ap (λ (n : ℕ). (table, reply.Created n)) (sym at.1)
+      let is : after (stepped here (command.Admit event)).table (commands_of later) ≡ table =
+      ap (λ (c : Command). after (stepped here c).table (commands_of later)) (sym asked) ∙ sym found in
+      subst (λ (x : TableState). step x (command.Admit again) ≡ (x, reply.Created id)) is
+      (law here event again id (commands_of later) given same)
 
-  pub reply_again : (name : List ℕ) (number : ℕ) → HasTurn entry.command name number → (IsRefused entry.reply → ⊥)
+  pub reply_again : ReplyLaw → (name : List ℕ) (number : ℕ) → HasTurn entry.command name number → (IsRefused entry.reply → ⊥)
       → HaveNoLaterTurn name number (commands_of behind) → step table entry.command ≡ (table, entry.reply)
-  reply_again name number turn taken no_later =
-      let s = stepped here entry.command in
-      let first = turn_has here entry.command name number turn (λ refused. taken (refused.0, told ∙ refused.1)) in
-      let last = has_after name number (test_of entry.command) s.reply s.table (commands_of later)
-      (fewer name number (opens.left.count - length before - 1) behind no_later) first in
-      turn_again table entry.command name number s.reply turn
-      (subst (λ (x : TableState). HasKept x name number (test_of entry.command) s.reply) (sym found) last)
+  reply_again law name number turn taken no_later =
+      let again = law here entry.command name number (commands_of later) turn (λ refused. taken (refused.0, told ∙ refused.1))
+      (fewer name number (opens.left.count - length before - 1) behind no_later) in
+      subst (λ (x : TableState). step x entry.command ≡ (x, (stepped here entry.command).reply)) (sym found) again
       ∙ ap (λ (r : Reply). (table, r)) (sym told)

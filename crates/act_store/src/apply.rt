@@ -3,7 +3,6 @@ ghost use Rattle.wf_value.specs.Gives.{no_memory};
 ghost use Rattle.run_table.specs.Step.{stepped};
 ghost use Rattle.act_store.specs.Plain.{entered, receipt_of, refusal_of_apply};
 
-use crate::carried::carry_out;
 use crate::entry::Entry;
 use crate::receipt::Receipt;
 use crate::store::Store;
@@ -81,7 +80,7 @@ fn enter(
     ensures refused { IfErr result (λ e. e ≡ no_memory) }
 {
     history.reserve(1)?;
-    let (reply, told) = carry_out(alloc, table, &command)?;
+    let (reply, told) = table.step_with_copy(alloc, &command)?;
     push_within(
         history,
         Entry {

@@ -5,7 +5,7 @@ ghost use Rattle.act_disk.specs.Images.{EachSince, Only, SameImages};
 ghost use Rattle.gated_journal.specs.Choice.{part};
 ghost use Rattle.act_store.specs.Images.{HasNoArea, HasNoTable, IsAreaLength};
 ghost use Rattle.act_store.specs.Opened.{IsFound};
-ghost use Rattle.act_store.specs.Plain.{no_area, no_table};
+ghost use Rattle.act_store.specs.Plain.{RefusesOpening, TellsNoArea, no_area, no_table};
 ghost use Rattle.act_store.specs.Spelled.{IsHalf, IsSpelled};
 ghost use Rattle.act_store.specs.Told.{TellsFault};
 
@@ -66,6 +66,8 @@ fn find_in<D: Disk>(alloc: Global, disk: &mut D, len: u64) -> Result<Found, Refu
     ensures area { IfOk result (λ found. (found.area ≡ len) × (found.spelled.used < len)) }
     ensures no_area { result ≡ Err no_area → D.honest disk.new → HasNoArea (D.seen disk.old) }
     ensures no_table { result ≡ Err no_table → D.honest disk.new → HasNoTable (D.seen disk.old) }
+    ensures nothing_stands { IfErr result (λ e. D.honest disk.new → HasNoArea (D.seen disk.old) → TellsNoArea e) }
+    ensures refused { IfErr result RefusesOpening }
     ensures stable { OnOk result (D.honest disk.new → Only (D.seen disk.old) (D.images disk.new)) }
     ensures any_moment { D.honest disk.new → EachSince D.moment D.images_since disk.old disk.new (D.images disk.old) }
     ensures faults { TellsFault result (D.fault_count disk.old) (D.fault_count disk.new) }
@@ -95,6 +97,8 @@ pub(crate) fn find<D: Disk>(alloc: Global, disk: &mut D) -> Result<Found, Refusa
     ensures area { IfOk result (λ found. IsAreaLength found.area × (found.spelled.used < found.area) × (D.size disk.old ≡ found.area + found.area)) }
     ensures no_area { result ≡ Err no_area → D.honest disk.new → HasNoArea (D.seen disk.old) }
     ensures no_table { result ≡ Err no_table → D.honest disk.new → HasNoTable (D.seen disk.old) }
+    ensures nothing_stands { IfErr result (λ e. D.honest disk.new → HasNoArea (D.seen disk.old) → TellsNoArea e) }
+    ensures refused { IfErr result RefusesOpening }
     ensures stable { OnOk result (D.honest disk.new → Only (D.seen disk.old) (D.images disk.new)) }
     ensures any_moment { D.honest disk.new → EachSince D.moment D.images_since disk.old disk.new (D.images disk.old) }
     ensures faults { TellsFault result (D.fault_count disk.old) (D.fault_count disk.new) }

@@ -4,11 +4,12 @@ ghost use Rattle.std.specs.Prelude.{◌≡◌, ℕ, List};
 ghost use Rattle.run_plan.specs.Admitted.{Admitted};
 ghost use Rattle.run_plan.specs.declared.command.Command.TheVariants as command;
 ghost use Rattle.run_plan.specs.declared.reply.Reply.TheVariants as reply;
+ghost use Rattle.run_table.specs.ExactlyOnce.{HasTurn, HaveNoLaterTurn, IsRefused};
 ghost use Rattle.run_table.specs.Step.{step};
 ghost use Rattle.run_table.specs.TableState.{TableState};
 ghost use Rattle.act_store.specs.Entries.{commands_of};
 ghost use Rattle.act_store.specs.Images.{StandsFor};
-ghost use Rattle.act_store.specs.Reopened.{HasTurn, HaveNoLaterTurn, IsRefused, Reopens};
+ghost use Rattle.act_store.specs.Reopened.{Reopens};
 ghost use Rattle.act_store.specs.declared.entry.Entry.{Entry};
 
 /// An image stands for one table at most.
@@ -23,7 +24,9 @@ pub fn a_delivery_makes_one_run()
         → Reopens base history covered before entry behind table
         → entry.command ≡ command.Admit event → entry.reply ≡ reply.Created run → again.delivery ≡ event.delivery
         → step table (command.Admit again) ≡ (table, reply.Created run) }
-{}
+{
+    run_table::laws::a_delivery_makes_one_run();
+}
 
 /// After a stop and an opening, a runner that asks again what an acknowledged entry carried out gets the reply of that entry again, as
 /// long as the history has no later number of that runner. The table stays.
@@ -32,4 +35,6 @@ pub fn a_kept_reply_is_given_again()
         → Reopens base history covered before entry behind table
         → HasTurn entry.command runner number → (IsRefused entry.reply → ⊥) → HaveNoLaterTurn runner number (commands_of behind)
         → step table entry.command ≡ (table, entry.reply) }
-{}
+{
+    run_table::laws::a_kept_reply_is_given_again();
+}

@@ -3,7 +3,6 @@
 #![tactic(auto)]
 
 mod apply;
-mod carried;
 mod commit;
 mod entry;
 mod found;

@@ -1,7 +1,7 @@
 ghost use Rattle.std.specs.Prelude.{◌≡◌, ◌<◌, ◌+◌, ℕ, List, [], IfErr, IfOk, false};
 ghost use Rattle.act_disk.specs.Images.{EachSince};
 ghost use Rattle.act_store.specs.Images.{HasNoArea, HasNoTable, StandsFor};
-ghost use Rattle.act_store.specs.Plain.{no_area, no_table};
+ghost use Rattle.act_store.specs.Plain.{RefusesOpening, TellsNoArea, no_area, no_table};
 ghost use Rattle.act_store.specs.Told.{IsCause};
 
 use crate::found::find;
@@ -14,9 +14,9 @@ use wf_value::{Refusal, TryCopy};
 impl<D: Disk> Store<D> {
     /// Opens what a stop left: syncs, and then reads. The store begins at the table that the disk stands for, with an empty history.
     ///
-    /// It is refused with 53 only where no area is open, or the disk is not as long as two areas, and with 54 only where the area that
-    /// stands spells no table; with 51 exactly where the device fails; and with 50. Each image that a stop may leave meanwhile, also at
-    /// a refusal, was one before.
+    /// It is refused with 53 exactly where no area is open, or the disk is not as long as two areas, memory or not; with 54 only where the
+    /// area that stands spells no table; with 51 exactly where the device fails; and else with 50 alone. Each image that a stop may
+    /// leave meanwhile, also at a refusal, was one before.
     pub fn open(alloc: Global, disk: D) -> Result<Store<D>, (D, Refusal)>
         requires { D.fault_count disk < u64.MAX }
         ensures base { IfOk result (λ s. D.honest s.disk → StandsFor s.base (D.seen disk)) }
@@ -25,6 +25,8 @@ impl<D: Disk> Store<D> {
         ensures size { IfOk result (λ s. D.size disk ≡ s.area + s.area) }
         ensures no_area { IfErr result (λ e. e.1 ≡ no_area → D.honest e.0 → HasNoArea (D.seen disk)) }
         ensures no_table { IfErr result (λ e. e.1 ≡ no_table → D.honest e.0 → HasNoTable (D.seen disk)) }
+        ensures nothing_stands { IfErr result (λ e. D.honest e.0 → HasNoArea (D.seen disk) → TellsNoArea e.1) }
+        ensures refused { IfErr result (λ e. RefusesOpening e.1) }
         ensures any_moment { IfOk result (λ s. D.honest s.disk → EachSince D.moment D.images_since disk s.disk (D.images disk)) }
         ensures any_moment_err { IfErr result (λ e. D.honest e.0 → EachSince D.moment D.images_since disk e.0 (D.images disk)) }
         ensures faults { IfOk result (λ s. D.fault_count s.disk ≡ D.fault_count disk) }

@@ -1,4 +1,4 @@
-ghost use Rattle.std.specs.Prelude.{◌≡◌, ◌↔◌, ℕ, List, IfErr, IfOk, OnErr};
+ghost use Rattle.std.specs.Prelude.{◌≡◌, ◌↔◌, ℕ, List, length, IfErr, IfOk, IsOk, OnErr};
 ghost use Rattle.wf_value.specs.Gives.{no_memory};
 ghost use Rattle.act_disk.specs.Images.{EachSince};
 ghost use Rattle.act_store.specs.Entries.{IsLegal};
@@ -32,6 +32,7 @@ pub fn play<D: Disk>(
         Plays (Survives D.honest D.moment D.fault_count D.images_since) store.old steps.now answers.items store.new) }
     ensures part { OnErr result (PlaysSome (Survives D.honest D.moment D.fault_count D.images_since) store.old steps.now store.new) }
     ensures refused { IfErr result (λ e. e ≡ no_memory) }
+    ensures empty { length steps.now ≡ 0 → IsOk result }
     ensures any_moment { D.honest store.old.disk → EachSince D.moment D.images_since store.old.disk store.new.disk
         (StandsForSome store.new.base store.new.history store.old.covered) }
     ensures stands { D.honest store.new.disk → (c : List ℕ) → D.images store.new.disk c
@@ -58,6 +59,7 @@ fn take_all<D: Disk>(
         Plays (Survives D.honest D.moment D.fault_count D.images_since) store.old steps.now answers.items store.new) }
     ensures part { OnErr result (PlaysSome (Survives D.honest D.moment D.fault_count D.images_since) store.old steps.now store.new) }
     ensures refused { IfErr result (λ e. e ≡ no_memory) }
+    ensures empty { length steps.now ≡ 0 → IsOk result }
 {
     let mut answers = Vec::new(alloc);
     for step in steps {

@@ -1,7 +1,8 @@
 -- What a write of an area's own gate makes of what it reads as.
 use Rattle.std.proofs.Common.{◌≡◌, inl, inr, ℕ, ◌+◌, ◌<◌, ◌≤◌, List, [], ◌∷◌, length, take, drop, sym, ◌∙◌, ap, subst, arith}
 use Rattle.std.proofs.lemmas.Bool.{cases_eq}
-use Rattle.act_disk.specs.Images.{Torn, Holds, From}
+use Rattle.act_disk.specs.Images.{Torn, Holds, From, EachSince}
+use Rattle.act_disk.specs.Moments.{weakened}
 use Rattle.gated_journal.specs.Choice.{part}
 use Rattle.gated_journal.specs.Layout.{Head, IsClosed, Reads, WouldRead}
 use Rattle.gated_journal.specs.OnDisk.{ReadsAt, WouldReadAt, ShutAt, OpenOrShut}
@@ -75,7 +76,16 @@ module _ (start len : ℕ) (head : Head) (bodies : List (List ℕ)) (d c : List 
   pub gate_shut : Holds c start (0 ∷ []) → ShutAt start len c head bodies
   gate_shut holds = shut_would gated.0 gated.1 (λ is. omega (arith, first_is 0 holds, is))
 
-pub each_gate : (start len : ℕ) (head : Head) (bodies : List (List ℕ)) (images : List ℕ → Type 0)
+each_gate : (start len : ℕ) (head : Head) (bodies : List (List ℕ)) (images : List ℕ → Type 0)
     → ((c : List ℕ) → images c → WouldReadAt start len c head bodies) → (c : List ℕ) → From (Torn start 1) images c
     → OpenOrShut start len head bodies c
 each_gate start len head bodies images would c from = gate_written start len head bodies from.0 c (would from.0 from.1) from.2
+
+-- what each image since such a write reads as
+pub gate_moments : {D : Type 0} (moment : D → ℕ) (images_since : D → ℕ → List ℕ → Type 0) (images : List ℕ → Type 0) (old new : D)
+    (start len : ℕ) (head : Head) (bodies : List (List ℕ)) → EachSince moment images_since old new (From (Torn start 1) images)
+    → ((c : List ℕ) → images c → WouldReadAt start len c head bodies)
+    → EachSince moment images_since old new (OpenOrShut start len head bodies)
+gate_moments moment images_since images old new start len head bodies since would =
+    weakened moment images_since old new (From (Torn start 1) images) (OpenOrShut start len head bodies) since
+    (each_gate start len head bodies images would)

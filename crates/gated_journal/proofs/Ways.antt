@@ -41,6 +41,14 @@ pub now_each : {D : Type 0} (moment : D → ℕ) (images_since : D → ℕ → L
     → ((t : ℕ) (c : List ℕ) → t ≤ moment new → images new c → images_since new t c) → (c : List ℕ) → images new c → P c
 now_each moment images_since images old new P since counts c here = since.each c (counts (moment old) c since.later here)
 
+-- where each image since stands as before, the disk stands as before or with more
+pub or_more : {D : Type 0} (moment : D → ℕ) (images_since : D → ℕ → List ℕ → Type 0) (old new : D) (len : ℕ) (side : Side) (head : Head)
+    (bodies more : List (List ℕ)) → EachSince moment images_since old new (λ c. Stands len side Closed c head bodies)
+    → EachSince moment images_since old new (StandsOrMore len side head bodies more)
+or_more moment images_since old new len side head bodies more since =
+    weakened moment images_since old new (λ c. Stands len side Closed c head bodies) (StandsOrMore len side head bodies more) since
+    (λ c stands. inl stands)
+
 module _ (len : ℕ) (side : Side) (head : Head) (bodies : List (List ℕ)) (front : List ℕ) (used at : ℕ) (seen_old seen_new : List ℕ)
     (images_old images_new : List ℕ → Type 0)
     (under : IsUnderWay len side head bodies front used at seen_old images_old) (here : images_old seen_old) where

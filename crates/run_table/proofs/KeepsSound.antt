@@ -17,3 +17,11 @@ stays_sound old new c (Ok reply) gave kept sound =
     let is = given (step old c) (new, reply) gave in
     subst (λ t. IsSound t) (ap (λ (p : TableState × Reply). p.0) is) (step_keeps old c sound)
 stays_sound old new c (Err e) gave kept sound = subst (λ t. IsSound t) (sym kept) sound
+
+-- the same, where more is answered
+pub pair_stays_sound : (old new : TableState) (c : Command) (r : Result (Reply × Reply) Refusal)
+    → Gives (λ (replies : Reply × Reply). (new, replies.0)) r (Ok (step old c)) → OnErr r (new ≡ old) → IsSound old → IsSound new
+pair_stays_sound old new c (Ok replies) gave kept sound =
+    let is = given (step old c) (new, replies.0) gave in
+    subst (λ t. IsSound t) (ap (λ (p : TableState × Reply). p.0) is) (step_keeps old c sound)
+pair_stays_sound old new c (Err e) gave kept sound = subst (λ t. IsSound t) (sym kept) sound

@@ -15,11 +15,14 @@ pub mod ChangesTold
 pub mod ClaimKeeps
 pub mod CommandsOneEach
 mod ContextRows
+pub mod Copied
 pub mod Decided
+pub mod Deliveries
 pub mod Digits
 pub mod DirectNeeds
 pub mod Doors
 pub mod Entered
+pub mod EventsStay
 pub mod Firsts
 pub mod Found
 pub mod GroupArrival
@@ -50,6 +53,7 @@ pub mod JoinedLegs
 pub mod KeepsSound
 pub mod Kept
 pub mod KeptBack
+pub mod KeptReplies
 pub mod LawSoFar
 pub mod LeaseReads
 pub mod Leased

@@ -1,6 +1,8 @@
 pub mod Arrivals
 pub mod BoundGroups
 pub mod Cells
+pub mod Claims
+pub mod ExactlyOnce
 pub mod FirstOf
 pub mod Fitting
 pub mod GroupChanges

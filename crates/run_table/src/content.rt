@@ -1,7 +1,9 @@
-ghost use Rattle.std.specs.Prelude.{◌≡◌, ◌<◌, ◌+◌, ◌-◌, true, length, Ok, OnErr, IsOk, is_some, Some};
+ghost use Rattle.std.specs.Prelude.{◌≡◌, ◌<◌, ◌+◌, ◌-◌, true, false, length, Ok, IfOk, OnErr, IsOk, is_some, Some};
 ghost use Rattle.std.specs.Option.{option_map_or};
 ghost use Rattle.wf_value.specs.declared.code.Code.TheVariants.{LastCounter};
 ghost use Rattle.wf_value.specs.Gives.{Gives};
+ghost use Rattle.run_plan.specs.ReplyText.{carries_text};
+ghost use Rattle.run_table.specs.Claims.{is_claim};
 ghost use Rattle.run_table.specs.Fitting.{first_fit};
 ghost use Rattle.run_table.specs.Groups.{HasOneEach};
 ghost use Rattle.run_table.specs.Sound.{IsSound, RunsAreSound};
@@ -89,7 +91,10 @@ impl Content {
     {
         match command {
             Command::Admit(prepared) => self.admit(alloc, prepared),
-            Command::Claim(claim) => self.claim(alloc, claim),
+            Command::Claim(claim) => {
+                let (reply, _copy) = self.claim(alloc, claim)?;
+                Ok(reply)
+            }
             Command::Done(report) => self.report(alloc, report),
             Command::Beat(beat) => Ok(self.beat(beat)),
             Command::Cancel(id) => Ok(self.cancel(*id)),
@@ -97,6 +102,40 @@ impl Content {
             Command::Look(id) => self.show(alloc, *id),
             Command::Fetch(id) => self.fetch(alloc, *id),
         }
+    }
+
+    /// Carries out a command as `step` does, and answers its reply with a copy of it. Where memory is refused for the copy, the table is
+    /// as it was too: what a leg's new lease needs is taken before the first change, and no other change is answered with a text.
+    pub(crate) fn step_with_copy(
+        &mut self,
+        alloc: Global,
+        command: &Command,
+    ) -> Result<(Reply, Reply), Refusal>
+        requires { IsSound self.old }
+        ensures step { Gives (λ replies. (self.new, replies.0)) result (Ok (step self.old command.now)) }
+        ensures copy { IfOk result (λ replies. replies.1 ≡ replies.0) }
+        ensures err { OnErr result (self.new ≡ self.old) }
+    {
+        match command {
+            Command::Claim(claim) => self.claim(alloc, claim),
+            _ => self.step_then_copy(alloc, command),
+        }
+    }
+
+    /// The same, of a command that is no claim.
+    fn step_then_copy(
+        &mut self,
+        alloc: Global,
+        command: &Command,
+    ) -> Result<(Reply, Reply), Refusal>
+        requires sound { IsSound self.old }
+        requires other { is_claim command.now ≡ false }
+        ensures step { Gives (λ replies. (self.new, replies.0)) result (Ok (step self.old command.now)) }
+        ensures copy { IfOk result (λ replies. replies.1 ≡ replies.0) }
+        ensures err { OnErr result (self.new ≡ self.old) }
+    {
+        let reply = self.step(alloc, command)?;
+        with_copy(alloc, reply)
     }
 
     // ---- admit
@@ -133,59 +172,71 @@ impl Content {
 
     // ---- claim
 
-    fn claim(&mut self, alloc: Global, claim: &Claim) -> Result<Reply, Refusal>
+    fn claim(&mut self, alloc: Global, claim: &Claim) -> Result<(Reply, Reply), Refusal>
         requires { IsSound self.old }
-        ensures step { Gives (λ reply. (self.new, reply)) result (Ok (outcome (claimed self.old claim.now))) }
+        ensures step { Gives (λ replies. (self.new, replies.0)) result (Ok (outcome (claimed self.old claim.now))) }
+        ensures copy { IfOk result (λ replies. replies.1 ≡ replies.0) }
         ensures err { OnErr result (self.new ≡ self.old) }
         ensures answers { is_free (claim_answer self.old claim.now) ≡ true → IsOk result }
     {
         let runner = self.runners.named(&claim.runner);
         if let Some(reply) = answer_to_claim(alloc, runner, claim)? {
-            return Ok(reply);
+            return with_copy(alloc, reply);
         }
         if holds_lease(runner) {
-            return Ok(refused(Code::HasLease));
+            return Ok((refused(Code::HasLease), refused(Code::HasLease)));
         }
         self.claim_in_turn(alloc, claim)
     }
 
-    fn claim_in_turn(&mut self, alloc: Global, claim: &Claim) -> Result<Reply, Refusal>
+    fn claim_in_turn(&mut self, alloc: Global, claim: &Claim) -> Result<(Reply, Reply), Refusal>
         requires { IsSound self.old }
-        ensures step { Gives (λ reply. (self.new, reply)) result
+        ensures step { Gives (λ replies. (self.new, replies.0)) result
             (Ok (outcome (option_map_or (unchanged self.old) (lease_answer self.old claim.now) (claiming self.old claim.now)))) }
+        ensures copy { IfOk result (λ replies. replies.1 ≡ replies.0) }
         ensures err { OnErr result (self.new ≡ self.old) }
         ensures answers { is_some (lease_answer self.old claim.now) ≡ true → IsOk result }
     {
         match first_fit(claim.labels.as_slice(), &self.runs) {
             None => self.serve_nothing(alloc, claim),
-            Some(_) if self.last_lease >= LAST_NUMBER => Ok(refused(Code::LastCounter)),
+            Some(_) if self.last_lease >= LAST_NUMBER => {
+                Ok((refused(Code::LastCounter), refused(Code::LastCounter)))
+            }
             Some(place) => self.lease(alloc, claim, place),
         }
     }
 
     /// No leg is ready for the runner.
-    fn serve_nothing(&mut self, alloc: Global, claim: &Claim) -> Result<Reply, Refusal>
+    fn serve_nothing(&mut self, alloc: Global, claim: &Claim) -> Result<(Reply, Reply), Refusal>
         requires { IsSound self.old }
-        ensures step { Gives (λ reply. (self.new, reply)) result (Ok (outcome (serving_nothing self.old claim.now))) }
+        ensures step { Gives (λ replies. (self.new, replies.0)) result (Ok (outcome (serving_nothing self.old claim.now))) }
+        ensures copy { IfOk result (λ replies. replies.1 ≡ replies.0) }
         ensures err { OnErr result (self.new ≡ self.old) }
     {
         let runner = Runner::claiming(alloc, claim, None, ClaimReply::Nothing)?;
         self.runners.put(runner)?;
         self.runs.settle();
-        Ok(Reply::Nothing)
+        Ok((Reply::Nothing, Reply::Nothing))
     }
 
     /// Hands the leg to the runner, under a new lease: all memory is taken before the first change.
-    fn lease(&mut self, alloc: Global, claim: &Claim, place: LegPlace) -> Result<Reply, Refusal>
+    fn lease(
+        &mut self,
+        alloc: Global,
+        claim: &Claim,
+        place: LegPlace,
+    ) -> Result<(Reply, Reply), Refusal>
         requires sound { IsSound self.old }
         requires run { place.run < 100000 }
         requires fits { first_fit claim.now.labels self.old.runs ≡ Some place }
         requires left { self.old.last_lease < 999999999 }
-        ensures step { Gives (λ reply. (self.new, reply)) result (Ok (outcome (leasing self.old claim.now place))) }
+        ensures step { Gives (λ replies. (self.new, replies.0)) result (Ok (outcome (leasing self.old claim.now place))) }
+        ensures copy { IfOk result (λ replies. replies.1 ≡ replies.0) }
         ensures err { OnErr result (self.new ≡ self.old) }
     {
         let lease = Number::new(self.last_lease + 1);
         let told = lease_at(alloc, &self.runs, place, lease)?;
+        let copy = told.copy(alloc)?;
         let kept = ClaimReply::Lease(told.copy(alloc)?);
         let runner = Runner::claiming(alloc, claim, Some(lease), kept)?;
         self.runners.put(runner)?;
@@ -193,7 +244,7 @@ impl Content {
         self.runs
             .set_leg(place.run, place.job, place.leg, Leg::leased(lease));
         self.runs.settle();
-        Ok(Reply::Lease(told))
+        Ok((Reply::Lease(told), Reply::Lease(copy)))
     }
 
     // ---- done
@@ -354,6 +405,15 @@ fn refused(code: Code) -> Reply
     ensures { result ≡ refused code }
 {
     Reply::Refused(Refusal::Numbered(code))
+}
+
+/// A reply with a copy of it. Only a text takes memory.
+fn with_copy(alloc: Global, reply: Reply) -> Result<(Reply, Reply), Refusal>
+    ensures gives { Gives (λ replies. replies) result (Ok (reply, reply)) }
+    ensures answers { carries_text reply ≡ false → IsOk result }
+{
+    let copy = reply.copy(alloc)?;
+    Ok((reply, copy))
 }
 
 /// The id of the run at a place.

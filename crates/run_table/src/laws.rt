@@ -1,8 +1,12 @@
 //! Laws over runs and tables.
 
 ghost use Rattle.std.specs.Prelude.{◌≡◌, ◌<◌, ◌≤◌, ℕ, List, [], ◌∷◌, ◌++◌, length, false, true, Some, None};
+ghost use Rattle.run_plan.specs.Admitted.{Admitted};
 ghost use Rattle.run_plan.specs.declared.command.Command.{Command};
+ghost use Rattle.run_plan.specs.declared.command.Command.TheVariants as command;
+ghost use Rattle.run_plan.specs.declared.reply.Reply.TheVariants as reply;
 ghost use Rattle.group_name.specs.Group.{Group};
+ghost use Rattle.run_table.specs.ExactlyOnce.{HasTurn, HaveNoLaterTurn, IsRefused};
 ghost use Rattle.run_table.specs.GroupHistories.{IsOf, NeverBegan, all_moves, asks_for_cancelling};
 ghost use Rattle.run_table.specs.GroupLaw.{KeepsLaw};
 ghost use Rattle.run_table.specs.GroupWords.{has_arrived, has_ended, has_started, next_displaced, was_stopped};
@@ -14,7 +18,7 @@ ghost use Rattle.run_table.specs.Rules.{IsNoArrival, rule_at, run_of_place};
 ghost use Rattle.run_table.specs.Settling.{first_place, first_rule, left, settled, settling};
 ghost use Rattle.run_table.specs.Skips.{SkipsAreDue};
 ghost use Rattle.run_table.specs.Sound.{IsSound, NeedsComeFirst, ParallelIsBounded};
-ghost use Rattle.run_table.specs.Step.{empty, lease_at, stepped};
+ghost use Rattle.run_table.specs.Step.{empty, lease_at, step, stepped};
 ghost use Rattle.run_table.specs.TableState.{LegState, RunState, TableState};
 ghost use Rattle.run_table.specs.declared.place.Place.{Place};
 ghost use Rattle.wf_value.specs.declared.outcome.Outcome.{Outcome};
@@ -106,4 +110,21 @@ pub fn leases_are_answers_to_claims()
     ensures { (commands : List Command) (p : LegPlace) (leg : LegState) (lease : ℕ)
         → leg_at (after empty commands).runs p ≡ Some leg → leg.lease ≡ Some lease
         → WasAnswered commands (replies empty commands) (lease_at (after empty commands).runs p lease) }
+{}
+
+/// A delivery makes one run: an event whose delivery was answered with a run is answered with the same run in every later table, whatever
+/// its body is then. The table stays.
+pub fn a_delivery_makes_one_run()
+    ensures { (t : TableState) (event again : Admitted) (run : ℕ) (later : List Command)
+        → (stepped t (command.Admit event)).reply ≡ reply.Created run → again.delivery ≡ event.delivery
+        → step (after (stepped t (command.Admit event)).table later) (command.Admit again)
+            ≡ (after (stepped t (command.Admit event)).table later, reply.Created run) }
+{}
+
+/// A runner that asks again what was carried out for it gets the reply of then, as long as no command of it with a later number came.
+/// The table stays.
+pub fn a_kept_reply_is_given_again()
+    ensures { (t : TableState) (c : Command) (runner : List ℕ) (number : ℕ) (later : List Command)
+        → HasTurn c runner number → (IsRefused (stepped t c).reply → ⊥) → HaveNoLaterTurn runner number later
+        → step (after (stepped t c).table later) c ≡ (after (stepped t c).table later, (stepped t c).reply) }
 {}

@@ -1,4 +1,4 @@
-ghost use Rattle.std.specs.Prelude.{◌≡◌, ◌≤◌, true, Ok, OnErr, IsOk};
+ghost use Rattle.std.specs.Prelude.{◌≡◌, ◌≤◌, true, Ok, IfOk, OnErr, IsOk};
 ghost use Rattle.wf_value.specs.Gives.{Gives};
 ghost use Rattle.run_table.specs.Sound.{IsSound};
 ghost use Rattle.run_table.specs.Stored.{IsStorable};
@@ -50,6 +50,20 @@ impl Table {
         ensures answers { is_free (answered self.old command.now) ≡ true → IsOk result }
     {
         self.content.step(alloc, command)
+    }
+
+    /// Carries out a command as `step` does, and answers its reply with a copy of it. Where memory is refused for either, the table is
+    /// as it was.
+    pub fn step_with_copy(
+        &mut self,
+        alloc: Global,
+        command: &Command,
+    ) -> Result<(Reply, Reply), Refusal>
+        ensures step { Gives (λ replies. (self.new, replies.0)) result (Ok (step self.old command.now)) }
+        ensures copy { IfOk result (λ replies. replies.1 ≡ replies.0) }
+        ensures err { OnErr result (self.new ≡ self.old) }
+    {
+        self.content.step_with_copy(alloc, command)
     }
 
     /// What is seen of the run of an id, or `None` where there is no such run. It takes no memory.

@@ -2,7 +2,7 @@ use Rattle.std.proofs.Common.{rules, arith, ◌≡◌, [], ℕ, List, sym, subst
 use Rattle.run_table.specs.TableState.{TableState}
 use Rattle.act_store.specs.Images.{StandsFor}
 use Rattle.act_store.proofs.Beginning.{counted_begun, standing_begun}
-use Rattle.act_store.proofs.Opening.{found_settled, found_stands}
+use Rattle.act_store.proofs.Opening.{found_one, found_settled, found_stands}
 use Rattle.act_store.proofs.Settling.{settled_at}
 use Rattle.act_store.proofs.store.Store.open.Goals as goal
 
@@ -39,3 +39,7 @@ returns-clause-stands g c = λ honest image now.
     subst (λ (l : List ℕ). StandsFor c.in-Ok-copy.base l) (sym ((c.in-Ok.ensures.stable honest image).0 now))
     (subst (λ (t : TableState). StandsFor t file) same
     (found_stands c.in-Ok.found file (c.in-Ok.ensures.found honest) c.in-Ok.ensures.area.0))
+
+pub returns-in-Err-copy-clause-nothing_stands : goal.returns-in-Err-copy-clause-nothing_stands
+returns-in-Err-copy-clause-nothing_stands g c = λ honest nothing.
+    absurd (found_one c.in-Ok.found (g.D.Disk.seen c.args.disk) (c.in-Ok.ensures.found honest) c.in-Ok.ensures.area.0 nothing)

@@ -1,19 +1,12 @@
-use Rattle.act_disk.specs.Images.{Torn, From}
-use Rattle.act_disk.specs.Moments.{weakened}
-use Rattle.gated_journal.specs.OnDisk.{OpenOrShut}
 use Rattle.gated_journal.proofs.Composed.{on_ok}
-use Rattle.gated_journal.proofs.Gates.{each_gate, gate_opened}
+use Rattle.gated_journal.proofs.Gates.{gate_moments, gate_opened}
 use Rattle.gated_journal.proofs.area.Area.open_gate.Goals as goal
 
 pub returns-clause-reads : goal.returns-clause-reads
 returns-clause-reads g c = λ head bodies honest would.
     let disk = g.D.Disk in
-    let start = c.args.self.now.start in
-    let len = c.args.self.now.len in
-    let images = disk.images c.args.disk.now in
-    weakened disk.moment disk.images_since c.args.disk.now c.write_synced.new.disk (From (Torn start 1) images)
-    (OpenOrShut start len head bodies)
-    (c.write_synced.ensures.any_moment honest) (each_gate start len head bodies images would)
+    gate_moments disk.moment disk.images_since (disk.images c.args.disk.now) c.args.disk.now c.write_synced.new.disk
+    c.args.self.now.start c.args.self.now.len head bodies (c.write_synced.ensures.any_moment honest) would
 
 pub returns-clause-opened : goal.returns-clause-opened
 returns-clause-opened g c =

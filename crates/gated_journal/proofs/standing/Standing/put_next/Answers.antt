@@ -1,26 +1,18 @@
-use Rattle.std.proofs.Common.{inl, [], refl}
-use Rattle.act_disk.specs.Moments.{weakened}
+use Rattle.std.proofs.Common.{[], refl}
 use Rattle.gated_journal.specs.TwoAreas.{Stands}
-use Rattle.gated_journal.specs.Turning.{StandsOrMore}
 use Rattle.gated_journal.specs.declared.gate.Gate.TheVariants.{Closed}
-use Rattle.gated_journal.proofs.Ways.{now_each, long, put_on}
+use Rattle.gated_journal.proofs.Ways.{now_each, long, or_more, put_on}
 use Rattle.gated_journal.proofs.standing.Standing.put_next.Goals as goal
 
 pub returns-in_err-put-clause-any_moment : goal.returns-in_err-put-clause-any_moment
 returns-in_err-put-clause-any_moment g c = λ head bodies front honest under.
-    let disk = g.D.Disk in
-    let len = c.args.self.now.len in
-    let side = c.args.self.now.side in
-    weakened disk.moment disk.images_since c.args.disk.now c.put.new.disk (λ i. Stands len side Closed i head bodies)
-    (StandsOrMore len side head bodies []) (c.put.ensures.any_moment head bodies honest under.each) (λ i stands. inl stands)
+    or_more g.D.Disk.moment g.D.Disk.images_since c.args.disk.now c.put.new.disk c.args.self.now.len c.args.self.now.side head bodies []
+    (c.put.ensures.any_moment head bodies honest under.each)
 
 pub returns-clause-any_moment : goal.returns-clause-any_moment
 returns-clause-any_moment g c = λ head bodies front honest under.
-    let disk = g.D.Disk in
-    let len = c.args.self.now.len in
-    let side = c.args.self.now.side in
-    weakened disk.moment disk.images_since c.args.disk.now c.put.new.disk (λ i. Stands len side Closed i head bodies)
-    (StandsOrMore len side head bodies []) (c.put.ensures.any_moment head bodies honest under.each) (λ i stands. inl stands)
+    or_more g.D.Disk.moment g.D.Disk.images_since c.args.disk.now c.put.new.disk c.args.self.now.len c.args.self.now.side head bodies []
+    (c.put.ensures.any_moment head bodies honest under.each)
 
 pub returns-clause-under_way : goal.returns-clause-under_way
 returns-clause-under_way g c = λ honest head bodies front under.

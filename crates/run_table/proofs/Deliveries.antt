@@ -30,7 +30,7 @@ use Rattle.run_table.specs.Stops.{outcome_of_loss}
 use Rattle.run_table.specs.TableState.{LegState, RunState, TableState}
 use Rattle.run_table.specs.Turns.{runner_named}
 use Rattle.run_table.proofs.Optional.{if_some}
-use Rattle.act_store.proofs.EventsStay.{arrived_events, ended_events, leg_events, settled_events, stop_events}
+use Rattle.run_table.proofs.EventsStay.{arrived_events, ended_events, leg_events, settled_events, stop_events}
 
 -- ---- steps
 
@@ -210,3 +210,17 @@ pub created_again : (t : TableState) (event : Admitted) (i : ℕ) → place_of e
     → step t (command.Admit event) ≡ (t, reply.Created (i + 1))
 created_again t event i is =
     ap (λ (o : Option ℕ). ((admitted_by t event o (nat_le 100000 (length t.runs))).table, (admitted_by t event o (nat_le 100000 (length t.runs))).reply)) is
+
+-- ---- the law
+
+pub delivery_again : (t : TableState) (event again : Admitted) (run : ℕ) (later : List Command)
+    → (stepped t (command.Admit event)).reply ≡ reply.Created run → again.delivery ≡ event.delivery
+    → step (after (stepped t (command.Admit event)).table later) (command.Admit again)
+        ≡ (after (stepped t (command.Admit event)).table later, reply.Created run)
+delivery_again t event again run later given same =
+    let first = (stepped t (command.Admit event)).table in
+    let table = after first later in
+    let at = created_at t event run given in
+    let stays = place_stays event.delivery first table at.0 (after_keeps first later) at.2 in
+    created_again table again at.0 (ap (λ (d : List ℕ). place_of d table) same ∙ stays)
+    ∙ ap (λ (n : ℕ). (table, reply.Created n)) (sym at.1)

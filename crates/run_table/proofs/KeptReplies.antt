@@ -30,7 +30,7 @@ use Rattle.run_table.specs.Step.{outcome, serving_nothing, step, stepped, unchan
 use Rattle.run_table.specs.TableState.{RunnerState, TableState}
 use Rattle.run_table.specs.Turns.{answer_of_turn, holds_lease, holds_this, is_repeated, number_of, runner_named, turn_answer, with_runner}
 use Rattle.run_table.proofs.RunnerPut.{found_new, found_other, has_the_name}
-use Rattle.act_store.specs.Reopened.{HasTurn, HaveNoLaterTurn, IsRefused}
+use Rattle.run_table.specs.ExactlyOnce.{HasTurn, HaveNoLaterTurn, IsRefused}
 
 some_same : {X : Type 0} (x y : X) → Some x ≡ Some y → x ≡ y
 some_same x y e = cc
@@ -378,3 +378,13 @@ turn_again t (command.Cancel id) name number kept turn has = absurd turn
 turn_again t (command.Lost who) name number kept turn has = absurd turn
 turn_again t (command.Look id) name number kept turn has = absurd turn
 turn_again t (command.Fetch id) name number kept turn has = absurd turn
+
+-- ---- the law
+
+pub reply_again : (t : TableState) (c : Command) (name : List ℕ) (number : ℕ) (later : List Command) → HasTurn c name number
+    → (IsRefused (stepped t c).reply → ⊥) → HaveNoLaterTurn name number later
+    → step (after (stepped t c).table later) c ≡ (after (stepped t c).table later, (stepped t c).reply)
+reply_again t c name number later turn taken no_later =
+    let s = stepped t c in
+    turn_again (after s.table later) c name number s.reply turn
+    (has_after name number (test_of c) s.reply s.table later no_later (turn_has t c name number turn taken))

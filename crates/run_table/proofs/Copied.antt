@@ -1,0 +1,75 @@
+-- Where a reply holds a text, and the command is no claim, the table is as it was.
+use Rattle.std.specs.Prelude.{◌≡◌, Bool, true, false, List, ℕ, IsOk, OnErr, Option, Some, None, Result, Ok, Err, refl}
+use Rattle.std.specs.Option.{option_map_or}
+use Rattle.std.proofs.Common.{inl, inr, ap, subst, sym, ◌∙◌}
+use Rattle.std.proofs.lemmas.Bool.{cases_Bool}
+use Rattle.wf_value.specs.Gives.{Gives}
+use Rattle.wf_value.specs.declared.code.Code.TheVariants.{LeaseNotHeld, NoRunner}
+use Rattle.wf_value.specs.declared.refusal.Refusal.{Refusal}
+use Rattle.run_plan.specs.ReplyText.{carries_text}
+use Rattle.run_plan.specs.declared.command.Claim.{Claim as Claimed}
+use Rattle.run_plan.specs.declared.command.Command.{Command}
+use Rattle.run_plan.specs.declared.command.Command.TheVariants as command
+use Rattle.run_plan.specs.declared.reply.Reply.{Reply}
+use Rattle.run_table.specs.Claims.{is_claim}
+use Rattle.run_table.specs.Moves.{Step}
+use Rattle.run_table.specs.Step.{admission_answer, admitting, cancel_answer, cancelling, losing, lost, refused, released, report_answer}
+use Rattle.run_table.specs.Step.{reporting, step, stepped, unchanged}
+use Rattle.run_table.specs.TableState.{TableState}
+use Rattle.run_table.specs.Turns.{runner_named}
+use Rattle.run_table.proofs.Doors.{given}
+
+abbrev Stays : TableState → Step → Type 0
+Stays t s = carries_text s.reply ≡ true → s.table ≡ t
+
+answered : (t : TableState) (answer : Option Reply) (change : Step) → carries_text change.reply ≡ false
+    → Stays t (option_map_or (unchanged t) answer change)
+answered t (Some reply) change plain text = refl
+answered t None change plain text = absurd (cc (sym plain ∙ text))
+
+lost_stays : (t : TableState) (name : List ℕ) → Stays t (lost t name)
+lost_stays t name =
+    elim (runner_named t.runners name) as
+    (λ o. Stays t (option_map_or (λ runner. option_map_or (losing t (released runner)) runner.holds (unchanged t (refused LeaseNotHeld))) o
+    (unchanged t (refused NoRunner)))) [
+      | None ↦ λ text. refl
+      | Some runner ↦ elim (runner.holds) as
+          (λ h. Stays t (option_map_or (losing t (released runner)) h (unchanged t (refused LeaseNotHeld)))) [
+            | None ↦ λ text. refl
+            | Some lease ↦ λ text. absurd (cc text)
+          ]
+    ]
+
+text_stays : (t : TableState) (c : Command) → is_claim c ≡ false → Stays t (stepped t c)
+text_stays t (command.Admit event) other = answered t (admission_answer t event) (admitting t event) refl
+text_stays t (command.Claim claim) other = absurd (cc other)
+text_stays t (command.Done report) other = answered t (report_answer t report) (reporting t report) refl
+text_stays t (command.Beat beat) other = λ text. refl
+text_stays t (command.Cancel id) other = answered t (cancel_answer t id) (cancelling t id) refl
+text_stays t (command.Lost name) other = lost_stays t name
+text_stays t (command.Fetch id) other = λ text. refl
+text_stays t (command.Look id) other = λ text. refl
+
+-- Where the reply can't be copied, it holds a text.
+pub copy_refused : {T : Type 0} (t next : TableState) (reply : Reply) (c : Command) (r : Result T Refusal) → is_claim c ≡ false
+    → ◌≡◌ {A = Result (TableState × Reply) Refusal} (Ok (step t c)) (Ok (next, reply)) → (carries_text reply ≡ false → IsOk r)
+    → OnErr r (next ≡ t)
+copy_refused t next reply c (Ok x) other gave answers = tt
+copy_refused t next reply c (Err e) other gave answers =
+    let is = given (step t c) (next, reply) gave in
+    let table : (stepped t c).table ≡ next = ap (λ (p : TableState × Reply). p.0) is in
+    let told : (stepped t c).reply ≡ reply = ap (λ (p : TableState × Reply). p.1) is in
+    elim (cases_Bool (carries_text reply)) [
+      | inl text ↦ sym table ∙ text_stays t c other (ap carries_text told ∙ text)
+      | inr plain ↦ absurd (cc (answers plain))
+    ]
+
+pub no_claim : (c : Command) → ((claim : Claimed) → c ≡ command.Claim claim → ⊥) → is_claim c ≡ false
+no_claim (command.Claim claim) other = absurd (other claim refl)
+no_claim (command.Admit event) other = refl
+no_claim (command.Done report) other = refl
+no_claim (command.Beat beat) other = refl
+no_claim (command.Cancel id) other = refl
+no_claim (command.Lost name) other = refl
+no_claim (command.Fetch id) other = refl
+no_claim (command.Look id) other = refl

@@ -1,0 +1,28 @@
+-- What is carried out once, though it is asked again: the delivery of an event, by its id, and a runner's numbered command, by its number.
+-- GitHub Docs, "Best practices for using webhooks": a redelivery has the id of the delivery (X-GitHub-Delivery). That it makes no second run,
+-- and the numbers of runners, are own.
+use Rattle.std.specs.Prelude.{◌≡◌, ℕ, ◌≤◌, List}
+use Rattle.std.specs.List.{AllByRecursion}
+use Rattle.wf_value.specs.declared.refusal.Refusal.{Refusal}
+use Rattle.run_plan.specs.declared.command.Command.{Command}
+use Rattle.run_plan.specs.declared.command.Command.TheVariants as command
+use Rattle.run_plan.specs.declared.reply.Reply.{Reply}
+use Rattle.run_plan.specs.declared.reply.Reply.TheVariants as reply
+
+-- the command is a numbered one, of this runner and with this number
+abbrev pub HasTurn : Command → List ℕ → ℕ → Type 0
+HasTurn (command.Claim claim) runner number = (claim.runner ≡ runner) × (claim.number ≡ number)
+HasTurn (command.Done report) runner number = (report.runner ≡ runner) × (report.number ≡ number)
+HasTurn (command.Admit event) runner number = ⊥
+HasTurn (command.Beat beat) runner number = ⊥
+HasTurn (command.Cancel id) runner number = ⊥
+HasTurn (command.Lost name) runner number = ⊥
+HasTurn (command.Look id) runner number = ⊥
+HasTurn (command.Fetch id) runner number = ⊥
+
+-- none of them is a command of this runner with a later number
+abbrev pub HaveNoLaterTurn : List ℕ → ℕ → List Command → Type 0
+HaveNoLaterTurn runner number commands = AllByRecursion (λ c. (n : ℕ) → HasTurn c runner n → n ≤ number) commands
+
+abbrev pub IsRefused : Reply → Type 0
+IsRefused given = (e : Refusal) × (given ≡ reply.Refused e)
