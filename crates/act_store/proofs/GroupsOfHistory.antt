@@ -1,5 +1,5 @@
 -- The law of concurrency groups over the history of a store is that of the commands of its entries.
-use Rattle.std.proofs.Common.{◌≡◌, ◌≤◌, List, ◌++◌, length, ◌∙◌}
+use Rattle.std.proofs.Common.{◌≤◌, List, length}
 use Rattle.group_name.specs.Group.{Group}
 use Rattle.run_plan.specs.declared.command.Command.{Command}
 use Rattle.run_table.specs.GroupHistories.{all_moves, asks_for_cancelling}

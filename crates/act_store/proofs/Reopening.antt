@@ -47,7 +47,7 @@ DeliveryLaw =
     (t : TableState) (event again : Admitted) (run : ℕ) (later : List Command) → (stepped t (command.Admit event)).reply ≡ reply.Created run
     → again.delivery ≡ event.delivery
     → step (after (stepped t (command.Admit event)).table later) (command.Admit again)
-        ≡ (after (stepped t (command.Admit event)).table later, reply.Created run)
+    ≡ (after (stepped t (command.Admit event)).table later, reply.Created run)
 
 abbrev pub ReplyLaw : Type 0
 ReplyLaw =

@@ -1,10 +1,10 @@
 -- An area that is cut off reads as nothing, and one that reads as nothing is cut off.
-use Rattle.std.proofs.Common.{◌≡◌, ⊎_elim, ℕ, ◌+◌, ◌<◌, ◌≤◌, List, ◌∷◌, ◌++◌, length, take, drop, refl, sym, ◌∙◌, ap, subst}
+use Rattle.std.proofs.Common.{◌≡◌, ⊎_elim, ℕ, ◌+◌, ◌<◌, List, ◌∷◌, ◌++◌, length, take, drop, refl, sym, ◌∙◌, ap, subst}
 use Rattle.std.proofs.Common.{arith, append_assoc, length-append}
-use Rattle.std.specs.Int.{from_be_bytes, to_be_bytes, w32, w64}
+use Rattle.std.specs.Int.{from_be_bytes, to_be_bytes, w64}
 use Rattle.std.proofs.lemmas.List.{drop-drop, length-drop, take_at, drop_at}
 use Rattle.std.proofs.lemmas.Nat.{from_be_bytes-to_be_bytes_8}
-use Rattle.gated_journal.specs.Layout.{Head, head_bytes, framed, record_bytes, opened, Reads, ReadsNothing}
+use Rattle.gated_journal.specs.Layout.{Head, head_bytes, framed, record_bytes, ReadsNothing}
 use Rattle.gated_journal.specs.Scanned.{Frames, OpensWith, HasHead, HasFront}
 use Rattle.gated_journal.specs.CutOff.{EndsInBody, EndsInHead, HasNoRecord, HasNoHead, EndsInRecords, IsCutOff, SpellsNothing}
 use Rattle.gated_journal.proofs.OneReading.{apart}

@@ -5,7 +5,6 @@ use Rattle.std.proofs.lemmas.Bool.{cases_eq, eq-eqb, ne_eqb}
 use Rattle.std.proofs.lemmas.List.{take_all, take-take, drop-take}
 use Rattle.std.specs.Int.{from_be_bytes, w64}
 use Rattle.gated_journal.specs.Choice.{newer, open_generation, part}
-use Rattle.gated_journal.specs.Layout.{IsClosed}
 use Rattle.gated_journal.specs.TwoAreas.{start_of, other, area_on, IsGate}
 use Rattle.gated_journal.specs.Whole.{IsChosen, StandsBetween, gate_of, beside}
 use Rattle.gated_journal.specs.declared.chosen.Chosen.{Chosen}

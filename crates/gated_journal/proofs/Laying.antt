@@ -1,7 +1,7 @@
 -- Two areas made on an empty disk.
-use Rattle.std.proofs.Common.{◌≡◌, inl, inr, ℕ, ◌+◌, ◌-◌, ◌<◌, ◌≤◌, List, [], ◌∷◌, ◌++◌, length, take, drop, sym, ◌∙◌, ap, subst, arith}
+use Rattle.std.proofs.Common.{◌≡◌, inl, inr, ℕ, ◌+◌, ◌-◌, ◌<◌, ◌≤◌, List, [], ◌∷◌, length, take, drop, sym, ◌∙◌, ap, subst, arith}
 use Rattle.std.proofs.lemmas.List.{drop-take, drop-drop}
-use Rattle.act_disk.specs.Images.{Torn, Holds, IsWritten, Only}
+use Rattle.act_disk.specs.Images.{Holds, IsWritten, Only}
 use Rattle.act_disk.specs.Kept.{range_kept}
 use Rattle.gated_journal.specs.Choice.{part}
 use Rattle.gated_journal.specs.Layout.{Head, IsClosed, Fits}

@@ -1,9 +1,8 @@
 -- Where a reply holds a text, and the command is no claim, the table is as it was.
-use Rattle.std.specs.Prelude.{◌≡◌, Bool, true, false, List, ℕ, IsOk, OnErr, Option, Some, None, Result, Ok, Err, refl}
+use Rattle.std.specs.Prelude.{◌≡◌, true, false, List, ℕ, IsOk, OnErr, Option, Some, None, Result, Ok, Err, refl}
 use Rattle.std.specs.Option.{option_map_or}
-use Rattle.std.proofs.Common.{inl, inr, ap, subst, sym, ◌∙◌}
+use Rattle.std.proofs.Common.{inl, inr, ap, sym, ◌∙◌}
 use Rattle.std.proofs.lemmas.Bool.{cases_Bool}
-use Rattle.wf_value.specs.Gives.{Gives}
 use Rattle.wf_value.specs.declared.code.Code.TheVariants.{LeaseNotHeld, NoRunner}
 use Rattle.wf_value.specs.declared.refusal.Refusal.{Refusal}
 use Rattle.run_plan.specs.ReplyText.{carries_text}

@@ -216,7 +216,7 @@ created_again t event i is =
 pub delivery_again : (t : TableState) (event again : Admitted) (run : ℕ) (later : List Command)
     → (stepped t (command.Admit event)).reply ≡ reply.Created run → again.delivery ≡ event.delivery
     → step (after (stepped t (command.Admit event)).table later) (command.Admit again)
-        ≡ (after (stepped t (command.Admit event)).table later, reply.Created run)
+    ≡ (after (stepped t (command.Admit event)).table later, reply.Created run)
 delivery_again t event again run later given same =
     let first = (stepped t (command.Admit event)).table in
     let table = after first later in

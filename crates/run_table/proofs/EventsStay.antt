@@ -1,7 +1,7 @@
 -- Runs keep what was admitted for them, whatever is made of them: a change of one of them, a stop, an arrival in a group, a rule, and
 -- settling.
 use Rattle.std.proofs.Common.{◌≡◌, ℕ, zero, suc, Bool, true, false, List, [], ◌∷◌, refl, sym, ◌∙◌, ap}
-use Rattle.std.specs.Prelude.{Option, Some, None, option_map, if◌then◌else◌, ◌&&◌}
+use Rattle.std.specs.Prelude.{Option, Some, None, if◌then◌else◌, ◌&&◌}
 use Rattle.std.specs.List.{list_all}
 use Rattle.std.specs.Option.{option_map_or}
 use Rattle.wf_value.specs.declared.outcome.Outcome.{Outcome}

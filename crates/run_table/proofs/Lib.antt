@@ -105,3 +105,11 @@ pub mod Unbegun
 pub mod Under
 pub mod ViewRows
 pub mod Walks
+pub mod AloneHolders
+pub mod OneAfterAnother
+pub mod LeasesPut
+pub mod DeliveriesFound
+pub mod PhasesTested
+pub mod SoundOneByOne
+pub mod StoredOnce
+pub mod PartsRead

@@ -1,8 +1,11 @@
 pub mod Arrivals
 pub mod BoundGroups
+pub mod ByLease
+pub mod ByNumber
 pub mod Cells
 pub mod Claims
 pub mod ExactlyOnce
+pub mod Delivered
 pub mod FirstOf
 pub mod Fitting
 pub mod GroupChanges
@@ -18,6 +21,7 @@ pub mod JobResults
 pub mod LegContext
 pub mod LookAgain
 pub mod Moves
+pub mod OneByOne
 pub mod Parallel
 pub mod Places
 pub mod Rules
@@ -31,6 +35,7 @@ pub mod Step
 pub mod StopMoves
 pub mod Stops
 pub mod Stored
+pub mod TableOf
 pub mod TableState
 pub mod Turns
 pub mod ViewText

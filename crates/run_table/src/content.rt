@@ -15,6 +15,8 @@ ghost use Rattle.run_table.specs.Step.{reported, reporting, seen, serving_nothin
 ghost use Rattle.run_table.specs.Stops.{outcome_of_loss};
 ghost use Rattle.run_table.specs.Turns.{names_rise};
 
+mod of;
+
 use crate::fit::{first_fit, is_told_to_stop, outcome_of_loss};
 use crate::holder::Holder;
 use crate::leg::Leg;
@@ -399,7 +401,7 @@ impl TryCopy for Content {
 }
 
 /// The last number of a lease.
-const LAST_NUMBER: u32 = 999_999_999;
+pub(crate) const LAST_NUMBER: u32 = 999_999_999;
 
 fn refused(code: Code) -> Reply
     ensures { result ≡ refused code }
@@ -443,7 +445,12 @@ fn answer_of_run(phase: RunPhase, stopping: bool) -> Option<Reply>
 }
 
 /// What a runner is told of the leg that it gets.
-fn lease_at(alloc: Global, runs: &Runs, place: LegPlace, lease: Number) -> Result<Lease, Refusal>
+pub(crate) fn lease_at(
+    alloc: Global,
+    runs: &Runs,
+    place: LegPlace,
+    lease: Number,
+) -> Result<Lease, Refusal>
     requires { place.run < 100000 }
     ensures { Gives (λ l. l) result (Ok (lease_at runs.now place lease)) }
 {

@@ -86,7 +86,7 @@ fn are_settled(jobs: &[Job]) -> bool
     jobs.iter().all(|job| job.is_settled())
 }
 
-fn has_settled_jobs(run: &Run) -> bool
+pub(crate) fn has_settled_jobs(run: &Run) -> bool
     ensures { result ≡ list_all is_settled run.now.jobs }
 {
     are_settled(run.jobs())

@@ -8,6 +8,8 @@ ghost use Rattle.run_table.specs.Rules.{has_ended, is_done, is_settled, opened, 
 ghost use Rattle.run_table.specs.Step.{blocked_job};
 ghost use Rattle.run_table.specs.Stops.{stopped, with_stopped_legs};
 
+mod of;
+
 use crate::leg::Leg;
 use crate::phases::JobPhase;
 use needs_graph::HasResult;
@@ -101,7 +103,7 @@ impl Job {
         self.phase.result().is_some()
     }
 
-    fn have_legs_ended(&self) -> bool
+    pub(crate) fn have_legs_ended(&self) -> bool
         ensures { result ≡ list_all has_ended self.now.state.legs }
     {
         self.legs().iter().all(|leg| leg.has_ended())

@@ -118,7 +118,7 @@ pub fn a_delivery_makes_one_run()
     ensures { (t : TableState) (event again : Admitted) (run : ℕ) (later : List Command)
         → (stepped t (command.Admit event)).reply ≡ reply.Created run → again.delivery ≡ event.delivery
         → step (after (stepped t (command.Admit event)).table later) (command.Admit again)
-            ≡ (after (stepped t (command.Admit event)).table later, reply.Created run) }
+        ≡ (after (stepped t (command.Admit event)).table later, reply.Created run) }
 {}
 
 /// A runner that asks again what was carried out for it gets the reply of then, as long as no command of it with a later number came.

@@ -23,6 +23,7 @@ mod run_context;
 mod runner;
 mod runners;
 mod runs;
+mod sound;
 mod table;
 mod turns;
 mod view;

@@ -14,6 +14,8 @@ ghost use Rattle.run_table.specs.Stops.{with_jobs_stopped, with_stopped_legs};
 ghost use Rattle.run_table.specs.WithinRun.{condition_in, may_run_in, needs_settled_in};
 ghost use Rattle.run_table.specs.Words.{all_have_results};
 
+mod of;
+
 use crate::job::Job;
 use crate::leg::Leg;
 use crate::phases::RunPhase;

@@ -2,6 +2,8 @@ ghost use Rattle.std.specs.Prelude.{◌≡◌, ◌<◌, [], filter, is_some, len
 ghost use Rattle.wf_value.specs.Gives.{Gives};
 ghost use Rattle.run_table.specs.Turns.{is_below, is_named, kept_named, names_rise, runner_named, with_runner};
 
+mod of;
+
 use crate::runner::Runner;
 use run_plan::RunnerName;
 use std::alloc::Global;

@@ -14,6 +14,7 @@ ghost use Rattle.run_table.specs.Words.{combo_at, job_id, passes_over};
 mod changes;
 mod ending;
 mod groups;
+mod of;
 mod settling;
 
 use crate::groups::RunGroups;
@@ -79,7 +80,7 @@ impl Runs {
     }
 
     /// What the plan of its run says of a job.
-    fn planned(&self, r: usize, j: usize) -> Option<&PlannedJob>
+    pub(crate) fn planned(&self, r: usize, j: usize) -> Option<&PlannedJob>
         ensures { option_map (λ p. p.now) result ≡ plan_at self.now r j }
     {
         let run = self.runs.get(r)?;

@@ -1,11 +1,14 @@
-ghost use Rattle.std.specs.Prelude.{◌≡◌, ◌≤◌, true, Ok, IfOk, OnErr, IsOk};
+ghost use Rattle.std.specs.Prelude.{◌≡◌, ◌≤◌, true, IfOk, MatchOption, Ok, OnErr, IsOk};
 ghost use Rattle.wf_value.specs.Gives.{Gives};
+ghost use Rattle.run_table.specs.BoundGroups.{ErrsOnlyByMemory};
 ghost use Rattle.run_table.specs.Sound.{IsSound};
 ghost use Rattle.run_table.specs.Stored.{IsStorable};
 ghost use Rattle.run_table.specs.Step.{answered, empty, is_free, seen, step};
+ghost use Rattle.run_table.specs.TableOf.{IsNoTable, IsStoredAs};
 ghost use Rattle.run_table.specs.Turns.{names_rise};
 
 use crate::content::Content;
+use crate::parts::Parts;
 use crate::run::Run;
 use crate::runner::Runner;
 use crate::view::RunView;
@@ -98,6 +101,20 @@ impl Table {
         ensures rise { names_rise self.now.runners ≡ true }
     {
         self.content.runners()
+    }
+}
+
+impl Table {
+    /// The table that is stored as these parts, or `None` where they are those of no table. It takes the parts' size in memory; the
+    /// error is 50 alone.
+    pub fn of(alloc: Global, parts: &Parts) -> Result<Option<Self>, Refusal>
+        ensures err { ErrsOnlyByMemory result }
+        ensures of { IfOk result (λ found. MatchOption found (IsNoTable parts.now) (λ table. IsStoredAs parts.now table)) }
+    {
+        match Content::of_parts(alloc, parts)? {
+            Some(content) => Ok(Some(Table { content })),
+            None => Ok(None),
+        }
     }
 }
 

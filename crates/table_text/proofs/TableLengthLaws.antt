@@ -12,7 +12,7 @@ use Rattle.table_text.specs.Commands.{admit, command_bytes}
 use Rattle.table_text.specs.Format.{text_bytes, word_bytes}
 use Rattle.table_text.specs.Lengths.{command_length, fields_length, length_of, text_length}
 use Rattle.table_text.specs.TableLengths.{job_length, last_length, run_length, runner_length, table_length}
-use Rattle.table_text.specs.Tables.{flag_byte, job, job_byte, kept, kept_parts, last_command, last_parts, lease, leg, leg_byte, run, run_byte, runner, table}
+use Rattle.table_text.specs.Tables.{flag_byte, job, kept, last_command, lease, leg, run, run_byte, runner, table}
 use Rattle.table_text.specs.declared.kept.Kept.TheVariants as replied
 use Rattle.table_text.proofs.LengthLaws.{behind_one, length_admit, length_command, length_counted, length_text, length_two, length_word, sum_same}
 

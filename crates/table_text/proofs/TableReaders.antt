@@ -32,7 +32,6 @@ use Rattle.table_text.specs.Tables.{IsLease, flag_byte, is_last_lease, job, job_
 use Rattle.table_text.specs.Tables.{lease_word, leg, leg_byte, names_rise, run, run_byte, runner, table}
 use Rattle.table_text.specs.declared.kept.Kept.{Kept}
 use Rattle.table_text.specs.declared.kept.Kept.TheVariants as replied
-use Rattle.table_text.proofs.Bytes.{AreBytes, AreBytes-drop}
 use Rattle.table_text.proofs.CommandReaders.{admit_reads, chosen, command_reads, number_reads, small_text_reads}
 use Rattle.table_text.proofs.FormReaders.{byte_reads, follow_reads, row_reads, some_reads}
 use Rattle.table_text.proofs.Readers.{Fronts, Reads, bind_some, both, counted_reads, only_reads, pair_reads, parts_reads, some_bind, word_reads}

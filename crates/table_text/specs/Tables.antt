@@ -21,7 +21,7 @@ use Rattle.run_table.specs.declared.phases.RunPhase.{RunPhase}
 use Rattle.run_table.specs.declared.phases.RunPhase.TheVariants as run_phase
 use Rattle.table_text.specs.declared.kept.Kept.{Kept}
 use Rattle.table_text.specs.declared.kept.Kept.TheVariants as replied
-use Rattle.table_text.specs.Commands.{admit, command, is_numbered, number, small_text}
+use Rattle.table_text.specs.Commands.{admit, command, number, small_text}
 use Rattle.table_text.specs.Format.{Format, byte, counted, follow, only, pair, parts, row, word, word_bytes}
 
 -- ---- leases

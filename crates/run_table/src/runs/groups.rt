@@ -126,7 +126,7 @@ impl Runs {
     }
 
     /// The first of those that are meant, the runs before the legs.
-    fn first_meant(&self, holder: &Holder, whom: Whom) -> Option<Holder>
+    pub(crate) fn first_meant(&self, holder: &Holder, whom: Whom) -> Option<Holder>
         ensures { option_map holder_in_words result ≡ first_meant self.now (holder_in_words holder.now) whom }
     {
         match self.first_run_meant(holder, whom) {

@@ -208,7 +208,7 @@ impl Runs {
 
     /// The result of a job from its legs, as far as they have ended: a failure where a leg failed and is
     /// not passed over, else cancelled where a leg was, else a success.
-    fn result(&self, r: usize, j: usize, legs: &[Leg]) -> JobResult
+    pub(crate) fn result(&self, r: usize, j: usize, legs: &[Leg]) -> JobResult
         ensures { result ≡ gathered (filter_map (leg_end self.now r j) (placed legs.now)) }
     {
         if self.failing_leg(r, j, legs).is_some() {

@@ -1,4 +1,4 @@
-use Rattle.std.proofs.Common.{◌∙◌, ap, arith, sym}
+use Rattle.std.proofs.Common.{◌∙◌, ap, arith}
 use Rattle.gated_journal.specs.Choice.{open_generation, part}
 use Rattle.gated_journal.proofs.Fronts.{same_generation, chosen_told}
 use Rattle.gated_journal.proofs.chosen.choose.Goals as goal

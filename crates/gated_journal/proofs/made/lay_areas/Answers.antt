@@ -1,4 +1,4 @@
-use Rattle.std.proofs.Common.{◌∙◌, arith}
+use Rattle.std.proofs.Common.{◌∙◌}
 use Rattle.gated_journal.proofs.Composed.{on_ok}
 use Rattle.gated_journal.proofs.Laying.{laid}
 use Rattle.gated_journal.proofs.made.lay_areas.Goals as goal

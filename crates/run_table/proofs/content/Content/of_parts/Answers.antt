@@ -1,0 +1,40 @@
+use Rattle.std.proofs.Common.{◌≡◌, List, Option, None, false, ap, sym, ◌∙◌, subst, rules}
+use Rattle.std.specs.Prelude.{MatchOption, true}
+use Rattle.run_table.specs.Stored.{StoredRunner, StoredTable}
+use Rattle.run_table.specs.TableOf.{AreAsPlanned, AreRunnersAs}
+use Rattle.run_table.specs.TableState.{RunState, RunnerState, TableState}
+use Rattle.run_table.specs.Turns.{names_rise}
+use Rattle.run_table.proofs.OneAfterAnother.{not_so}
+use Rattle.run_table.proofs.StoredOnce.{none_planned, none_sound}
+use Rattle.run_table.proofs.content.Content.of_parts.Goals as goal
+
+pub returns-in_default-clause-of : goal.returns-in_default-clause-of
+returns-in_default-clause-of c =
+    let given = c.as_slice.result.now in
+    let same : given ≡ c.args.parts.now.runs = c.as_slice.ensures ∙ ap (λ (s : StoredTable). s.runs) c.parts.view_is in
+    let nothing : c.in_ok-runs.field-0 ≡ None = search rules in
+    let none = subst
+    (λ (o : Option (List RunState)). MatchOption o (AreAsPlanned given → ⊥) (λ runs. (runs ≡ given) × AreAsPlanned given)) nothing
+    c.in_ok-runs.ensures.of in
+    none_planned c.args.parts.now (λ planned. none (subst AreAsPlanned (sym same) planned))
+
+pub returns-then-not-branch-clause-of : goal.returns-then-not-branch-clause-of
+returns-then-not-branch-clause-of c =
+    let given = c.as_slice.result.now in
+    let same : given ≡ c.args.parts.now.runs = c.as_slice.ensures ∙ ap (λ (s : StoredTable). s.runs) c.parts.view_is in
+    let these = subst
+    (λ (o : Option (List RunState)). MatchOption o (AreAsPlanned given → ⊥) (λ runs. (runs ≡ given) × AreAsPlanned given)) c.in-Some.is
+    c.in_ok-runs.ensures.of in
+    let of_runners = c.as_slice-2.result.now in
+    let parted : of_runners ≡ c.args.parts.now.runners = c.as_slice-2.ensures ∙ ap (λ (s : StoredTable). s.runners) c.parts.view_is in
+    let those = subst
+    (λ (o : Option (List RunnerState)). MatchOption o
+    ((runners : List RunnerState) → AreRunnersAs c.in-Some.runs of_runners runners → names_rise runners ≡ true → ⊥)
+    (λ runners. AreRunnersAs c.in-Some.runs of_runners runners)) c.in-Some-2.is c.in_ok-runners.ensures.of in
+    let made : TableState = record { last_lease = c.parts.inside.last_lease; runs = c.in-Some.runs; runners = c.as_slice-4.result.now } in
+    let its : AreRunnersAs c.in-Some.runs c.args.parts.now.runners c.as_slice-4.result.now =
+    subst (λ (rs : List RunnerState). AreRunnersAs c.in-Some.runs c.args.parts.now.runners rs) (sym c.as_slice-4.ensures.runners)
+    (subst (λ (ps : List StoredRunner). AreRunnersAs c.in-Some.runs ps c.in-Some-2.runners) parted those) in
+    let fails : c.in_ok-is_sound.field-0 ≡ false = search rules in
+    none_sound c.args.parts.now made (ap (λ (s : StoredTable). s.last_lease) c.parts.view_is) (these.0 ∙ same) its
+    (λ s. not_so c.in_ok-is_sound.field-0 c.in_ok-is_sound.ensures.sound fails s)

@@ -1,0 +1,29 @@
+use Rattle.std.proofs.Common.{◌≡◌, ℕ, Option, Some, ap, sym, subst, ◌∙◌, rules}
+use Rattle.std.specs.BTreeMap.{get}
+use Rattle.std.specs.Ordering.{nat_cmp}
+use Rattle.run_plan.specs.declared.last_command.ClaimReply.TheVariants as reply
+use Rattle.run_table.specs.ByLease.{lease_of_leg}
+use Rattle.run_table.specs.TableOf.{IsReplyAs}
+use Rattle.run_table.proofs.Doors.{given}
+use Rattle.run_table.proofs.OneAfterAnother.{found_has}
+use Rattle.run_table.proofs.PartsRead.{a_reply, run_in_range}
+use Rattle.run_table.proofs.runners.of.reply_of_parts.Goals as goal
+
+pub lease_at-requires : goal.lease_at-requires
+lease_at-requires c =
+    let runs = c.args.runs.now in
+    let find = get nat_cmp c.args.legs.now in
+    let found : find c.in-Some.lease ≡ Some c.in-Some-get.place.now =
+    ap find (sym c.get.ensures.value) ∙ sym c.in-Some-get.ensures.value in
+    let has = found_has (lease_of_leg runs) c.in-Some.lease (find c.in-Some.lease) c.in-Some-get.place.now (c.requires.legs c.in-Some.lease) found in
+    run_in_range runs c.in-Some-get.place.now c.in-Some.lease c.requires.few has
+
+pub returns-clause-of : goal.returns-clause-of
+returns-clause-of c =
+    let runs = c.args.runs.now in
+    let find = get nat_cmp c.args.legs.now in
+    let found : find c.in-Some.lease ≡ Some c.in-Some-get.place.now =
+    ap find (sym c.get.ensures.value) ∙ sym c.in-Some-get.ensures.value in
+    let has = found_has (lease_of_leg runs) c.in-Some.lease (find c.in-Some.lease) c.in-Some-get.place.now (c.requires.legs c.in-Some.lease) found in
+    subst (λ (o : Option ℕ). IsReplyAs runs o (reply.Lease c.in_ok-told.told)) (sym c.in-Some.is)
+    (a_reply runs c.in-Some.lease c.in-Some-get.place.now c.in_ok-told.told (search rules) has (sym (given _ _ c.in_ok-told.ensures)))

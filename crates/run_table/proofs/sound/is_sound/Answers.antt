@@ -1,0 +1,44 @@
+use Rattle.std.proofs.Common.{◌≡◌, ◌≤◌, ◌∙◌, List, Bool, arith, false, true, None, sym, subst, rules}
+use Rattle.std.specs.Bool.{Decides}
+use Rattle.run_table.specs.Settling.{first_place}
+use Rattle.run_table.specs.Sound.{DeliveriesDiffer, IsSound}
+use Rattle.run_table.specs.TableState.{RunState}
+use Rattle.run_table.proofs.OneAfterAnother.{is_nothing, like, no, not_so, something, when_ok}
+use Rattle.run_table.proofs.SoundOneByOne.{each_run, each_runner, table_with, to_sound}
+use Rattle.run_table.proofs.sound.is_sound.Goals as goal
+
+pub returns-then-leases-gt-LAST_NUMBER-clause-sound : goal.returns-then-leases-gt-LAST_NUMBER-clause-sound
+returns-then-leases-gt-LAST_NUMBER-clause-sound c = no (λ s. let le = s.last_lease_in_range in omega arith)
+
+pub returns-then-not-are_runs_sound-clause-sound : goal.returns-then-not-are_runs_sound-clause-sound
+returns-then-not-are_runs_sound-clause-sound c =
+    no (λ s. not_so c.are_runs_sound.result c.are_runs_sound.ensures (search rules)
+    (each_run c.args.leases.now c.args.runs.now c.args.runners.now c.requires.legs c.requires.held s))
+
+pub returns-then-not-are_runners_sound-clause-sound : goal.returns-then-not-are_runners_sound-clause-sound
+returns-then-not-are_runners_sound-clause-sound c =
+    no (λ s. not_so c.are_runners_sound.result c.are_runners_sound.ensures (search rules)
+    (each_runner c.args.leases.now c.args.runs.now c.args.runners.now c.requires.legs c.requires.held s))
+
+pub returns-then-not-do_runs_rest-clause-sound : goal.returns-then-not-do_runs_rest-clause-sound
+returns-then-not-do_runs_rest-clause-sound c =
+    let moves : c.do_runs_rest.result ≡ false = search rules in
+    no (λ s. something (first_place c.args.runs.now) (sym c.do_runs_rest.ensures ∙ moves) s.no_rule_applies)
+
+pub returns-clause-sound : goal.returns-clause-sound
+returns-clause-sound c =
+    let leases = c.args.leases.now in
+    let runs = c.args.runs.now in
+    let runners = c.args.runners.now in
+    let last : leases.last ≤ 999999999 = omega arith in
+    let each = c.are_runs_sound.ensures.0 (search rules) in
+    let each_of_runners = c.are_runners_sound.ensures.0 (search rules) in
+    let still : c.do_runs_rest.result ≡ true = search rules in
+    let rests : first_place runs ≡ None = is_nothing (first_place runs) (sym c.do_runs_rest.ensures ∙ still) in
+    when_ok c.do_deliveries_differ.result (λ (b : Bool). Decides b (DeliveriesDiffer c.as_slice.result.now))
+    (λ b. Decides b (IsSound (table_with leases runs runners)))
+    (λ b d. like b
+    (λ differ. to_sound leases runs runners c.requires.legs c.requires.held each each_of_runners c.requires.planned c.requires.rise c.requires.kept
+    last rests (subst (λ (xs : List RunState). DeliveriesDiffer xs) c.as_slice.ensures.runs differ))
+    (λ s. subst (λ (xs : List RunState). DeliveriesDiffer xs) (sym c.as_slice.ensures.runs) s.deliveries_differ) d)
+    c.do_deliveries_differ.ensures.differ

@@ -1,0 +1,7 @@
+use Rattle.run_table.specs.OneByOne.{RunIsSound}
+use Rattle.run_table.proofs.OneAfterAnother.{SoFar}
+use Rattle.run_table.proofs.sound.runs.are_runs_sound.Given as goal
+
+-- each run so far is sound
+abbrev pub invariant-loop-r : goal.invariant-loop-r
+invariant-loop-r l = SoFar (RunIsSound l.leases l.runs) l.all l.r

@@ -1,0 +1,28 @@
+-- The leases of legs, place by place, and those that runners hold. Own.
+use Rattle.std.specs.Prelude.{◌≡◌, ℕ, List, Option, Some, option_and_then, slice_get}
+use Rattle.run_table.specs.Places.{LegPlace, run_at}
+use Rattle.run_table.specs.TableState.{LegState, JobState, RunState, RunnerState}
+
+-- the lease of the leg at a place, where it has one
+abbrev pub lease_in_job : List LegState → ℕ → Option ℕ
+lease_in_job legs l = option_and_then (λ x. x.lease) (slice_get legs l)
+
+abbrev pub lease_in_run : List JobState → ℕ → ℕ → Option ℕ
+lease_in_run jobs j l = option_and_then (λ job. lease_in_job job.legs l) (slice_get jobs j)
+
+abbrev pub lease_of_leg : List RunState → LegPlace → Option ℕ
+lease_of_leg runs p = option_and_then (λ run. lease_in_run run.jobs p.job p.leg) (run_at runs p.run)
+
+-- the lease that the runner at a place holds, where it holds one
+abbrev pub lease_of_runner : List RunnerState → ℕ → Option ℕ
+lease_of_runner runners k = option_and_then (λ x. x.holds) (slice_get runners k)
+
+-- a leg of a run, of a job, or of the first so many of these, has the lease
+pub record HasInJob (r j : ℕ) (legs : List LegState) (p : LegPlace) (n : ℕ) : Type 0 where
+  pub run_is : p.run ≡ r
+  pub job_is : p.job ≡ j
+  pub lease_is : lease_in_job legs p.leg ≡ Some n
+
+pub record HasInRun (r : ℕ) (jobs : List JobState) (p : LegPlace) (n : ℕ) : Type 0 where
+  pub run_is : p.run ≡ r
+  pub lease_is : lease_in_run jobs p.job p.leg ≡ Some n

@@ -1,0 +1,44 @@
+//! What the table of these parts holds.
+
+ghost use Rattle.std.specs.Prelude.{IfOk, MatchOption};
+ghost use Rattle.run_table.specs.BoundGroups.{ErrsOnlyByMemory};
+ghost use Rattle.run_table.specs.TableOf.{IsNoTable, IsStoredAs};
+
+use crate::content::Content;
+use crate::parts::Parts;
+use crate::runners::Runners;
+use crate::runs::Runs;
+use crate::sound::is_sound;
+use crate::sound::leases::{Leases, legs_by_lease, runners_by_lease};
+use std::alloc::Global;
+use wf_value::Refusal;
+
+impl Content {
+    /// What the table holds that is stored as these parts, where there is one.
+    pub(crate) fn of_parts(alloc: Global, parts: &Parts) -> Result<Option<Self>, Refusal>
+        ensures err { ErrsOnlyByMemory result }
+        ensures of { IfOk result (λ found. MatchOption found (IsNoTable parts.now) (λ content. IsStoredAs parts.now content)) }
+    {
+        let Some(runs) = Runs::of_parts(alloc, parts.runs.as_slice())? else {
+            return Ok(None);
+        };
+        let legs = legs_by_lease(alloc, &runs)?;
+        let Some(runners) = Runners::of_parts(alloc, &runs, &legs, parts.runners.as_slice())? else {
+            return Ok(None);
+        };
+        let held = runners_by_lease(alloc, runners.as_slice())?;
+        let leases = Leases {
+            last: parts.last_lease,
+            legs,
+            held,
+        };
+        if !is_sound(alloc, &leases, &runs, runners.as_slice())? {
+            return Ok(None);
+        }
+        Ok(Some(Content {
+            last_lease: parts.last_lease,
+            runs,
+            runners,
+        }))
+    }
+}

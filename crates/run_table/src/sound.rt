@@ -1,0 +1,72 @@
+//! Whether what a table holds is sound: each rule of a table is tested by itself.
+
+ghost use Rattle.std.specs.BTreeMap.{get};
+ghost use Rattle.std.specs.Bool.{Decides};
+ghost use Rattle.std.specs.Ordering.{nat_cmp};
+ghost use Rattle.std.specs.Prelude.{◌≡◌, ℕ, None, IfOk, is_none, true};
+ghost use Rattle.run_table.specs.BoundGroups.{ErrsOnlyByMemory};
+ghost use Rattle.run_table.specs.ByLease.{lease_of_leg, lease_of_runner};
+ghost use Rattle.run_table.specs.ByNumber.{Finds};
+ghost use Rattle.run_table.specs.Settling.{first_place};
+ghost use Rattle.run_table.specs.Sound.{IsSound, KeptLeasesAreLegs};
+ghost use Rattle.run_table.specs.TableOf.{AreAsPlanned};
+ghost use Rattle.run_table.specs.Turns.{names_rise};
+
+mod deliveries;
+mod holders;
+mod jobs;
+pub(crate) mod leases;
+mod legs;
+mod runners;
+mod runs;
+
+use crate::content::LAST_NUMBER;
+use crate::first_place::first_place;
+use crate::place::JobPlace;
+use crate::runner::Runner;
+use crate::runs::Runs;
+use crate::sound::deliveries::do_deliveries_differ;
+use crate::sound::leases::Leases;
+use crate::sound::runners::are_runners_sound;
+use crate::sound::runs::are_runs_sound;
+use std::alloc::Global;
+use wf_value::Refusal;
+
+/// Whether no settling rule applies.
+fn do_runs_rest(runs: &Runs) -> bool
+    ensures { result ≡ is_none (first_place runs.now) }
+{
+    first_place(runs, JobPlace { run: 0, job: 0 }).is_none()
+}
+
+/// Whether the table of these runs and runners is sound, where the runs are as planned, the names of the runners rise and the leases
+/// that are kept are those of legs.
+pub(crate) fn is_sound(
+    alloc: Global,
+    leases: &Leases,
+    runs: &Runs,
+    runners: &[Runner],
+) -> Result<bool, Refusal>
+    requires legs { (n : ℕ) → Finds (lease_of_leg runs.now) n (get nat_cmp leases.now.legs n) }
+    requires held { (n : ℕ) → Finds (lease_of_runner runners.now) n (get nat_cmp leases.now.held n) }
+    requires planned { AreAsPlanned runs.now }
+    requires rise { names_rise runners.now ≡ true }
+    requires kept { KeptLeasesAreLegs runs.now runners.now }
+    ensures err { ErrsOnlyByMemory result }
+    ensures sound { IfOk result
+        (λ b. Decides b (IsSound (record { last_lease = leases.now.last; runs = runs.now; runners = runners.now }))) }
+{
+    if leases.last > LAST_NUMBER {
+        return Ok(false);
+    }
+    if !are_runs_sound(leases, runs) {
+        return Ok(false);
+    }
+    if !are_runners_sound(leases, runs, runners) {
+        return Ok(false);
+    }
+    if !do_runs_rest(runs) {
+        return Ok(false);
+    }
+    do_deliveries_differ(alloc, runs.as_slice())
+}

@@ -1,0 +1,122 @@
+//! The legs that have leases, and the runners that hold them, each looked up by the lease.
+
+ghost use Rattle.std.specs.BTreeMap.{get};
+ghost use Rattle.std.specs.Ordering.{nat_cmp};
+ghost use Rattle.std.specs.Prelude.{◌≡◌, ℕ, IfOk, OnOk, Some};
+ghost use Rattle.run_table.specs.BoundGroups.{ErrsOnlyByMemory};
+ghost use Rattle.run_table.specs.ByLease.{HasInJob, HasInRun, lease_of_leg, lease_of_runner};
+ghost use Rattle.run_table.specs.ByNumber.{Adds, Finds};
+ghost use Rattle.run_table.specs.Cells.{states};
+
+use crate::job::Job;
+use crate::leg::Leg;
+use crate::place::LegPlace;
+use crate::runner::Runner;
+use crate::runs::Runs;
+use run_plan::Number;
+use std::alloc::Global;
+use std::collections::BTreeMap;
+use wf_value::Refusal;
+
+/// What is known of the leases of a table.
+#[derive(Drop)]
+pub(crate) struct Leases {
+    /// The last that was given.
+    pub last: u32,
+    /// Of each lease a leg that has it.
+    pub legs: BTreeMap<u32, LegPlace>,
+    /// Of each lease that is held, the place of a runner that holds it.
+    pub held: BTreeMap<u32, usize>,
+}
+
+/// Of each lease of a leg, a leg that has it.
+pub(crate) fn legs_by_lease(alloc: Global, runs: &Runs) -> Result<BTreeMap<u32, LegPlace>, Refusal>
+    ensures err { ErrsOnlyByMemory result }
+    ensures found { IfOk result (λ legs. (n : ℕ) → Finds (lease_of_leg runs.now) n (get nat_cmp legs n)) }
+{
+    let mut legs = BTreeMap::new(alloc);
+    let all = runs.as_slice();
+    for r in 0..all.len() {
+        let run = &all[r];
+        put_jobs(&mut legs, r, run.jobs())?;
+    }
+    Ok(legs)
+}
+
+fn put_jobs(legs: &mut BTreeMap<u32, LegPlace>, r: usize, jobs: &[Job]) -> Result<(), Refusal>
+    ensures err { ErrsOnlyByMemory result }
+    ensures put { OnOk result (Adds (get nat_cmp legs.old) (get nat_cmp legs.new) (HasInRun r (states jobs.now))) }
+{
+    for j in 0..jobs.len() {
+        let job = &jobs[j];
+        put_legs(legs, r, j, job.legs())?;
+    }
+    Ok(())
+}
+
+fn put_legs(
+    legs: &mut BTreeMap<u32, LegPlace>,
+    r: usize,
+    j: usize,
+    of_job: &[Leg],
+) -> Result<(), Refusal>
+    ensures err { ErrsOnlyByMemory result }
+    ensures put { OnOk result (Adds (get nat_cmp legs.old) (get nat_cmp legs.new) (HasInJob r j of_job.now)) }
+{
+    for l in 0..of_job.len() {
+        let place = LegPlace {
+            run: r,
+            job: j,
+            leg: l,
+        };
+        let leg = &of_job[l];
+        put_leg(legs, leg.lease, place)?;
+    }
+    Ok(())
+}
+
+/// Puts the place of a leg under its lease, where it has one.
+fn put_leg(
+    legs: &mut BTreeMap<u32, LegPlace>,
+    lease: Option<Number>,
+    place: LegPlace,
+) -> Result<(), Refusal>
+    ensures err { ErrsOnlyByMemory result }
+    ensures put { OnOk result (Adds (get nat_cmp legs.old) (get nat_cmp legs.new) (λ p n. (p ≡ place) × (lease ≡ Some n))) }
+{
+    if let Some(lease) = lease {
+        legs.insert(lease.get(), place)?;
+    }
+    Ok(())
+}
+
+/// Puts the place of a runner under the lease that it holds, where it holds one.
+fn put_runner(
+    held: &mut BTreeMap<u32, usize>,
+    lease: Option<Number>,
+    place: usize,
+) -> Result<(), Refusal>
+    ensures err { ErrsOnlyByMemory result }
+    ensures put { OnOk result (Adds (get nat_cmp held.old) (get nat_cmp held.new) (λ k n. (k ≡ place) × (lease ≡ Some n))) }
+{
+    if let Some(lease) = lease {
+        held.insert(lease.get(), place)?;
+    }
+    Ok(())
+}
+
+/// Of each lease that is held, the place of a runner that holds it.
+pub(crate) fn runners_by_lease(
+    alloc: Global,
+    runners: &[Runner],
+) -> Result<BTreeMap<u32, usize>, Refusal>
+    ensures err { ErrsOnlyByMemory result }
+    ensures found { IfOk result (λ held. (n : ℕ) → Finds (lease_of_runner runners.now) n (get nat_cmp held n)) }
+{
+    let mut held = BTreeMap::new(alloc);
+    for k in 0..runners.len() {
+        let runner = &runners[k];
+        put_runner(&mut held, runner.holds, k)?;
+    }
+    Ok(held)
+}

@@ -1,0 +1,93 @@
+//! What each leg keeps: a lease where its phase asks for one and none where no runner has claimed it, a lease that was given, that no
+//! other leg has and that is held while a runner is at work, and a group that it shares with nobody of its kind.
+
+ghost use Rattle.std.specs.Bool.{Decides};
+ghost use Rattle.std.specs.Prelude.{◌≡◌, is_some, Some};
+ghost use Rattle.run_table.specs.OneByOne.{EachLegIsSound, IsFound, IsGiven, LegIsSound, leg_of, runner_of};
+ghost use Rattle.run_table.specs.Sound.{LeaseFits};
+
+use crate::holder::Holder;
+use crate::leg::Leg;
+use crate::phases::LegPhase;
+use crate::place::LegPlace;
+use crate::runs::Runs;
+use crate::sound::holders::is_alone;
+use crate::sound::leases::Leases;
+use run_plan::Number;
+use wf_value::Outcome;
+
+/// Whether a leg in this phase may have this lease, or may lack one.
+fn lease_fits(phase: LegPhase, lease: Option<Number>) -> bool
+    ensures { Decides result (LeaseFits phase lease) }
+{
+    match phase {
+        LegPhase::New | LegPhase::Waiting | LegPhase::Ready => lease.is_none(),
+        LegPhase::Running | LegPhase::Stopping => lease.is_some(),
+        LegPhase::Ended(Outcome::Success | Outcome::Failure) => lease.is_some(),
+        LegPhase::Ended(Outcome::Cancelled) => true,
+    }
+}
+
+/// Whether the lease, if there is one, is not above the last that was given.
+fn is_given(last: u32, lease: Option<Number>) -> bool
+    ensures { Decides result (IsGiven last lease) }
+{
+    match lease {
+        Some(lease) => lease.get() <= last,
+        None => true,
+    }
+}
+
+/// Whether the leg at the place is the one that is found by the lease.
+fn leads_to(leases: &Leases, lease: Number, place: LegPlace) -> bool
+    ensures { Decides result (leg_of leases.now lease ≡ Some place) }
+{
+    match leases.legs.get(&lease.get()) {
+        Some(found) => found.run == place.run && found.job == place.job && found.leg == place.leg,
+        None => false,
+    }
+}
+
+fn is_held(leases: &Leases, lease: Number) -> bool
+    ensures { result ≡ is_some (runner_of leases.now lease) }
+{
+    leases.held.contains_key(&lease.get())
+}
+
+/// Whether the leg is the one that is found by its lease, and this is held while a runner is at work on the leg.
+fn is_found(leases: &Leases, place: LegPlace, leg: &Leg) -> bool
+    ensures { Decides result (IsFound leases.now place leg.now) }
+{
+    match leg.lease {
+        Some(lease) => {
+            leads_to(leases, lease, place) && (!leg.is_at_work() || is_held(leases, lease))
+        }
+        None => true,
+    }
+}
+
+fn is_leg_sound(leases: &Leases, runs: &Runs, place: LegPlace, leg: &Leg) -> bool
+    ensures { Decides result (LegIsSound leases.now runs.now place leg.now) }
+{
+    lease_fits(leg.phase, leg.lease)
+        && is_given(leases.last, leg.lease)
+        && is_found(leases, place, leg)
+        && is_alone(runs, &Holder::Leg(place))
+}
+
+pub(crate) fn are_legs_sound(leases: &Leases, runs: &Runs, r: usize, j: usize, legs: &[Leg]) -> bool
+    ensures { Decides result (EachLegIsSound leases.now runs.now r j legs.now) }
+{
+    for l in 0..legs.len() {
+        let place = LegPlace {
+            run: r,
+            job: j,
+            leg: l,
+        };
+        let leg = &legs[l];
+        if !is_leg_sound(leases, runs, place, leg) {
+            return false;
+        }
+    }
+    true
+}

@@ -1,0 +1,72 @@
+//! What each run keeps: jobs that have come as far as its own phase asks, and what each job keeps.
+
+ghost use Rattle.std.specs.Bool.{Decides};
+ghost use Rattle.std.specs.Prelude.{◌≡◌};
+ghost use Rattle.std.specs.List.{list_all};
+ghost use Rattle.run_table.specs.OneByOne.{EachJobIsSound, EachRunIsSound, RunIsSound};
+ghost use Rattle.run_table.specs.Sound.{PhaseFits};
+ghost use Rattle.run_table.specs.StateWords.{is_blocked};
+
+use crate::first_place::has_settled_jobs;
+use crate::holder::Holder;
+use crate::job::Job;
+use crate::phases::RunPhase;
+use crate::run::Run;
+use crate::runs::Runs;
+use crate::sound::holders::is_alone;
+use crate::sound::jobs::are_jobs_sound;
+use crate::sound::leases::Leases;
+
+fn are_blocked(jobs: &[Job]) -> bool
+    ensures { result ≡ list_all (λ job. is_blocked job.state.phase) jobs.now }
+{
+    jobs.iter().all(|job| job.phase().is_blocked())
+}
+
+fn has_blocked_jobs(run: &Run) -> bool
+    ensures { result ≡ list_all (λ job. is_blocked job.phase) run.now.jobs }
+{
+    are_blocked(run.jobs())
+}
+
+/// Whether a waiting run has not been told to stop and has not opened a job, and an ended one has settled all.
+fn phase_fits(run: &Run) -> bool
+    ensures { Decides result (PhaseFits run.now.phase run.now.stopping run.now.jobs) }
+{
+    match run.phase() {
+        RunPhase::Waiting => !run.is_stopping() && has_blocked_jobs(run),
+        RunPhase::Live => true,
+        RunPhase::Ended => has_settled_jobs(run),
+    }
+}
+
+fn has_sound_jobs(leases: &Leases, runs: &Runs, r: usize, run: &Run) -> bool
+    ensures { Decides result (EachJobIsSound leases.now runs.now r run.now.jobs) }
+{
+    are_jobs_sound(leases, runs, r, run.jobs())
+}
+
+fn is_run_sound(leases: &Leases, runs: &Runs, r: usize, run: &Run) -> bool
+    ensures { Decides result (RunIsSound leases.now runs.now r run.now) }
+{
+    if !phase_fits(run) {
+        return false;
+    }
+    if !is_alone(runs, &Holder::Run(r)) {
+        return false;
+    }
+    has_sound_jobs(leases, runs, r, run)
+}
+
+pub(crate) fn are_runs_sound(leases: &Leases, runs: &Runs) -> bool
+    ensures { Decides result (EachRunIsSound leases.now runs.now) }
+{
+    let all = runs.as_slice();
+    for r in 0..all.len() {
+        let run = &all[r];
+        if !is_run_sound(leases, runs, r, run) {
+            return false;
+        }
+    }
+    true
+}
