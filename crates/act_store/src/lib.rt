@@ -18,7 +18,7 @@ mod store;
 mod waiting;
 
 pub use entry::Entry;
-pub use playing::play;
+pub use playing::{play, take};
 pub use receipt::Receipt;
 pub use step::{Played, Step};
 pub use store::Store;

@@ -79,9 +79,23 @@ fn take_step<D: Disk>(alloc: Global, store: &mut Store<D>, step: &Step) -> Resul
     match step {
         Step::Apply(command) => {
             let copy = command.copy(alloc)?;
-            Ok(take_apply(alloc, store, copy))
+            Ok(take(alloc, store, Step::Apply(copy)))
         }
-        Step::Commit => Ok(take_commit(store)),
+        Step::Commit => Ok(take(alloc, store, Step::Commit)),
+    }
+}
+
+/// Takes a step, and gives what it is answered. A step that is refused is answered by its refusal.
+///
+/// Whatever the step is, and whatever the device does: a stop at any moment leaves an image that stands for the entries that were
+/// covered as the step began, or for all that there were then.
+pub fn take<D: Disk>(alloc: Global, store: &mut Store<D>, step: Step) -> Played
+    ensures takes { Takes store.old step result store.new }
+    ensures survives { Survives D.honest D.moment D.fault_count D.images_since store.old result store.new }
+{
+    match step {
+        Step::Apply(command) => take_apply(alloc, store, command),
+        Step::Commit => take_commit(store),
     }
 }
 

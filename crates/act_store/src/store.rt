@@ -2,6 +2,7 @@ ghost use Rattle.std.specs.Prelude.{◌≡◌, ◌≤◌, ◌==◌, ◌-◌, Lis
 ghost use Rattle.act_store.specs.Entries.{IsLegal};
 ghost use Rattle.act_store.specs.GroupsOfHistory.{KeepsGroups};
 ghost use Rattle.act_store.specs.Kept.{StandsForEither, table_of};
+ghost use Rattle.run_table.specs.Sound.{IsSound};
 ghost use Rattle.run_table.specs.Step.{seen};
 
 use crate::entry::Entry;
@@ -105,7 +106,8 @@ impl<D: Disk> Store<D> {
 
     /// What is seen of the run of an id in the present table, or `None` where there is no such run.
     pub fn look(&self, run: Number) -> Option<RunView<'_>>
-        ensures { result ≡ seen (table_of self.now) run }
+        ensures seen { result ≡ seen (table_of self.now) run }
+        ensures sound { IsSound (table_of self.now) }
     {
         self.table.look(run)
     }

@@ -18,11 +18,11 @@ use Rattle.acts_cli.specs.Check.{leg_line, job_lines, plan_lines, checked, Writt
 use Rattle.acts_cli.specs.Play.{most_bytes, stream_failed}
 
 -- one part more has been written whole
-past_part : (out part more all : List ℕ) → out ++ (part ++ more) ≡ all → (out ++ part) ++ more ≡ all
+pub past_part : (out part more all : List ℕ) → out ++ (part ++ more) ≡ all → (out ++ part) ++ more ≡ all
 past_part out part more all h = append_assoc out part more ∙ h
 
 -- a front of one part more
-within_part : (out front back part more all : List ℕ) → out ++ (part ++ more) ≡ all → front ++ back ≡ part
+pub within_part : (out front back part more all : List ℕ) → out ++ (part ++ more) ≡ all → front ++ back ≡ part
     → (out ++ front) ++ (back ++ more) ≡ all
 within_part out front back part more all h joined =
     append_assoc out front (back ++ more)

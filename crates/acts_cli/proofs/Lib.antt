@@ -1,4 +1,7 @@
 pub mod Checks
 pub mod CutLines
+pub mod Making
 pub mod Plays
 mod Rows
+pub mod Showing
+pub mod Taking

@@ -1,11 +1,14 @@
--- The answers of a script: one for each line that is not empty, each from the table that the lines before it left.
-use Rattle.std.specs.Prelude.{ℕ, List, [], ◌∷◌, ◌++◌, length, Bool, not, nat_eq, filter, flat_map, Result}
+-- The answers of a script: one for each line that is not empty, each from the plain store that the lines before it left.
+use Rattle.std.specs.Prelude.{ℕ, List, [], ◌∷◌, ◌++◌, length, Bool, not, nat_eq, codes, filter, flat_map, Result, Ok, Err, if◌then◌else◌}
+use Rattle.std.specs.Str.{bytes_eq}
 use Rattle.std.specs.Str.Lines.{lines}
 use Rattle.wf_value.specs.declared.refusal.Refusal.{Refusal}
-use Rattle.run_plan.specs.declared.reply.Reply.{Reply}
-use Rattle.run_table.specs.Step.{step, empty}
-use Rattle.run_table.specs.TableState.{TableState}
-use Rattle.acts_cli.specs.AnyState.{left_by, carried_out_by, after_line_by, answer_by, answers_by}
+use Rattle.run_plan.specs.declared.command.Command.{Command}
+use Rattle.act_store.specs.declared.step.Played.{Played}
+use Rattle.act_store.specs.declared.step.Played.TheVariants as told
+use Rattle.act_store.specs.declared.step.Step.TheVariants as asked
+use Rattle.acts_cli.specs.Line.{command_of}
+use Rattle.acts_cli.specs.PlainStore.{PlainStore, played_text, start, taken}
 
 abbrev pub has_bytes : List ℕ → Bool
 has_bytes line = not (nat_eq (length line) 0)
@@ -15,31 +18,37 @@ has_bytes line = not (nat_eq (length line) 0)
 abbrev pub script_lines : List ℕ → List (List ℕ)
 script_lines script = filter has_bytes (lines script)
 
--- the table after a line and the reply to it, or why the line is refused
-abbrev pub carried_out : TableState → List ℕ → Result (TableState × Reply) Refusal
-carried_out t line = carried_out_by step t line
+-- `commit` alone is a line that is no command
+abbrev pub is_commit : List ℕ → Bool
+is_commit line = bytes_eq line (codes "commit")
 
--- a refused line leaves the table
-abbrev pub table_after : TableState → Result (TableState × Reply) Refusal → TableState
-table_after t moved = left_by t moved
+-- a refused line leaves the store
+abbrev pub commanded : PlainStore → Result Command Refusal → PlainStore × Played
+commanded s (Ok command) = taken s (asked.Apply command)
+commanded s (Err e) = (s, told.Refused e)
 
-abbrev pub after_line : TableState → List ℕ → TableState
-after_line t line = after_line_by step t line
+-- the store after a line, and the answer to it
+abbrev pub carried_out : PlainStore → List ℕ → PlainStore × Played
+carried_out s line = if is_commit line then taken s asked.Commit else commanded s (command_of line)
 
-abbrev pub answer_of : TableState → List ℕ → List ℕ
-answer_of t line = answer_by step t line
+abbrev pub after_line : PlainStore → List ℕ → PlainStore
+after_line s line = (carried_out s line).0
 
--- the answers of lines, one after the other from a table
-abbrev pub answers_from : TableState → List (List ℕ) → List (List ℕ)
-answers_from t lines = answers_by step t lines
+abbrev pub answer_of : PlainStore → List ℕ → List ℕ
+answer_of s line = played_text (carried_out s line).1
 
-abbrev pub answers_of : List ℕ → List (List ℕ)
-answers_of script = answers_from empty (script_lines script)
+-- the answers of lines, one after the other from a store
+abbrev pub answers_from : PlainStore → List (List ℕ) → List (List ℕ)
+answers_from s [] = []
+answers_from s (line ∷ lines) = answer_of s line ∷ answers_from (after_line s line) lines
 
 -- each answer and a line feed
 abbrev pub printed : List (List ℕ) → List ℕ
 printed answers = flat_map (λ answer. answer ++ 10 ∷ []) answers
 
 -- what a script prints
+abbrev pub output_from : PlainStore → List ℕ → List ℕ
+output_from s script = printed (answers_from s (script_lines script))
+
 abbrev pub output_of : List ℕ → List ℕ
-output_of script = printed (answers_of script)
+output_of script = output_from start script

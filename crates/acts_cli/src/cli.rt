@@ -1,9 +1,16 @@
+ghost use Rattle.std.specs.Prelude.{◌≤◌};
+
 use crate::check::run_check;
 use crate::explain::{Explanation, explanation_of, numbers};
+use crate::init::run_init;
 use crate::play::run_script;
+use crate::show::run_show;
+use act_disk::{Empty, FileDisk, HostFile};
+use clap::builder::ValueParser;
 use clap::error::ErrorKind;
 use clap::{Arg, ArgMatches, Command, Error};
 use std::alloc::{AllocError, Global};
+use std::fs::{File, Files};
 use std::io::BufWriter;
 use std::process::ExitCode;
 use std::rt::Env;
@@ -13,12 +20,64 @@ use wf_value::{Code, Refusal};
 /// The version of the program.
 const VERSION: &str = "0.1.0";
 
+/// The least length of an area, and the most.
+const LEAST_AREA: u64 = 4_096;
+
+const MOST_AREA: u64 = 1_073_741_824;
+
+/// A disk over a file of the system. What it held as it was opened is not supposed anywhere here: a contract alone
+/// could name it.
+type RealDisk = FileDisk<HostFile<Empty>>;
+
+/// How long each area of a new store is to be, in bytes.
+#[derive(Drop)]
+struct AreaLength {
+    bytes: u64,
+    ghost least: { 4096 ≤ bytes },
+    ghost most: { bytes ≤ 1073741824 },
+}
+
+impl AreaLength {
+    fn of(bytes: u64) -> Option<Self> {
+        if bytes < LEAST_AREA || bytes > MOST_AREA {
+            return None;
+        }
+        Some(AreaLength { bytes })
+    }
+}
+
 /// What the command line asks for.
 #[derive(Drop)]
-enum Request {
+enum Request<'a> {
     Play,
     Check,
+    /// A new store in this file.
+    Init(&'a str, AreaLength),
+    /// The runs of the store in this file.
+    Show(&'a str),
     Explain(Explanation),
+}
+
+/// `acts init FILE AREA`.
+fn init_command<'a>(alloc: Global) -> Result<Command<'a>, AllocError> {
+    let file = Arg::new(alloc, "FILE").required(true);
+    let area = Arg::new(alloc, "AREA")
+        .required(true)
+        .value_parser(ValueParser::unsigned(LEAST_AREA, MOST_AREA));
+    Command::new(alloc, "init")
+        .about(
+            "Makes an empty store of two areas of AREA bytes in FILE, which is made where it is not there",
+        )
+        .arg(file)?
+        .arg(area)
+}
+
+/// `acts show FILE`.
+fn show_command<'a>(alloc: Global) -> Result<Command<'a>, AllocError> {
+    let file = Arg::new(alloc, "FILE").required(true);
+    Command::new(alloc, "show")
+        .about("Prints the view of each run of the store in FILE")
+        .arg(file)
 }
 
 /// The command line of `acts`. Its `explain` takes one of these numbers.
@@ -41,26 +100,49 @@ fn command<'a>(alloc: Global, numbers: &'a [&'a str]) -> Result<Command<'a>, All
         .subcommand_required(true)
         .subcommand(play)?
         .subcommand(check)?
+        .subcommand(init_command(alloc)?)?
+        .subcommand(show_command(alloc)?)?
         .subcommand(explain)
 }
 
+/// What the words of `acts init` ask for.
+fn init_of<'a>(matches: &ArgMatches<'a>) -> Option<Request<'a>> {
+    let file = matches.get_str("FILE")?;
+    let area = matches.get_one::<u64>("AREA")?;
+    Some(Request::Init(file, AreaLength::of(area)?))
+}
+
+/// What the words of `acts show` ask for.
+fn show_of<'a>(matches: &ArgMatches<'a>) -> Option<Request<'a>> {
+    let file = matches.get_str("FILE")?;
+    Some(Request::Show(file))
+}
+
+/// What the words of `acts explain` ask for.
+fn explain_of<'a>(matches: &ArgMatches<'a>) -> Option<Request<'a>> {
+    let explanation = explanation_of(matches.get_str("NUMBER")?)?;
+    Some(Request::Explain(explanation))
+}
+
 /// What the words that `clap` took ask for.
-fn request_of(matches: &ArgMatches<'_>) -> Option<Request> {
+fn request_of<'a>(matches: &ArgMatches<'a>) -> Option<Request<'a>> {
     match matches.subcommand() {
         Some(("play", _)) => Some(Request::Play),
         Some(("check", _)) => Some(Request::Check),
-        Some(("explain", matches)) => matches
-            .get_str("NUMBER")
-            .and_then(explanation_of)
-            .map(Request::Explain),
+        Some(("init", matches)) => init_of(matches),
+        Some(("show", matches)) => show_of(matches),
+        Some(("explain", matches)) => explain_of(matches),
         _ => None,
     }
 }
 
-/// Reads the words of the command line.
-fn parse(alloc: Global, words: &[String]) -> Result<Request, Error> {
-    let numbers = numbers(alloc)?;
-    let mut command = command(alloc, numbers.as_slice())?;
+/// Reads the words of the command line. Its `explain` takes one of these numbers.
+fn parse<'a>(
+    alloc: Global,
+    numbers: &'a [&'a str],
+    words: &'a [String],
+) -> Result<Request<'a>, Error> {
+    let mut command = command(alloc, numbers)?;
     let matches = command.try_get_matches_from_mut(words)?;
     match request_of(&matches) {
         Some(request) => Ok(request),
@@ -92,6 +174,28 @@ fn check<R: Input + Print + AllocGlobal>(rt: &R) -> Result<(), Refusal> {
     }
 }
 
+/// Makes a store in a file, which is made first where it is not there.
+fn init<R: Print + Files<File = File> + AllocGlobal>(
+    rt: &R,
+    file: &str,
+    area: AreaLength,
+) -> Result<(), Refusal> {
+    let disk: RealDisk = FileDisk::create(rt, file)?;
+    match BufWriter::new(rt.alloc(), io::writer(rt)) {
+        Ok(mut writer) => run_init(rt.alloc(), disk, area.bytes, &mut writer),
+        Err(_) => Err(Refusal::Numbered(Code::NoMemory)),
+    }
+}
+
+/// Shows the runs of the store in a file.
+fn show<R: Print + Files<File = File> + AllocGlobal>(rt: &R, file: &str) -> Result<(), Refusal> {
+    let disk: RealDisk = FileDisk::open(rt, file)?;
+    match BufWriter::new(rt.alloc(), io::writer(rt)) {
+        Ok(mut writer) => run_show(rt.alloc(), disk, &mut writer),
+        Err(_) => Err(Refusal::Numbered(Code::NoMemory)),
+    }
+}
+
 /// Prints the text of `clap`, and gives its status: 0 for a help text, and 2 for a fault.
 fn tell<R: Print + Eprint>(rt: &R, error: &Error) -> Result<u8, Refusal> {
     if error.kind() == ErrorKind::OutOfMemory {
@@ -110,11 +214,16 @@ fn print_line<R: Print>(rt: &R, explanation: Explanation) -> Result<(), Refusal>
     }
 }
 
-fn obey<R: Input + Print + Eprint + Env + AllocGlobal>(rt: &R) -> Result<u8, Refusal> {
+fn obey<R: Input + Print + Eprint + Env + Files<File = File> + AllocGlobal>(
+    rt: &R,
+) -> Result<u8, Refusal> {
     let words = words(rt)?;
-    match parse(rt.alloc(), words.as_slice()) {
+    let numbers = numbers(rt.alloc())?;
+    match parse(rt.alloc(), numbers.as_slice(), words.as_slice()) {
         Ok(Request::Play) => play(rt)?,
         Ok(Request::Check) => check(rt)?,
+        Ok(Request::Init(file, area)) => init(rt, file, area)?,
+        Ok(Request::Show(file)) => show(rt, file)?,
         Ok(Request::Explain(explanation)) => print_line(rt, explanation)?,
         Err(error) => return tell(rt, &error),
     }
@@ -123,7 +232,7 @@ fn obey<R: Input + Print + Eprint + Env + AllocGlobal>(rt: &R) -> Result<u8, Ref
 
 /// Does what the command line asks. The status is 0, also after a help text; 1 after a refusal, which
 /// stands on standard error as `acts: refused N`; and 2 after a fault of the command line there.
-pub fn run<R: Input + Print + Eprint + Env + AllocGlobal>(rt: &R) -> ExitCode {
+pub fn run<R: Input + Print + Eprint + Env + Files<File = File> + AllocGlobal>(rt: &R) -> ExitCode {
     match obey(rt) {
         Ok(status) => ExitCode::from(status),
         Err(refusal) => {

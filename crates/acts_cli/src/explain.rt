@@ -14,7 +14,7 @@ pub struct Explanation {
 }
 
 /// The refusals that can be met, in order. docs/FORMATS.md repeats them.
-const EXPLANATIONS: [Explanation; 28] = [
+const EXPLANATIONS: [Explanation; 34] = [
     Explanation {
         number: "10",
         meaning: "a body, or a workflow, is not JSON, or not UTF-8",
@@ -168,6 +168,12 @@ const EXPLANATIONS: [Explanation; 28] = [
         remedy: "claim under this name first; names of runners compare by bytes",
     },
     Explanation {
+        number: "46",
+        meaning: "the history has 100,000 entries; refused commands and look-ups are entries too",
+        input: "the 100,001st command of a script",
+        remedy: "part the script in two",
+    },
+    Explanation {
         number: "48",
         meaning: "a counter is at its last value: 100,000 runs, or 999,999,999 leases",
         input: "the admit of a run past 100,000",
@@ -178,6 +184,36 @@ const EXPLANATIONS: [Explanation; 28] = [
         meaning: "memory was refused, and what was asked was not done",
         input: "any, on a machine that has no memory left",
         remedy: "free memory, and ask again: the table is as it was",
+    },
+    Explanation {
+        number: "51",
+        meaning: "a read, a write or a sync of the disk failed in this call",
+        input: "acts init FILE 4096, on a file system that is full",
+        remedy: "see what is wrong with the disk; in a script the store has failed from then on (52)",
+    },
+    Explanation {
+        number: "52",
+        meaning: "the disk failed in an earlier call, and nothing is known of what it took",
+        input: "any command of a script, after a commit was answered 51",
+        remedy: "play the script again, once its cause is mended: what was committed before stands",
+    },
+    Explanation {
+        number: "53",
+        meaning: "no area is open on the disk, or its length is not that of two areas",
+        input: "acts show FILE, of an empty file",
+        remedy: "see whether it is the right file; a new store is made by acts init in an empty one",
+    },
+    Explanation {
+        number: "54",
+        meaning: "the area that stands spells no table",
+        input: "acts show FILE, of a store whose file another program has written",
+        remedy: "take a copy of the file from before; nothing is written to it by opening",
+    },
+    Explanation {
+        number: "55",
+        meaning: "the file is not empty, so no new store is made in it",
+        input: "acts init FILE 4096, a second time",
+        remedy: "name another file, or move this one away",
     },
     Explanation {
         number: "61",

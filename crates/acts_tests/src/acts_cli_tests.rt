@@ -7,6 +7,7 @@ mod conditions;
 mod groups;
 mod legs;
 mod needs;
+mod over_a_store;
 mod scripts;
 
 use crate::given::spelled;
@@ -103,7 +104,7 @@ const ROWS: [(&str, &str); 12] = [
         "refused 75\nrefused 75\nrefused 75\nrefused 75\n",
     ),
     (
-        "cancel 1\nlost r1\nfetch 1\ncommit",
+        "cancel 1\nlost r1\nfetch 1\nbegin",
         "refused 40\nrefused 45\nrefused 40\nrefused 75\n",
     ),
 ];

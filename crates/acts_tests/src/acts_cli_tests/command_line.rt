@@ -8,6 +8,7 @@ use std::alloc::{Allocator, Global};
 use std::cell::RefCell;
 use std::env::FillError;
 use std::fmt::Display;
+use std::fs::{File, Files, Metadata, OpenOptions};
 use std::io;
 use std::io::{BufRead, ErrorKind, Lines};
 use std::process::{Abort, ExitCode};
@@ -130,6 +131,57 @@ impl<'a> Eprint for Process<'a> {
     }
 }
 
+/// There is no file.
+fn none<T: Drop>() -> io::Result<T> {
+    Err(io::Error::from(ErrorKind::NotFound))
+}
+
+impl<'a> Files for Process<'a> {
+    type File = File;
+
+    type Dir = &'a [u8];
+
+    fn open_file(&self, _how: &OpenOptions, _path: &str) -> io::Result<File> {
+        none()
+    }
+
+    fn open_dir(&self, _path: &str) -> io::Result<&'a [u8]> {
+        none()
+    }
+
+    fn metadata(&self, _path: &str) -> io::Result<Metadata> {
+        none()
+    }
+
+    fn symlink_metadata(&self, _path: &str) -> io::Result<Metadata> {
+        none()
+    }
+
+    fn copy(&self, _from: &str, _to: &str) -> io::Result<u64> {
+        none()
+    }
+
+    fn rename(&self, _from: &str, _to: &str) -> io::Result<()> {
+        none()
+    }
+
+    fn remove_file(&self, _path: &str) -> io::Result<()> {
+        none()
+    }
+
+    fn create_dir(&self, _path: &str) -> io::Result<()> {
+        none()
+    }
+
+    fn remove_dir(&self, _path: &str) -> io::Result<()> {
+        none()
+    }
+
+    fn remove_dir_all<B: Allocator>(&self, _alloc: B, _path: &str) -> io::Result<()> {
+        none()
+    }
+}
+
 /// The status, and what is printed on standard output and on standard error, where `None` stands for any
 /// text but the empty one.
 type Ended<'a> = (u8, Option<&'a str>, Option<&'a str>);
@@ -182,7 +234,7 @@ const EXPLAINED: &str = concat!(
 
 /// Words, the room on standard output, and how that ends over the first script: with 0 where all is well
 /// and after a help text, and with 2 after a fault of the words.
-const ROWS: [(&[&str], usize, Ended<'static>); 15] = [
+const ROWS: [(&[&str], usize, Ended<'static>); 22] = [
     (PLAY, 10_000, (0, Some(FIRST_ANSWERS), Some(""))),
     (HELP, 10_000, (0, None, Some(""))),
     (HELP, 0, FULL),
@@ -206,9 +258,16 @@ const ROWS: [(&[&str], usize, Ended<'static>); 15] = [
     (&["acts", "explain", "9"], 10_000, FAULT),
     (&["acts", "explain", "017"], 10_000, FAULT),
     (&["acts", "explain", "refused"], 10_000, FAULT),
+    (&["acts", "init", "store", "4096"], 10_000, FULL),
+    (&["acts", "init", "store", "1073741824"], 10_000, FULL),
+    (&["acts", "init", "store", "4095"], 10_000, FAULT),
+    (&["acts", "init", "store", "1073741825"], 10_000, FAULT),
+    (&["acts", "init", "store"], 10_000, FAULT),
+    (&["acts", "show", "store"], 10_000, FULL),
+    (&["acts", "show"], 10_000, FAULT),
 ];
 
-/// 1 after a refusal, which stands on standard error.
+/// 1 after a refusal, which stands on standard error: of a page that is full, and of a file that can't be opened, as none can here.
 const FULL: Ended<'static> = (1, Some(""), Some("acts: refused 61\n"));
 
 /// 2 after a fault of the command line.
@@ -252,9 +311,10 @@ fn ends_a_check_with_its_status(rt: HostRuntime) {
 }
 
 /// The numbers that can be met.
-const NUMBERS: [&str; 28] = [
+const NUMBERS: [&str; 34] = [
     "10", "11", "12", "13", "14", "15", "16", "17", "18", "19", "20", "21", "22", "23", "24", "25",
-    "26", "40", "41", "42", "43", "44", "45", "48", "50", "61", "75", "76",
+    "26", "40", "41", "42", "43", "44", "45", "46", "48", "50", "51", "52", "53", "54", "55", "61",
+    "75", "76",
 ];
 
 #[test]

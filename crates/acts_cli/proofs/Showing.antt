@@ -1,0 +1,102 @@
+-- What a showing has written, run by run.
+use Rattle.std.proofs.Common.{◌≡◌, ◌∙◌, ◌⊎◌, inl, inr, ℕ, suc, ◌+◌, ◌-◌, ◌<◌, ◌≤◌, List, [], ◌∷◌, ◌++◌, length, Option, Some, None}
+use Rattle.std.proofs.Common.{Result, Ok, Err, IfErr, refl, sym, ap, subst, append-nil, arith}
+use Rattle.std.specs.Prelude.{IsErrAnd}
+use Rattle.std.specs.Option.{option_map_or}
+use Rattle.std.specs.Prelude.{option_map, slice_get}
+use Rattle.std.specs.List.{range_with_len}
+use Rattle.std.proofs.lemmas.Option.{slice_get_cases}
+use Rattle.wf_value.specs.Gives.{no_memory}
+use Rattle.wf_value.specs.declared.refusal.Refusal.{Refusal}
+use Rattle.run_table.specs.RunNumber.{events, run_number}
+use Rattle.run_table.specs.Step.{seen}
+use Rattle.run_table.specs.TableState.{TableState, RunState}
+use Rattle.run_table.specs.ViewText.{Seen}
+use Rattle.act_store.specs.Entries.{table_after}
+use Rattle.act_store.specs.Images.{StandsFor}
+use Rattle.act_store.specs.Kept.{Kept, table_of}
+use Rattle.act_store.specs.declared.entry.Entry.{Entry}
+use Rattle.acts_cli.specs.Play.{stream_failed}
+use Rattle.acts_cli.specs.Show.{Shows, line_of, lines_from, shown, view_line}
+use Rattle.acts_cli.proofs.Checks.{past_part, within_part}
+
+-- the lines of the runs from a place on
+abbrev pub lines_behind : TableState → ℕ → List ℕ
+lines_behind t place = lines_from t (place + 1) (length t.runs - place)
+
+-- what is seen of a run with an id
+abbrev shown_of : TableState → ℕ → RunState → Seen
+shown_of t id run = record { id = id; number = run_number (events t.runs) (id - 1) run.admitted; run = run }
+
+abbrev seen_by : TableState → ℕ → Option RunState → Option Seen
+seen_by t id found = option_map (shown_of t id) found
+
+all_behind : (t : TableState) → lines_behind t 0 ≡ shown t
+all_behind t = ap (λ n. lines_from t 1 n) (let same : length t.runs - 0 ≡ length t.runs = omega arith in same)
+
+pub before_all : (t : TableState) → [] ++ lines_behind t 0 ≡ shown t
+before_all t = all_behind t
+
+-- ---- a run that is there
+
+there : (t : TableState) (place : ℕ) (run : Seen) → seen t (place + 1) ≡ Some run → place < length t.runs
+there t place run is =
+    let same : place + 1 - 1 ≡ place = omega arith in
+    let cases = slice_get_cases t.runs (place + 1 - 1) in
+    elim cases.1 [
+      | inl found ↦ omega (arith, found.1)
+      | inr past ↦ absurd (let clash : None ≡ Some run = sym (ap (seen_by t (place + 1)) past.1) ∙ is in cc)
+    ]
+
+behind_run : (t : TableState) (place : ℕ) (run : Seen) → seen t (place + 1) ≡ Some run
+    → lines_behind t place ≡ view_line run ++ lines_behind t (place + 1)
+behind_run t place run is =
+    let below : place < length t.runs = there t place run is in
+    let left : length t.runs - place ≡ suc (length t.runs - (place + 1)) = omega arith in
+    ap (λ n. lines_from t (place + 1) n) left
+    ∙ ap (λ o. option_map_or view_line o [] ++ lines_from t (place + 1 + 1) (length t.runs - (place + 1))) is
+
+pub one_run_more : (t : TableState) (out all : List ℕ) (place : ℕ) (run : Seen) → seen t (place + 1) ≡ Some run
+    → out ++ lines_behind t place ≡ all → (out ++ view_line run) ++ lines_behind t (place + 1) ≡ all
+one_run_more t out all place run is h =
+    past_part out (view_line run) (lines_behind t (place + 1)) all (ap (λ x. out ++ x) (sym (behind_run t place run is)) ∙ h)
+
+pub within_run : (t : TableState) (out front back all : List ℕ) (place : ℕ) (run : Seen) → seen t (place + 1) ≡ Some run
+    → out ++ lines_behind t place ≡ all → front ++ back ≡ view_line run
+    → (out ++ front) ++ (back ++ lines_behind t (place + 1)) ≡ all
+within_run t out front back all place run is h joined =
+    within_part out front back (view_line run) (lines_behind t (place + 1)) all
+    (ap (λ x. out ++ x) (sym (behind_run t place run is)) ∙ h) joined
+
+-- ---- the end
+
+pub past_last : (t : TableState) (out all : List ℕ) (place : ℕ) → length t.runs ≤ place → out ++ lines_behind t place ≡ all → out ≡ all
+past_last t out all place past h =
+    let none : length t.runs - place ≡ 0 = omega arith in
+    sym (append-nil out) ∙ ap (λ n. out ++ lines_from t (place + 1) n) (sym none) ∙ h
+
+pub not_there : (t : TableState) (place : ℕ) → seen t (place + 1) ≡ None → length t.runs ≤ place
+not_there t place is =
+    let same : place + 1 - 1 ≡ place = omega arith in
+    let cases = slice_get_cases t.runs (place + 1 - 1) in
+    elim cases.1 [
+      | inl found ↦ absurd (let clash : Some (shown_of t (place + 1) found.0) ≡ None = sym (ap (seen_by t (place + 1)) found.2) ∙ is in cc)
+      | inr past ↦ omega (arith, past.0)
+    ]
+
+-- the table of a store that was just opened is its base
+pub opened_table : {D : Type 0} (s : Kept D) → s.history ≡ [] → s.base ≡ table_of s
+opened_table s begun = ap (λ (h : List Entry). table_after s.base h) (sym begun)
+
+-- all is shown, and the writer is flushed
+pub shows_after : {U : Type 0} (image out : List ℕ) (t : TableState) (r : Result U Refusal) → StandsFor t image → out ≡ shown t
+    → IfErr r (λ e. e ≡ stream_failed) → Shows image out r
+shows_after image out t (Ok u) stands all why = (t, stands, all)
+shows_after image out t (Err e) stands all why = inr (inl why, (t, stands, [], append-nil out ∙ all))
+
+-- writing failed
+pub shows_front : {U : Type 0} (image out rest : List ℕ) (t : TableState) (r : Result U Refusal) (e : Refusal) → IsErrAnd r (λ f. f ≡ e)
+    → (e ≡ stream_failed) ⊎ (e ≡ no_memory) → StandsFor t image → out ++ rest ≡ shown t → Shows image out r
+shows_front image out rest t (Ok u) e is why stands joined = absurd is
+shows_front image out rest t (Err f) e is why stands joined =
+    inr (subst (λ x. (x ≡ stream_failed) ⊎ (x ≡ no_memory)) (sym is) why, (t, stands, rest, joined))
