@@ -5,6 +5,7 @@ mod faults;
 mod layout;
 mod memory;
 mod openings;
+mod plays;
 mod rows;
 mod scripts;
 mod stops;
@@ -78,10 +79,14 @@ fn applied<D: Disk>(
     receipt.reply.text(alloc)
 }
 
+fn covered_text(alloc: Global, count: u64) -> Result<Chars, Refusal> {
+    Ok(Chars::new(format!(in alloc; "covered {count}")?))
+}
+
 /// Commits, and prints how many entries are covered.
 fn committed<D: Disk>(alloc: Global, store: &mut Store<D>) -> Result<Chars, Refusal> {
     let count = store.commit()?;
-    Ok(Chars::new(format!(in alloc; "covered {count}")?))
+    covered_text(alloc, count)
 }
 
 /// The printed answer, or the printed refusal.

@@ -31,7 +31,22 @@ fn is(found: Option<Holder>, expected: Option<Holder>) -> bool {
     }
 }
 
-/// A holder arrives in a group of `o/r`.
+/// A step, and what the book has to say of it.
+enum Step {
+    /// A holder arrives in a group of `o/r`, with cancel-in-progress or without; then who loses its place, and who is to be stopped.
+    Arrive(&'static str, Holder, bool, Option<Holder>, Option<Holder>),
+    /// The one that may start does.
+    Start(Holder),
+    Stop(Holder),
+    Leave(Holder),
+    /// Whether a holder may start.
+    MayStart(Holder, bool),
+    /// Whether a holder is in a group.
+    IsIn(&'static str, Holder, bool),
+    /// Who runs in a group, and who is pending.
+    See(&'static str, Option<Holder>, Option<Holder>),
+}
+
 fn arrive(
     rt: &impl Abort,
     alloc: Global,
@@ -42,6 +57,16 @@ fn arrive(
 ) -> Arrival {
     let key = group(rt, alloc, name);
     book.arrive(key, holder, cancels).expect(rt, "memory")
+}
+
+fn expect_arrival(
+    rt: &impl Abort,
+    arrival: Arrival,
+    displaced: Option<Holder>,
+    stopped: Option<Holder>,
+) {
+    holds!(rt; is(arrival.displaced, displaced));
+    holds!(rt; is(arrival.stopped, stopped));
 }
 
 fn expect_in(
@@ -57,7 +82,6 @@ fn expect_in(
     holds!(rt; is(book.pending(&key), pending));
 }
 
-/// The one that may start does.
 fn start(rt: &impl Abort, book: &mut Book, holder: Holder) {
     if book.may_start(holder) {
         book.start(holder);
@@ -66,75 +90,115 @@ fn start(rt: &impl Abort, book: &mut Book, holder: Holder) {
     }
 }
 
+fn take(rt: &impl Abort, alloc: Global, book: &mut Book, step: &Step) {
+    match *step {
+        Step::Arrive(name, holder, cancels, displaced, stopped) => {
+            let arrival = arrive(rt, alloc, book, name, holder, cancels);
+            expect_arrival(rt, arrival, displaced, stopped)
+        }
+        Step::Start(holder) => start(rt, book, holder),
+        Step::Stop(holder) => book.stop(holder),
+        Step::Leave(holder) => book.leave(holder),
+        Step::MayStart(holder, may) => holds!(rt; book.may_start(holder) == may),
+        Step::IsIn(name, holder, is_in) => {
+            let key = group(rt, alloc, name);
+            holds!(rt; book.holds(&key, holder) == is_in, name)
+        }
+        Step::See(name, running, pending) => expect_in(rt, alloc, book, name, running, pending),
+    }
+}
+
+fn play(rt: &impl Abort, alloc: Global, book: &mut Book, steps: &[Step]) {
+    for step in steps {
+        take(rt, alloc, book, step);
+    }
+}
+
+const NEWEST: [Step; 10] = [
+    Step::Arrive("deploy", FIRST, false, None, None),
+    Step::Start(FIRST),
+    Step::See("deploy", Some(FIRST), None),
+    Step::Arrive("deploy", SECOND, false, None, None),
+    Step::MayStart(SECOND, false),
+    Step::Arrive("deploy", THIRD, false, Some(SECOND), None),
+    Step::See("deploy", Some(FIRST), Some(THIRD)),
+    Step::Leave(FIRST),
+    Step::Start(THIRD),
+    Step::See("deploy", Some(THIRD), None),
+];
+
 #[test]
 fn newest_one_is_pending(rt: HostRuntime) {
-    let mut book = Book::new(rt.alloc());
-    let first = arrive(&rt, rt.alloc(), &mut book, "deploy", FIRST, false);
-    holds!(&rt; is(first.displaced, None) && is(first.stopped, None));
-    start(&rt, &mut book, FIRST);
-    expect_in(&rt, rt.alloc(), &book, "deploy", Some(FIRST), None);
-    let second = arrive(&rt, rt.alloc(), &mut book, "deploy", SECOND, false);
-    holds!(&rt; is(second.displaced, None) && is(second.stopped, None));
-    holds!(&rt; !book.may_start(SECOND));
-    let third = arrive(&rt, rt.alloc(), &mut book, "deploy", THIRD, false);
-    holds!(&rt; is(third.displaced, Some(SECOND)) && is(third.stopped, None));
-    expect_in(&rt, rt.alloc(), &book, "deploy", Some(FIRST), Some(THIRD));
-    book.leave(FIRST);
-    start(&rt, &mut book, THIRD);
-    expect_in(&rt, rt.alloc(), &book, "deploy", Some(THIRD), None);
+    play(&rt, rt.alloc(), &mut Book::new(rt.alloc()), &NEWEST);
 }
+
+const CANCELLING: [Step; 9] = [
+    Step::Arrive("Prod", FIRST, false, None, None),
+    Step::Start(FIRST),
+    Step::Arrive("prod", SECOND, true, None, Some(FIRST)),
+    Step::See("PROD", Some(FIRST), Some(SECOND)),
+    Step::MayStart(SECOND, false),
+    Step::Arrive("prod", THIRD, true, Some(SECOND), None),
+    Step::Leave(FIRST),
+    Step::Start(THIRD),
+    Step::See("prod", Some(THIRD), None),
+];
 
 #[test]
 fn cancel_in_progress_stops_the_running_one_once(rt: HostRuntime) {
-    let mut book = Book::new(rt.alloc());
-    let _ = arrive(&rt, rt.alloc(), &mut book, "Prod", FIRST, false);
-    start(&rt, &mut book, FIRST);
-    let second = arrive(&rt, rt.alloc(), &mut book, "prod", SECOND, true);
-    holds!(&rt; is(second.displaced, None) && is(second.stopped, Some(FIRST)));
-    expect_in(&rt, rt.alloc(), &book, "PROD", Some(FIRST), Some(SECOND));
-    holds!(&rt; !book.may_start(SECOND));
-    let third = arrive(&rt, rt.alloc(), &mut book, "prod", THIRD, true);
-    holds!(&rt; is(third.displaced, Some(SECOND)) && is(third.stopped, None));
-    book.leave(FIRST);
-    start(&rt, &mut book, THIRD);
-    expect_in(&rt, rt.alloc(), &book, "prod", Some(THIRD), None);
+    play(&rt, rt.alloc(), &mut Book::new(rt.alloc()), &CANCELLING);
 }
+
+const STOPPED: [Step; 5] = [
+    Step::Arrive("g", LEG, false, None, None),
+    Step::Start(LEG),
+    Step::Stop(LEG),
+    Step::See("g", Some(LEG), None),
+    Step::Arrive("g", NEXT_LEG, true, None, None),
+];
 
 #[test]
 fn a_stopped_one_is_not_stopped_again(rt: HostRuntime) {
-    let mut book = Book::new(rt.alloc());
-    let _ = arrive(&rt, rt.alloc(), &mut book, "g", LEG, false);
-    start(&rt, &mut book, LEG);
-    book.stop(LEG);
-    expect_in(&rt, rt.alloc(), &book, "g", Some(LEG), None);
-    let next = arrive(&rt, rt.alloc(), &mut book, "g", NEXT_LEG, true);
-    holds!(&rt; is(next.displaced, None) && is(next.stopped, None));
+    play(&rt, rt.alloc(), &mut Book::new(rt.alloc()), &STOPPED);
 }
+
+const TWO_GROUPS: [Step; 9] = [
+    Step::Arrive("a", LEG, false, None, None),
+    Step::Arrive("b", NEXT_LEG, true, None, None),
+    Step::IsIn("a", LEG, true),
+    Step::IsIn("a", NEXT_LEG, false),
+    Step::Start(NEXT_LEG),
+    Step::See("a", None, Some(LEG)),
+    Step::See("b", Some(NEXT_LEG), None),
+    Step::MayStart(LEG, true),
+    Step::MayStart(FIRST, true),
+];
 
 #[test]
 fn groups_are_apart(rt: HostRuntime) {
-    let mut book = Book::new(rt.alloc());
-    let _ = arrive(&rt, rt.alloc(), &mut book, "a", LEG, false);
-    let other = arrive(&rt, rt.alloc(), &mut book, "b", NEXT_LEG, true);
-    holds!(&rt; is(other.displaced, None) && is(other.stopped, None));
-    let key = group(&rt, rt.alloc(), "a");
-    holds!(&rt; book.holds(&key, LEG) && !book.holds(&key, NEXT_LEG));
-    start(&rt, &mut book, NEXT_LEG);
-    expect_in(&rt, rt.alloc(), &book, "a", None, Some(LEG));
-    expect_in(&rt, rt.alloc(), &book, "b", Some(NEXT_LEG), None);
-    holds!(&rt; book.may_start(LEG) && book.may_start(FIRST));
+    play(&rt, rt.alloc(), &mut Book::new(rt.alloc()), &TWO_GROUPS);
 }
+
+const RUNNING_AND_PENDING: [Step; 3] = [
+    Step::Arrive("a", FIRST, false, None, None),
+    Step::Start(FIRST),
+    Step::Arrive("a", SECOND, false, None, None),
+];
+
+const BOTH_LEAVE: [Step; 3] = [
+    Step::Leave(FIRST),
+    Step::Leave(SECOND),
+    Step::See("a", None, None),
+];
+
+const BOTH_ARE_THERE: [Step; 1] = [Step::See("a", Some(FIRST), Some(SECOND))];
 
 #[test]
 fn a_copy_has_the_same_holders(rt: HostRuntime) {
     let mut book = Book::new(rt.alloc());
     book.reserve(2).expect(&rt, "memory");
-    let _ = arrive(&rt, rt.alloc(), &mut book, "a", FIRST, false);
-    start(&rt, &mut book, FIRST);
-    let _ = arrive(&rt, rt.alloc(), &mut book, "a", SECOND, false);
-    let copy = book.copy(rt.alloc()).expect(&rt, "memory");
-    book.leave(FIRST);
-    book.leave(SECOND);
-    expect_in(&rt, rt.alloc(), &copy, "a", Some(FIRST), Some(SECOND));
-    expect_in(&rt, rt.alloc(), &book, "a", None, None);
+    play(&rt, rt.alloc(), &mut book, &RUNNING_AND_PENDING);
+    let mut copy = book.copy(rt.alloc()).expect(&rt, "memory");
+    play(&rt, rt.alloc(), &mut book, &BOTH_LEAVE);
+    play(&rt, rt.alloc(), &mut copy, &BOTH_ARE_THERE);
 }

@@ -1,6 +1,7 @@
 //! Which names mean one concurrency group: rows of CaseFolding.txt of the Unicode Character Database, 18.0,
 //! with status C or F.
 
+use crate::holds::holds;
 use crate::wf_expr_tests::binding::{Ended, FAILED, NONE, bound_of};
 use group_name::{BoundGroup, GroupKey};
 use std::alloc::Global;
@@ -37,7 +38,8 @@ fn group(rt: &impl Abort, alloc: Global, named: Named) -> GroupKey {
 
 fn expect_groups(rt: &impl Abort, alloc: Global, rows: &[(Named, Named)], one: bool) {
     for (name, other) in rows {
-        assert!(rt; group(rt, alloc, *name).same(&group(rt, alloc, *other)) == one);
+        let same = group(rt, alloc, *name).same(&group(rt, alloc, *other));
+        holds!(rt; same == one, name.1);
     }
 }
 
@@ -50,14 +52,14 @@ fn folds_names(rt: HostRuntime) {
 #[test]
 fn empty_name_is_no_group(rt: HostRuntime) {
     let made = GroupKey::of(rt.alloc(), "o/r", "").expect(&rt, "memory");
-    assert!(rt; made.is_none());
+    holds!(rt; made.is_none());
 }
 
 #[test]
 fn copies_a_group(rt: HostRuntime) {
     let made = group(&rt, rt.alloc(), ("o/r", "Prod"));
     let copy = made.copy(rt.alloc()).expect(&rt, "memory");
-    assert!(rt; copy.same(&made));
+    holds!(rt; copy.same(&made));
 }
 
 /// The group of a template in a repository, as it is bound.
@@ -98,7 +100,7 @@ fn compares_bound_groups(rt: HostRuntime) {
     for (named, other, ended, same) in &BOUND {
         let group = bound_group(rt.alloc(), *named).expect(&rt, named.1);
         let other = bound_group(rt.alloc(), *other).expect(&rt, named.1);
-        assert!(rt; group.same(ended, &other, &NONE) == *same, "{}", named.1);
+        holds!(rt; group.same(ended, &other, &NONE) == *same, named.1);
     }
 }
 
@@ -106,8 +108,8 @@ fn compares_bound_groups(rt: HostRuntime) {
 fn bound_name_has_a_group_where_it_has_a_text(rt: HostRuntime) {
     let name = "${{ needs.a.result }}";
     let group = bound_group(rt.alloc(), ("o/r", name)).expect(&rt, name);
-    assert!(rt; group.has_group(&FAILED));
-    assert!(rt; !group.has_group(&NONE));
+    holds!(rt; group.has_group(&FAILED));
+    holds!(rt; !group.has_group(&NONE));
 }
 
 #[test]
@@ -115,6 +117,6 @@ fn copies_a_bound_group(rt: HostRuntime) {
     let name = "D-${{ needs.a.result }}";
     let group = bound_group(rt.alloc(), ("o/r", name)).expect(&rt, name);
     let copy = group.copy(rt.alloc()).expect(&rt, name);
-    assert!(rt; copy.same(&FAILED, &group, &FAILED));
-    assert!(rt; !copy.same(&FAILED, &group, &NONE));
+    holds!(rt; copy.same(&FAILED, &group, &FAILED));
+    holds!(rt; !copy.same(&FAILED, &group, &NONE));
 }

@@ -5,6 +5,7 @@ mod reading_tables;
 mod tables;
 
 use crate::commands::{Words, command_of};
+use crate::holds::{expect_bytes, holds};
 use crate::run_plan_tests::{BODY, expect_twice};
 use run_plan::Command;
 use std::alloc::Global;
@@ -93,8 +94,8 @@ fn expect_command(
 ) -> Result<(), Refusal> {
     match read_command(alloc, bytes)? {
         Some((found, rest)) => {
-            assert!(rt; found.same(command));
-            assert!(rt; rest.len() == 1);
+            holds!(rt; found.same(command));
+            holds!(rt; rest.len() == 1);
         }
         None => panic!(rt; "no command"),
     }
@@ -105,7 +106,7 @@ fn reads_what_is_written(rt: &impl Abort, alloc: Global) -> Result<(), Refusal> 
     for (words, size) in &SIZES {
         let command = command_of(alloc, words)?;
         let mut bytes = spelled(alloc, &command)?;
-        assert!(rt; bytes.len() == *size);
+        holds!(rt; bytes.len() == *size);
         bytes.push(0)?;
         expect_command(rt, alloc, bytes.as_slice(), &command)?;
     }
@@ -124,7 +125,7 @@ fn what_is_written_has_its_length_and_is_read_again(rt: HostRuntime) {
 fn writes_commands(rt: &impl Abort, alloc: Global) -> Result<(), Refusal> {
     for (words, want) in &BYTES {
         let bytes = spelled(alloc, &command_of(alloc, words)?)?;
-        assert!(rt; bytes.as_slice() == *want);
+        expect_bytes(rt, bytes.as_slice(), want);
     }
     Ok(())
 }
@@ -146,8 +147,8 @@ fn expect_batch(
 ) -> Result<(), Refusal> {
     match read_batch(alloc, bytes)? {
         Some((found, rest)) => {
-            assert!(rt; same_items(found.as_slice(), commands));
-            assert!(rt; rest.is_empty());
+            holds!(rt; same_items(found.as_slice(), commands));
+            holds!(rt; rest.is_empty());
         }
         None => panic!(rt; "no batch"),
     }
@@ -156,10 +157,10 @@ fn expect_batch(
 
 fn writes_a_batch(rt: &impl Abort, alloc: Global) -> Result<(), Refusal> {
     let commands = three_commands(alloc)?;
-    assert!(rt; commands.len() == 3);
+    holds!(rt; commands.len() == 3);
     let mut batch = Vec::new(alloc);
     write_batch(alloc, &mut batch, commands.as_slice())?;
-    assert!(rt; batch.as_slice() == BATCH_OF_THREE);
+    expect_bytes(rt, batch.as_slice(), BATCH_OF_THREE);
     expect_batch(rt, alloc, batch.as_slice(), commands.as_slice())
 }
 
@@ -187,17 +188,36 @@ fn claim_of_labels(alloc: Global, count: u8) -> Result<Vec<u8>, Refusal> {
     Ok(bytes)
 }
 
-fn reads_no_second_spelling(rt: &impl Abort, alloc: Global) -> Result<(), Refusal> {
-    for bytes in NO_COMMANDS {
-        assert!(rt; read_command(alloc, bytes)?.is_none());
+/// What no batch is spelled as: a count of none, and a count of two with one command behind it.
+const NO_BATCHES: [&[u8]; 2] = [&[0, 0, 0, 0], &[0, 0, 0, 2, 7, 0, 0, 0, 1]];
+
+fn reads_no_commands(rt: &impl Abort, alloc: Global) -> Result<(), Refusal> {
+    for (place, &bytes) in NO_COMMANDS.iter().enumerate() {
+        holds!(rt; read_command(alloc, bytes)?.is_none(), place);
     }
-    let most = claim_of_labels(alloc, 16)?;
-    assert!(rt; read_command(alloc, most.as_slice())?.is_some());
-    let over = claim_of_labels(alloc, 17)?;
-    assert!(rt; read_command(alloc, over.as_slice())?.is_none());
-    assert!(rt; read_batch(alloc, &[0, 0, 0, 0])?.is_none());
-    assert!(rt; read_batch(alloc, &[0, 0, 0, 2, 7, 0, 0, 0, 1])?.is_none());
     Ok(())
+}
+
+fn reads_no_batches(rt: &impl Abort, alloc: Global) -> Result<(), Refusal> {
+    for &bytes in &NO_BATCHES {
+        holds!(rt; read_batch(alloc, bytes)?.is_none());
+    }
+    Ok(())
+}
+
+/// Sixteen labels are the most.
+fn bounds_labels(rt: &impl Abort, alloc: Global) -> Result<(), Refusal> {
+    for &(count, is_read) in &[(16, true), (17, false)] {
+        let bytes = claim_of_labels(alloc, count)?;
+        holds!(rt; read_command(alloc, bytes.as_slice())?.is_some() == is_read, count);
+    }
+    Ok(())
+}
+
+fn reads_no_second_spelling(rt: &impl Abort, alloc: Global) -> Result<(), Refusal> {
+    reads_no_commands(rt, alloc)?;
+    reads_no_batches(rt, alloc)?;
+    bounds_labels(rt, alloc)
 }
 
 #[test]

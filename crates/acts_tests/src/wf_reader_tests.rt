@@ -256,14 +256,17 @@ fn of_jobs(rt: &impl Abort, alloc: Global, count: usize, bad: bool) -> String {
     }
 }
 
+/// How many jobs there are, whether one has a bad id, and the number.
+const COUNTS: [(usize, bool, u64); 4] = [
+    (256, false, ACCEPTED),
+    (257, false, 23),
+    (256, true, 23),
+    (255, true, 12),
+];
+
 #[test]
 fn counts_jobs(rt: HostRuntime) {
-    for (count, bad, want) in [
-        (256, false, ACCEPTED),
-        (257, false, 23),
-        (256, true, 23),
-        (255, true, 12),
-    ] {
+    for &(count, bad, want) in &COUNTS {
         let body = of_jobs(&rt, rt.alloc(), count, bad);
         let answer = answer_to_workflow(rt.alloc(), body.as_bytes());
         holds!(rt; answer == want, format_args!("{count} {bad}"));
@@ -299,9 +302,12 @@ fn counts_bytes(rt: HostRuntime) {
     }
 }
 
+/// How many bytes an id has, and the number.
+const ID_LENGTHS: [(usize, u64); 3] = [(1, ACCEPTED), (100, ACCEPTED), (101, 12)];
+
 #[test]
 fn counts_bytes_of_an_id(rt: HostRuntime) {
-    for (length, want) in [(1, ACCEPTED), (100, ACCEPTED), (101, 12)] {
+    for &(length, want) in &ID_LENGTHS {
         let pieces = [
             ("{\"jobs\":{\"", 1),
             ("i", length),
@@ -316,10 +322,12 @@ fn counts_bytes_of_an_id(rt: HostRuntime) {
 const AFTER_LISTS: &str =
     ",\"repo\":\"r\",\"path\":\"p\",\"workflow\":{\"jobs\":{\"a\":{\"runs-on\":\"x\"}}}}";
 
-/// An ignored member nests this many lists.
+/// How many lists an ignored member nests, and the number.
+const DEPTHS: [(usize, u64); 2] = [(126, ACCEPTED), (127, 10)];
+
 #[test]
 fn counts_nesting(rt: HostRuntime) {
-    for (depth, want) in [(126, ACCEPTED), (127, 10)] {
+    for &(depth, want) in &DEPTHS {
         let pieces = [("{\"x\":", 1), ("[", depth), ("]", depth), (AFTER_LISTS, 1)];
         let body = long(&rt, rt.alloc(), &pieces);
         let answer = answer_to_event(rt.alloc(), body.as_bytes());

@@ -59,16 +59,18 @@ fn expect_printed(rt: &impl Abort, alloc: Global, refusal: &Refusal, number: u64
     expect_text(rt, shown.as_str(), printed);
 }
 
+const CODES: [(Code, u64, &str); 2] = [
+    (Code::NotJson, 10, "refused 10"),
+    (Code::InputTooLong, 76, "refused 76"),
+];
+
 #[test]
 fn refusals_print_what_they_carry(rt: HostRuntime) {
     let alloc = rt.alloc();
     let cycle = cycle(alloc, &["a", "b"]).expect(&rt, "a cycle");
     expect_printed(&rt, alloc, &cycle, 14, "refused 14 a b");
     expect_printed(&rt, alloc, &Refusal::Turn(0), 43, "refused 43 0");
-    for (code, number, printed) in [
-        (Code::NotJson, 10, "refused 10"),
-        (Code::InputTooLong, 76, "refused 76"),
-    ] {
+    for &(code, number, printed) in &CODES {
         expect_printed(&rt, alloc, &Refusal::Numbered(code), number, printed);
     }
 }

@@ -12,7 +12,7 @@ use std::process::Abort;
 use wf_value::Outcome;
 
 /// A run is made and leased. Nothing is pending at the first commit and at the last.
-const FIRST: [Row; 9] = [
+pub const FIRST: [Row; 9] = [
     (Ask::Commit, "covered 0", 0, 0),
     (Ask::Apply(Words::Look("1")), "refused 40", 1, 0),
     (Ask::Apply(Words::Admit("d1", BUILD)), "created 1", 2, 0),

@@ -44,7 +44,7 @@ fn expect_call(
     span: Span,
 ) {
     holds!(rt; call < disk.calls().len());
-    for fill in FILLS {
+    for &fill in &FILLS {
         let image = disk.image(alloc, call as u64, fill).expect(rt, "an image");
         expect_either(rt, alloc, image, tables, span);
     }
@@ -143,7 +143,7 @@ fn stops_of_the_making_leave_no_store_or_an_empty_one(rt: HostRuntime) {
     let disk = made(&rt, rt.alloc(), MemoryDisk::new(rt.alloc()), LEAST).into_disk();
     holds!(rt; disk.calls().len() == MAKES);
     for call in 0..MAKES {
-        for fill in FILLS {
+        for &fill in &FILLS {
             expect_none_or_empty(&rt, rt.alloc(), &disk, call, fill);
         }
     }

@@ -52,34 +52,36 @@ const SIX: &str =
     example_matrix 4 {\"fruit\":\"banana\"}\n\
     example_matrix 5 {\"animal\":\"cat\",\"fruit\":\"banana\"}\n";
 
+/// Workflows, and the lines of their legs.
+const LEGS: [(&str, &str); 7] = [
+    (EXCLUDE, NINE),
+    (INCLUDE, SIX),
+    (
+        "{\"jobs\":{\"j\":{\"runs-on\":\"x\",\"strategy\":{\"matrix\":{\"include\":[{\"a\":1},{\"a\":2}]}}}}}",
+        "j 0 {\"a\":1}\nj 1 {\"a\":2}\n",
+    ),
+    // Jobs stand in the order of the bytes of their ids, and one without a matrix has one leg.
+    (
+        "{\"jobs\":{\"b\":{\"runs-on\":\"x\"},\"a\":{\"runs-on\":\"x\",\"strategy\":{}},\"B\":{\"runs-on\":[\"x\"]}}}",
+        "B 0 {}\na 0 {}\nb 0 {}\n",
+    ),
+    (
+        "{\"jobs\":{\"a\":{\"runs-on\":\"x\",\"needs\":\"b\",\"if\":\"always()\"},\"b\":{\"runs-on\":\"x\"}}}",
+        "a 0 {}\nb 0 {}\n",
+    ),
+    (
+        "{\"jobs\":{\"j\":{\"runs-on\":\"x\",\"strategy\":{\"matrix\":{\"v\":[null,true,\"1\",-7]}}}}}",
+        "j 0 {\"v\":null}\nj 1 {\"v\":true}\nj 2 {\"v\":\"1\"}\nj 3 {\"v\":-7}\n",
+    ),
+    (
+        "{\"jobs\":{\"j\":{\"runs-on\":\"x\",\"strategy\":{\"matrix\":{\"v\":[\"é\\\"\\n\"]}}}}}",
+        "j 0 {\"v\":\"é\\\"\\n\"}\n",
+    ),
+];
+
 #[test]
 fn prints_the_legs(rt: HostRuntime) -> Result<(), Fail> {
-    let rows = [
-        (EXCLUDE, NINE),
-        (INCLUDE, SIX),
-        (
-            "{\"jobs\":{\"j\":{\"runs-on\":\"x\",\"strategy\":{\"matrix\":{\"include\":[{\"a\":1},{\"a\":2}]}}}}}",
-            "j 0 {\"a\":1}\nj 1 {\"a\":2}\n",
-        ),
-        // Jobs stand in the order of the bytes of their ids, and one without a matrix has one leg.
-        (
-            "{\"jobs\":{\"b\":{\"runs-on\":\"x\"},\"a\":{\"runs-on\":\"x\",\"strategy\":{}},\"B\":{\"runs-on\":[\"x\"]}}}",
-            "B 0 {}\na 0 {}\nb 0 {}\n",
-        ),
-        (
-            "{\"jobs\":{\"a\":{\"runs-on\":\"x\",\"needs\":\"b\",\"if\":\"always()\"},\"b\":{\"runs-on\":\"x\"}}}",
-            "a 0 {}\nb 0 {}\n",
-        ),
-        (
-            "{\"jobs\":{\"j\":{\"runs-on\":\"x\",\"strategy\":{\"matrix\":{\"v\":[null,true,\"1\",-7]}}}}}",
-            "j 0 {\"v\":null}\nj 1 {\"v\":true}\nj 2 {\"v\":\"1\"}\nj 3 {\"v\":-7}\n",
-        ),
-        (
-            "{\"jobs\":{\"j\":{\"runs-on\":\"x\",\"strategy\":{\"matrix\":{\"v\":[\"é\\\"\\n\"]}}}}}",
-            "j 0 {\"v\":\"é\\\"\\n\"}\n",
-        ),
-    ];
-    for (workflow, lines) in rows {
+    for &(workflow, lines) in &LEGS {
         let printed = checked(rt.alloc(), workflow.as_bytes())?;
         holds!(rt; printed.as_slice() == lines.as_bytes(), workflow);
     }
@@ -142,51 +144,53 @@ fn expect_refused(rt: &impl Abort, alloc: Global, workflow: &str, number: u64) {
     holds!(rt; printed.is_empty(), workflow);
 }
 
+/// Workflows, and the numbers of their first faults.
+const FAULTS: [(&str, u64); 16] = [
+    ("[", 10),
+    ("{}", 11),
+    ("{\"jobs\":{\"1a\":{\"runs-on\":\"x\"}}}", 12),
+    ("{\"jobs\":{\"a\":{\"runs-on\":\"x\",\"needs\":\"b\"}}}", 13),
+    (
+        "{\"jobs\":{\"a\":{\"runs-on\":\"x\",\"needs\":\"b\"},\"b\":{\"runs-on\":\"x\",\"needs\":\"a\"}}}",
+        14,
+    ),
+    ("{\"jobs\":{\"a\":{}}}", 15),
+    ("{\"jobs\":{\"a\":{\"uses\":\"./x.yml\"}}}", 16),
+    ("{\"jobs\":{\"a\":{\"runs-on\":\"${{ secrets.x }}\"}}}", 17),
+    (
+        "{\"jobs\":{\"a\":{\"runs-on\":\"x\",\"strategy\":{\"matrix\":{\"n\":[1.5]}}}}}",
+        19,
+    ),
+    (
+        "{\"jobs\":{\"a\":{\"runs-on\":\"x\",\"strategy\":{\"matrix\":{\"n\":[]}}}}}",
+        20,
+    ),
+    (
+        "{\"concurrency\":\"${{ matrix.os }}\",\"jobs\":{\"a\":{\"runs-on\":\"x\"}}}",
+        18,
+    ),
+    (TOO_MANY_CHOICES, 21),
+    (
+        "{\"jobs\":{\"a\":{\"runs-on\":\"x\",\"strategy\":{\"matrix\":{}}}}}",
+        22,
+    ),
+    (
+        "{\"jobs\":{\"a\":{\"runs-on\":\"x\",\"if\":\"github.ref == 'x'\"}}}",
+        26,
+    ),
+    (
+        "{\"jobs\":{\"a\":{\"runs-on\":\"x\",\"strategy\":{\"max-parallel\":0}}}}",
+        25,
+    ),
+    (
+        "{\"jobs\":{\"a\":{\"runs-on\":\"x\",\"strategy\":{\"max-parallel\":257}}}}",
+        25,
+    ),
+];
+
 #[test]
 fn refuses_with_the_first_fault(rt: HostRuntime) {
-    let rows = [
-        ("[", 10),
-        ("{}", 11),
-        ("{\"jobs\":{\"1a\":{\"runs-on\":\"x\"}}}", 12),
-        ("{\"jobs\":{\"a\":{\"runs-on\":\"x\",\"needs\":\"b\"}}}", 13),
-        (
-            "{\"jobs\":{\"a\":{\"runs-on\":\"x\",\"needs\":\"b\"},\"b\":{\"runs-on\":\"x\",\"needs\":\"a\"}}}",
-            14,
-        ),
-        ("{\"jobs\":{\"a\":{}}}", 15),
-        ("{\"jobs\":{\"a\":{\"uses\":\"./x.yml\"}}}", 16),
-        ("{\"jobs\":{\"a\":{\"runs-on\":\"${{ secrets.x }}\"}}}", 17),
-        (
-            "{\"jobs\":{\"a\":{\"runs-on\":\"x\",\"strategy\":{\"matrix\":{\"n\":[1.5]}}}}}",
-            19,
-        ),
-        (
-            "{\"jobs\":{\"a\":{\"runs-on\":\"x\",\"strategy\":{\"matrix\":{\"n\":[]}}}}}",
-            20,
-        ),
-        (
-            "{\"concurrency\":\"${{ matrix.os }}\",\"jobs\":{\"a\":{\"runs-on\":\"x\"}}}",
-            18,
-        ),
-        (TOO_MANY_CHOICES, 21),
-        (
-            "{\"jobs\":{\"a\":{\"runs-on\":\"x\",\"strategy\":{\"matrix\":{}}}}}",
-            22,
-        ),
-        (
-            "{\"jobs\":{\"a\":{\"runs-on\":\"x\",\"if\":\"github.ref == 'x'\"}}}",
-            26,
-        ),
-        (
-            "{\"jobs\":{\"a\":{\"runs-on\":\"x\",\"strategy\":{\"max-parallel\":0}}}}",
-            25,
-        ),
-        (
-            "{\"jobs\":{\"a\":{\"runs-on\":\"x\",\"strategy\":{\"max-parallel\":257}}}}",
-            25,
-        ),
-    ];
-    for (workflow, number) in rows {
+    for &(workflow, number) in &FAULTS {
         expect_refused(&rt, rt.alloc(), workflow, number);
     }
 }
@@ -273,15 +277,17 @@ fn workflow_of_length(alloc: Global, length: usize) -> Result<Vec<u8>, Refusal> 
     Ok(workflow)
 }
 
+/// Lengths, and the numbers with which workflows of these are refused.
+const LENGTHS: [(usize, u64); 4] = [
+    (65_536, 0),
+    (65_537, 24),
+    (MOST_BYTES, 24),
+    (MOST_BYTES + 9, 76),
+];
+
 #[test]
 fn bounds_a_workflow(rt: HostRuntime) -> Result<(), Fail> {
-    let rows = [
-        (65_536, 0),
-        (65_537, 24),
-        (MOST_BYTES, 24),
-        (MOST_BYTES + 9, 76),
-    ];
-    for (length, number) in rows {
+    for &(length, number) in &LENGTHS {
         let workflow = workflow_of_length(rt.alloc(), length)?;
         let mut reader = workflow.as_slice();
         let mut printed = Vec::new(rt.alloc());

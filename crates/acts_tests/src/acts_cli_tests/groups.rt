@@ -1,26 +1,56 @@
 //! Concurrency groups. GitHub Docs, "Control the concurrency of workflows and jobs".
 
-use crate::acts_cli_tests::scripts::{Row, Script, expect_rows};
+use crate::acts_cli_tests::scripts::Line::{Push, Words};
+use crate::acts_cli_tests::scripts::{LineRow, Script, expect_scripts};
 use std::alloc::Global;
-use std::process::Abort;
 use std::test::Fail;
+use wf_value::Refusal;
 
 const DEPLOY: &str = r#"{"concurrency":"deploy","jobs":{"go":{"runs-on":"linux"}}}"#;
 
 /// Run 1 is in progress, run 2 is pending, and run 3 comes: it takes the place of run 2, and waits for run 1.
-fn newcomer_displaces_the_pending_run(rt: &impl Abort, alloc: Global) -> Result<(), Fail> {
-    let mut script = Script::admitting(alloc, DEPLOY)?;
-    script.add("claim r1 1 linux", "lease 1 1 go 0 {}")?;
-    script.admit("b", DEPLOY, "created 2")?;
-    script.add("look 2", "run 2 2 pending - go:blocked")?;
-    script.admit("c", DEPLOY, "created 3")?;
-    script.add("look 2", "run 2 2 completed cancelled go:cancelled()")?;
-    script.add("look 3", "run 3 3 pending - go:blocked")?;
-    script.add("done r1 2 1 success", "ok")?;
-    script.add("look 3", "run 3 3 queued - go:open(ready)")?;
-    script.expect(rt, alloc)?;
-    Ok(())
-}
+const NEWCOMER_DISPLACES_THE_PENDING_RUN: &[LineRow] = &[
+    (Push("a", DEPLOY), "created 1"),
+    (Words("claim r1 1 linux"), "lease 1 1 go 0 {}"),
+    (Push("b", DEPLOY), "created 2"),
+    (Words("look 2"), "run 2 2 pending - go:blocked"),
+    (Push("c", DEPLOY), "created 3"),
+    (
+        Words("look 2"),
+        "run 2 2 completed cancelled go:cancelled()",
+    ),
+    (Words("look 3"), "run 3 3 pending - go:blocked"),
+    (Words("done r1 2 1 success"), "ok"),
+    (Words("look 3"), "run 3 3 queued - go:open(ready)"),
+];
+
+const TEST: &str = r#"{"concurrency":"test","jobs":{"go":{"runs-on":"linux"}}}"#;
+
+/// Run 3 is displaced in its group, while run 2 of another group of the repository is in progress, and goes on.
+const ANOTHER_GROUP_GOES_ON: &[LineRow] = &[
+    (Push("a", DEPLOY), "created 1"),
+    (Words("claim r1 1 linux"), "lease 1 1 go 0 {}"),
+    (Push("t", TEST), "created 2"),
+    (Words("claim r2 1 linux"), "lease 2 2 go 0 {}"),
+    (Push("b", DEPLOY), "created 3"),
+    (Words("look 3"), "run 3 3 pending - go:blocked"),
+    (Push("c", DEPLOY), "created 4"),
+    (
+        Words("look 3"),
+        "run 3 3 completed cancelled go:cancelled()",
+    ),
+    (Words("look 2"), "run 2 2 in_progress - go:open(running)"),
+    (Words("beat r2 2"), "go on"),
+    (Words("look 1"), "run 1 1 in_progress - go:open(running)"),
+    (Words("done r2 2 2 success"), "ok"),
+    (
+        Words("look 2"),
+        "run 2 2 completed success go:success(success)",
+    ),
+    (Words("look 4"), "run 4 4 pending - go:blocked"),
+    (Words("done r1 2 1 success"), "ok"),
+    (Words("look 4"), "run 4 4 queued - go:open(ready)"),
+];
 
 const PROD: &str = r#"{"concurrency":"Prod","jobs":{"go":{"runs-on":"linux"}}}"#;
 
@@ -28,35 +58,83 @@ const PROD_CANCELS: &str =
     r#"{"concurrency":{"group":"prod","cancel-in-progress":true},"jobs":{"go":{"runs-on":"linux"}}}"#;
 
 /// The run in progress is told to stop, and holds the group until it has ended. Names count without their case.
-fn newcomer_stops_the_run_in_progress(rt: &impl Abort, alloc: Global) -> Result<(), Fail> {
-    let mut script = Script::admitting(alloc, PROD)?;
-    script.add("claim r1 1 linux", "lease 1 1 go 0 {}")?;
-    script.admit("b", PROD_CANCELS, "created 2")?;
-    script.add("beat r1 1", "stop")?;
-    script.add("look 1", "run 1 1 in_progress - go:open(stopping)")?;
-    script.add("look 2", "run 2 2 pending - go:blocked")?;
-    script.add("done r1 2 1 cancelled", "ok")?;
-    script.add(
-        "look 1",
+const NEWCOMER_STOPS_THE_RUN_IN_PROGRESS: &[LineRow] = &[
+    (Push("a", PROD), "created 1"),
+    (Words("claim r1 1 linux"), "lease 1 1 go 0 {}"),
+    (Push("b", PROD_CANCELS), "created 2"),
+    (Words("beat r1 1"), "stop"),
+    (Words("look 1"), "run 1 1 in_progress - go:open(stopping)"),
+    (Words("look 2"), "run 2 2 pending - go:blocked"),
+    (Words("done r1 2 1 cancelled"), "ok"),
+    (
+        Words("look 1"),
         "run 1 1 completed cancelled go:cancelled(cancelled)",
-    )?;
-    script.add("look 2", "run 2 2 queued - go:open(ready)")?;
-    script.expect(rt, alloc)?;
-    Ok(())
-}
+    ),
+    (Words("look 2"), "run 2 2 queued - go:open(ready)"),
+];
 
 /// One that no runner has yet ends at once.
-fn newcomer_stops_a_ready_run(rt: &impl Abort, alloc: Global) -> Result<(), Fail> {
-    let mut script = Script::admitting(alloc, PROD)?;
-    script.admit("b", PROD_CANCELS, "created 2")?;
-    script.add(
-        "look 1",
+const NEWCOMER_STOPS_A_READY_RUN: &[LineRow] = &[
+    (Push("a", PROD), "created 1"),
+    (Push("b", PROD_CANCELS), "created 2"),
+    (
+        Words("look 1"),
         "run 1 1 completed cancelled go:cancelled(cancelled)",
-    )?;
-    script.add("look 2", "run 2 2 queued - go:open(ready)")?;
-    script.expect(rt, alloc)?;
-    Ok(())
-}
+    ),
+    (Words("look 2"), "run 2 2 queued - go:open(ready)"),
+];
+
+/// A lost runner ends the leg that was told to stop, and with it the run that held the group.
+const RUNNER_OF_A_STOPPING_RUN_IS_LOST: &[LineRow] = &[
+    (Push("a", PROD), "created 1"),
+    (Words("claim r1 1 linux"), "lease 1 1 go 0 {}"),
+    (Push("b", PROD_CANCELS), "created 2"),
+    (Words("lost r1"), "ok"),
+    (
+        Words("look 1"),
+        "run 1 1 completed cancelled go:cancelled(cancelled)",
+    ),
+    (Words("look 2"), "run 2 2 queued - go:open(ready)"),
+];
+
+const PROD_WITH_ALWAYS: &str = concat!(
+    r#"{"concurrency":"Prod","jobs":{"a":{"runs-on":"linux","if":"always()"},"#,
+    r#""go":{"runs-on":"linux"}}}"#,
+);
+
+const STOPPED_TWICE: &str = "run 1 1 in_progress - a:open(running) go:open(stopping)";
+
+/// Job `a` goes on in the run that was told to stop, which holds the group until `a` has ended too. A second newcomer and a cancel
+/// tell the run to stop again, and that changes nothing.
+const SECOND_STOP_CHANGES_NOTHING: &[LineRow] = &[
+    (Push("a", PROD_WITH_ALWAYS), "created 1"),
+    (Words("claim r1 1 linux"), "lease 1 1 a 0 {}"),
+    (Words("claim r2 1 linux"), "lease 2 1 go 0 {}"),
+    (Push("b", PROD_CANCELS), "created 2"),
+    (Words("beat r1 1"), "go on"),
+    (Words("beat r2 2"), "stop"),
+    (Words("look 1"), STOPPED_TWICE),
+    (Push("c", PROD_CANCELS), "created 3"),
+    (Words("look 1"), STOPPED_TWICE),
+    (
+        Words("look 2"),
+        "run 2 2 completed cancelled go:cancelled()",
+    ),
+    (Words("cancel 1"), "ok"),
+    (Words("look 1"), STOPPED_TWICE),
+    (Words("done r2 2 2 cancelled"), "ok"),
+    (
+        Words("look 1"),
+        "run 1 1 in_progress - a:open(running) go:cancelled(cancelled)",
+    ),
+    (Words("look 3"), "run 3 3 pending - go:blocked"),
+    (Words("done r1 2 1 success"), "ok"),
+    (
+        Words("look 1"),
+        "run 1 1 completed cancelled a:success(success) go:cancelled(cancelled)",
+    ),
+    (Words("look 3"), "run 3 3 queued - go:open(ready)"),
+];
 
 const JOB_DEPLOYS: &str = r#"{"jobs":{"go":{"runs-on":"linux","concurrency":"deploy"}}}"#;
 
@@ -64,54 +142,74 @@ const JOB_CANCELS: &str =
     r#"{"jobs":{"go":{"runs-on":"linux","concurrency":{"group":"deploy","cancel-in-progress":true}}}}"#;
 
 /// The same of jobs: the group is a leg's, and its run goes on beside.
-fn groups_of_jobs(rt: &impl Abort, alloc: Global) -> Result<(), Fail> {
-    let mut script = Script::admitting(alloc, JOB_DEPLOYS)?;
-    script.add("claim r1 1 linux", "lease 1 1 go 0 {}")?;
-    script.admit("b", JOB_DEPLOYS, "created 2")?;
-    script.add("look 2", "run 2 2 queued - go:open(waiting)")?;
-    script.admit("c", JOB_CANCELS, "created 3")?;
-    script.add(
-        "look 2",
+const GROUPS_OF_JOBS: &[LineRow] = &[
+    (Push("a", JOB_DEPLOYS), "created 1"),
+    (Words("claim r1 1 linux"), "lease 1 1 go 0 {}"),
+    (Push("b", JOB_DEPLOYS), "created 2"),
+    (Words("look 2"), "run 2 2 queued - go:open(waiting)"),
+    (Push("c", JOB_CANCELS), "created 3"),
+    (
+        Words("look 2"),
         "run 2 2 completed cancelled go:cancelled(cancelled)",
-    )?;
-    script.add("look 1", "run 1 1 in_progress - go:open(stopping)")?;
-    script.add("claim r2 1 linux", "nothing")?;
-    script.add("done r1 2 1 success", "ok")?;
-    script.add("look 1", "run 1 1 completed success go:success(success)")?;
-    script.add("claim r2 2 linux", "lease 2 3 go 0 {}")?;
-    script.expect(rt, alloc)?;
-    Ok(())
-}
+    ),
+    (Words("look 1"), "run 1 1 in_progress - go:open(stopping)"),
+    (Words("claim r2 1 linux"), "nothing"),
+    (Words("done r1 2 1 success"), "ok"),
+    (
+        Words("look 1"),
+        "run 1 1 completed success go:success(success)",
+    ),
+    (Words("claim r2 2 linux"), "lease 2 3 go 0 {}"),
+];
 
 /// A run and a leg of another run share a group by its name.
-fn a_run_and_a_leg_share_a_group(rt: &impl Abort, alloc: Global) -> Result<(), Fail> {
-    let mut script = Script::admitting(alloc, DEPLOY)?;
-    script.admit("b", JOB_DEPLOYS, "created 2")?;
-    script.add("look 2", "run 2 2 queued - go:open(waiting)")?;
-    script.add("claim r1 1 linux", "lease 1 1 go 0 {}")?;
-    script.add("lost r1", "ok")?;
-    script.add("look 1", "run 1 1 completed failure go:failure(failure)")?;
-    script.add("look 2", "run 2 2 queued - go:open(ready)")?;
-    script.expect(rt, alloc)?;
-    Ok(())
-}
+const A_RUN_AND_A_LEG_SHARE_A_GROUP: &[LineRow] = &[
+    (Push("a", DEPLOY), "created 1"),
+    (Push("b", JOB_DEPLOYS), "created 2"),
+    (Words("look 2"), "run 2 2 queued - go:open(waiting)"),
+    (Words("claim r1 1 linux"), "lease 1 1 go 0 {}"),
+    (Words("lost r1"), "ok"),
+    (
+        Words("look 1"),
+        "run 1 1 completed failure go:failure(failure)",
+    ),
+    (Words("look 2"), "run 2 2 queued - go:open(ready)"),
+];
 
 /// A pending run that is cancelled ends, and the group is free for the next once it is.
-fn pending_run_is_cancelled(rt: &impl Abort, alloc: Global) -> Result<(), Fail> {
-    let mut script = Script::admitting(alloc, DEPLOY)?;
-    script.admit("b", DEPLOY, "created 2")?;
-    script.add("cancel 2", "ok")?;
-    script.add("look 2", "run 2 2 completed cancelled go:cancelled()")?;
-    script.add("cancel 2", "refused 41")?;
-    script.add("cancel 1", "ok")?;
-    script.add(
-        "look 1",
+const PENDING_RUN_IS_CANCELLED: &[LineRow] = &[
+    (Push("a", DEPLOY), "created 1"),
+    (Push("b", DEPLOY), "created 2"),
+    (Words("cancel 2"), "ok"),
+    (
+        Words("look 2"),
+        "run 2 2 completed cancelled go:cancelled()",
+    ),
+    (Words("cancel 2"), "refused 41"),
+    (Words("cancel 1"), "ok"),
+    (
+        Words("look 1"),
         "run 1 1 completed cancelled go:cancelled(cancelled)",
-    )?;
-    script.admit("c", DEPLOY, "created 3")?;
-    script.add("look 3", "run 3 3 queued - go:open(ready)")?;
-    script.expect(rt, alloc)?;
-    Ok(())
+    ),
+    (Push("c", DEPLOY), "created 3"),
+    (Words("look 3"), "run 3 3 queued - go:open(ready)"),
+];
+
+const RUNS_AND_JOBS: [&[LineRow]; 9] = [
+    NEWCOMER_DISPLACES_THE_PENDING_RUN,
+    ANOTHER_GROUP_GOES_ON,
+    NEWCOMER_STOPS_THE_RUN_IN_PROGRESS,
+    NEWCOMER_STOPS_A_READY_RUN,
+    RUNNER_OF_A_STOPPING_RUN_IS_LOST,
+    SECOND_STOP_CHANGES_NOTHING,
+    GROUPS_OF_JOBS,
+    A_RUN_AND_A_LEG_SHARE_A_GROUP,
+    PENDING_RUN_IS_CANCELLED,
+];
+
+#[test]
+fn groups_of_runs_and_jobs(rt: HostRuntime) -> Result<(), Fail> {
+    expect_scripts(&rt, rt.alloc(), &RUNS_AND_JOBS)
 }
 
 const STRASSE: &str = r#"{"concurrency":"Straße","jobs":{"go":{"runs-on":"linux"}}}"#;
@@ -121,123 +219,207 @@ const STRASSE_IN_CAPITALS: &str = r#"{"concurrency":"STRASSE","jobs":{"go":{"run
 const NO_NAME: &str =
     r#"{"concurrency":"${{ github.head_ref }}","jobs":{"go":{"runs-on":"linux"}}}"#;
 
+const NO_NAME_OF_JOBS: &str =
+    r#"{"jobs":{"go":{"runs-on":"linux","concurrency":"${{ inputs.env }}"}}}"#;
+
 /// Names without their case, and the empty name, which is none.
-fn names_of_groups(rt: &impl Abort, alloc: Global) -> Result<(), Fail> {
-    let mut script = Script::admitting(alloc, STRASSE)?;
-    script.admit("b", STRASSE_IN_CAPITALS, "created 2")?;
-    script.add("look 2", "run 2 2 pending - go:blocked")?;
-    script.admit("c", NO_NAME, "created 3")?;
-    script.admit("d", NO_NAME, "created 4")?;
-    script.add("look 3", "run 3 3 queued - go:open(ready)")?;
-    script.add("look 4", "run 4 4 queued - go:open(ready)")?;
-    script.expect(rt, alloc)?;
-    Ok(())
-}
+const NAMES_OF_GROUPS: &[LineRow] = &[
+    (Push("a", STRASSE), "created 1"),
+    (Push("b", STRASSE_IN_CAPITALS), "created 2"),
+    (Words("look 2"), "run 2 2 pending - go:blocked"),
+    (Push("c", NO_NAME), "created 3"),
+    (Push("d", NO_NAME), "created 4"),
+    (Words("look 3"), "run 3 3 queued - go:open(ready)"),
+    (Words("look 4"), "run 4 4 queued - go:open(ready)"),
+    (Push("e", NO_NAME_OF_JOBS), "created 5"),
+    (Push("f", NO_NAME_OF_JOBS), "created 6"),
+    (Words("look 5"), "run 5 5 queued - go:open(ready)"),
+    (Words("look 6"), "run 6 6 queued - go:open(ready)"),
+];
 
 const ENVIRONMENT: &str =
     r#"{"concurrency":"${{ inputs.env || 'dev' }}","jobs":{"go":{"runs-on":"linux"}}}"#;
 
-/// A group by an input, and a group of the same name in another repository.
-const ELSEWHERE: [Row; 6] = [
-    (
-        r#"admit b push {"repo":"o/r","path":"ci.json","inputs":{"env":"dev"},"workflow":{"concurrency":"${{ inputs.env || 'dev' }}","jobs":{"go":{"runs-on":"linux"}}}}"#,
-        "created 2",
-    ),
-    ("look 2", "run 2 2 pending - go:blocked"),
-    (
-        r#"admit c push {"repo":"o/r","path":"ci.json","inputs":{"env":"prod"},"workflow":{"concurrency":"${{ inputs.env || 'dev' }}","jobs":{"go":{"runs-on":"linux"}}}}"#,
-        "created 3",
-    ),
-    ("look 3", "run 3 3 queued - go:open(ready)"),
-    (
-        r#"admit d push {"repo":"o/s","path":"ci.json","workflow":{"concurrency":{"group":"dev","cancel-in-progress":true},"jobs":{"go":{"runs-on":"linux"}}}}"#,
-        "created 4",
-    ),
-    ("look 1", "run 1 1 queued - go:open(ready)"),
+const TO_DEV: &str = concat!(
+    r#"admit b push {"repo":"o/r","path":"ci.json","inputs":{"env":"dev"},"workflow":"#,
+    r#"{"concurrency":"${{ inputs.env || 'dev' }}","jobs":{"go":{"runs-on":"linux"}}}}"#,
+);
+
+const TO_PROD: &str = concat!(
+    r#"admit c push {"repo":"o/r","path":"ci.json","inputs":{"env":"prod"},"workflow":"#,
+    r#"{"concurrency":"${{ inputs.env || 'dev' }}","jobs":{"go":{"runs-on":"linux"}}}}"#,
+);
+
+/// A group by an input, which is `dev` where there is none.
+const GROUP_BY_AN_INPUT: &[LineRow] = &[
+    (Push("a", ENVIRONMENT), "created 1"),
+    (Words(TO_DEV), "created 2"),
+    (Words("look 2"), "run 2 2 pending - go:blocked"),
+    (Words(TO_PROD), "created 3"),
+    (Words("look 3"), "run 3 3 queued - go:open(ready)"),
+];
+
+const CANCELS_ELSEWHERE: &str = concat!(
+    r#"admit c push {"repo":"o/s","path":"ci.json","workflow":"#,
+    r#"{"concurrency":{"group":"deploy","cancel-in-progress":true},"jobs":{"go":{"runs-on":"linux"}}}}"#,
+);
+
+const DEPLOY_ELSEWHERE: &str = concat!(
+    r#"admit d push {"repo":"o/s","path":"ci.json","workflow":"#,
+    r#"{"concurrency":"deploy","jobs":{"go":{"runs-on":"linux"}}}}"#,
+);
+
+/// Groups of one name in two repositories: neither stops or displaces what is in the other.
+const GROUPS_OF_TWO_REPOSITORIES: &[LineRow] = &[
+    (Push("a", DEPLOY), "created 1"),
+    (Push("b", DEPLOY), "created 2"),
+    (Words(CANCELS_ELSEWHERE), "created 3"),
+    (Words("look 1"), "run 1 1 queued - go:open(ready)"),
+    (Words("look 2"), "run 2 2 pending - go:blocked"),
+    (Words("look 3"), "run 3 1 queued - go:open(ready)"),
+    (Words(DEPLOY_ELSEWHERE), "created 4"),
+    (Words("look 4"), "run 4 2 pending - go:blocked"),
+    (Words("look 2"), "run 2 2 pending - go:blocked"),
 ];
 
 const LEGS: &str =
     r#"{"jobs":{"m":{"runs-on":"linux","concurrency":"g","strategy":{"matrix":{"n":[1,2,3]}}}}}"#;
 
 /// The legs of a job come one after another: the third displaces the second.
-const LEGS_OF_A_JOB: [Row; 1] = [("look 1", "run 1 1 queued - m:open(ready,cancelled,waiting)")];
+const LEGS_OF_A_JOB: &[LineRow] = &[
+    (Push("a", LEGS), "created 1"),
+    (
+        Words("look 1"),
+        "run 1 1 queued - m:open(ready,cancelled,waiting)",
+    ),
+];
 
 const OWN: &str = r#"{"concurrency":"x","jobs":{"j":{"runs-on":"linux","concurrency":"X"}}}"#;
 
 /// A leg in the group that its own run holds could never start.
-const OWN_GROUP: [Row; 1] = [(
-    "look 1",
-    "run 1 1 completed cancelled j:cancelled(cancelled)",
-)];
+const OWN_GROUP: &[LineRow] = &[
+    (Push("a", OWN), "created 1"),
+    (
+        Words("look 1"),
+        "run 1 1 completed cancelled j:cancelled(cancelled)",
+    ),
+];
 
-const BY_RESULT: &str =
-    r#"{"jobs":{"a":{"runs-on":"linux"},"b":{"runs-on":"linux","needs":"a","if":"always()","concurrency":"after-${{ needs.a.result }}"}}}"#;
+const BY_RESULT: &str = concat!(
+    r#"{"jobs":{"a":{"runs-on":"linux"},"b":{"runs-on":"linux","needs":"a","if":"always()","#,
+    r#""concurrency":"after-${{ needs.a.result }}"}}}"#,
+);
 
 /// A group by the result of a job that the leg's job needs.
-fn group_by_a_result(rt: &impl Abort, alloc: Global) -> Result<(), Fail> {
-    let mut script = Script::admitting(alloc, BY_RESULT)?;
-    script.admit("b", BY_RESULT, "created 2")?;
-    script.admit("c", BY_RESULT, "created 3")?;
-    script.add("claim r1 1 linux", "lease 1 1 a 0 {}")?;
-    script.add("claim r2 1 linux", "lease 2 2 a 0 {}")?;
-    script.add("claim r3 1 linux", "lease 3 3 a 0 {}")?;
-    script.add("done r1 2 1 success", "ok")?;
-    script.add("done r2 2 2 failure", "ok")?;
-    script.add("done r3 2 3 failure", "ok")?;
-    script.add(
-        "look 1",
+const GROUP_BY_A_RESULT: &[LineRow] = &[
+    (Push("a", BY_RESULT), "created 1"),
+    (Push("b", BY_RESULT), "created 2"),
+    (Push("c", BY_RESULT), "created 3"),
+    (Words("claim r1 1 linux"), "lease 1 1 a 0 {}"),
+    (Words("claim r2 1 linux"), "lease 2 2 a 0 {}"),
+    (Words("claim r3 1 linux"), "lease 3 3 a 0 {}"),
+    (Words("done r1 2 1 success"), "ok"),
+    (Words("done r2 2 2 failure"), "ok"),
+    (Words("done r3 2 3 failure"), "ok"),
+    (
+        Words("look 1"),
         "run 1 1 in_progress - a:success(success) b:open(ready)",
-    )?;
-    script.add(
-        "look 2",
+    ),
+    (
+        Words("look 2"),
         "run 2 2 in_progress - a:failure(failure) b:open(ready)",
-    )?;
-    script.add(
-        "look 3",
+    ),
+    (
+        Words("look 3"),
         "run 3 3 in_progress - a:failure(failure) b:open(waiting)",
-    )?;
-    script.expect(rt, alloc)?;
-    Ok(())
-}
+    ),
+];
 
-const STOPS_ITS_STOPPER: &str =
-    r#"{"jobs":{"a":{"runs-on":"linux","concurrency":"g"},"b":{"runs-on":"linux","needs":"a","if":"always()","concurrency":{"group":"h","cancel-in-progress":true}}}}"#;
+const STOPS_ITS_STOPPER: &str = concat!(
+    r#"{"jobs":{"a":{"runs-on":"linux","concurrency":"g"},"b":{"runs-on":"linux","needs":"a","if":"always()","#,
+    r#""concurrency":{"group":"h","cancel-in-progress":true}}}}"#,
+);
 
-const STOPPED_WHILE_IT_OPENS: &str =
-    r#"{"concurrency":"h","jobs":{"m":{"runs-on":"linux","concurrency":{"group":"g","cancel-in-progress":true},"strategy":{"matrix":{"n":[1,2]}}}}}"#;
+const STOPPED_WHILE_IT_OPENS: &str = concat!(
+    r#"{"concurrency":"h","jobs":{"m":{"runs-on":"linux","#,
+    r#""concurrency":{"group":"g","cancel-in-progress":true},"strategy":{"matrix":{"n":[1,2]}}}}}"#,
+);
 
 /// Leg 0 of run 2 stops the leg of run 1, whose job `b` then comes and stops run 2, with its leg 1, which has not arrived yet.
-fn a_stop_in_the_midst_of_settling(rt: &impl Abort, alloc: Global) -> Result<(), Fail> {
-    let mut script = Script::admitting(alloc, STOPS_ITS_STOPPER)?;
-    script.admit("b", STOPPED_WHILE_IT_OPENS, "created 2")?;
-    script.add(
-        "look 2",
+const A_STOP_IN_THE_MIDST_OF_SETTLING: &[LineRow] = &[
+    (Push("a", STOPS_ITS_STOPPER), "created 1"),
+    (Push("b", STOPPED_WHILE_IT_OPENS), "created 2"),
+    (
+        Words("look 2"),
         "run 2 2 completed cancelled m:cancelled(cancelled,cancelled)",
-    )?;
-    script.expect(rt, alloc)?;
-    Ok(())
-}
+    ),
+    (
+        Words("look 1"),
+        "run 1 1 queued - a:cancelled(cancelled) b:open(ready)",
+    ),
+];
 
-#[test]
-fn groups_of_runs_and_jobs(rt: HostRuntime) -> Result<(), Fail> {
-    let alloc = rt.alloc();
-    newcomer_displaces_the_pending_run(&rt, alloc)?;
-    newcomer_stops_the_run_in_progress(&rt, alloc)?;
-    newcomer_stops_a_ready_run(&rt, alloc)?;
-    groups_of_jobs(&rt, alloc)?;
-    a_run_and_a_leg_share_a_group(&rt, alloc)?;
-    pending_run_is_cancelled(&rt, alloc)?;
-    Ok(())
-}
+const BY_MATRIX: &str = r#"{"concurrency":"${{ matrix.os }}","jobs":{"a":{"runs-on":"x"}}}"#;
+
+/// A workflow has no matrix, so its group cannot go by one: nothing is admitted.
+const NO_GROUP_BY_A_MATRIX: &[LineRow] = &[
+    (Push("a", BY_MATRIX), "refused 18"),
+    (Words("look 1"), "refused 40"),
+];
+
+const GROUPS: [&[LineRow]; 8] = [
+    NAMES_OF_GROUPS,
+    GROUP_BY_AN_INPUT,
+    GROUPS_OF_TWO_REPOSITORIES,
+    LEGS_OF_A_JOB,
+    OWN_GROUP,
+    GROUP_BY_A_RESULT,
+    A_STOP_IN_THE_MIDST_OF_SETTLING,
+    NO_GROUP_BY_A_MATRIX,
+];
 
 #[test]
 fn which_groups_there_are(rt: HostRuntime) -> Result<(), Fail> {
-    let alloc = rt.alloc();
-    names_of_groups(&rt, alloc)?;
-    expect_rows(&rt, alloc, ENVIRONMENT, &ELSEWHERE)?;
-    expect_rows(&rt, alloc, LEGS, &LEGS_OF_A_JOB)?;
-    expect_rows(&rt, alloc, OWN, &OWN_GROUP)?;
-    group_by_a_result(&rt, alloc)?;
-    a_stop_in_the_midst_of_settling(&rt, alloc)?;
+    expect_scripts(&rt, rt.alloc(), &GROUPS)
+}
+
+/// A look at a run, whose number is its id.
+fn look(alloc: Global, script: &mut Script, run: u32, seen: &str) -> Result<(), Refusal> {
+    let line = format!(in alloc; "look {run}")?;
+    let answer = format!(in alloc; "run {run} {run} {seen}")?;
+    script.add(line.as_str(), answer.as_str())
+}
+
+/// A push of a run of the group `deploy`, which waits.
+fn push(alloc: Global, script: &mut Script, run: u32) -> Result<(), Refusal> {
+    let delivery = format!(in alloc; "d{run}")?;
+    let answer = format!(in alloc; "created {run}")?;
+    script.admit(delivery.as_str(), DEPLOY, answer.as_str())?;
+    look(alloc, script, run, "pending - go:blocked")
+}
+
+/// 1,000 pushes while the one runner has the first run: 998 are cancelled, each by the next one.
+fn thousand_pushes(alloc: Global) -> Result<Script, Refusal> {
+    let mut script = Script::admitting(alloc, DEPLOY)?;
+    script.add("claim r1 1 linux", "lease 1 1 go 0 {}")?;
+    push(alloc, &mut script, 2)?;
+    for run in 2..1_000 {
+        push(alloc, &mut script, run + 1)?;
+        look(
+            alloc,
+            &mut script,
+            run,
+            "completed cancelled go:cancelled()",
+        )?;
+    }
+    script.add("done r1 2 1 success", "ok")?;
+    script.add("claim r1 3 linux", "lease 2 1000 go 0 {}")?;
+    Ok(script)
+}
+
+#[test]
+fn each_push_displaces_the_one_before(rt: HostRuntime) -> Result<(), Fail> {
+    let script = thousand_pushes(rt.alloc())?;
+    script.expect(&rt, rt.alloc())?;
     Ok(())
 }

@@ -10,6 +10,16 @@ use wf_value::Refusal;
 /// A line of a script, and its answer.
 pub type Row = (&'static str, &'static str);
 
+/// A line of a script.
+pub enum Line {
+    /// A `push` to `o/r` is admitted: the delivery, and the workflow.
+    Push(&'static str, &'static str),
+    Words(&'static str),
+}
+
+/// A line that may be a push, and its answer.
+pub type LineRow = (Line, &'static str);
+
 /// The lines of a script, and the answers that they have to get.
 #[derive(Drop)]
 pub struct Script {
@@ -18,29 +28,28 @@ pub struct Script {
 }
 
 impl Script {
-    /// A script whose first line admits run 1, of this workflow.
-    pub fn admitting(alloc: Global, workflow: &str) -> Result<Script, Refusal> {
-        let mut lines = String::from_str(
-            alloc,
-            r#"admit d1 push {"repo":"o/r","path":"ci.json","workflow":"#,
-        )?;
-        lines.push_str(workflow)?;
-        lines.push_str("}\n")?;
-        let answers = String::from_str(alloc, "created 1\n")?;
-        Ok(Script { lines, answers })
+    pub fn new(alloc: Global) -> Script {
+        Script {
+            lines: String::new(alloc),
+            answers: String::new(alloc),
+        }
     }
 
-    /// A further run, of this workflow.
+    /// A script whose first line admits run 1, of this workflow.
+    pub fn admitting(alloc: Global, workflow: &str) -> Result<Script, Refusal> {
+        let mut script = Script::new(alloc);
+        script.admit("d1", workflow, "created 1")?;
+        Ok(script)
+    }
+
+    /// A `push` to `o/r`, of this workflow.
     pub fn admit(&mut self, delivery: &str, workflow: &str, answer: &str) -> Result<(), Refusal> {
         self.lines.push_str("admit ")?;
         self.lines.push_str(delivery)?;
         self.lines
             .push_str(r#" push {"repo":"o/r","path":"ci.json","workflow":"#)?;
         self.lines.push_str(workflow)?;
-        self.lines.push_str("}\n")?;
-        self.answers.push_str(answer)?;
-        self.answers.push_str("\n")?;
-        Ok(())
+        self.add("}", answer)
     }
 
     pub fn add(&mut self, line: &str, answer: &str) -> Result<(), Refusal> {
@@ -51,9 +60,23 @@ impl Script {
         Ok(())
     }
 
+    pub fn add_line(&mut self, line: &Line, answer: &str) -> Result<(), Refusal> {
+        match line {
+            Line::Push(delivery, workflow) => self.admit(delivery, workflow, answer),
+            Line::Words(words) => self.add(words, answer),
+        }
+    }
+
     pub fn add_all(&mut self, rows: &[Row]) -> Result<(), Refusal> {
         for (line, answer) in rows {
             self.add(line, answer)?;
+        }
+        Ok(())
+    }
+
+    fn add_lines(&mut self, rows: &[LineRow]) -> Result<(), Refusal> {
+        for (line, answer) in rows {
+            self.add_line(line, answer)?;
         }
         Ok(())
     }
@@ -84,5 +107,19 @@ pub fn expect_rows(
     let mut script = Script::admitting(alloc, workflow)?;
     script.add_all(rows)?;
     script.expect(rt, alloc)?;
+    Ok(())
+}
+
+fn expect_script(rt: &impl Abort, alloc: Global, rows: &[LineRow]) -> Result<(), Refusal> {
+    let mut script = Script::new(alloc);
+    script.add_lines(rows)?;
+    script.expect(rt, alloc)
+}
+
+/// Plays scripts, each from an empty table.
+pub fn expect_scripts(rt: &impl Abort, alloc: Global, scripts: &[&[LineRow]]) -> Result<(), Fail> {
+    for rows in scripts {
+        expect_script(rt, alloc, rows)?;
+    }
     Ok(())
 }

@@ -1,5 +1,6 @@
 use crate::commands::prepared;
 use crate::given::spelled;
+use crate::holds::{expect_bytes, expect_text, holds};
 use crate::run_plan_tests::{BODY, expect_twice};
 use run_plan::{Plan, PlannedJob, PlannedLeg, Prepared, plan};
 use std::alloc::Global;
@@ -17,46 +18,46 @@ fn text_of(template: &Template) -> &str {
 }
 
 fn expect_labels(rt: &impl Abort, found: &[Template], want: &[&str]) {
-    assert!(rt; found.len() == want.len());
+    holds!(rt; found.len() == want.len());
     for (label, text) in found.iter().zip(want) {
-        assert!(rt; text_of(label) == *text, "{text}");
+        expect_text(rt, text_of(label), text);
     }
 }
 
 /// One leg without a combination.
 fn expect_one_leg(rt: &impl Abort, legs: &[PlannedLeg]) {
-    assert!(rt; legs.len() == 1);
-    assert!(rt; legs[0].combo.len() == 0);
+    holds!(rt; legs.len() == 1);
+    holds!(rt; legs[0].combo.len() == 0);
 }
 
 fn expect_job(rt: &impl Abort, job: &PlannedJob, id: &str, labels: &[&str]) {
-    assert!(rt; job.id.as_str() == id);
+    expect_text(rt, job.id.as_str(), id);
     expect_one_leg(rt, job.legs.as_slice());
     expect_labels(rt, job.labels.as_slice(), labels);
 }
 
 /// The only job of a plan.
 fn expect_only_job(rt: &impl Abort, jobs: &[PlannedJob], id: &str, labels: &[&str]) {
-    assert!(rt; jobs.len() == 1);
+    holds!(rt; jobs.len() == 1);
     expect_job(rt, &jobs[0], id, labels);
 }
 
 fn expect_names(rt: &impl Abort, event: &Prepared) {
-    assert!(rt; event.delivery().as_str() == "d1");
-    assert!(rt; event.event().as_str() == "push");
+    expect_text(rt, event.delivery().as_str(), "d1");
+    expect_text(rt, event.event().as_str(), "push");
 }
 
 fn expect_workflow(rt: &impl Abort, event: &Prepared) {
-    assert!(rt; event.repo().as_str() == "o/r");
-    assert!(rt; event.path().as_str() == "ci.json");
+    expect_text(rt, event.repo().as_str(), "o/r");
+    expect_text(rt, event.path().as_str(), "ci.json");
 }
 
 /// That the event is that of `BODY`.
 fn expect_first(rt: &impl Abort, event: &Prepared) {
     expect_names(rt, event);
     expect_workflow(rt, event);
-    assert!(rt; event.body() == BODY.as_bytes());
-    assert!(rt; event.body_text() == BODY);
+    expect_bytes(rt, event.body(), BODY.as_bytes());
+    expect_text(rt, event.body_text(), BODY);
     expect_only_job(rt, event.plan().as_slice(), "build", &["linux"]);
 }
 
@@ -81,7 +82,7 @@ const THREE_JOBS: &str =
     "{\"jobs\":{\"b\":{\"runs-on\":[\"linux\",\"x64\"]},\"B\":{\"runs-on\":\"gpu\"},\"a\":{\"runs-on\":\"\"}}}";
 
 fn expect_three(rt: &impl Abort, jobs: &[PlannedJob]) {
-    assert!(rt; jobs.len() == 3);
+    holds!(rt; jobs.len() == 3);
     expect_job(rt, &jobs[0], "B", &["gpu"]);
     expect_job(rt, &jobs[1], "a", &[""]);
     expect_job(rt, &jobs[2], "b", &["linux", "x64"]);
@@ -191,16 +192,16 @@ const SPACES: [(usize, u64); 2] = [(65_536 - BODY.len(), 0), (65_537 - BODY.len(
 fn expect_spaces(rt: &impl Abort, alloc: Global, spaces: usize, want: u64) -> Result<(), Refusal> {
     let body = spelled(alloc, &[(BODY, 1), (" ", spaces)])?;
     let number = number_of_refusal(alloc, body.as_str())?;
-    assert!(rt; number == want, "{spaces}");
+    holds!(rt; number == want, spaces);
     Ok(())
 }
 
 fn refuses(rt: &impl Abort, alloc: Global) -> Result<(), Refusal> {
-    for (body, want) in BODIES {
+    for &(body, want) in &BODIES {
         let number = number_of_refusal(alloc, body)?;
-        assert!(rt; number == want, "{body}");
+        holds!(rt; number == want, body);
     }
-    for (spaces, want) in SPACES {
+    for &(spaces, want) in &SPACES {
         expect_spaces(rt, alloc, spaces, want)?;
     }
     Ok(())

@@ -118,7 +118,7 @@ fn push_views(alloc: Global, replies: &mut Vec<Reply>) -> Result<(), Refusal> {
 }
 
 fn push_bodies(alloc: Global, replies: &mut Vec<Reply>) -> Result<(), Refusal> {
-    for body in BODIES {
+    for &body in &BODIES {
         replies.push(Reply::Body(Chars::from_str(alloc, body)?))?;
     }
     Ok(())

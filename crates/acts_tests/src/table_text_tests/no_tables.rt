@@ -71,7 +71,7 @@ fn changed(alloc: Global, row: &Row<'_>, offset: usize, byte: u8) -> Result<Vec<
 }
 
 fn reads_no_change(rt: &impl Abort, alloc: Global) -> Result<(), Refusal> {
-    for (row, offset, byte) in CHANGES {
+    for &(row, offset, byte) in &CHANGES {
         holds!(rt; row < 7);
         let bytes = changed(alloc, &ROWS[row], offset, byte)?;
         holds!(rt; read_parts(alloc, bytes.as_slice())?.is_none(), offset);
@@ -80,7 +80,7 @@ fn reads_no_change(rt: &impl Abort, alloc: Global) -> Result<(), Refusal> {
 }
 
 fn reads_no_other_count(rt: &impl Abort, alloc: Global) -> Result<(), Refusal> {
-    for behind in OTHER_COUNTS {
+    for &behind in &OTHER_COUNTS {
         let bytes = bytes_of(alloc, &(&[], 0, behind))?;
         holds!(rt; read_parts(alloc, bytes.as_slice())?.is_none());
     }

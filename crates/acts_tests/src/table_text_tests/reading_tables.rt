@@ -4,7 +4,9 @@ use super::tables::{ROWS, Row, bytes_of};
 use crate::holds::holds;
 use crate::run_plan_tests::expect_twice;
 use run_plan::Number;
-use run_table::{JobPhase, LastParts, LegPhase, Parts, RunParts, RunPhase, RunnerParts};
+use run_table::{
+    JobParts, JobPhase, LastParts, Leg, LegPhase, Parts, RunParts, RunPhase, RunnerParts,
+};
 use std::alloc::Global;
 use std::process::Abort;
 use table_text::read_parts;
@@ -81,18 +83,27 @@ fn lease_or_0(lease: Option<Number>) -> u32 {
     }
 }
 
+/// That the legs of a job are one, in this phase and with this lease.
+fn expect_leg(rt: &impl Abort, legs: &[Leg], seen: &RunSeen) {
+    holds!(rt; legs.len() == 1);
+    let leg = &legs[0];
+    holds!(rt; leg_word(leg.phase) == seen.3);
+    holds!(rt; lease_or_0(leg.lease) == seen.4);
+}
+
+fn expect_job(rt: &impl Abort, jobs: &[JobParts], seen: &RunSeen) {
+    holds!(rt; jobs.len() == 1);
+    let job = &jobs[0];
+    holds!(rt; job_word(job.phase) == seen.2);
+    expect_leg(rt, job.legs.as_slice(), seen);
+}
+
 /// That a run is the one of delivery `d1`, and is as this says.
 fn expect_run(rt: &impl Abort, run: &RunParts, seen: &RunSeen) {
     holds!(rt; run.prepared.delivery().as_str() == "d1");
     holds!(rt; run_word(run.phase) == seen.0);
     holds!(rt; run.stopping == seen.1);
-    let jobs = run.jobs.as_slice();
-    holds!(rt; jobs.len() == 1);
-    holds!(rt; job_word(jobs[0].phase) == seen.2);
-    let legs = jobs[0].legs.as_slice();
-    holds!(rt; legs.len() == 1);
-    holds!(rt; leg_word(legs[0].phase) == seen.3);
-    holds!(rt; lease_or_0(legs[0].lease) == seen.4);
+    expect_job(rt, run.jobs.as_slice(), seen);
 }
 
 /// The kind of a last command, and the lease that was given for it.

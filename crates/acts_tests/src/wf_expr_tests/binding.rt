@@ -1,5 +1,6 @@
 //! Templates that are bound before the results of needs are known.
 
+use crate::holds::holds;
 use crate::wf_expr_tests::{EXAMPLE, properties};
 use std::alloc::Global;
 use std::process::Abort;
@@ -117,18 +118,18 @@ const ROWS: [(&str, Ended, &str); 14] = [
     ),
 ];
 
-fn expect_text(rt: &impl Abort, alloc: Global, row: &(&str, Ended, &str)) {
+fn expect_bound(rt: &impl Abort, alloc: Global, row: &(&str, Ended, &str)) {
     let (text, ended, want) = row;
     let bound = bound_of(alloc, text).expect(rt, text);
     let want_bound = bound_of(alloc, want).expect(rt, text);
-    assert!(rt; bound.is_same_text(ended, &want_bound, &NONE), "{text}");
-    assert!(rt; bound.has_text(ended) == !want.is_empty(), "{text}");
+    holds!(rt; bound.is_same_text(ended, &want_bound, &NONE), text);
+    holds!(rt; bound.has_text(ended) == !want.is_empty(), text);
 }
 
 #[test]
 fn binds_to_the_text_by_results(rt: HostRuntime) {
     for row in &ROWS {
-        expect_text(&rt, rt.alloc(), row);
+        expect_bound(&rt, rt.alloc(), row);
     }
 }
 
@@ -146,7 +147,7 @@ fn compares_bound_texts(rt: HostRuntime) {
     for (text, other, ended, same) in &COMPARED {
         let bound = bound_of(rt.alloc(), text).expect(&rt, text);
         let other = bound_of(rt.alloc(), other).expect(&rt, text);
-        assert!(rt; bound.is_same_text(ended, &other, ended) == *same, "{text}");
+        holds!(rt; bound.is_same_text(ended, &other, ended) == *same, text);
     }
 }
 
@@ -163,7 +164,7 @@ const FLAGS: [(&str, Ended, bool); 6] = [
 fn sets_a_bound_flag(rt: HostRuntime) {
     for (text, ended, set) in &FLAGS {
         let bound = bound_of(rt.alloc(), text).expect(&rt, text);
-        assert!(rt; bound.sets_flag(ended) == *set, "{text}");
+        holds!(rt; bound.sets_flag(ended) == *set, text);
     }
 }
 
@@ -178,7 +179,7 @@ fn copies_a_bound_template(rt: HostRuntime) {
     let bound = bound_of(rt.alloc(), text).expect(&rt, text);
     let copy = bound.copy(rt.alloc()).expect(&rt, text);
     let again = remade(rt.alloc(), &bound).expect(&rt, text);
-    assert!(rt; copy.is_same_text(&FAILED, &bound, &FAILED));
-    assert!(rt; again.is_same_text(&FAILED, &bound, &FAILED));
-    assert!(rt; !copy.is_same_text(&FAILED, &bound, &NONE));
+    holds!(rt; copy.is_same_text(&FAILED, &bound, &FAILED));
+    holds!(rt; again.is_same_text(&FAILED, &bound, &FAILED));
+    holds!(rt; !copy.is_same_text(&FAILED, &bound, &NONE));
 }
