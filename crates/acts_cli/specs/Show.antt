@@ -8,7 +8,7 @@ use Rattle.run_table.specs.Step.{seen}
 use Rattle.run_table.specs.TableState.{TableState}
 use Rattle.run_table.specs.ViewText.{Seen, seen_text}
 use Rattle.act_store.specs.Images.{HasNoArea, HasNoTable, StandsFor}
-use Rattle.act_store.specs.Plain.{no_area, no_table}
+use Rattle.act_store.specs.Plain.{RefusesOpening, no_area, no_table}
 use Rattle.acts_cli.specs.Play.{stream_failed}
 
 -- what `look` shows of a run, and a line feed
@@ -26,9 +26,10 @@ lines_from t id count = flat_map (line_of t) (range_with_len id count)
 abbrev pub shown : TableState → List ℕ
 shown t = lines_from t 1 (length t.runs)
 
--- Nothing was shown: a disk on which no area is open, or whose area spells no table, is refused so.
+-- Nothing was shown. A disk is refused so on which no area is open, or whose area spells no table; else the device failed, or memory was
+-- refused.
 abbrev pub IsRefusedWith : List ℕ → Refusal → Type 0
-IsRefusedWith image e = (e ≡ no_area → HasNoArea image) × (e ≡ no_table → HasNoTable image)
+IsRefusedWith image e = RefusesOpening e × (e ≡ no_area → HasNoArea image) × (e ≡ no_table → HasNoTable image)
 
 -- a front of what is shown of the table that an image stands for
 abbrev pub IsFrontOf : List ℕ → List ℕ → Type 0

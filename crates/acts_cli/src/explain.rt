@@ -189,13 +189,14 @@ const EXPLANATIONS: [Explanation; 34] = [
         number: "51",
         meaning: "a read, a write or a sync of the disk failed in this call",
         input: "acts init FILE 4096, on a file system that is full",
-        remedy: "see what is wrong with the disk; in a script the store has failed from then on (52)",
+        remedy: "see what is wrong with the disk; that of a script is in memory, and fails where memory is \
+            refused to it",
     },
     Explanation {
         number: "52",
         meaning: "the disk failed in an earlier call, and nothing is known of what it took",
         input: "any command of a script, after a commit was answered 51",
-        remedy: "play the script again, once its cause is mended: what was committed before stands",
+        remedy: "free memory, and play the script again: its store is in memory, and ends with it",
     },
     Explanation {
         number: "53",

@@ -8,7 +8,7 @@ use crate::run_table_tests::BUILD;
 use act_disk::{Disk, Fill, FuseDisk, MemoryDisk};
 use act_store::Store;
 use acts_cli::{run_init, run_show};
-use std::alloc::{AllocError, Global};
+use std::alloc::Global;
 use std::process::Abort;
 use wf_value::Refusal;
 
@@ -70,10 +70,10 @@ const LOOKS: usize = 1_000;
 const PARTS: usize = 100;
 
 /// The answers of so many look-ups and a commit, again and again.
-fn push_parts(alloc: Global, answers: &mut String) -> Result<(), AllocError> {
-    let looks = spelled(alloc, &[("refused 40\n", LOOKS)]).map_err(|_| AllocError)?;
-    for part in 1..=PARTS {
-        let count = part * LOOKS;
+fn push_parts(alloc: Global, answers: &mut String) -> Result<(), Refusal> {
+    let looks = spelled(alloc, &[("refused 40\n", LOOKS)])?;
+    for part in 0..PARTS {
+        let count = (part + 1) * LOOKS;
         answers.push_str(looks.as_str())?;
         answers.push_str(format!(in alloc; "committed {count}\n")?.as_str())?;
     }
@@ -190,34 +190,44 @@ fn shows_the_runs_of_a_store(rt: HostRuntime) {
     expect_showing(&rt, alloc, disk_after(&rt, alloc, &two), 0, TWO_RUNS);
 }
 
-/// The front of a new store, of which a byte is another one.
-fn disk_with(alloc: Global, place: usize, byte: u8) -> Result<MemoryDisk, Refusal> {
-    let mut bytes = [0; 8_192];
-    bytes[0] = 0xA5;
-    bytes[1] = 1;
-    bytes[9] = 1;
-    bytes[17] = 12;
+/// The bytes of a new store that are no zeros: an open gate, version 1, generation 1, and the length of the empty table's text.
+const FRONT: [(usize, u8); 4] = [(0, 0xA5), (1, 1), (9, 1), (17, 12)];
+
+fn set(bytes: &mut [u8], place: usize, byte: u8) {
     if let Some(there) = bytes.get_mut(place) {
         *there = byte;
     }
+}
+
+/// The disk of a new store, of which a byte is another one.
+fn disk_with(alloc: Global, place: usize, byte: u8) -> Result<MemoryDisk, Refusal> {
+    let mut bytes = vec![in alloc; 0; 8_192]?;
+    for &(at, value) in &FRONT {
+        set(&mut bytes, at, value);
+    }
+    set(&mut bytes, place, byte);
+    MemoryDisk::from_slice(alloc, &bytes)
+}
+
+fn zeros(alloc: Global) -> Result<MemoryDisk, Refusal> {
+    let bytes = vec![in alloc; 0; 8_192]?;
     MemoryDisk::from_slice(alloc, &bytes)
 }
 
 /// A byte of a new store that is another one, and the number with which its showing ends: the area's gate, its version, a last lease out
-/// of range, and the gate of the first record, which is closed by any byte but one.
+/// of range, and the gate of the first record, which is closed by any byte but one, and by that opens a record without a batch.
 const BYTES: [(usize, u8, u64); 5] = [
     (0, 0, 53),
     (1, 2, 54),
     (18, 0xFF, 54),
     (30, 1, 0),
-    (30, 0xA5, 0),
+    (30, 0xA5, 54),
 ];
 
 #[test]
 fn refuses_to_show_what_is_no_store(rt: HostRuntime) {
     let alloc = rt.alloc();
-    let zeros = MemoryDisk::from_slice(alloc, &[0; 8_192]).expect(&rt, "a disk");
-    expect_showing(&rt, alloc, zeros, 53, "");
+    expect_showing(&rt, alloc, zeros(alloc).expect(&rt, "a disk"), 53, "");
     expect_showing(&rt, alloc, MemoryDisk::new(alloc), 53, "");
     for &(place, byte, number) in &BYTES {
         let disk = disk_with(alloc, place, byte).expect(&rt, "a disk");
@@ -225,14 +235,17 @@ fn refuses_to_show_what_is_no_store(rt: HostRuntime) {
     }
 }
 
-/// The device fails in the opening: at its sync, and at each read of it.
+/// The device fails in the opening: at its sync, at the read of each area's gate, and at the read of the area that stands.
 #[test]
 fn tells_that_the_device_fails_in_a_showing(rt: HostRuntime) {
     let alloc = rt.alloc();
-    for call in 0..3 {
-        let disk = FuseDisk::once(disk_after(&rt, alloc, &[Words::Admit("d1", BUILD)]), call);
+    let one = [Words::Admit("d1", BUILD)];
+    for call in 0..4 {
+        let disk = FuseDisk::once(disk_after(&rt, alloc, &one), call);
         expect_showing(&rt, alloc, disk, 51, "");
     }
+    let spared = FuseDisk::once(disk_after(&rt, alloc, &one), 4);
+    expect_showing(&rt, alloc, spared, 0, QUEUED);
 }
 
 /// A stop inside a call of the first commit, how it fills what was not synced, and what is shown then: inside the write of the record and its
@@ -281,7 +294,7 @@ const FILLED: [(u64, u64); 2] = [(282, 0), (283, 47)];
 fn look_and_commit<D: Disk>(rt: &impl Abort, alloc: Global, store: &mut Store<D>, times: u64) {
     for place in 0..times {
         let covered = enter(alloc, store, &[Words::Look("1")]).expect(rt, "a commit");
-        holds!(rt; covered == place + 1);
+        holds!(rt; covered == place + 1, place);
     }
 }
 
@@ -294,7 +307,7 @@ fn fills_an_area(rt: HostRuntime) {
         let command = command_of(alloc, &Words::Admit("d1", BUILD)).expect(&rt, "a command");
         let told = match store.apply(alloc, 0, command) {
             Ok(receipt) => {
-                holds!(rt; receipt.place == times + 1);
+                holds!(rt; receipt.place == times.saturating_add(1), times);
                 0
             }
             Err(refusal) => refusal.number(),

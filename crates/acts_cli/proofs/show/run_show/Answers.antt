@@ -13,7 +13,7 @@ returns-in-Err g c = (
   λ honest. (
     [],
     Appends-nil (g.W.Write.contents c.args.writer.now),
-    inl (refl, (λ is. c.in-Err.ensures.no_area is honest, λ is. c.in-Err.ensures.no_table is honest)),
+    inl (refl, (c.in-Err.ensures.refused, λ is. c.in-Err.ensures.no_area is honest, λ is. c.in-Err.ensures.no_table is honest)),
   ),
 )
 
