@@ -26,5 +26,5 @@ pub keeps_groups : OnePending → OneRunning → EachKeepsLaw → (base : TableS
 keeps_groups pending running law base history sound = record {
   one_pending = λ before behind g is. pending base (commands_of before) g sound;
   one_running = λ before behind g is. running base (commands_of before) g sound;
-  law = λ g. law base (commands_of history) g sound;
+  law = λ before behind g is. law base (commands_of before) g sound;
 }

@@ -9,11 +9,12 @@ use Rattle.run_table.specs.TableState.{TableState}
 use Rattle.act_store.specs.Entries.{commands_of, table_after}
 use Rattle.act_store.specs.declared.entry.Entry.{Entry}
 
--- After each front of the history every group has at most one holder of each kind, of all runs and legs of the table; and the moves of
--- every group over the whole of it, behind those that stand for the holders it had at the base, keep the group law.
+-- After each front of the history, what a stop leaves of it among them, every group has at most one holder of each kind, of all runs and legs
+-- of the table; and the moves of every group over that front, behind those that stand for the holders it had at the base, keep the group law.
 pub record KeepsGroups (base : TableState) (history : List Entry) : Type 0 where
   pub one_pending : (before behind : List Entry) (g : Group) → history ≡ before ++ behind
       → length (pending_in (table_after base before).runs g) ≤ 1
   pub one_running : (before behind : List Entry) (g : Group) → history ≡ before ++ behind
       → length (running_in (table_after base before).runs g) ≤ 1
-  pub law : (g : Group) → KeepsLaw (asks_for_cancelling g base (commands_of history)) (all_moves g base (commands_of history))
+  pub law : (before behind : List Entry) (g : Group) → history ≡ before ++ behind
+      → KeepsLaw (asks_for_cancelling g base (commands_of before)) (all_moves g base (commands_of before))
