@@ -57,10 +57,10 @@ pub run_told : (runs : List RunState) (r : ℕ) (x : RunState) → run_at runs r
 unfolding run_facts_at
 run_told runs r x at = ap (option_map (facts_of_run runs r)) at
 
-abbrev leg_facts_of : List RunState → LegPlace → RunState → PlannedJob → LegFacts
+abbrev pub leg_facts_of : List RunState → LegPlace → RunState → PlannedJob → LegFacts
 leg_facts_of runs p x job = facts_by (facts_of_run runs p.run x) p.job job p.leg (results_by_place x)
 
-leg_told : (runs : List RunState) (p : LegPlace) (x : RunState) (job : PlannedJob) → run_at runs p.run ≡ Some x
+pub leg_told : (runs : List RunState) (p : LegPlace) (x : RunState) (job : PlannedJob) → run_at runs p.run ≡ Some x
     → slice_get (plan_of x.admitted.body) p.job ≡ Some job → facts_at runs p ≡ Some (leg_facts_of runs p x job)
 unfolding facts_at direct_needs
 leg_told runs p x job at planned =
@@ -71,12 +71,12 @@ run_untold : (runs : List RunState) (r : ℕ) → run_at runs r ≡ None → run
 unfolding run_facts_at
 run_untold runs r none = ap (option_map (facts_of_run runs r)) none
 
-leg_untold : (runs : List RunState) (p : LegPlace) → run_at runs p.run ≡ None → facts_at runs p ≡ None
+pub leg_untold : (runs : List RunState) (p : LegPlace) → run_at runs p.run ≡ None → facts_at runs p ≡ None
 unfolding facts_at direct_needs
 leg_untold runs p none =
     ap (option_and_then (λ (run : RunState). option_map (leg_facts_of runs p run) (slice_get (plan_of run.admitted.body) p.job))) none
 
-job_untold : (runs : List RunState) (p : LegPlace) (x : RunState) → run_at runs p.run ≡ Some x
+pub job_untold : (runs : List RunState) (p : LegPlace) (x : RunState) → run_at runs p.run ≡ Some x
     → slice_get (plan_of x.admitted.body) p.job ≡ None → facts_at runs p ≡ None
 unfolding facts_at direct_needs
 job_untold runs p x at unplanned =

@@ -1,5 +1,6 @@
--- Where a reply holds a text, and the command is no claim, the table is as it was.
-use Rattle.std.specs.Prelude.{◌≡◌, true, false, List, ℕ, IsOk, OnErr, Option, Some, None, Result, Ok, Err, refl}
+-- Where a reply holds a text, and the command is no claim, the table is as it was. What is answered from the table without a text is a
+-- reply without one.
+use Rattle.std.specs.Prelude.{◌≡◌, Bool, true, false, not, List, ℕ, IsOk, OnErr, Option, Some, None, Result, Ok, Err, refl}
 use Rattle.std.specs.Option.{option_map_or}
 use Rattle.std.proofs.Common.{inl, inr, ap, sym, ◌∙◌}
 use Rattle.std.proofs.lemmas.Bool.{cases_Bool}
@@ -12,8 +13,9 @@ use Rattle.run_plan.specs.declared.command.Command.TheVariants as command
 use Rattle.run_plan.specs.declared.reply.Reply.{Reply}
 use Rattle.run_table.specs.Claims.{is_claim}
 use Rattle.run_table.specs.Moves.{Step}
-use Rattle.run_table.specs.Step.{admission_answer, admitting, cancel_answer, cancelling, losing, lost, refused, released, report_answer}
-use Rattle.run_table.specs.Step.{reporting, step, stepped, unchanged}
+use Rattle.run_table.specs.Step.{admission_answer, admitting, beat_answer, cancel_answer, cancelling, claim_answer, claiming, fetch_answer}
+use Rattle.run_table.specs.Step.{answered as answer_of, is_free, look_answer, losing, lost, refused, released, report_answer, reporting}
+use Rattle.run_table.specs.Step.{step, stepped, unchanged}
 use Rattle.run_table.specs.TableState.{TableState}
 use Rattle.run_table.specs.Turns.{runner_named}
 use Rattle.run_table.proofs.Doors.{given}
@@ -72,3 +74,47 @@ no_claim (command.Cancel id) other = refl
 no_claim (command.Lost name) other = refl
 no_claim (command.Fetch id) other = refl
 no_claim (command.Look id) other = refl
+
+-- ---- what is answered without a text
+
+abbrev IsPlain : Step → Type 0
+IsPlain s = carries_text s.reply ≡ false
+
+not_true : (b : Bool) → not b ≡ true → b ≡ false
+not_true true is = sym is
+not_true false is = refl
+
+plain_answer : (t : TableState) (answer : Option Reply) (change : Step) → is_free answer ≡ true → IsPlain (option_map_or (unchanged t) answer change)
+plain_answer t (Some reply) change free = not_true (carries_text reply) free
+plain_answer t None change free = absurd (cc free)
+
+lost_plain : (t : TableState) (name : List ℕ) → IsPlain (lost t name)
+lost_plain t name =
+    elim (runner_named t.runners name) as
+    (λ o. IsPlain (option_map_or (λ runner. option_map_or (losing t (released runner)) runner.holds (unchanged t (refused LeaseNotHeld))) o
+    (unchanged t (refused NoRunner)))) [
+      | None ↦ refl
+      | Some runner ↦ elim (runner.holds) as
+          (λ h. IsPlain (option_map_or (losing t (released runner)) h (unchanged t (refused LeaseNotHeld)))) [
+            | None ↦ refl
+            | Some lease ↦ refl
+          ]
+    ]
+
+free_plain : (t : TableState) (c : Command) → is_free (answer_of t c) ≡ true → IsPlain (stepped t c)
+free_plain t (command.Admit event) free = plain_answer t (admission_answer t event) (admitting t event) free
+free_plain t (command.Claim claim) free = plain_answer t (claim_answer t claim) (claiming t claim) free
+free_plain t (command.Done report) free = plain_answer t (report_answer t report) (reporting t report) free
+free_plain t (command.Beat beat) free = not_true (carries_text (beat_answer t beat)) free
+free_plain t (command.Cancel id) free = plain_answer t (cancel_answer t id) (cancelling t id) free
+free_plain t (command.Lost name) free = lost_plain t name
+free_plain t (command.Fetch id) free = not_true (carries_text (fetch_answer t id)) free
+free_plain t (command.Look id) free = not_true (carries_text (look_answer t id)) free
+
+-- A reply that was answered so can be copied.
+pub copied_free : {T : Type 0} (t next : TableState) (reply : Reply) (c : Command) (r : Result T Refusal)
+    → ◌≡◌ {A = Result (TableState × Reply) Refusal} (Ok (step t c)) (Ok (next, reply)) → (carries_text reply ≡ false → IsOk r)
+    → is_free (answer_of t c) ≡ true → IsOk r
+copied_free t next reply c r gave answers free =
+    let told : (stepped t c).reply ≡ reply = ap (λ (p : TableState × Reply). p.1) (given (step t c) (next, reply) gave) in
+    answers (ap carries_text (sym told) ∙ free_plain t c free)

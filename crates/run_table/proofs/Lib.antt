@@ -16,6 +16,7 @@ pub mod ClaimKeeps
 pub mod CommandsOneEach
 mod ContextRows
 pub mod Copied
+pub mod Counting
 pub mod Decided
 pub mod Deliveries
 pub mod Digits
@@ -77,6 +78,7 @@ pub mod OwnRun
 pub mod PlacedOne
 pub mod QuietRules
 pub mod ReachedTables
+pub mod ReadThere
 pub mod ReportKeeps
 pub mod Rests
 pub mod RuleKeeps
@@ -105,11 +107,15 @@ pub mod Unbegun
 pub mod Under
 pub mod ViewRows
 pub mod Walks
-pub mod AloneHolders
+pub mod GroupKeys
+pub mod GroupSetReads
+pub mod GroupsGathered
+pub mod GroupsOfTable
 pub mod OneAfterAnother
 pub mod LeasesPut
 pub mod DeliveriesFound
 pub mod PhasesTested
+pub mod RestTested
 pub mod SoundOneByOne
 pub mod StoredOnce
 pub mod PartsRead

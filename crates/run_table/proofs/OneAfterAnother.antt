@@ -1,5 +1,5 @@
 -- Walks over a list that stop at the first element that fails, and look-ups by a number.
-use Rattle.std.specs.Prelude.{◌≡◌, ◌⊎◌, ℕ, ◌+◌, ◌<◌, ◌≤◌, List, [], ◌∷◌, ◌++◌, length, map, take, Bool, true, false, is_none, is_some}
+use Rattle.std.specs.Prelude.{◌≡◌, ◌⊎◌, ℕ, ◌+◌, ◌<◌, ◌≤◌, List, [], ◌∷◌, ◌++◌, length, map, take, Bool, true, false, is_some}
 use Rattle.std.specs.Prelude.{◌&&◌, suc, IfOk, Result, Ok, Err, Option, Some, None, option_map, slice_get, refl}
 use Rattle.std.specs.List.{list_all}
 use Rattle.std.specs.Bool.{Decides}
@@ -172,15 +172,7 @@ all_pass p [] each = refl
 all_pass p (x ∷ xs) each =
     ap (λ b. b && list_all p xs) (each 0 x refl) ∙ all_pass p xs (λ k y at. each (suc k) y at)
 
--- ---- answers that may be missing
-
-pub is_nothing : {X : Type 0} (o : Option X) → is_none o ≡ true → o ≡ None
-is_nothing None e = refl
-is_nothing (Some x) e = cc
-
-pub something : {X : Type 0} (o : Option X) → is_none o ≡ false → o ≡ None → ⊥
-something None e = cc
-something (Some x) e = λ is. cc
+-- ---- answers that may be refused
 
 pub when_ok : {X E : Type 0} (o : Result X E) (P Q : X → Type 0) → ((x : X) → P x → Q x) → IfOk o P → IfOk o Q
 when_ok (Ok x) P Q f p = f x p

@@ -1,19 +1,18 @@
 -- Each settling rule keeps that a group has at most one pending and at most one running holder, and so does settling.
-use Rattle.std.specs.Prelude.{◌≡◌, ◌⊎◌, ℕ, zero, suc, List, ◌&&◌, replicate, Bool, true, false, Some, None, slice_get}
+use Rattle.std.specs.Prelude.{◌≡◌, ◌⊎◌, ℕ, zero, suc, List, ◌&&◌, replicate, Bool, true, false, Some, slice_get}
 use Rattle.std.specs.Prelude.{if◌then◌else◌, refl}
 use Rattle.std.specs.List.{list_all}
-use Rattle.std.specs.Option.{option_map_or}
 use Rattle.std.proofs.Common.{ap, inl, inr, sym, ◌∙◌, subst}
 use Rattle.std.proofs.lemmas.Bool.{cases_eq}
 use Rattle.wf_value.specs.declared.outcome.JobResult.TheVariants as result
 use Rattle.wf_value.specs.declared.outcome.Outcome.TheVariants as outcome
 use Rattle.run_table.specs.Arrivals.{arrived, is_in_group_of_run, started}
 use Rattle.run_table.specs.Groups.{HasOneEach, holds, leg_holds, leg_waits, may_start, run_waits, waits}
-use Rattle.run_table.specs.Moves.{Holder, Moved, and_then, without_moves}
+use Rattle.run_table.specs.Moves.{Holder, Moved, without_moves}
 use Rattle.run_table.specs.Places.{LegPlace, job_at, leg_at, run_at, with_job, with_leg, with_run}
 use Rattle.run_table.specs.Rules.{closing_rule, decided, leg_rule, leg_rule_in, may_run, newcomer_rule, opening_rule, result_at, rule_at}
 use Rattle.run_table.specs.Rules.{whole_rule, whole_rule_in, with_leg_in}
-use Rattle.run_table.specs.Settling.{first_place, first_rule, left, settled, settled_within}
+use Rattle.run_table.specs.Settling.{first_rule, settled}
 use Rattle.run_table.specs.StateWords.{is_blocked, is_done, is_live, is_settled, leg_in_phase, new_leg, opened, run_in_phase, settled_as}
 use Rattle.run_table.specs.TableState.{LegState, RunState}
 use Rattle.run_table.specs.Words.{is_stopping, needs_have_settled, planned_legs}
@@ -29,13 +28,13 @@ use Rattle.run_table.proofs.HoldersFade.{JobFades, holds_before_leg, job_fades, 
 use Rattle.run_table.proofs.HoldersFade.{passed_changed, passes, run_fades, run_held_still, run_waited_still, waits_before_leg}
 use Rattle.run_table.proofs.JobKeeps.{leg_elsewhere, leg_in, leg_now}
 use Rattle.run_table.proofs.LeaseReads.{place_or_another}
-use Rattle.run_table.proofs.LivePlaces.{LivePlace, first_place_is_live}
+use Rattle.run_table.proofs.LivePlaces.{LivePlace}
 use Rattle.run_table.proofs.OneEach.{Comes, Fades, Starts, fading_keeps, groups_stay, newcomer_besides, start_keeps}
 use Rattle.run_table.proofs.Optional.{each_passes, from_and_then, if_some}
 use Rattle.run_table.proofs.RuleKeeps.{leg_goes, new_ends, newcomer_waits, phase_settles, rule_settles, run_ended, waiting_starts}
 use Rattle.run_table.proofs.RunFits.{RunsFit, leases_fit}
 use Rattle.run_table.proofs.Settles.{Settles}
-use Rattle.run_table.proofs.SettlingKeeps.{first_rule_settles}
+use Rattle.run_table.proofs.SettlingKeeps.{first_rule_keeps, settling_keeps}
 
 -- ---- a job opens, or settles
 
@@ -206,19 +205,7 @@ rule_one_each runs m (Whole r) fit live h each =
 -- ---- settling
 
 pub first_rule_one_each : (runs : List RunState) (m : Moved) → RunsFit runs → first_rule runs ≡ Some m → HasOneEach runs → HasOneEach m.runs
-first_rule_one_each runs m fit h each =
-    let made = from_and_then (rule_at runs) (first_place runs) m h in
-    rule_one_each runs m made.value fit (first_place_is_live runs made.value made.is) made.gives each
-
-one_each_within : (n : ℕ) (runs : List RunState) → RunsFit runs → HasOneEach runs → HasOneEach (settled_within n runs).runs
-one_each_within zero runs fit each = each
-one_each_within (suc n) runs fit each =
-    elim (first_rule runs) as
-    (λ o. first_rule runs ≡ o → HasOneEach (option_map_or (λ m. and_then m (settled_within n)) o (without_moves runs)).runs) [
-      | None ↦ λ is. each
-      | Some m ↦ λ is.
-          one_each_within n m.runs (first_rule_settles runs m fit is).stay.fit (first_rule_one_each runs m fit is each)
-    ] refl
+first_rule_one_each = first_rule_keeps HasOneEach rule_one_each
 
 pub settled_one_each : (runs : List RunState) → RunsFit runs → HasOneEach runs → HasOneEach (settled runs)
-settled_one_each runs fit each = one_each_within (left runs) runs fit each
+settled_one_each = settling_keeps HasOneEach rule_one_each

@@ -1,5 +1,5 @@
 -- Each settling rule keeps what was decided of jobs, and so does settling.
-use Rattle.std.specs.Prelude.{◌≡◌, ℕ, zero, suc, ◌&&◌, List, [], ◌∷◌, Bool, true, false, Option, Some, None, slice_get, if◌then◌else◌, refl}
+use Rattle.std.specs.Prelude.{◌≡◌, ℕ, ◌&&◌, List, [], ◌∷◌, Bool, true, false, Option, Some, None, slice_get, if◌then◌else◌, refl}
 use Rattle.std.specs.List.{list_all, list_any}
 use Rattle.std.specs.Option.{option_map_or}
 use Rattle.std.proofs.Common.{ap, sym, ◌∙◌, subst}
@@ -12,11 +12,11 @@ use Rattle.group_name.specs.Group.{Group}
 use Rattle.run_table.specs.Arrivals.{arrived, displaced, is_in_group_of_run, others_pending, room_made, started, stopped_where_asked}
 use Rattle.run_table.specs.GroupOf.{cancels_in_progress, group_at}
 use Rattle.run_table.specs.Groups.{may_start, running_in}
-use Rattle.run_table.specs.Moves.{Holder, Moved, and_then, at_each, without_moves}
+use Rattle.run_table.specs.Moves.{Holder, Moved, at_each, without_moves}
 use Rattle.run_table.specs.Places.{LegPlace, run_at, job_at, leg_at, with_run, with_job}
 use Rattle.run_table.specs.Rules.{rule_at, opening_rule, leg_rule, leg_rule_in, closing_rule, whole_rule, whole_rule_in, newcomer_rule}
 use Rattle.run_table.specs.Rules.{decided, leg_ends, may_run, result_at, with_leg_in}
-use Rattle.run_table.specs.Settling.{first_place, first_rule, left, settled_within, settled}
+use Rattle.run_table.specs.Settling.{settled}
 use Rattle.run_table.specs.StateWords.{has_ended, is_blocked, is_open, is_settled, leg_in_phase, opened, run_in_phase, settled_as}
 use Rattle.run_table.specs.StopMoves.{displace, stop_holder}
 use Rattle.run_table.specs.Stops.{stopped, stopped_run}
@@ -35,13 +35,13 @@ use Rattle.run_table.proofs.Decided.{Decided, JobDecided, NowDecided, all_decide
 use Rattle.run_table.proofs.HoldersKeep.{displaced_settles, holder_stop_settles}
 use Rattle.run_table.proofs.JobKeeps.{job_in}
 use Rattle.run_table.proofs.JobPhases.{is_open_open}
-use Rattle.run_table.proofs.LivePlaces.{LivePlace, first_place_is_live}
+use Rattle.run_table.proofs.LivePlaces.{LivePlace}
 use Rattle.run_table.proofs.Moved.{changed_none}
 use Rattle.run_table.proofs.Optional.{from_and_then, if_some}
 use Rattle.run_table.proofs.RuleKeeps.{newcomer_waits, rule_settles, run_ended}
 use Rattle.run_table.proofs.RunFits.{RunsFit, job_in_run}
 use Rattle.run_table.proofs.Settles.{Settles}
-use Rattle.run_table.proofs.SettlingKeeps.{first_rule_settles}
+use Rattle.run_table.proofs.SettlingKeeps.{settling_keeps}
 use Rattle.run_table.proofs.StopDecided.{stopped_decided}
 
 -- ---- the rules
@@ -192,20 +192,5 @@ rule_decided runs m (Whole r) fit live h all =
 
 -- ---- settling
 
-first_rule_decided : (runs : List RunState) (m : Moved) → RunsFit runs → first_rule runs ≡ Some m → Decided runs → Decided m.runs
-first_rule_decided runs m fit h all =
-    let made = from_and_then (rule_at runs) (first_place runs) m h in
-    rule_decided runs m made.value fit (first_place_is_live runs made.value made.is) made.gives all
-
-settles_decided : (n : ℕ) (runs : List RunState) → RunsFit runs → Decided runs → Decided (settled_within n runs).runs
-settles_decided zero runs fit all = all
-settles_decided (suc n) runs fit all =
-    elim (first_rule runs) as
-    (λ o. first_rule runs ≡ o → Decided (option_map_or (λ m. and_then m (settled_within n)) o (without_moves runs)).runs) [
-      | None ↦ λ is. all
-      | Some m ↦ λ is.
-          settles_decided n m.runs (first_rule_settles runs m fit is).stay.fit (first_rule_decided runs m fit is all)
-    ] refl
-
 pub settled_decided : (runs : List RunState) → RunsFit runs → Decided runs → Decided (settled runs)
-settled_decided runs fit all = settles_decided (left runs) runs fit all
+settled_decided = settling_keeps Decided rule_decided

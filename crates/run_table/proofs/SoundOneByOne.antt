@@ -4,8 +4,8 @@ use Rattle.std.specs.Option.{option_map_or}
 use Rattle.std.proofs.Common.{ap, sym, ◌∙◌}
 use Rattle.run_table.specs.ByLease.{lease_of_leg, lease_of_runner}
 use Rattle.run_table.specs.ByNumber.{Finds}
-use Rattle.run_table.specs.Moves.{Holder}
-use Rattle.run_table.specs.OneByOne.{EachRunIsSound, EachRunnerIsSound, HoldsWork, IsFound, LegIsSound, is_alone, is_worked_on, leg_of, runner_of}
+use Rattle.run_table.specs.Groups.{HasOneEach}
+use Rattle.run_table.specs.OneByOne.{EachRunIsSound, EachRunnerIsSound, HoldsWork, IsFound, LegIsSound, is_worked_on, leg_of, runner_of}
 use Rattle.run_table.specs.Parallel.{is_at_work}
 use Rattle.run_table.specs.Places.{LegPlace, leg_at, leg_place}
 use Rattle.run_table.specs.Settling.{first_place}
@@ -14,11 +14,9 @@ use Rattle.run_table.specs.TableOf.{AreAsPlanned}
 use Rattle.run_table.specs.TableState.{LegState, RunState, RunnerState, TableState}
 use Rattle.run_table.specs.Turns.{names_rise}
 use Rattle.run_table.specs.declared.sound.leases.Leases.{Leases}
-use Rattle.run_table.proofs.AloneHolders.{each_alone, one_of_each}
 use Rattle.run_table.proofs.JobKeeps.{job_in, leg_in}
 use Rattle.run_table.proofs.LegReads.{had_from_leg, leg_from_had}
 use Rattle.run_table.proofs.OneAfterAnother.{found_has, found_is, found_some, there}
-use Rattle.run_table.proofs.OneEach.{IsOneOf}
 use Rattle.run_table.proofs.Optional.{from_and_then}
 use Rattle.run_table.proofs.RunFits.{job_in_run, leg_in_job}
 
@@ -53,18 +51,16 @@ module _ (leases : Leases) (runs : List RunState) (runners : List RunnerState) (
           found_some (lease_of_runner runners) n (runner_of leases n) k (held n) (holds_at runners k n y at_k holds)),
     )
 
-    leg_sound : (p : LegPlace) (x : LegState) → leg_at runs p ≡ Some x → LegIsSound leases runs p x
+    leg_sound : (p : LegPlace) (x : LegState) → leg_at runs p ≡ Some x → LegIsSound leases p x
     leg_sound p x at = record {
       lease_fits = s.leases_fit p x at;
       lease_is_given = (λ n e. s.leases_are_given p x n at e);
       is_found = its_lease p x at;
-      alone = each_alone runs s.one_of_each_group (Holder.a_leg p);
     }
 
     pub each_run : EachRunIsSound leases runs
     each_run r x at = record {
       phase_fits = s.run_phases_fit r x at;
-      alone = each_alone runs s.one_of_each_group (Holder.a_run r);
       each_job = (λ j y at_j.
           let job = job_in_run runs r j x at ∙ at_j in
           record {
@@ -95,14 +91,10 @@ module _ (leases : Leases) (runs : List RunState) (runners : List RunnerState) (
   -- ---- to the table
 
   module _ (each : EachRunIsSound leases runs) (each_of_runners : EachRunnerIsSound leases runs runners) where
-    of_leg : (p : LegPlace) (x : LegState) → leg_at runs p ≡ Some x → LegIsSound leases runs p x
+    of_leg : (p : LegPlace) (x : LegState) → leg_at runs p ≡ Some x → LegIsSound leases p x
     of_leg p x at =
         let place = leg_in runs p x at in
         ((each p.run place.place.run place.place.run_is).each_job p.job place.job place.place.job_is).each_leg p.leg x place.leg_is
-
-    alone : (h : Holder) → IsOneOf runs h → is_alone runs h ≡ true
-    alone (Holder.a_run r) is = (each r is.0 is.1).alone
-    alone (Holder.a_leg p) is = (of_leg p is.0 is.1).alone
 
     is_held : (p : LegPlace) (x : LegState) (n : ℕ) → leg_at runs p ≡ Some x → is_at_work x.phase ≡ true → x.lease ≡ Some n → IsHeld runners n
     is_held p x n at work e =
@@ -119,8 +111,8 @@ module _ (leases : Leases) (runs : List RunState) (runners : List RunnerState) (
         (p, f.value, f.is, f.gives, sym (ap (λ o. option_map_or (λ (y : LegState). is_at_work y.phase) o false) f.is) ∙ e)
 
     pub to_sound : AreAsPlanned runs → names_rise runners ≡ true → KeptLeasesAreLegs runs runners → leases.last ≤ 999999999
-        → first_place runs ≡ None → DeliveriesDiffer runs → IsSound (table_with leases runs runners)
-    to_sound planned rise kept last rests differ = record {
+        → HasOneEach runs → first_place runs ≡ None → DeliveriesDiffer runs → IsSound (table_with leases runs runners)
+    to_sound planned rise kept last one rests differ = record {
       few_runs = planned.few;
       deliveries_differ = differ;
       jobs_are_the_plans = (λ r x at. (planned.each r x at).as_many);
@@ -129,7 +121,7 @@ module _ (leases : Leases) (runs : List RunState) (runners : List RunnerState) (
       needs_settled_first = (λ r j x at. let i = job_in runs r j x at in ((each r i.run i.run_is).each_job j x i.job_is).needs_first);
       parallel_bounded = (λ r j x most at e.
           let i = job_in runs r j x at in ((each r i.run i.run_is).each_job j x i.job_is).within_parallel most e);
-      one_of_each_group = one_of_each runs alone;
+      one_of_each_group = one;
       leases_fit = (λ p x at. (of_leg p x at).lease_fits);
       leases_are_given = (λ p x n at e. (of_leg p x at).lease_is_given n e);
       leases_differ = (λ p q x y n at_p at_q e f.

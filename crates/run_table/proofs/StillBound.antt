@@ -105,22 +105,23 @@ module _ (runs : List RunState) (run : RunState) (numbers : List ℕ) (n : ℕ) 
       }
 
 -- a run that was added with its number and with what it asks, or none of these
-pub all_added : {X : Type 0} (runs : List RunState) (run : RunState) (numbers : List ℕ) (kept : List RunGroups) (n : ℕ) (asked : RunGroups)
+pub all_added : {X : Type 0} (runs : List RunState) (run : RunState) (numbers : List ℕ) (kept : List RunGroups) (number : ℕ) (asked : RunGroups)
     (new_runs : List RunState) (new_numbers : List ℕ) (new_kept : List RunGroups) (result : Result X Refusal) → length runs < 100000
-    → AreNumbered runs numbers × AreBound runs kept → n ≡ count_by (λ other. same_workflow run.admitted other.admitted) runs
-    → RunSays (record { event = run.admitted; run_id = decimal (length runs + 1); run_number = decimal (n + 1) }) asked
-    → Gives (λ _. new_runs) result (Ok (runs ++ run ∷ [])) → OnOk result (new_numbers ≡ numbers ++ (n + 1) ∷ [])
+    → AreNumbered runs numbers × AreBound runs kept → number ≡ count_by (λ other. same_workflow run.admitted other.admitted) runs + 1
+    → RunSays (record { event = run.admitted; run_id = decimal (length runs + 1); run_number = decimal number }) asked
+    → Gives (λ _. new_runs) result (Ok (runs ++ run ∷ [])) → OnOk result (new_numbers ≡ numbers ++ number ∷ [])
     → OnOk result (new_kept ≡ kept ++ asked ∷ []) → OnErr result (new_runs ≡ runs) → OnErr result (new_numbers ≡ numbers)
     → OnErr result (new_kept ≡ kept) → AreNumbered new_runs new_numbers × AreBound new_runs new_kept
-all_added runs run numbers kept n asked new_runs new_numbers new_kept (Ok x) room are is says run_added number_added kept_added
+all_added runs run numbers kept number asked new_runs new_numbers new_kept (Ok x) room are is says run_added number_added kept_added
     same_runs same_numbers same_kept =
     let next = given (runs ++ run ∷ []) new_runs run_added in
-    let numbered = one_more runs run numbers n room are.0 is in (
+    let count = count_by (λ (other : RunState). same_workflow run.admitted other.admitted) runs in
+    let numbered = subst (λ (n : ℕ). AreNumbered (runs ++ run ∷ []) (numbers ++ n ∷ [])) (sym is) (one_more runs run numbers count room are.0 refl) in (
       subst (λ (rs : List RunState). AreNumbered rs new_numbers) next (subst (AreNumbered (runs ++ run ∷ [])) (sym number_added) numbered),
       subst (λ (rs : List RunState). AreBound rs new_kept) next
-          (subst (AreBound (runs ++ run ∷ [])) (sym kept_added) (added_bound runs run numbers (n + 1) are.0 numbered kept asked are.1 says)),
+          (subst (AreBound (runs ++ run ∷ [])) (sym kept_added) (added_bound runs run numbers number are.0 numbered kept asked are.1 says)),
     )
-all_added runs run numbers kept n asked new_runs new_numbers new_kept (Err e) room are is says run_added number_added kept_added
+all_added runs run numbers kept number asked new_runs new_numbers new_kept (Err e) room are is says run_added number_added kept_added
     same_runs same_numbers same_kept = (
       subst (λ (rs : List RunState). AreNumbered rs new_numbers) (sym same_runs) (subst (AreNumbered runs) (sym same_numbers) are.0),
       subst (λ (rs : List RunState). AreBound rs new_kept) (sym same_runs) (subst (AreBound runs) (sym same_kept) are.1),

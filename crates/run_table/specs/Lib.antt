@@ -4,6 +4,7 @@ pub mod ByLease
 pub mod ByNumber
 pub mod Cells
 pub mod Claims
+pub mod Counted
 pub mod ExactlyOnce
 pub mod Delivered
 pub mod FirstOf
@@ -13,6 +14,7 @@ pub mod GroupHistories
 pub mod GroupLaw
 pub mod GroupLawTest
 pub mod GroupOf
+pub mod GroupSets
 pub mod GroupWords
 pub mod Groups
 pub mod Histories

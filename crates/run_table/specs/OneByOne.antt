@@ -1,20 +1,15 @@
 -- What a table keeps of each of its runs, of each job of a run, of each leg of a job and of each runner, one by one, where legs and
 -- runners can be looked up by leases. Own.
-use Rattle.std.specs.Prelude.{◌≡◌, ℕ, ◌≤◌, List, [], slice_get, ◌&&◌, ◌||◌, not, Bool, false, true, is_none, is_some, Option, Some, if◌then◌else◌}
+use Rattle.std.specs.Prelude.{◌≡◌, ℕ, ◌≤◌, List, [], slice_get, Bool, false, true, is_some, Option, Some}
 use Rattle.std.specs.BTreeMap.{get}
 use Rattle.std.specs.Option.{option_map_or}
 use Rattle.std.specs.Ordering.{nat_cmp}
-use Rattle.run_table.specs.GroupWords.{same_holder}
-use Rattle.run_table.specs.Groups.{holds, waits}
-use Rattle.run_table.specs.Holders.{first_meant}
-use Rattle.run_table.specs.Moves.{Holder}
 use Rattle.run_table.specs.Parallel.{is_at_work, legs_at_work, most_at_work}
 use Rattle.run_table.specs.Places.{LegPlace, leg_at, leg_place, run_at}
 use Rattle.run_table.specs.Rules.{result_at}
 use Rattle.run_table.specs.Sound.{IsLastOf, LeaseFits, LegsFit, PhaseFits}
 use Rattle.run_table.specs.TableState.{LegState, JobState, RunState, RunnerState}
 use Rattle.run_table.specs.Words.{needs_have_settled, planned_legs}
-use Rattle.run_table.specs.declared.holder.Whom.TheVariants.{OthersPending, Running}
 use Rattle.run_table.specs.declared.sound.leases.Leases.{Leases}
 
 -- ---- what is looked up by a lease
@@ -29,19 +24,6 @@ runner_of leases n = get nat_cmp leases.held n
 abbrev pub is_worked_on : List RunState → Leases → ℕ → Bool
 is_worked_on runs leases n = option_map_or (λ p. option_map_or (λ x. is_at_work x.phase) (leg_at runs p) false) (leg_of leases n) false
 
--- ---- among the holders of its group
-
--- nobody else is pending there while it is pending
-abbrev pub pends_alone : List RunState → Holder → Bool
-pends_alone runs h = not (waits runs h) || is_none (first_meant runs h OthersPending)
-
--- it is itself the first that runs there, while it runs
-abbrev pub runs_alone : List RunState → Holder → Bool
-runs_alone runs h = if holds runs h then option_map_or (λ first. same_holder first h) (first_meant runs h Running) true else true
-
-abbrev pub is_alone : List RunState → Holder → Bool
-is_alone runs h = pends_alone runs h && runs_alone runs h
-
 -- ---- a leg
 
 -- a lease is a number from 1 to the last
@@ -52,14 +34,13 @@ IsGiven last lease = (n : ℕ) → lease ≡ Some n → (1 ≤ n) × (n ≤ last
 abbrev pub IsFound : Leases → LegPlace → LegState → Type 0
 IsFound leases p x = (n : ℕ) → x.lease ≡ Some n → (leg_of leases n ≡ Some p) × (is_at_work x.phase ≡ true → is_some (runner_of leases n) ≡ true)
 
-pub record LegIsSound (leases : Leases) (runs : List RunState) (p : LegPlace) (x : LegState) : Type 0 where
+pub record LegIsSound (leases : Leases) (p : LegPlace) (x : LegState) : Type 0 where
   pub lease_fits : LeaseFits x.phase x.lease
   pub lease_is_given : IsGiven leases.last x.lease
   pub is_found : IsFound leases p x
-  pub alone : is_alone runs (Holder.a_leg p) ≡ true
 
-abbrev pub EachLegIsSound : Leases → List RunState → ℕ → ℕ → List LegState → Type 0
-EachLegIsSound leases runs r j legs = (l : ℕ) (x : LegState) → slice_get legs l ≡ Some x → LegIsSound leases runs (leg_place r j l) x
+abbrev pub EachLegIsSound : Leases → ℕ → ℕ → List LegState → Type 0
+EachLegIsSound leases r j legs = (l : ℕ) (x : LegState) → slice_get legs l ≡ Some x → LegIsSound leases (leg_place r j l) x
 
 -- ---- a job
 
@@ -75,7 +56,7 @@ pub record JobIsSound (leases : Leases) (runs : List RunState) (r j : ℕ) (x : 
   pub legs_fit : LegsFit (planned_legs runs r j) (result_at runs r j x) x.phase x.legs
   pub needs_first : NeedsAreFirst runs r j x
   pub within_parallel : IsWithinParallel runs r j x
-  pub each_leg : EachLegIsSound leases runs r j x.legs
+  pub each_leg : EachLegIsSound leases r j x.legs
 
 abbrev pub EachJobIsSound : Leases → List RunState → ℕ → List JobState → Type 0
 EachJobIsSound leases runs r jobs = (j : ℕ) (x : JobState) → slice_get jobs j ≡ Some x → JobIsSound leases runs r j x
@@ -84,7 +65,6 @@ EachJobIsSound leases runs r jobs = (j : ℕ) (x : JobState) → slice_get jobs 
 
 pub record RunIsSound (leases : Leases) (runs : List RunState) (r : ℕ) (x : RunState) : Type 0 where
   pub phase_fits : PhaseFits x.phase x.stopping x.jobs
-  pub alone : is_alone runs (Holder.a_run r) ≡ true
   pub each_job : EachJobIsSound leases runs r x.jobs
 
 abbrev pub EachRunIsSound : Leases → List RunState → Type 0

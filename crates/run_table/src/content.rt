@@ -108,6 +108,7 @@ impl Content {
 
     /// Carries out a command as `step` does, and answers its reply with a copy of it. Where memory is refused for the copy, the table is
     /// as it was too: what a leg's new lease needs is taken before the first change, and no other change is answered with a text.
+    /// What is answered from the table as it is, without a text, is answered memory or not, with its copy.
     pub(crate) fn step_with_copy(
         &mut self,
         alloc: Global,
@@ -117,6 +118,7 @@ impl Content {
         ensures step { Gives (λ replies. (self.new, replies.0)) result (Ok (step self.old command.now)) }
         ensures copy { IfOk result (λ replies. replies.1 ≡ replies.0) }
         ensures err { OnErr result (self.new ≡ self.old) }
+        ensures answers { is_free (answered self.old command.now) ≡ true → IsOk result }
     {
         match command {
             Command::Claim(claim) => self.claim(alloc, claim),
@@ -135,6 +137,7 @@ impl Content {
         ensures step { Gives (λ replies. (self.new, replies.0)) result (Ok (step self.old command.now)) }
         ensures copy { IfOk result (λ replies. replies.1 ≡ replies.0) }
         ensures err { OnErr result (self.new ≡ self.old) }
+        ensures answers { is_free (answered self.old command.now) ≡ true → IsOk result }
     {
         let reply = self.step(alloc, command)?;
         with_copy(alloc, reply)

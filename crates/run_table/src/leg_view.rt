@@ -1,19 +1,25 @@
-ghost use Rattle.std.specs.Prelude.{◌≡◌};
+ghost use Rattle.std.specs.Prelude.{◌≡◌, Ok, option_copied};
 ghost use Rattle.std.specs.List.{list_all, list_any};
 ghost use Rattle.std.specs.Str.{str_eq_ignore_ascii_case};
+ghost use Rattle.wf_value.specs.Gives.{Gives};
 ghost use Rattle.wf_value.specs.ScalarValue.{scalar_text};
 ghost use Rattle.wf_expr.specs.TemplateValue.{template_value};
 ghost use Rattle.run_table.specs.Fitting.{has_label, has_labels};
+ghost use Rattle.run_table.specs.GroupOf.{asked_of_leg, leg_group};
 ghost use Rattle.run_table.specs.LegContext.{context_of};
 ghost use Rattle.run_table.specs.Words.{is_set, label_texts};
 
 use crate::leg_context::LegContext;
+use crate::named_group::named_group;
 use crate::run::Run;
+use group_name::GroupKey;
 use itoa::Buffer;
 use run_plan::{Label, PlannedJob};
+use std::alloc::Global;
 use std::marker::Model;
 use wf_expr::Template;
-use wf_reader::Flag;
+use wf_reader::{Concurrency, Flag};
+use wf_value::Refusal;
 
 /// A leg as it is planned, with what its context tells of its run.
 #[derive(Drop)]
@@ -96,6 +102,26 @@ impl<'a> LegView<'a> {
         let mut digits = Digits::new();
         let context = self.context(&mut digits);
         is_set(&self.job.continue_on_error, &context)
+    }
+
+    /// What the job asks of a group for the leg.
+    fn concurrency(&self) -> Option<&Concurrency>
+        ensures { option_copied result ≡ asked_of_leg self.now.job self.now.leg }
+    {
+        let _leg = self.job.legs.as_slice().get(self.leg)?;
+        self.job.concurrency.as_ref()
+    }
+
+    /// The group of the leg, where it has one.
+    pub(crate) fn group(&self, alloc: Global) -> Result<Option<GroupKey>, Refusal>
+        ensures { Gives (λ group. group) result (Ok (leg_group self.now)) }
+    {
+        let Some(asked) = self.concurrency() else {
+            return Ok(None);
+        };
+        let mut digits = Digits::new();
+        let context = self.context(&mut digits);
+        named_group(alloc, self.run.prepared().repo().as_str(), asked, &context)
     }
 }
 

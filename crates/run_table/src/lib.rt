@@ -15,6 +15,7 @@ mod leg;
 mod leg_context;
 mod leg_needs;
 mod leg_view;
+mod named_group;
 mod parts;
 mod phases;
 mod place;

@@ -1,4 +1,4 @@
-ghost use Rattle.std.specs.Prelude.{◌≡◌, ◌≤◌, ◌<◌, ◌∷◌, ◌++◌, [], length, IfSome, OnErr, OnOk};
+ghost use Rattle.std.specs.Prelude.{◌≡◌, ◌+◌, ◌≤◌, ◌<◌, ◌∷◌, ◌++◌, [], length, IfSome, OnErr, OnOk};
 ghost use Rattle.std.specs.Prelude.{option_map, option_copied, slice_get, Ok, ◌^◌, count_by};
 ghost use Rattle.std.specs.List.{position};
 ghost use Rattle.std.specs.Option.{option_map_or};
@@ -12,7 +12,9 @@ ghost use Rattle.run_table.specs.Step.{is_delivered_as};
 ghost use Rattle.run_table.specs.Words.{combo_at, job_id, passes_over};
 
 mod changes;
+mod counts;
 mod ending;
+mod group_keys;
 mod groups;
 mod of;
 mod settling;
@@ -191,6 +193,16 @@ impl Runs {
         ensures err { OnErr result (self.new ≡ self.old) }
     {
         let number = count_same(&run, &self.runs) + 1;
+        self.add_numbered(alloc, run, number)
+    }
+
+    /// The same, of a run whose number is known.
+    fn add_numbered(&mut self, alloc: Global, run: Run, number: usize) -> Result<(), Refusal>
+        requires room { length self.old < 100000 }
+        requires number { number ≡ count_by (λ other. same_workflow run.admitted other.admitted) self.old + 1 }
+        ensures added { Gives (λ _. self.new) result (Ok (self.old ++ run ∷ [])) }
+        ensures err { OnErr result (self.new ≡ self.old) }
+    {
         let asked = RunGroups::bind(alloc, &run, self.runs.len() + 1, number)?;
         let numbers = &mut self.numbers;
         push_all(

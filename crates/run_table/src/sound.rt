@@ -3,41 +3,35 @@
 ghost use Rattle.std.specs.BTreeMap.{get};
 ghost use Rattle.std.specs.Bool.{Decides};
 ghost use Rattle.std.specs.Ordering.{nat_cmp};
-ghost use Rattle.std.specs.Prelude.{◌≡◌, ℕ, None, IfOk, is_none, true};
+ghost use Rattle.std.specs.Prelude.{◌≡◌, ℕ, IfOk, true};
 ghost use Rattle.run_table.specs.BoundGroups.{ErrsOnlyByMemory};
 ghost use Rattle.run_table.specs.ByLease.{lease_of_leg, lease_of_runner};
 ghost use Rattle.run_table.specs.ByNumber.{Finds};
-ghost use Rattle.run_table.specs.Settling.{first_place};
 ghost use Rattle.run_table.specs.Sound.{IsSound, KeptLeasesAreLegs};
 ghost use Rattle.run_table.specs.TableOf.{AreAsPlanned};
 ghost use Rattle.run_table.specs.Turns.{names_rise};
 
 mod deliveries;
-mod holders;
+mod group_set;
+mod groups;
 mod jobs;
 pub(crate) mod leases;
 mod legs;
+mod rest;
 mod runners;
 mod runs;
 
 use crate::content::LAST_NUMBER;
-use crate::first_place::first_place;
-use crate::place::JobPlace;
 use crate::runner::Runner;
 use crate::runs::Runs;
 use crate::sound::deliveries::do_deliveries_differ;
+use crate::sound::groups::taken_groups;
 use crate::sound::leases::Leases;
+use crate::sound::rest::do_runs_rest;
 use crate::sound::runners::are_runners_sound;
 use crate::sound::runs::are_runs_sound;
 use std::alloc::Global;
 use wf_value::Refusal;
-
-/// Whether no settling rule applies.
-fn do_runs_rest(runs: &Runs) -> bool
-    ensures { result ≡ is_none (first_place runs.now) }
-{
-    first_place(runs, JobPlace { run: 0, job: 0 }).is_none()
-}
 
 /// Whether the table of these runs and runners is sound, where the runs are as planned, the names of the runners rise and the leases
 /// that are kept are those of legs.
@@ -65,7 +59,10 @@ pub(crate) fn is_sound(
     if !are_runners_sound(leases, runs, runners) {
         return Ok(false);
     }
-    if !do_runs_rest(runs) {
+    let Some(taken) = taken_groups(alloc, runs)? else {
+        return Ok(false);
+    };
+    if !do_runs_rest(alloc, runs, &taken)? {
         return Ok(false);
     }
     do_deliveries_differ(alloc, runs.as_slice())

@@ -56,7 +56,7 @@ impl Table {
     }
 
     /// Carries out a command as `step` does, and answers its reply with a copy of it. Where memory is refused for either, the table is
-    /// as it was.
+    /// as it was. What is answered from the table as it is, without a text, is answered memory or not, with its copy.
     pub fn step_with_copy(
         &mut self,
         alloc: Global,
@@ -65,6 +65,7 @@ impl Table {
         ensures step { Gives (λ replies. (self.new, replies.0)) result (Ok (step self.old command.now)) }
         ensures copy { IfOk result (λ replies. replies.1 ≡ replies.0) }
         ensures err { OnErr result (self.new ≡ self.old) }
+        ensures answers { is_free (answered self.old command.now) ≡ true → IsOk result }
     {
         self.content.step_with_copy(alloc, command)
     }

@@ -197,7 +197,7 @@ impl Runs {
         None
     }
 
-    fn job_count(&self, r: usize) -> usize
+    pub(crate) fn job_count(&self, r: usize) -> usize
         ensures { result ≡ option_map_or (λ run. length run.jobs) (run_at self.now r) 0 }
     {
         match self.runs.get(r) {
@@ -206,7 +206,7 @@ impl Runs {
         }
     }
 
-    fn leg_count(&self, r: usize, j: usize) -> usize
+    pub(crate) fn leg_count(&self, r: usize, j: usize) -> usize
         ensures { result ≡ option_map_or (λ job. length job.legs) (job_at self.now r j) 0 }
     {
         match self.job(r, j) {

@@ -89,10 +89,10 @@ fn is_within_parallel(runs: &Runs, r: usize, j: usize, job: &Job) -> bool
     }
 }
 
-fn has_sound_legs(leases: &Leases, runs: &Runs, r: usize, j: usize, job: &Job) -> bool
-    ensures { Decides result (EachLegIsSound leases.now runs.now r j job.now.state.legs) }
+fn has_sound_legs(leases: &Leases, r: usize, j: usize, job: &Job) -> bool
+    ensures { Decides result (EachLegIsSound leases.now r j job.now.state.legs) }
 {
-    are_legs_sound(leases, runs, r, j, job.legs())
+    are_legs_sound(leases, r, j, job.legs())
 }
 
 fn is_job_sound(leases: &Leases, runs: &Runs, r: usize, j: usize, job: &Job) -> bool
@@ -107,7 +107,7 @@ fn is_job_sound(leases: &Leases, runs: &Runs, r: usize, j: usize, job: &Job) -> 
     if !is_within_parallel(runs, r, j, job) {
         return false;
     }
-    has_sound_legs(leases, runs, r, j, job)
+    has_sound_legs(leases, r, j, job)
 }
 
 pub(crate) fn are_jobs_sound(leases: &Leases, runs: &Runs, r: usize, jobs: &[Job]) -> bool

@@ -1,17 +1,14 @@
 //! What each leg keeps: a lease where its phase asks for one and none where no runner has claimed it, a lease that was given, that no
-//! other leg has and that is held while a runner is at work, and a group that it shares with nobody of its kind.
+//! other leg has and that is held while a runner is at work.
 
 ghost use Rattle.std.specs.Bool.{Decides};
 ghost use Rattle.std.specs.Prelude.{◌≡◌, is_some, Some};
 ghost use Rattle.run_table.specs.OneByOne.{EachLegIsSound, IsFound, IsGiven, LegIsSound, leg_of, runner_of};
 ghost use Rattle.run_table.specs.Sound.{LeaseFits};
 
-use crate::holder::Holder;
 use crate::leg::Leg;
 use crate::phases::LegPhase;
 use crate::place::LegPlace;
-use crate::runs::Runs;
-use crate::sound::holders::is_alone;
 use crate::sound::leases::Leases;
 use run_plan::Number;
 use wf_value::Outcome;
@@ -66,17 +63,16 @@ fn is_found(leases: &Leases, place: LegPlace, leg: &Leg) -> bool
     }
 }
 
-fn is_leg_sound(leases: &Leases, runs: &Runs, place: LegPlace, leg: &Leg) -> bool
-    ensures { Decides result (LegIsSound leases.now runs.now place leg.now) }
+fn is_leg_sound(leases: &Leases, place: LegPlace, leg: &Leg) -> bool
+    ensures { Decides result (LegIsSound leases.now place leg.now) }
 {
     lease_fits(leg.phase, leg.lease)
         && is_given(leases.last, leg.lease)
         && is_found(leases, place, leg)
-        && is_alone(runs, &Holder::Leg(place))
 }
 
-pub(crate) fn are_legs_sound(leases: &Leases, runs: &Runs, r: usize, j: usize, legs: &[Leg]) -> bool
-    ensures { Decides result (EachLegIsSound leases.now runs.now r j legs.now) }
+pub(crate) fn are_legs_sound(leases: &Leases, r: usize, j: usize, legs: &[Leg]) -> bool
+    ensures { Decides result (EachLegIsSound leases.now r j legs.now) }
 {
     for l in 0..legs.len() {
         let place = LegPlace {
@@ -85,7 +81,7 @@ pub(crate) fn are_legs_sound(leases: &Leases, runs: &Runs, r: usize, j: usize, l
             leg: l,
         };
         let leg = &legs[l];
-        if !is_leg_sound(leases, runs, place, leg) {
+        if !is_leg_sound(leases, place, leg) {
             return false;
         }
     }

@@ -8,12 +8,10 @@ ghost use Rattle.run_table.specs.Sound.{PhaseFits};
 ghost use Rattle.run_table.specs.StateWords.{is_blocked};
 
 use crate::first_place::has_settled_jobs;
-use crate::holder::Holder;
 use crate::job::Job;
 use crate::phases::RunPhase;
 use crate::run::Run;
 use crate::runs::Runs;
-use crate::sound::holders::is_alone;
 use crate::sound::jobs::are_jobs_sound;
 use crate::sound::leases::Leases;
 
@@ -50,9 +48,6 @@ fn is_run_sound(leases: &Leases, runs: &Runs, r: usize, run: &Run) -> bool
     ensures { Decides result (RunIsSound leases.now runs.now r run.now) }
 {
     if !phase_fits(run) {
-        return false;
-    }
-    if !is_alone(runs, &Holder::Run(r)) {
         return false;
     }
     has_sound_jobs(leases, runs, r, run)

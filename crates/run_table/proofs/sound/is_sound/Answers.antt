@@ -1,9 +1,10 @@
-use Rattle.std.proofs.Common.{◌≡◌, ◌≤◌, ◌∙◌, List, Bool, arith, false, true, None, sym, subst, rules}
+use Rattle.std.proofs.Common.{◌≡◌, ◌≤◌, List, Bool, arith, false, true, None, Some, sym, subst, rules}
 use Rattle.std.specs.Bool.{Decides}
 use Rattle.run_table.specs.Settling.{first_place}
 use Rattle.run_table.specs.Sound.{DeliveriesDiffer, IsSound}
 use Rattle.run_table.specs.TableState.{RunState}
-use Rattle.run_table.proofs.OneAfterAnother.{is_nothing, like, no, not_so, something, when_ok}
+use Rattle.run_table.proofs.GroupsOfTable.{found_each, found_none_of_each}
+use Rattle.run_table.proofs.OneAfterAnother.{like, no, not_so, when_ok}
 use Rattle.run_table.proofs.SoundOneByOne.{each_run, each_runner, table_with, to_sound}
 use Rattle.run_table.proofs.sound.is_sound.Goals as goal
 
@@ -20,10 +21,20 @@ returns-then-not-are_runners_sound-clause-sound c =
     no (λ s. not_so c.are_runners_sound.result c.are_runners_sound.ensures (search rules)
     (each_runner c.args.leases.now c.args.runs.now c.args.runners.now c.requires.legs c.requires.held s))
 
-pub returns-then-not-do_runs_rest-clause-sound : goal.returns-then-not-do_runs_rest-clause-sound
-returns-then-not-do_runs_rest-clause-sound c =
-    let moves : c.do_runs_rest.result ≡ false = search rules in
-    no (λ s. something (first_place c.args.runs.now) (sym c.do_runs_rest.ensures ∙ moves) s.no_rule_applies)
+pub returns-in_default-clause-sound : goal.returns-in_default-clause-sound
+returns-in_default-clause-sound c =
+    let none : c.in_ok-taken.field-0 ≡ None = search rules in
+    no (λ s. found_none_of_each c.args.runs.now c.in_ok-taken.field-0 c.in_ok-taken.ensures.of none s.one_of_each_group)
+
+pub returns-then-not-branch-clause-sound : goal.returns-then-not-branch-clause-sound
+returns-then-not-branch-clause-sound c =
+    let moves : c.in_ok-do_runs_rest.field-0 ≡ false = search rules in
+    no (λ s. not_so c.in_ok-do_runs_rest.field-0 c.in_ok-do_runs_rest.ensures.rest moves s.no_rule_applies)
+
+pub do_runs_rest-requires : goal.do_runs_rest-requires
+do_runs_rest-requires c =
+    let some : c.in_ok-taken.field-0 ≡ Some c.in-Some.taken = search rules in
+    (found_each c.args.runs.now c.in_ok-taken.field-0 c.in-Some.taken c.in_ok-taken.ensures.of some).1
 
 pub returns-clause-sound : goal.returns-clause-sound
 returns-clause-sound c =
@@ -31,14 +42,16 @@ returns-clause-sound c =
     let runs = c.args.runs.now in
     let runners = c.args.runners.now in
     let last : leases.last ≤ 999999999 = omega arith in
+    let some : c.in_ok-taken.field-0 ≡ Some c.in-Some.taken = search rules in
+    let one = (found_each runs c.in_ok-taken.field-0 c.in-Some.taken c.in_ok-taken.ensures.of some).0 in
     let each = c.are_runs_sound.ensures.0 (search rules) in
     let each_of_runners = c.are_runners_sound.ensures.0 (search rules) in
-    let still : c.do_runs_rest.result ≡ true = search rules in
-    let rests : first_place runs ≡ None = is_nothing (first_place runs) (sym c.do_runs_rest.ensures ∙ still) in
+    let still : c.in_ok-do_runs_rest.field-0 ≡ true = search rules in
+    let rests : first_place runs ≡ None = c.in_ok-do_runs_rest.ensures.rest.0 still in
     when_ok c.do_deliveries_differ.result (λ (b : Bool). Decides b (DeliveriesDiffer c.as_slice.result.now))
     (λ b. Decides b (IsSound (table_with leases runs runners)))
     (λ b d. like b
     (λ differ. to_sound leases runs runners c.requires.legs c.requires.held each each_of_runners c.requires.planned c.requires.rise c.requires.kept
-    last rests (subst (λ (xs : List RunState). DeliveriesDiffer xs) c.as_slice.ensures.runs differ))
+    last one rests (subst (λ (xs : List RunState). DeliveriesDiffer xs) c.as_slice.ensures.runs differ))
     (λ s. subst (λ (xs : List RunState). DeliveriesDiffer xs) (sym c.as_slice.ensures.runs) s.deliveries_differ) d)
     c.do_deliveries_differ.ensures.differ

@@ -6,5 +6,5 @@ use Rattle.run_table.proofs.sound.jobs.has_sound_legs.Goals as goal
 
 pub returns : goal.returns
 returns c =
-    subst (λ (legs : List LegState). Decides c.are_legs_sound.result (EachLegIsSound c.args.leases.now c.args.runs.now c.args.r c.args.j legs))
+    subst (λ (legs : List LegState). Decides c.are_legs_sound.result (EachLegIsSound c.args.leases.now c.args.r c.args.j legs))
     c.legs.ensures c.are_legs_sound.ensures

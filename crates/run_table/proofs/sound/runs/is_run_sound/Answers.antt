@@ -1,24 +1,13 @@
-use Rattle.std.proofs.Common.{◌≡◌, ◌∙◌, false, sym, true, rules}
-use Rattle.std.proofs.lemmas.Bool.{true≢false}
+use Rattle.std.proofs.Common.{◌≡◌, true, rules}
 use Rattle.run_table.proofs.OneAfterAnother.{no, not_so}
 use Rattle.run_table.proofs.sound.runs.is_run_sound.Goals as goal
 
 pub returns-then-not-phase_fits : goal.returns-then-not-phase_fits
 returns-then-not-phase_fits c = no (λ s. not_so c.phase_fits.result c.phase_fits.ensures (search rules) s.phase_fits)
 
-pub returns-then-not-is_alone : goal.returns-then-not-is_alone
-returns-then-not-is_alone c =
-    let others : c.is_alone.result ≡ false = search rules in
-    no (λ s. true≢false (sym s.alone ∙ sym c.is_alone.ensures ∙ others))
-
 pub returns : goal.returns
 returns c =
-    let fits : c.phase_fits.result ≡ true = search rules in
-    let alone : c.is_alone.result ≡ true = search rules in (
-      (λ e. record {
-        phase_fits = c.phase_fits.ensures.0 fits;
-        alone = sym c.is_alone.ensures ∙ alone;
-        each_job = c.has_sound_jobs.ensures.0 e;
-      }),
+    let fits : c.phase_fits.result ≡ true = search rules in (
+      (λ e. record { phase_fits = c.phase_fits.ensures.0 fits; each_job = c.has_sound_jobs.ensures.0 e }),
       (λ s. c.has_sound_jobs.ensures.1 s.each_job),
     )

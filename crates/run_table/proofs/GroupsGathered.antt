@@ -1,0 +1,233 @@
+-- The groups of runs and legs as they are gathered one after the other: each is new, or two clash.
+use Rattle.std.specs.Prelude.{◌≡◌, ◌⊎◌, ℕ, ◌+◌, ◌<◌, List, [], ◌||◌, not, Bool, true, false, Option, Some, None, Result, Ok, Err, IfOk, OnOk, refl}
+use Rattle.std.proofs.Common.{arith, ap, sym, subst, ◌∙◌, inl, inr}
+use Rattle.std.proofs.lemmas.Bool.{cases_eq, true≢false}
+use Rattle.wf_value.specs.declared.refusal.Refusal.{Refusal}
+use Rattle.group_name.specs.Group.{Group}
+use Rattle.run_table.specs.GroupSets.{AddsEach, AreGroupsOf, Clash, DifferInGroup, Gathered, HasOneOf, IsALeg, IsARun, has_group}
+use Rattle.run_table.specs.Groups.{same_group}
+use Rattle.run_table.specs.Moves.{Holder}
+use Rattle.run_table.proofs.GroupSetReads.{either_true, own_group}
+use Rattle.run_table.proofs.OneEach.{same_is_one}
+
+-- those of them that are passed
+abbrev pub SoFar : (Holder → Type 0) → (Holder → ℕ) → ℕ → Holder → Type 0
+SoFar these place i h = these h × (place h < i)
+
+some_same : (g k : Group) → Some g ≡ Some k → g ≡ k
+some_same g k e = cc
+
+none_not_some : (g : Group) → None ≡ Some g → ⊥
+none_not_some g e = cc
+
+module _ (group_of : Holder → Option Group) where
+  -- ---- one of them
+
+  pub none_has : (h : Holder) (a : List Group) → group_of h ≡ None → Gathered group_of a a (λ k. k ≡ h)
+  none_has h a none = record {
+    keeps = (λ g e. e);
+    has_each = (λ k g is e. absurd (none_not_some g (sym none ∙ ap group_of (sym is) ∙ e)));
+    no_other = (λ g e. inl e);
+    each_new = (λ k g is e. absurd (none_not_some g (sym none ∙ ap group_of (sym is) ∙ e)));
+    each_once = (λ k j g is also e f. is ∙ sym also);
+  }
+
+  pub one_has : (h : Holder) (g : Group) (a b : List Group) → group_of h ≡ Some g → has_group a g ≡ false
+      → ((k : Group) → has_group b k ≡ (same_group k g || has_group a k)) → Gathered group_of a b (λ k. k ≡ h)
+  one_has h g a b has new added = record {
+    keeps = (λ k e. added k ∙ either_true (same_group k g) (has_group a k) e);
+    has_each = (λ j k is e.
+        let same : g ≡ k = some_same g k (sym has ∙ ap group_of (sym is) ∙ e) in
+        added k ∙ ap (λ v. same_group k v || has_group a k) same ∙ ap (λ b. b || has_group a k) (own_group k));
+    no_other = (λ k e. elim (same_group k g) as (λ b. same_group k g ≡ b → (b || has_group a k) ≡ true
+        → (has_group a k ≡ true) ⊎ HasOneOf group_of (λ j. j ≡ h) k) [
+          | true ↦ λ is e. inr (record { one = h; is_one = refl; has_it = has ∙ ap Some (sym (same_is_one k g is)) })
+          | false ↦ λ is e. inl e
+        ] refl (sym (added k) ∙ e));
+    each_new = (λ j k is e.
+        let same : g ≡ k = some_same g k (sym has ∙ ap group_of (sym is) ∙ e) in ap (has_group a) (sym same) ∙ new);
+    each_once = (λ k j v is also e f. is ∙ sym also);
+  }
+
+  pub one_clashes : (h : Holder) (g : Group) (a : List Group) → group_of h ≡ Some g → has_group a g ≡ true → Clash group_of a (λ k. k ≡ h)
+  one_clashes h g a has there = record { group = g; one = h; is_one = refl; has_it = has; other = inl there }
+
+  -- ---- some, and then others
+
+  pub and_others : (a b c : List Group) (first second all : Holder → Type 0) → Gathered group_of a b first → Gathered group_of b c second
+      → ((h : Holder) → all h → first h ⊎ second h) → ((h : Holder) → first h → all h) → ((h : Holder) → second h → all h)
+      → Gathered group_of a c all
+  and_others a b c first second all one two parts of_first of_second = record {
+    keeps = (λ g e. two.keeps g (one.keeps g e));
+    has_each = (λ h g is e. elim (parts h is) [
+      | inl f ↦ two.keeps g (one.has_each h g f e)
+      | inr s ↦ two.has_each h g s e
+    ]);
+    no_other = (λ g e. elim (two.no_other g e) [
+      | inr s ↦ inr (record { one = s.one; is_one = of_second s.one s.is_one; has_it = s.has_it })
+      | inl before ↦ elim (one.no_other g before) [
+        | inr f ↦ inr (record { one = f.one; is_one = of_first f.one f.is_one; has_it = f.has_it })
+        | inl old ↦ inl old
+      ]
+    ]);
+    each_new = (λ h g is e. elim (parts h is) [
+      | inl f ↦ one.each_new h g f e
+      | inr s ↦ was_new h g s e
+    ]);
+    each_once = (λ h k g is also e f. elim (parts h is) [
+      | inl first_h ↦ elim (parts k also) [
+        | inl first_k ↦ one.each_once h k g first_h first_k e f
+        | inr second_k ↦ absurd (true≢false (sym (one.has_each h g first_h e) ∙ two.each_new k g second_k f))
+      ]
+      | inr second_h ↦ elim (parts k also) [
+        | inl first_k ↦ absurd (true≢false (sym (one.has_each k g first_k f) ∙ two.each_new h g second_h e))
+        | inr second_k ↦ two.each_once h k g second_h second_k e f
+      ]
+    ]);
+  }
+    where
+      was_new : (h : Holder) (g : Group) → second h → group_of h ≡ Some g → has_group a g ≡ false
+      was_new h g s e =
+          elim (has_group a g) as (λ v. has_group a g ≡ v → v ≡ false) [
+            | true ↦ λ is. absurd (true≢false (sym (one.keeps g is) ∙ two.each_new h g s e))
+            | false ↦ λ is. refl
+          ] refl
+
+  pub others_clash : (a b : List Group) (first second all : Holder → Type 0) → Gathered group_of a b first → Clash group_of b second
+      → ((h : Holder) → first h → all h) → ((h : Holder) → second h → all h) → ((h : Holder) → first h → second h → ⊥)
+      → Clash group_of a all
+  others_clash a b first second all one two of_first of_second apart = record {
+    group = two.group;
+    one = two.one;
+    is_one = of_second two.one two.is_one;
+    has_it = two.has_it;
+    other = elim (two.other) [
+      | inr s ↦ inr (record { one = s.one; is_one = (of_second s.one s.is_one.0, s.is_one.1); has_it = s.has_it })
+      | inl before ↦ elim (one.no_other two.group before) [
+        | inl old ↦ inl old
+        | inr f ↦ inr (record {
+          one = f.one;
+          is_one = (of_first f.one f.is_one, λ same. apart two.one (subst first same f.is_one) two.is_one);
+          has_it = f.has_it;
+        })
+      ]
+    ];
+  }
+
+  pub some_clash : (a : List Group) (first all : Holder → Type 0) → Clash group_of a first → ((h : Holder) → first h → all h)
+      → Clash group_of a all
+  some_clash a first all one of_first = record {
+    group = one.group;
+    one = one.one;
+    is_one = of_first one.one one.is_one;
+    has_it = one.has_it;
+    other = elim (one.other) [
+      | inl old ↦ inl old
+      | inr s ↦ inr (record { one = s.one; is_one = (of_first s.one s.is_one.0, s.is_one.1); has_it = s.has_it })
+    ];
+  }
+
+  -- ---- place by place
+
+  module _ (these : Holder → Type 0) (place : Holder → ℕ) where
+    pub none_gathered : (a : List Group) → Gathered group_of a a (SoFar these place 0)
+    none_gathered a = record {
+      keeps = (λ g e. e);
+      has_each = (λ h g is e. let lt = is.1 in absurd (omega arith));
+      no_other = (λ g e. inl e);
+      each_new = (λ h g is e. let lt = is.1 in absurd (omega arith));
+      each_once = (λ h k g is also e f. let lt = is.1 in absurd (omega arith));
+    }
+
+    pub next_gathered : (i : ℕ) (a b c : List Group) (next : Holder → Type 0) → Gathered group_of a b (SoFar these place i)
+        → Gathered group_of b c next → ((h : Holder) → next h → these h × (place h ≡ i)) → ((h : Holder) → these h → place h ≡ i → next h)
+        → Gathered group_of a c (SoFar these place (i + 1))
+    next_gathered i a b c next before more from_next to_next =
+        and_others a b c (SoFar these place i) next (SoFar these place (i + 1)) before more
+        (λ h is. elim (cases_eq (place h) i) [
+          | inl same ↦ inr (to_next h is.0 same)
+          | inr other ↦ inl (is.0, let lt = is.1 in omega arith)
+        ])
+        (λ h is. (is.0, let lt = is.1 in omega arith))
+        (λ h is. let is_here = from_next h is in (is_here.0, omega (arith, is_here.1)))
+
+    pub next_clashes : (i : ℕ) (a b : List Group) (next : Holder → Type 0) → Gathered group_of a b (SoFar these place i)
+        → Clash group_of b next → ((h : Holder) → next h → these h × (place h ≡ i)) → Clash group_of a these
+    next_clashes i a b next before more from_next =
+        others_clash a b (SoFar these place i) next these before more (λ h is. is.0) (λ h is. (from_next h is).0)
+        (λ h is is_next. let lt = is.1 in absurd (omega (arith, (from_next h is_next).1)))
+
+    pub all_gathered : (i : ℕ) (a b : List Group) → Gathered group_of a b (SoFar these place i)
+        → ((h : Holder) (g : Group) → these h → group_of h ≡ Some g → place h < i) → Gathered group_of a b these
+    all_gathered i a b so_far within = record {
+      keeps = so_far.keeps;
+      has_each = (λ h g is e. so_far.has_each h g (is, within h g is e) e);
+      no_other = (λ g e. elim (so_far.no_other g e) [
+        | inl old ↦ inl old
+        | inr s ↦ inr (record { one = s.one; is_one = s.is_one.0; has_it = s.has_it })
+      ]);
+      each_new = (λ h g is e. so_far.each_new h g (is, within h g is e) e);
+      each_once = (λ h k g is also e f. so_far.each_once h k g (is, within h g is e) (also, within k g also f) e f);
+    }
+
+  -- ---- all of them
+
+  abbrev Each : Holder → Type 0
+  Each h = Unit {0}
+
+  run_or_leg : (h : Holder) → IsARun h ⊎ IsALeg h
+  run_or_leg (Holder.a_run r) = inl tt
+  run_or_leg (Holder.a_leg p) = inr tt
+
+  not_both : (h : Holder) → IsARun h → IsALeg h → ⊥
+  not_both (Holder.a_run r) is also = also
+  not_both (Holder.a_leg p) is also = is
+
+  two_clash : Clash group_of [] Each → DifferInGroup group_of → ⊥
+  two_clash clash differ = elim (clash.other) [
+    | inl there ↦ absurd (true≢false (sym there))
+    | inr s ↦ s.is_one.1 (differ s.one clash.one clash.group s.has_it clash.has_it)
+  ]
+
+  pub all_differ : (b c : List Group) → Gathered group_of [] b IsARun → Gathered group_of b c IsALeg
+      → DifferInGroup group_of × AreGroupsOf group_of c
+  all_differ b c of_runs of_legs =
+      let all = and_others [] b c IsARun IsALeg Each of_runs of_legs (λ h is. run_or_leg h) (λ h is. tt) (λ h is. tt) in (
+        (λ h k g e f. all.each_once h k g tt tt e f),
+        record {
+          has_each = (λ h g e. all.has_each h g tt e);
+          no_other = (λ g e. elim (all.no_other g e) [ inl there ↦ absurd (true≢false (sym there)) | inr s ↦ s ]);
+        },
+      )
+
+  pub runs_clash : Clash group_of [] IsARun → DifferInGroup group_of → ⊥
+  runs_clash clash = two_clash (some_clash [] IsARun Each clash (λ h is. tt))
+
+  pub legs_clash : (b : List Group) → Gathered group_of [] b IsARun → Clash group_of b IsALeg → DifferInGroup group_of → ⊥
+  legs_clash b of_runs clash = two_clash (others_clash [] b IsARun IsALeg Each of_runs clash (λ h is. tt) (λ h is. tt) not_both)
+
+  pub all_new : (a b : List Group) (these : Holder → Type 0) (new : Bool) → AddsEach group_of a b these new → new ≡ true → Gathered group_of a b these
+  all_new a b these true adds is = adds
+  all_new a b these false adds is = cc
+
+  pub one_not_new : (a b : List Group) (these : Holder → Type 0) (new : Bool) → AddsEach group_of a b these new → new ≡ false
+      → Clash group_of a these
+  one_not_new a b these true adds is = cc
+  one_not_new a b these false adds is = adds
+
+  -- ---- what putting one in says
+
+  pub group_put : (h : Holder) (g : Group) (a b : List Group) (r : Result Bool Refusal) → group_of h ≡ Some g
+      → IfOk r (λ new. new ≡ not (has_group a g)) → OnOk r ((k : Group) → has_group b k ≡ (same_group k g || has_group a k))
+      → IfOk r (AddsEach group_of a b (λ k. k ≡ h))
+  group_put h g a b (Err e) has new added = tt
+  group_put h g a b (Ok true) has new added = one_has h g a b has (was_not (has_group a g) (sym new)) added
+    where
+      was_not : (b : Bool) → not b ≡ true → b ≡ false
+      was_not true e = cc
+      was_not false e = refl
+  group_put h g a b (Ok false) has new added = one_clashes h g a has (was (has_group a g) (sym new))
+    where
+      was : (b : Bool) → not b ≡ false → b ≡ true
+      was true e = refl
+      was false e = cc

@@ -1,0 +1,212 @@
+-- The groups in which the runs and legs of a table stand: who stands in one is one of the table's, and where no two stand in one each
+-- group has at most one pending and one running holder.
+use Rattle.std.specs.Prelude.{◌≡◌, ℕ, ◌<◌, List, [], ◌∷◌, ◌||◌, length, Bool, true, false, is_none, Option, Some, None, if◌then◌else◌, MatchOption}
+use Rattle.std.specs.Prelude.{IfOk, Result, Ok, Err, refl}
+use Rattle.std.specs.List.{list_any}
+use Rattle.std.specs.Option.{option_map_or}
+use Rattle.std.proofs.Common.{ap, sym, subst, ◌∙◌}
+use Rattle.std.proofs.lemmas.Bool.{and_parts}
+use Rattle.std.proofs.lemmas.Option.{slice_get_within}
+use Rattle.wf_value.specs.declared.refusal.Refusal.{Refusal}
+use Rattle.group_name.specs.Group.{Group}
+use Rattle.run_table.specs.GroupOf.{group_at}
+use Rattle.run_table.specs.GroupSets.{AreGroupsOf, AreTaken, DifferInGroup, IsALeg, IsALegOfJob, IsALegOfRun, IsARun, group_as, has_group, stands}
+use Rattle.run_table.specs.Groups.{HasOneEach, all_holders, holds, is_in, is_pending_in, is_running_in, is_taken, same_group, waits}
+use Rattle.run_table.specs.Holders.{run_of}
+use Rattle.run_table.specs.Moves.{Holder}
+use Rattle.run_table.specs.Places.{job_at, leg_place, run_at}
+use Rattle.run_table.specs.TableState.{JobState, RunState}
+use Rattle.run_table.specs.declared.sound.groups.Standing.{Standing}
+use Rattle.run_table.specs.declared.sound.groups.Standing.TheVariants.{Pending, Running}
+use Rattle.run_table.proofs.GroupSetReads.{own_group}
+use Rattle.run_table.proofs.JobKeeps.{leg_in}
+use Rattle.run_table.proofs.LeaseReads.{same_place}
+use Rattle.run_table.proofs.RunFits.{job_in_run}
+use Rattle.run_table.proofs.OneEach.{IsOneOf, both, group_is, not_taken, one_that_holds, one_that_waits}
+
+-- the place of its job, and its own
+abbrev pub job_of : Holder → ℕ
+job_of (Holder.a_run r) = 0
+job_of (Holder.a_leg p) = p.job
+
+abbrev pub leg_of : Holder → ℕ
+leg_of (Holder.a_run r) = 0
+leg_of (Holder.a_leg p) = p.leg
+
+-- ---- who stands in a group
+
+given_if : {X : Type 0} (b : Bool) (o : Option X) (x : X) → (if b then o else None) ≡ Some x → (b ≡ true) × (o ≡ Some x)
+given_if true o x e = (refl, e)
+given_if false o x e = cc
+
+module _ (runs : List RunState) where
+  one_that_stands : (s : Standing) (h : Holder) → stands runs s h ≡ true → IsOneOf runs h
+  one_that_stands Pending h e = one_that_waits runs h e
+  one_that_stands Running h e = one_that_holds runs h e
+
+  its_own : (s : Standing) (h : Holder) (g : Group) → group_as runs s h ≡ Some g → IsOneOf runs h
+  its_own s h g e = one_that_stands s h (given_if (stands runs s h) (group_at runs h) g e).0
+
+  -- its place is within the table
+
+  pub run_within : (s : Standing) (h : Holder) (g : Group) → group_as runs s h ≡ Some g → run_of h < length runs
+  run_within s (Holder.a_run r) g e = let one = its_own s (Holder.a_run r) g e in slice_get_within runs r one.0 one.1
+  run_within s (Holder.a_leg p) g e =
+      let one = its_own s (Holder.a_leg p) g e in
+      let at = leg_in runs p one.0 one.1 in
+      slice_get_within runs p.run at.place.run at.place.run_is
+
+  pub job_within : (s : Standing) (r : ℕ) (h : Holder) (g : Group) → IsALegOfRun r h → group_as runs s h ≡ Some g
+      → job_of h < option_map_or (λ run. length run.jobs) (run_at runs r) 0
+  job_within s r (Holder.a_run q) g is e = absurd is
+  job_within s r (Holder.a_leg p) g is e =
+      let one = its_own s (Holder.a_leg p) g e in
+      let at = (leg_in runs p one.0 one.1).place in
+      let there : run_at runs r ≡ Some at.run = ap (run_at runs) (sym is) ∙ at.run_is in
+      subst (λ n. p.job < n) (sym (ap (λ o. option_map_or (λ (run : RunState). length run.jobs) o 0) there))
+      (slice_get_within at.run.jobs p.job _ at.job_is)
+
+  pub leg_within : (s : Standing) (r j : ℕ) (h : Holder) (g : Group) → IsALegOfJob r j h → group_as runs s h ≡ Some g
+      → leg_of h < option_map_or (λ job. length job.legs) (job_at runs r j) 0
+  leg_within s r j (Holder.a_run q) g is e = absurd is
+  leg_within s r j (Holder.a_leg p) g is e =
+      let one = its_own s (Holder.a_leg p) g e in
+      let at = leg_in runs p one.0 one.1 in
+      let there : job_at runs r j ≡ Some at.job =
+      ap (λ q. job_at runs q j) (sym is.0) ∙ ap (job_at runs p.run) (sym is.1)
+      ∙ job_in_run runs p.run p.job at.place.run at.place.run_is ∙ at.place.job_is in
+      subst (λ n. p.leg < n) (sym (ap (λ o. option_map_or (λ (job : JobState). length job.legs) o 0) there))
+      (slice_get_within at.job.legs p.leg one.0 at.leg_is)
+
+  -- ---- at most one of each kind
+
+  in_own : (g : Group) (h : Holder) → group_at runs h ≡ Some g → is_in runs g h ≡ true
+  in_own g h e = ap (λ o. option_map_or (same_group g) o false) e ∙ own_group g
+
+  pending_as : (g : Group) (h : Holder) → is_pending_in runs g h ≡ true → group_as runs Pending h ≡ Some g
+  pending_as g h e =
+      let parts = and_parts (is_in runs g h) (waits runs h) e in
+      ap (λ b. if b then group_at runs h else None) parts.1 ∙ group_is runs g h parts.0
+
+  running_as : (g : Group) (h : Holder) → is_running_in runs g h ≡ true → group_as runs Running h ≡ Some g
+  running_as g h e =
+      let parts = and_parts (is_in runs g h) (holds runs h) e in
+      ap (λ b. if b then group_at runs h else None) parts.1 ∙ group_is runs g h parts.0
+
+  as_pending : (g : Group) (h : Holder) → group_as runs Pending h ≡ Some g → is_pending_in runs g h ≡ true
+  as_pending g h e =
+      let parts = given_if (waits runs h) (group_at runs h) g e in both (is_in runs g h) (waits runs h) (in_own g h parts.1) parts.0
+
+  as_running : (g : Group) (h : Holder) → group_as runs Running h ≡ Some g → is_running_in runs g h ≡ true
+  as_running g h e =
+      let parts = given_if (holds runs h) (group_at runs h) g e in both (is_in runs g h) (holds runs h) (in_own g h parts.1) parts.0
+
+  pub one_of_each : DifferInGroup (group_as runs Pending) → DifferInGroup (group_as runs Running) → HasOneEach runs
+  one_of_each pending running = record {
+    pending = (λ g h k e f. pending h k g (pending_as g h e) (pending_as g k f));
+    running = (λ g h k e f. running h k g (running_as g h e) (running_as g k f));
+  }
+
+  pub pending_differ : HasOneEach runs → DifferInGroup (group_as runs Pending)
+  pending_differ one h k g e f = one.pending g h k (as_pending g h e) (as_pending g k f)
+
+  pub running_differ : HasOneEach runs → DifferInGroup (group_as runs Running)
+  running_differ one h k g e f = one.running g h k (as_running g h e) (as_running g k f)
+
+  -- ---- the groups that are taken
+
+  runs_in : (g : Group) (hs : List Holder) → list_any (is_running_in runs g) hs ≡ true → (h : Holder) × (is_running_in runs g h ≡ true)
+  runs_in g [] e = cc
+  runs_in g (h ∷ hs) e =
+      elim (is_running_in runs g h) as
+      (λ b. is_running_in runs g h ≡ b → (b || list_any (is_running_in runs g) hs) ≡ true
+      → (k : Holder) × (is_running_in runs g k ≡ true)) [
+        | true ↦ λ is e. (h, is)
+        | false ↦ λ is e. runs_in g hs e
+      ] refl e
+
+  same_truth : (a b : Bool) → (a ≡ true → b ≡ true) → (b ≡ true → a ≡ true) → a ≡ b
+  same_truth true b to from = sym (to refl)
+  same_truth false true to from = from refl
+  same_truth false false to from = refl
+
+  taken_by : (g : Group) (h : Holder) → is_running_in runs g h ≡ true → is_taken runs g ≡ true
+  taken_by g h e =
+      elim (is_taken runs g) as (λ b. is_taken runs g ≡ b → b ≡ true) [
+        | true ↦ λ is. refl
+        | false ↦ λ is. absurd (not_taken runs g h is e)
+      ] refl
+
+  pub those_taken : (groups : List Group) → AreGroupsOf (group_as runs Running) groups → AreTaken runs groups
+  those_taken groups are g =
+      same_truth (has_group groups g) (is_taken runs g)
+      (λ has. let one = are.no_other g has in taken_by g one.one (as_running g one.one one.has_it))
+      (λ taken. let one = runs_in g (all_holders runs) taken in are.has_each one.0 g (running_as g one.0 one.1))
+
+-- ---- what is found of the groups in which somebody is pending, and of those in which somebody runs
+
+module _ (runs : List RunState) where
+  pub pending_clash : (o : Option (List Group))
+      → MatchOption o (DifferInGroup (group_as runs Pending) → ⊥)
+      (λ groups. DifferInGroup (group_as runs Pending) × AreGroupsOf (group_as runs Pending) groups)
+      → is_none o ≡ true → HasOneEach runs → ⊥
+  pending_clash None says none one = says (pending_differ runs one)
+  pending_clash (Some groups) says none one = cc
+
+  pub pending_apart : (o : Option (List Group))
+      → MatchOption o (DifferInGroup (group_as runs Pending) → ⊥)
+      (λ groups. DifferInGroup (group_as runs Pending) × AreGroupsOf (group_as runs Pending) groups)
+      → is_none o ≡ false → DifferInGroup (group_as runs Pending)
+  pending_apart None says some = cc
+  pending_apart (Some groups) says some = says.0
+
+  pub taken_found : (r : Result (Option (List Group)) Refusal) → DifferInGroup (group_as runs Pending)
+      → IfOk r (λ found. MatchOption found (DifferInGroup (group_as runs Running) → ⊥)
+      (λ groups. DifferInGroup (group_as runs Running) × AreGroupsOf (group_as runs Running) groups))
+      → IfOk r (λ found. MatchOption found (HasOneEach runs → ⊥) (λ groups. HasOneEach runs × AreTaken runs groups))
+  taken_found (Err e) pending says = tt
+  taken_found (Ok None) pending says = λ one. says (running_differ runs one)
+  taken_found (Ok (Some groups)) pending says = (one_of_each runs pending says.0, those_taken runs groups says.1)
+
+  pub found_each : (o : Option (List Group)) (groups : List Group)
+      → MatchOption o (HasOneEach runs → ⊥) (λ gs. HasOneEach runs × AreTaken runs gs) → o ≡ Some groups
+      → HasOneEach runs × AreTaken runs groups
+  found_each None groups says is = cc
+  found_each (Some gs) groups says is = let same : gs ≡ groups = cc in (says.0, subst (AreTaken runs) same says.1)
+
+  pub found_none_of_each : (o : Option (List Group)) → MatchOption o (HasOneEach runs → ⊥) (λ gs. HasOneEach runs × AreTaken runs gs)
+      → o ≡ None → HasOneEach runs → ⊥
+  found_none_of_each None says is one = says one
+  found_none_of_each (Some gs) says is one = cc
+
+-- ---- which of them stands at a place
+
+pub a_run_is : (r : ℕ) (h : Holder) → h ≡ Holder.a_run r → IsARun h × (run_of h ≡ r)
+a_run_is r h is = subst (λ k. IsARun k × (run_of k ≡ r)) (sym is) (tt, refl)
+
+pub is_that_run : (r : ℕ) (h : Holder) → IsARun h → run_of h ≡ r → h ≡ Holder.a_run r
+is_that_run r (Holder.a_run q) is at = ap Holder.a_run at
+is_that_run r (Holder.a_leg p) is at = absurd is
+
+pub a_leg_is : (r j l : ℕ) (h : Holder) → h ≡ Holder.a_leg (leg_place r j l) → IsALegOfJob r j h × (leg_of h ≡ l)
+a_leg_is r j l h is = subst (λ k. IsALegOfJob r j k × (leg_of k ≡ l)) (sym is) ((refl, refl), refl)
+
+pub is_that_leg : (r j l : ℕ) (h : Holder) → IsALegOfJob r j h → leg_of h ≡ l → h ≡ Holder.a_leg (leg_place r j l)
+is_that_leg r j l (Holder.a_run q) is at = absurd is
+is_that_leg r j l (Holder.a_leg p) is at = ap Holder.a_leg (same_place p (leg_place r j l) is.0 is.1 at)
+
+pub leg_of_its_run : (r j : ℕ) (h : Holder) → IsALegOfJob r j h → IsALegOfRun r h × (job_of h ≡ j)
+leg_of_its_run r j (Holder.a_run q) is = absurd is
+leg_of_its_run r j (Holder.a_leg p) is = (is.0, is.1)
+
+pub leg_of_that_job : (r j : ℕ) (h : Holder) → IsALegOfRun r h → job_of h ≡ j → IsALegOfJob r j h
+leg_of_that_job r j (Holder.a_run q) is at = absurd is
+leg_of_that_job r j (Holder.a_leg p) is at = (is, at)
+
+pub a_leg_of_run : (r : ℕ) (h : Holder) → IsALegOfRun r h → IsALeg h × (run_of h ≡ r)
+a_leg_of_run r (Holder.a_run q) is = absurd is
+a_leg_of_run r (Holder.a_leg p) is = (tt, is)
+
+pub leg_of_that_run : (r : ℕ) (h : Holder) → IsALeg h → run_of h ≡ r → IsALegOfRun r h
+leg_of_that_run r (Holder.a_run q) is at = absurd is
+leg_of_that_run r (Holder.a_leg p) is at = at

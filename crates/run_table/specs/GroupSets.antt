@@ -1,0 +1,85 @@
+-- The concurrency groups in which the runs and legs of a table stand, gathered so that a group can be looked up. Own.
+use Rattle.std.specs.Prelude.{◌≡◌, ◌⊎◌, ℕ, List, Bool, true, false, Option, Some, None, if◌then◌else◌}
+use Rattle.std.specs.Bool.{MatchBool}
+use Rattle.std.specs.List.{list_any}
+use Rattle.group_name.specs.Group.{Group}
+use Rattle.run_table.specs.GroupOf.{group_at}
+use Rattle.run_table.specs.Groups.{holds, is_taken, same_group, waits}
+use Rattle.run_table.specs.Moves.{Holder}
+use Rattle.run_table.specs.TableState.{RunState}
+use Rattle.run_table.specs.declared.sound.groups.Standing.{Standing}
+use Rattle.run_table.specs.declared.sound.groups.Standing.TheVariants.{Pending, Running}
+
+abbrev pub has_group : List Group → Group → Bool
+has_group groups g = list_any (same_group g) groups
+
+-- ---- how a run or a leg stands in its group
+
+abbrev pub stands : List RunState → Standing → Holder → Bool
+stands runs Pending h = waits runs h
+stands runs Running h = holds runs h
+
+-- the group in which it stands so, where it does
+abbrev pub group_as : List RunState → Standing → Holder → Option Group
+group_as runs standing h = if stands runs standing h then group_at runs h else None
+
+-- ---- groups that are gathered from some of the runs and legs, where each may have a group
+
+-- one of these has the group
+pub record HasOneOf (group_of : Holder → Option Group) (these : Holder → Type 0) (g : Group) : Type 0 where
+  pub one : Holder
+  pub is_one : these one
+  pub has_it : group_of one ≡ Some g
+
+-- the groups of these were added to those before: each of them was new, and no two of these have one group
+pub record Gathered (group_of : Holder → Option Group) (before after : List Group) (these : Holder → Type 0) : Type 0 where
+  pub keeps : (g : Group) → has_group before g ≡ true → has_group after g ≡ true
+  pub has_each : (h : Holder) (g : Group) → these h → group_of h ≡ Some g → has_group after g ≡ true
+  pub no_other : (g : Group) → has_group after g ≡ true → (has_group before g ≡ true) ⊎ HasOneOf group_of these g
+  pub each_new : (h : Holder) (g : Group) → these h → group_of h ≡ Some g → has_group before g ≡ false
+  pub each_once : (h k : Holder) (g : Group) → these h → these k → group_of h ≡ Some g → group_of k ≡ Some g → h ≡ k
+
+-- one of these has a group that was there before, or another of these has its group
+pub record Clash (group_of : Holder → Option Group) (before : List Group) (these : Holder → Type 0) : Type 0 where
+  pub group : Group
+  pub one : Holder
+  pub is_one : these one
+  pub has_it : group_of one ≡ Some group
+  pub other : (has_group before group ≡ true) ⊎ HasOneOf group_of (λ h. these h × (h ≡ one → ⊥)) group
+
+-- what adding the groups of these says of them: that all is gathered, or that two clash
+abbrev pub AddsEach : (Holder → Option Group) → List Group → List Group → (Holder → Type 0) → Bool → Type 0
+AddsEach group_of before after these all_new = MatchBool all_new (Gathered group_of before after these) (Clash group_of before these)
+
+-- ---- which runs and legs
+
+abbrev pub IsARun : Holder → Type 0
+IsARun (Holder.a_run r) = Unit {0}
+IsARun (Holder.a_leg p) = ⊥
+
+abbrev pub IsALeg : Holder → Type 0
+IsALeg (Holder.a_run r) = ⊥
+IsALeg (Holder.a_leg p) = Unit {0}
+
+abbrev pub IsALegOfRun : ℕ → Holder → Type 0
+IsALegOfRun r (Holder.a_run s) = ⊥
+IsALegOfRun r (Holder.a_leg p) = p.run ≡ r
+
+abbrev pub IsALegOfJob : ℕ → ℕ → Holder → Type 0
+IsALegOfJob r j (Holder.a_run s) = ⊥
+IsALegOfJob r j (Holder.a_leg p) = (p.run ≡ r) × (p.job ≡ j)
+
+-- ---- all of them
+
+-- no two have one group
+abbrev pub DifferInGroup : (Holder → Option Group) → Type 0
+DifferInGroup group_of = (h k : Holder) (g : Group) → group_of h ≡ Some g → group_of k ≡ Some g → h ≡ k
+
+-- the groups are exactly those that somebody has
+pub record AreGroupsOf (group_of : Holder → Option Group) (groups : List Group) : Type 0 where
+  pub has_each : (h : Holder) (g : Group) → group_of h ≡ Some g → has_group groups g ≡ true
+  pub no_other : (g : Group) → has_group groups g ≡ true → HasOneOf group_of (λ h. Unit {0}) g
+
+-- the groups are exactly those in which somebody runs
+abbrev pub AreTaken : List RunState → List Group → Type 0
+AreTaken runs groups = (g : Group) → has_group groups g ≡ is_taken runs g
