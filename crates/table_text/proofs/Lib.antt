@@ -10,3 +10,4 @@ pub mod TableKnown
 pub mod TableLengthLaws
 pub mod TableReaders
 mod TableRows
+pub mod WholeTables

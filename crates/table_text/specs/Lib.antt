@@ -6,4 +6,5 @@ pub mod ReadingCommands
 pub mod ReadingTables
 pub mod TableLengths
 pub mod Tables
+pub mod WholeTables
 pub mod Writing

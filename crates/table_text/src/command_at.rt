@@ -2,11 +2,12 @@ ghost use Rattle.std.specs.Prelude.{◌≡◌, ◌≢◌, IfOk};
 ghost use Rattle.wf_value.specs.RefusalText.{refusal_number};
 ghost use Rattle.table_text.specs.declared.not_read.NotRead.TheVariants.{NoSpelling};
 ghost use Rattle.table_text.specs.Commands.{is_faultless};
-ghost use Rattle.table_text.specs.Reading.{Finds, items_at, kept};
+ghost use Rattle.table_text.specs.Reading.{Finds, kept};
 ghost use Rattle.table_text.specs.ReadingCommands.{admit_at, batch_at, beat_at, claim_at, command_at, command_of, done_at};
 
 use crate::fields::{is_within, labels_at, number_at, result_at, small_text_at};
 use crate::front::{text_at, word_at};
+use crate::list_at::{ReadAt, list_at};
 use crate::not_read::NotRead;
 use run_plan::{
     Beat, Claim, Command, DeliveryForm, DeliveryId, Done, EventForm, EventName, Number, Prepared,
@@ -151,22 +152,12 @@ pub(crate) fn command_at(alloc: Global, bytes: &[u8]) -> Result<(Command, &[u8])
     }
 }
 
-/// So many commands, one behind the other, and what stands behind them.
-fn command_list_at(
-    alloc: Global,
-    count: u32,
-    bytes: &[u8],
-) -> Result<(Vec<Command>, &[u8]), NotRead>
-    ensures { Finds (λ f. (f.0.items, f.1.now)) result (items_at command_at count bytes.now) }
-{
-    let mut commands = Vec::new(alloc);
-    let mut rest = bytes;
-    for _ in 0..count {
-        let (command, behind) = command_at(alloc, rest)?;
-        commands.push(command)?;
-        rest = behind;
+impl ReadAt for Command {
+    ghost stands_at = { command_at };
+
+    fn read_at(alloc: Global, bytes: &[u8]) -> Result<(Command, &[u8]), NotRead> {
+        command_at(alloc, bytes)
     }
-    Ok((commands, rest))
 }
 
 /// The commands behind their count, and what stands behind them.
@@ -178,5 +169,5 @@ pub(crate) fn batch_at(alloc: Global, bytes: &[u8]) -> Result<(Vec<Command>, &[u
     if !is_within(count, u32::MAX) {
         return Err(NotRead::NoSpelling);
     }
-    command_list_at(alloc, count, rest)
+    list_at(alloc, count as usize, rest)
 }

@@ -1,13 +1,14 @@
 ghost use Rattle.std.specs.Prelude.{◌≡◌, ◌≤◌, ◌&&◌, IfOk, nat_le};
-ghost use Rattle.run_plan.specs.SmallText.{is_label_byte, short_text_of};
+ghost use Rattle.run_plan.specs.SmallText.{short_text_of};
 ghost use Rattle.table_text.specs.Commands.{is_numbered};
-ghost use Rattle.table_text.specs.Reading.{Finds, items_at, kept};
+ghost use Rattle.table_text.specs.Reading.{Finds, kept};
 ghost use Rattle.table_text.specs.ReadingCommands.{labels_at, number_at, result_at, result_of, small_text_at};
 ghost use Rattle.table_text.specs.ReadingTables.{lease_at, lease_of, lease_told};
 
 use crate::front::{text_at, word_at};
+use crate::list_at::{ReadAt, list_at};
 use crate::not_read::NotRead;
-use run_plan::{Form, Label, LabelForm, Labels, Number, SmallText};
+use run_plan::{Form, Labels, Number, SmallText};
 use std::alloc::Global;
 use wf_value::Outcome;
 
@@ -106,18 +107,12 @@ pub(crate) fn small_text_at<F: Form>(
     Ok((small, rest))
 }
 
-/// So many labels, one behind the other, and what stands behind them.
-fn label_list_at(alloc: Global, count: u32, bytes: &[u8]) -> Result<(Vec<Label>, &[u8]), NotRead>
-    ensures { Finds (λ f. (f.0.items, f.1.now)) result (items_at (small_text_at is_label_byte) count bytes.now) }
-{
-    let mut labels = Vec::new(alloc);
-    let mut rest = bytes;
-    for _ in 0..count {
-        let (label, behind) = small_text_at::<LabelForm>(alloc, rest)?;
-        labels.push(label)?;
-        rest = behind;
+impl<F: Form> ReadAt for SmallText<F> {
+    ghost stands_at = { small_text_at F.allows };
+
+    fn read_at(alloc: Global, bytes: &[u8]) -> Result<(SmallText<F>, &[u8]), NotRead> {
+        small_text_at(alloc, bytes)
     }
-    Ok((labels, rest))
 }
 
 /// The labels behind their count, and what stands behind them.
@@ -129,7 +124,7 @@ pub(crate) fn labels_at(alloc: Global, bytes: &[u8]) -> Result<(Labels, &[u8]), 
     if !is_within(count, MOST_LABELS) {
         return Err(NotRead::NoSpelling);
     }
-    let (labels, rest) = label_list_at(alloc, count, rest)?;
+    let (labels, rest) = list_at(alloc, count as usize, rest)?;
     Ok((Labels::new(labels), rest))
 }
 

@@ -8,6 +8,7 @@ ghost use Rattle.table_text.specs.Lengths.{batch_length, command_length, length_
 ghost use Rattle.run_table.specs.Stored.{StoredTable};
 ghost use Rattle.table_text.specs.TableLengths.{table_length};
 ghost use Rattle.table_text.specs.Tables.{table};
+ghost use Rattle.table_text.specs.WholeTables.{whole_table};
 
 /// No spelling of a command begins another.
 pub fn no_command_begins_another()
@@ -52,4 +53,14 @@ pub fn each_table_has_one_spelling()
 /// A table is spelled in the bytes of its fields: the empty one in twelve.
 pub fn a_table_has_the_bytes_of_its_fields()
     ensures { (t : StoredTable) → length_of table t ≡ table_length t }
+{}
+
+/// No spelling of a whole table begins another: bytes spell one sound table at most.
+pub fn no_whole_table_begins_another()
+    ensures { NoneBeginsAnother whole_table }
+{}
+
+/// Each whole table that has a spelling has one.
+pub fn each_whole_table_has_one_spelling()
+    ensures { HasOneSpelling whole_table }
 {}

@@ -1,9 +1,9 @@
-ghost use Rattle.std.specs.Prelude.{◌≡◌, [], ◌∷◌, ◌++◌, ◌<◌, ◌^◌, length, flat_map, OnOk};
-ghost use Rattle.std.specs.List.{AllByRecursion};
+ghost use Rattle.std.specs.Prelude.{◌≡◌, [], ◌∷◌, ◌++◌, ◌<◌, ◌^◌, length, OnOk};
 ghost use Rattle.table_text.specs.Commands.{IsSpelled, admit, beat, body, claim, command_bytes, done, kind_of, labels, number, outcome_byte, small_text};
 ghost use Rattle.table_text.specs.Format.{text_bytes, word_bytes};
 
-use run_plan::{Beat, Claim, Command, Done, Form, Label, Labels, Number, Prepared, SmallText};
+use crate::push_list::{Push, push_list};
+use run_plan::{Beat, Claim, Command, Done, Form, Labels, Number, Prepared, SmallText};
 use std::alloc::AllocError;
 use wf_value::Outcome;
 
@@ -42,14 +42,16 @@ pub(crate) fn push_small_text<F: Form>(
     push_text(out, text.as_str().as_bytes())
 }
 
-/// Appends each label, one behind the other.
-fn push_label_list(out: &mut Vec<u8>, list: &[Label]) -> Result<(), AllocError>
-    ensures { OnOk result (out.new.items ≡ out.old.items ++ flat_map text_bytes list.now) }
-{
-    for label in list {
-        push_small_text(out, label)?;
+impl<F: Form> Push for SmallText<F> {
+    ghost can_push = { λ text. Unit {0} };
+
+    ghost takes = { (small_text F.allows).Takes };
+
+    ghost spelling = { text_bytes };
+
+    fn push_to(&self, out: &mut Vec<u8>) -> Result<(), AllocError> {
+        push_small_text(out, self)
     }
-    Ok(())
 }
 
 fn push_labels(out: &mut Vec<u8>, value: &Labels) -> Result<(), AllocError>
@@ -58,7 +60,7 @@ fn push_labels(out: &mut Vec<u8>, value: &Labels) -> Result<(), AllocError>
 {
     let list = value.as_slice();
     push_word(out, list.len() as u32)?;
-    push_label_list(out, list)?;
+    push_list(out, list)?;
     Ok(())
 }
 
@@ -170,13 +172,14 @@ pub(crate) fn push_command(out: &mut Vec<u8>, asked: &Command) -> Result<(), All
     }
 }
 
-/// Appends each command, one behind the other.
-pub(crate) fn push_commands(out: &mut Vec<u8>, list: &[Command]) -> Result<(), AllocError>
-    ensures takes { OnOk result (AllByRecursion IsSpelled list.now) }
-    ensures bytes { OnOk result (out.new.items ≡ out.old.items ++ flat_map command_bytes list.now) }
-{
-    for asked in list {
-        push_command(out, asked)?;
+impl Push for Command {
+    ghost can_push = { λ asked. Unit {0} };
+
+    ghost takes = { IsSpelled };
+
+    ghost spelling = { command_bytes };
+
+    fn push_to(&self, out: &mut Vec<u8>) -> Result<(), AllocError> {
+        push_command(out, self)
     }
-    Ok(())
 }

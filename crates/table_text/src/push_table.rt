@@ -1,7 +1,6 @@
 //! The parts of a table's spelling, each appended to bytes.
 
-ghost use Rattle.std.specs.Prelude.{◌≡◌, [], ◌∷◌, ◌++◌, ◌≤◌, length, flat_map, OnOk};
-ghost use Rattle.std.specs.List.{AllByRecursion};
+ghost use Rattle.std.specs.Prelude.{◌≡◌, [], ◌∷◌, ◌++◌, ◌≤◌, length, OnOk};
 ghost use Rattle.run_table.specs.Stored.{is_new, stored_last, stored_runner, stored_table};
 ghost use Rattle.run_table.specs.TableState.{JobState, RunState, RunnerState};
 ghost use Rattle.table_text.specs.Format.{word_bytes};
@@ -9,6 +8,7 @@ ghost use Rattle.table_text.specs.Tables.{flag_byte, job, job_byte, last_command
 ghost use Rattle.table_text.specs.Writing.{HasByte, JobHasBytes, RunHasBytes};
 
 use crate::push::{push_admit, push_claim, push_done, push_number, push_small_text, push_word};
+use crate::push_list::{Push, push_list};
 use run_plan::{ClaimReply, LastCommand, Number};
 use run_table::{Job, JobPhase, Leg, LegPhase, Run, RunPhase, Runner, Table};
 use std::alloc::AllocError;
@@ -77,74 +77,50 @@ fn push_lease(out: &mut Vec<u8>, value: Option<Number>) -> Result<(), AllocError
 
 // ---- runs
 
-fn push_leg(out: &mut Vec<u8>, value: &Leg) -> Result<(), AllocError>
-    requires { HasByte value.now }
-    ensures takes { OnOk result (leg.Takes value.now) }
-    ensures bytes { OnOk result (out.new.items ≡ out.old.items ++ leg.spelling value.now) }
-{
-    push_byte(out, leg_byte(value.phase))?;
-    push_lease(out, value.lease)?;
-    Ok(())
-}
+impl Push for Leg {
+    ghost can_push = { HasByte };
 
-/// Appends each leg, one behind the other.
-fn push_leg_list(out: &mut Vec<u8>, list: &[Leg]) -> Result<(), AllocError>
-    requires { AllByRecursion HasByte list.now }
-    ensures takes { OnOk result (AllByRecursion leg.Takes list.now) }
-    ensures bytes { OnOk result (out.new.items ≡ out.old.items ++ flat_map leg.spelling list.now) }
-{
-    for value in list {
-        push_leg(out, value)?;
+    ghost takes = { leg.Takes };
+
+    ghost spelling = { leg.spelling };
+
+    fn push_to(&self, out: &mut Vec<u8>) -> Result<(), AllocError> {
+        push_byte(out, leg_byte(self.phase))?;
+        push_lease(out, self.lease)?;
+        Ok(())
     }
-    Ok(())
 }
 
-fn push_job(out: &mut Vec<u8>, value: &Job) -> Result<(), AllocError>
-    requires { JobHasBytes value.now.state }
-    ensures takes { OnOk result (job.Takes value.now.state) }
-    ensures bytes { OnOk result (out.new.items ≡ out.old.items ++ job.spelling value.now.state) }
-{
-    let legs = value.legs();
-    push_byte(out, job_byte(value.phase()))?;
-    push_word(out, legs.len() as u32)?;
-    push_leg_list(out, legs)?;
-    Ok(())
-}
+impl Push for Job {
+    ghost can_push = { λ j. JobHasBytes j.state };
 
-/// Appends each job, one behind the other.
-fn push_job_list(out: &mut Vec<u8>, list: &[Job]) -> Result<(), AllocError>
-    requires { AllByRecursion (λ j. JobHasBytes j.state) list.now }
-    ensures takes { OnOk result (AllByRecursion (λ j. job.Takes j.state) list.now) }
-    ensures bytes { OnOk result (out.new.items ≡ out.old.items ++ flat_map (λ j. job.spelling j.state) list.now) }
-{
-    for value in list {
-        push_job(out, value)?;
+    ghost takes = { λ j. job.Takes j.state };
+
+    ghost spelling = { λ j. job.spelling j.state };
+
+    fn push_to(&self, out: &mut Vec<u8>) -> Result<(), AllocError> {
+        let legs = self.legs();
+        push_byte(out, job_byte(self.phase()))?;
+        push_word(out, legs.len() as u32)?;
+        push_list(out, legs)?;
+        Ok(())
     }
-    Ok(())
 }
 
-fn push_run(out: &mut Vec<u8>, value: &Run) -> Result<(), AllocError>
-    requires { RunHasBytes value.now }
-    ensures takes { OnOk result (run.Takes value.now) }
-    ensures bytes { OnOk result (out.new.items ≡ out.old.items ++ run.spelling value.now) }
-{
-    push_admit(out, value.prepared())?;
-    push_byte(out, run_byte(value.phase()))?;
-    push_byte(out, flag_byte(value.is_stopping()))?;
-    push_job_list(out, value.jobs())?;
-    Ok(())
-}
+impl Push for Run {
+    ghost can_push = { RunHasBytes };
 
-/// Appends each run, one behind the other.
-fn push_run_list(out: &mut Vec<u8>, list: &[Run]) -> Result<(), AllocError>
-    requires { AllByRecursion RunHasBytes list.now }
-    ensures takes { OnOk result (AllByRecursion run.Takes list.now) }
-    ensures bytes { OnOk result (out.new.items ≡ out.old.items ++ flat_map run.spelling list.now) }
-{
-    for value in list {
-        push_run(out, value)?;
+    ghost takes = { run.Takes };
+
+    ghost spelling = { run.spelling };
+
+    fn push_to(&self, out: &mut Vec<u8>) -> Result<(), AllocError> {
+        push_admit(out, self.prepared())?;
+        push_byte(out, run_byte(self.phase()))?;
+        push_byte(out, flag_byte(self.is_stopping()))?;
+        push_list(out, self.jobs())?;
+        Ok(())
     }
-    Ok(())
 }
 
 // ---- runners
@@ -185,26 +161,20 @@ fn push_last(out: &mut Vec<u8>, value: &LastCommand) -> Result<(), AllocError>
     }
 }
 
-fn push_runner(out: &mut Vec<u8>, value: &Runner) -> Result<(), AllocError>
-    ensures takes { OnOk result (runner.Takes (stored_runner value.now)) }
-    ensures bytes { OnOk result (out.new.items ≡ out.old.items ++ runner.spelling (stored_runner value.now)) }
-{
-    push_small_text(out, &value.name)?;
-    push_number(out, value.number)?;
-    push_last(out, &value.last)?;
-    push_lease(out, value.holds)?;
-    Ok(())
-}
+impl Push for Runner {
+    ghost can_push = { λ r. Unit {0} };
 
-/// Appends each runner, one behind the other.
-fn push_runner_list(out: &mut Vec<u8>, list: &[Runner]) -> Result<(), AllocError>
-    ensures takes { OnOk result (AllByRecursion (λ r. runner.Takes (stored_runner r)) list.now) }
-    ensures bytes { OnOk result (out.new.items ≡ out.old.items ++ flat_map (λ r. runner.spelling (stored_runner r)) list.now) }
-{
-    for value in list {
-        push_runner(out, value)?;
+    ghost takes = { λ r. runner.Takes (stored_runner r) };
+
+    ghost spelling = { λ r. runner.spelling (stored_runner r) };
+
+    fn push_to(&self, out: &mut Vec<u8>) -> Result<(), AllocError> {
+        push_small_text(out, &self.name)?;
+        push_number(out, self.number)?;
+        push_last(out, &self.last)?;
+        push_lease(out, self.holds)?;
+        Ok(())
     }
-    Ok(())
 }
 
 // ---- tables
@@ -219,8 +189,8 @@ pub(crate) fn push_table(out: &mut Vec<u8>, value: &Table) -> Result<(), AllocEr
     let runners = value.runners();
     push_word(out, value.last_lease())?;
     push_word(out, runs.len() as u32)?;
-    push_run_list(out, runs)?;
+    push_list(out, runs)?;
     push_word(out, runners.len() as u32)?;
-    push_runner_list(out, runners)?;
+    push_list(out, runners)?;
     Ok(())
 }

@@ -4,12 +4,13 @@ ghost use Rattle.wf_value.specs.Gives.{no_memory};
 ghost use Rattle.table_text.specs.Commands.{batch, command};
 ghost use Rattle.table_text.specs.Format.{StandsAtFront};
 ghost use Rattle.table_text.specs.Tables.{table};
+ghost use Rattle.table_text.specs.WholeTables.{whole_table};
 
 use crate::command_at::{batch_at, command_at};
 use crate::not_read::NotRead;
 use crate::table_at::table_at;
 use run_plan::Command;
-use run_table::Parts;
+use run_table::{Parts, Table};
 use std::alloc::Global;
 use wf_value::{Code, Refusal};
 
@@ -49,5 +50,20 @@ pub fn read_parts(alloc: Global, bytes: &[u8]) -> Result<Option<(Parts, &[u8])>,
         Ok(found) => Ok(Some(found)),
         Err(NotRead::NoSpelling) => Ok(None),
         Err(NotRead::NoMemory) => Err(Refusal::Numbered(Code::NoMemory)),
+    }
+}
+
+/// The sound table that is spelled at the front of the bytes, and the bytes behind it, or `None` where no front of them spells one.
+/// Where memory is refused the answer is 50, and nothing is known.
+pub fn read_table(alloc: Global, bytes: &[u8]) -> Result<Option<(Table, &[u8])>, Refusal>
+    ensures front { IfOk result (λ found. StandsAtFront whole_table bytes.now (option_map (λ f. (f.0, f.1.now)) found)) }
+    ensures refused { IfErr result (λ e. e ≡ no_memory) }
+{
+    let Some((parts, rest)) = read_parts(alloc, bytes)? else {
+        return Ok(None);
+    };
+    match Table::of(alloc, &parts)? {
+        Some(table) => Ok(Some((table, rest))),
+        None => Ok(None),
     }
 }

@@ -3,7 +3,7 @@
 ghost use Rattle.std.specs.Prelude.{◌≡◌};
 ghost use Rattle.std.specs.Cmp.Lexicographic.{slice_cmp};
 ghost use Rattle.std.specs.Ordering.{is_lt, nat_cmp};
-ghost use Rattle.table_text.specs.Reading.{Finds, items_at, kept};
+ghost use Rattle.table_text.specs.Reading.{Finds, kept};
 ghost use Rattle.table_text.specs.ReadingTables.{claim_with, last_at, last_with, report_with, runner_at, runners_at};
 ghost use Rattle.table_text.specs.Tables.{names_rise};
 
@@ -11,6 +11,7 @@ use crate::command_at::command_at;
 use crate::fields::{lease_at, lease_told, number_at, small_text_at};
 use crate::front::{byte_at, word_at};
 use crate::kept::{Kept, kept_of};
+use crate::list_at::{ReadAt, list_at};
 use crate::not_read::NotRead;
 use run_plan::{Claim, Command, Done, Number, RunnerForm};
 use run_table::{LastParts, RunnerParts};
@@ -61,40 +62,23 @@ fn last_at(alloc: Global, bytes: &[u8]) -> Result<(LastParts, &[u8]), NotRead>
     Ok((last, rest))
 }
 
-/// The runner at the front, and what stands behind it.
-#[tactic(auto, unfolding(crate::specs::ReadingTables::runner_at))]
-fn runner_at(alloc: Global, bytes: &[u8]) -> Result<(RunnerParts, &[u8]), NotRead>
-    ensures { Finds (λ f. (f.0, f.1.now)) result (runner_at bytes.now) }
-{
-    let (name, rest) = small_text_at::<RunnerForm>(alloc, bytes)?;
-    let (number, rest) = number_at(rest)?;
-    let (last, rest) = last_at(alloc, rest)?;
-    let (lease, rest) = lease_at(rest)?;
-    let runner = RunnerParts {
-        name,
-        number: Number::new(number),
-        last,
-        holds: lease_told(lease),
-    };
-    Ok((runner, rest))
-}
+impl ReadAt for RunnerParts {
+    ghost stands_at = { runner_at };
 
-/// So many runners, one behind the other, and what stands behind them.
-fn runner_list_at(
-    alloc: Global,
-    count: usize,
-    bytes: &[u8],
-) -> Result<(Vec<RunnerParts>, &[u8]), NotRead>
-    ensures { Finds (λ f. (f.0.items, f.1.now)) result (items_at runner_at count bytes.now) }
-{
-    let mut runners = Vec::new(alloc);
-    let mut rest = bytes;
-    for _ in 0..count {
-        let (runner, behind) = runner_at(alloc, rest)?;
-        runners.push(runner)?;
-        rest = behind;
+    #[tactic(auto, unfolding(crate::specs::ReadingTables::runner_at))]
+    fn read_at(alloc: Global, bytes: &[u8]) -> Result<(RunnerParts, &[u8]), NotRead> {
+        let (name, rest) = small_text_at::<RunnerForm>(alloc, bytes)?;
+        let (number, rest) = number_at(rest)?;
+        let (last, rest) = last_at(alloc, rest)?;
+        let (lease, rest) = lease_at(rest)?;
+        let runner = RunnerParts {
+            name,
+            number: Number::new(number),
+            last,
+            holds: lease_told(lease),
+        };
+        Ok((runner, rest))
     }
-    Ok((runners, rest))
 }
 
 fn is_below(runner: &RunnerParts, next: &RunnerParts) -> bool
@@ -126,7 +110,7 @@ pub(crate) fn runners_at(alloc: Global, bytes: &[u8]) -> Result<(Vec<RunnerParts
     ensures { Finds (λ f. (f.0.items, f.1.now)) result (runners_at bytes.now) }
 {
     let (count, rest) = word_at(bytes)?;
-    let (runners, rest) = runner_list_at(alloc, count as usize, rest)?;
+    let (runners, rest) = list_at(alloc, count as usize, rest)?;
     let runners = rising(runners)?;
     Ok((runners, rest))
 }

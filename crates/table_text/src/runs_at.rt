@@ -8,6 +8,7 @@ ghost use Rattle.table_text.specs.Tables.{jobs_planned};
 use crate::command_at::admit_at;
 use crate::fields::{lease_at, lease_told};
 use crate::front::word_at;
+use crate::list_at::{ReadAt, list_at};
 use crate::not_read::NotRead;
 use crate::phases_at::{flag_at, job_phase_at, leg_phase_at, run_phase_at};
 use run_plan::Prepared;
@@ -17,7 +18,7 @@ use wf_value::Sequence;
 
 /// The leg at the front, its phase and the number of its lease, 0 where it has none, and what stands behind it.
 #[tactic(auto, unfolding(crate::specs::ReadingTables::leg_at))]
-fn leg_at(bytes: &[u8]) -> Result<(LegPhase, u32, &[u8]), NotRead>
+fn leg_parts_at(bytes: &[u8]) -> Result<(LegPhase, u32, &[u8]), NotRead>
     ensures gives { Finds (λ f. (record { phase = f.0; lease = lease_told f.1 }, f.2.now)) result (leg_at bytes.now) }
     ensures most { IfOk result (λ f. f.1 ≤ 999999999) }
 {
@@ -26,48 +27,30 @@ fn leg_at(bytes: &[u8]) -> Result<(LegPhase, u32, &[u8]), NotRead>
     Ok((phase, lease, rest))
 }
 
-/// So many legs, one behind the other, and what stands behind them.
-fn leg_list_at(alloc: Global, count: usize, bytes: &[u8]) -> Result<(Vec<Leg>, &[u8]), NotRead>
-    ensures { Finds (λ f. (f.0.items, f.1.now)) result (items_at leg_at count bytes.now) }
-{
-    let mut legs = Vec::new(alloc);
-    let mut rest = bytes;
-    for _ in 0..count {
-        let (phase, number, behind) = leg_at(rest)?;
+impl ReadAt for Leg {
+    ghost stands_at = { leg_at };
+
+    fn read_at(_alloc: Global, bytes: &[u8]) -> Result<(Leg, &[u8]), NotRead> {
+        let (phase, number, rest) = leg_parts_at(bytes)?;
         let lease = lease_told(number);
-        legs.push(Leg { phase, lease })?;
-        rest = behind;
+        Ok((Leg { phase, lease }, rest))
     }
-    Ok((legs, rest))
 }
 
-/// The job at the front, and what stands behind it.
-#[tactic(auto, unfolding(crate::specs::ReadingTables::job_at))]
-fn job_at(alloc: Global, bytes: &[u8]) -> Result<(JobParts, &[u8]), NotRead>
-    ensures { Finds (λ f. (f.0, f.1.now)) result (job_at bytes.now) }
-{
-    let (phase, rest) = job_phase_at(bytes)?;
-    let (count, rest) = word_at(rest)?;
-    let (legs, rest) = leg_list_at(alloc, count as usize, rest)?;
-    let job = JobParts {
-        phase,
-        legs: Sequence::new(legs),
-    };
-    Ok((job, rest))
-}
+impl ReadAt for JobParts {
+    ghost stands_at = { job_at };
 
-/// So many jobs, one behind the other, and what stands behind them.
-fn job_list_at(alloc: Global, count: usize, bytes: &[u8]) -> Result<(Vec<JobParts>, &[u8]), NotRead>
-    ensures { Finds (λ f. (f.0.items, f.1.now)) result (items_at job_at count bytes.now) }
-{
-    let mut jobs = Vec::new(alloc);
-    let mut rest = bytes;
-    for _ in 0..count {
-        let (job, behind) = job_at(alloc, rest)?;
-        jobs.push(job)?;
-        rest = behind;
+    #[tactic(auto, unfolding(crate::specs::ReadingTables::job_at))]
+    fn read_at(alloc: Global, bytes: &[u8]) -> Result<(JobParts, &[u8]), NotRead> {
+        let (phase, rest) = job_phase_at(bytes)?;
+        let (count, rest) = word_at(rest)?;
+        let (legs, rest) = list_at(alloc, count as usize, rest)?;
+        let job = JobParts {
+            phase,
+            legs: Sequence::new(legs),
+        };
+        Ok((job, rest))
     }
-    Ok((jobs, rest))
 }
 
 /// As many jobs as the plan has.
@@ -79,39 +62,26 @@ fn planned_jobs_at<'a>(
     ensures { Finds (λ f. (f.0.items, f.1.now)) result (items_at job_at (jobs_planned prepared.now) bytes.now) }
 {
     let plan = prepared.plan().as_slice();
-    job_list_at(alloc, plan.len(), bytes)
+    list_at(alloc, plan.len(), bytes)
 }
 
-/// The run at the front, and what stands behind it.
-#[tactic(auto, unfolding(crate::specs::ReadingTables::run_at, crate::specs::ReadingTables::course_at))]
-fn run_at(alloc: Global, bytes: &[u8]) -> Result<(RunParts, &[u8]), NotRead>
-    ensures { Finds (λ f. (f.0, f.1.now)) result (run_at bytes.now) }
-{
-    let (prepared, rest) = admit_at(alloc, bytes)?;
-    let (phase, rest) = run_phase_at(rest)?;
-    let (stopping, rest) = flag_at(rest)?;
-    let (jobs, rest) = planned_jobs_at(alloc, &prepared, rest)?;
-    let run = RunParts {
-        prepared,
-        phase,
-        stopping,
-        jobs: Sequence::new(jobs),
-    };
-    Ok((run, rest))
-}
+impl ReadAt for RunParts {
+    ghost stands_at = { run_at };
 
-/// So many runs, one behind the other, and what stands behind them.
-fn run_list_at(alloc: Global, count: usize, bytes: &[u8]) -> Result<(Vec<RunParts>, &[u8]), NotRead>
-    ensures { Finds (λ f. (f.0.items, f.1.now)) result (items_at run_at count bytes.now) }
-{
-    let mut runs = Vec::new(alloc);
-    let mut rest = bytes;
-    for _ in 0..count {
-        let (run, behind) = run_at(alloc, rest)?;
-        runs.push(run)?;
-        rest = behind;
+    #[tactic(auto, unfolding(crate::specs::ReadingTables::run_at, crate::specs::ReadingTables::course_at))]
+    fn read_at(alloc: Global, bytes: &[u8]) -> Result<(RunParts, &[u8]), NotRead> {
+        let (prepared, rest) = admit_at(alloc, bytes)?;
+        let (phase, rest) = run_phase_at(rest)?;
+        let (stopping, rest) = flag_at(rest)?;
+        let (jobs, rest) = planned_jobs_at(alloc, &prepared, rest)?;
+        let run = RunParts {
+            prepared,
+            phase,
+            stopping,
+            jobs: Sequence::new(jobs),
+        };
+        Ok((run, rest))
     }
-    Ok((runs, rest))
 }
 
 /// How many runs a table has at most.
@@ -126,5 +96,5 @@ pub(crate) fn runs_at(alloc: Global, bytes: &[u8]) -> Result<(Vec<RunParts>, &[u
     if count > MOST_RUNS {
         return Err(NotRead::NoSpelling);
     }
-    run_list_at(alloc, count as usize, rest)
+    list_at(alloc, count as usize, rest)
 }

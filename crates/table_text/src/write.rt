@@ -5,7 +5,8 @@ ghost use Rattle.table_text.specs.Commands.{batch, command};
 ghost use Rattle.table_text.specs.Format.{Appends};
 ghost use Rattle.table_text.specs.Tables.{table};
 
-use crate::push::{push_command, push_commands, push_word};
+use crate::push::{push_command, push_word};
+use crate::push_list::push_list;
 use crate::push_table::push_table;
 use run_plan::Command;
 use run_table::Table;
@@ -34,7 +35,7 @@ pub fn write_batch(alloc: Global, out: &mut Vec<u8>, commands: &[Command]) -> Re
 {
     let mut spelled = Vec::new(alloc);
     push_word(&mut spelled, commands.len() as u32)?;
-    push_commands(&mut spelled, commands)?;
+    push_list(&mut spelled, commands)?;
     out.extend_from_slice(spelled.as_slice())?;
     Ok(())
 }

@@ -7,5 +7,5 @@ returns-clause-takes c = labels_take c.args.value.now c.as_slice-list.ensures.fo
 pub returns-in_err-push_word-clause-takes : goal.returns-in_err-push_word-clause-takes
 returns-in_err-push_word-clause-takes c = labels_take c.args.value.now c.as_slice-list.ensures.form
 
-pub returns-in_err-push_label_list-clause-takes : goal.returns-in_err-push_label_list-clause-takes
-returns-in_err-push_label_list-clause-takes c = labels_take c.args.value.now c.as_slice-list.ensures.form
+pub returns-in_err-push_list-clause-takes : goal.returns-in_err-push_list-clause-takes
+returns-in_err-push_list-clause-takes c = labels_take c.args.value.now c.as_slice-list.ensures.form

@@ -1,0 +1,9 @@
+use Rattle.std.proofs.Common.{◌≡◌, subst, rules}
+use Rattle.table_text.specs.Tables.{IsLease}
+use Rattle.table_text.proofs.TableKnown.{leg_takes}
+use Rattle.table_text.proofs.push_table.LegPush.push_to.Goals as goal
+
+pub returns-clause-takes : goal.returns-clause-takes
+returns-clause-takes c =
+    let same : c.self.inside.lease ≡ c.args.self.now.lease = search rules in
+    leg_takes c.args.self.now c.requires (subst IsLease same c.push_lease.ensures.takes)

@@ -1,9 +1,0 @@
-use Rattle.std.proofs.Common.{◌≡◌, subst, rules}
-use Rattle.table_text.specs.Tables.{IsLease}
-use Rattle.table_text.proofs.TableKnown.{leg_takes}
-use Rattle.table_text.proofs.push_table.push_leg.Goals as goal
-
-pub returns-clause-takes : goal.returns-clause-takes
-returns-clause-takes c =
-    let same : c.value.inside.lease ≡ c.args.value.now.lease = search rules in
-    leg_takes c.args.value.now c.requires (subst IsLease same c.push_lease.ensures.takes)

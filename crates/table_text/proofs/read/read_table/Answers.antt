@@ -1,0 +1,10 @@
+use Rattle.table_text.proofs.WholeTables.{none_of_parts, none_without_parts}
+use Rattle.table_text.proofs.read.read_table.Goals as goal
+
+pub returns-in_default-clause-front : goal.returns-in_default-clause-front
+returns-in_default-clause-front c = none_without_parts c.args.bytes.now (rw c.in_default.is at c.in_ok-parts.ensures.front)
+
+pub returns-clause-front : goal.returns-clause-front
+returns-clause-front c =
+    none_of_parts c.args.bytes.now c.in-Some.rest.now c.in-Some.parts (rw c.in-Some.is at c.in_ok-parts.ensures.front)
+    (rw c.in-None.is at c.in_ok-table.ensures.of)

@@ -1,0 +1,33 @@
+//! Values appended one behind the other.
+
+ghost use Rattle.std.specs.Prelude.{◌≡◌, ◌++◌, ℕ, List, flat_map, OnOk};
+ghost use Rattle.std.specs.List.{AllByRecursion};
+
+use std::alloc::AllocError;
+
+/// What is appended to bytes as its spelling.
+pub(crate) trait Push {
+    /// What has to be known of the value.
+    ghost can_push: { Self → Type 0 };
+
+    ghost takes: { Self → Type 0 };
+
+    ghost spelling: { Self → List ℕ };
+
+    fn push_to(&self, out: &mut Vec<u8>) -> Result<(), AllocError>
+        requires { can_push self.now }
+        ensures takes { OnOk result (takes self.now) }
+        ensures bytes { OnOk result (out.new.items ≡ out.old.items ++ spelling self.now) };
+}
+
+/// Appends each value, one behind the other.
+pub(crate) fn push_list<T: Push>(out: &mut Vec<u8>, list: &[T]) -> Result<(), AllocError>
+    requires { AllByRecursion T.can_push list.now }
+    ensures takes { OnOk result (AllByRecursion T.takes list.now) }
+    ensures bytes { OnOk result (out.new.items ≡ out.old.items ++ flat_map T.spelling list.now) }
+{
+    for value in list {
+        value.push_to(out)?;
+    }
+    Ok(())
+}
