@@ -1,6 +1,5 @@
 -- How a store begins: with an empty history, at the table that its disk stands for.
 use Rattle.std.proofs.Common.{◌≡◌, inl, ℕ, ◌<◌, List, [], ◌∷◌, take, false, refl, sym, ap, subst, arith}
-use Rattle.std.specs.Prelude.{None}
 use Rattle.std.proofs.lemmas.List.{take_all}
 use Rattle.gated_journal.specs.Layout.{Head, Fits}
 use Rattle.gated_journal.specs.TwoAreas.{behind_gate}
@@ -16,9 +15,10 @@ use Rattle.act_store.specs.Images.{IsAreaLength, StandsFor}
 use Rattle.act_store.specs.Kept.{Kept}
 use Rattle.act_store.specs.Meaning.{MeansTable}
 use Rattle.act_store.specs.Promise.{IsCounted, IsSettled, IsStanding}
-use Rattle.act_store.specs.TableText.{SpellsTable, empty_text}
+use Rattle.act_store.specs.Waiting.{Waits, waits_of}
 use Rattle.act_store.specs.declared.entry.Entry.{Entry}
 use Rattle.act_store.proofs.Settling.{settled_at, settled_stands}
+use Rattle.act_store.proofs.TextOfTable.{empty_spells, empty_text}
 
 abbrev pub begun : {D : Type 0} → D → ℕ → TableState → ℕ → ℕ → List Entry → Kept D
 begun disk area base used generation history = record {
@@ -33,10 +33,10 @@ begun disk area base used generation history = record {
 }
 
 module _ {D : Type 0} (disk : D) (area : ℕ) (base : TableState) (used generation : ℕ) (history : List Entry) (none : history ≡ []) where
-  pub counted_begun : (table : TableState) → table ≡ base → IsAreaLength area → used < area
-      → IsCounted (begun disk area base used generation history) table None
-  counted_begun table same size fits =
-      subst (λ (h : List Entry). IsCounted (begun disk area base used generation h) table None) (sym none) (record {
+  pub counted_begun : (table : TableState) → table ≡ base → (waiting : Waits) → waiting ≡ waits_of [] → IsAreaLength area → used < area
+      → IsCounted (begun disk area base used generation history) table waiting
+  counted_begun table same waiting nothing size fits =
+      subst (λ (h : List Entry). IsCounted (begun disk area base used generation h) table waiting) (sym none) (record {
         legal = refl;
         table_is = same;
         covers = omega arith;
@@ -45,7 +45,7 @@ module _ {D : Type 0} (disk : D) (area : ℕ) (base : TableState) (used generati
         gate_fits = fits;
         record_fits = λ less. absurd (omega (arith, less));
         spelled = _;
-        waiting_is = refl;
+        waiting_is = nothing;
       })
 
   pub standing_begun : (images : D → List ℕ → Type 0) (side : Side) (gate : Gate) → IsAreaLength area
@@ -67,11 +67,10 @@ abbrev pub first_head : Head
 first_head = record { version = 1; generation = 1; text = empty_text }
 
 pub means_first : MeansTable first_head [] empty
-unfolding SpellsTable
 means_first = record {
   version = refl;
   first = empty;
-  text = (refl, refl);
+  text = empty_spells;
   commands = [];
   batched = record { batches = []; takes = _; spelled = refl; commands_are = refl };
   table_is = refl;
@@ -79,16 +78,13 @@ means_first = record {
 
 -- the bytes that the first area is made of
 pub first_bytes : 0 ∷ behind_gate first_head [] ≡ 0 ∷ 1 ∷ 0 ∷ 0 ∷ 0 ∷ 0 ∷ 0 ∷ 0 ∷ 0 ∷ 1 ∷ 0 ∷ 0 ∷ 0 ∷ 0 ∷ 0 ∷ 0 ∷ 0 ∷ 12 ∷ 0 ∷ 0 ∷ 0 ∷ 0 ∷ 0 ∷ 0 ∷ 0 ∷ 0 ∷ 0 ∷ 0 ∷ 0 ∷ 0 ∷ 0 ∷ []
-unfolding empty_text
 first_bytes = refl
 
 pub first_fits : Fits first_head []
-unfolding empty_text
 first_fits = record { generation = omega arith; text = omega arith; each = _ }
 
 pub first_settled : (area : ℕ) (images : List ℕ → Type 0) → ((c : List ℕ) → images c → StandsWhole area First Closed c first_head [])
     → IsSettled area First Closed 1 30 empty images
-unfolding empty_text
 first_settled area images each = record {
   head = first_head;
   bodies = [];

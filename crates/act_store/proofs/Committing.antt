@@ -1,7 +1,6 @@
 -- What a commit leaves.
 use Rattle.std.proofs.Common.{◌≡◌, ⊎_elim, ℕ, ◌+◌, ◌-◌, ◌<◌, ◌≤◌, List, [], ◌∷◌, ◌++◌, length, drop}
 use Rattle.std.proofs.Common.{refl, sym, ◌∙◌, ap, subst, arith, drop_of_length-le}
-use Rattle.std.specs.Prelude.{Option, Some, None}
 use Rattle.std.specs.List.{AllByRecursion}
 use Rattle.std.proofs.lemmas.List.{take_all, length-drop, length-map}
 use Rattle.act_disk.specs.Images.{EachSince}
@@ -9,15 +8,16 @@ use Rattle.act_disk.specs.Moments.{weakened}
 use Rattle.gated_journal.specs.Whole.{StandsWhole, WholeOrGrew}
 use Rattle.gated_journal.specs.declared.gate.Gate.{Gate}
 use Rattle.gated_journal.specs.declared.side.Side.{Side}
-use Rattle.run_plan.specs.declared.command.Command.{Command}
 use Rattle.run_table.specs.TableState.{TableState}
 use Rattle.table_text.specs.Commands.{IsSpelled, batch}
 use Rattle.act_store.specs.Entries.{commands_of, table_after}
 use Rattle.act_store.specs.Images.{StandsFor}
 use Rattle.act_store.specs.Kept.{Kept, StandsForEither, covered_table, pending_commands, table_of}
 use Rattle.act_store.specs.Plain.{broken, committed, used_after}
-use Rattle.act_store.specs.Promise.{IsCounted, IsSettled, IsStanding, record_body}
+use Rattle.act_store.specs.Promise.{IsCounted, IsSettled, IsStanding}
+use Rattle.act_store.specs.Waiting.{Waits, body_of, waits_of}
 use Rattle.act_store.specs.declared.entry.Entry.{Entry}
+use Rattle.act_store.proofs.Records.{batch_body}
 use Rattle.act_store.proofs.Settling.{grown, resettled, settled_stands, standing_fresh}
 
 -- an image of now is one since any moment
@@ -26,24 +26,20 @@ pub now_of : {D : Type 0} (moment : D → ℕ) (images_since : D → ℕ → Lis
     → EachSince moment images_since old new P → (c : List ℕ) → images new c → P c
 now_of moment images_since images old new P counts since c now = since.each c (counts (moment old) c since.later now)
 
-pub waits_some : (commands : List Command) (waiting : Option (List ℕ)) (body : List ℕ) → waiting ≡ record_body commands → waiting ≡ Some body
-    → (body ≡ batch.spelling commands) × (0 < length commands)
-waits_some [] waiting body is some = absurd (cc (is, some))
-waits_some (c ∷ commands) waiting body is some = (cc (is, some), omega arith)
+none_left : (left : Waits) → left.count ≡ 0 → left.spelled ≡ [] → left ≡ waits_of []
+none_left left none no_bytes =
+    ap (λ (n : ℕ). record { count = n; spelled = left.spelled }) none ∙ ap (λ (l : List ℕ). record { count = 0; spelled = l }) no_bytes
 
-pub waits_none : (commands : List Command) (waiting : Option (List ℕ)) → waiting ≡ record_body commands → waiting ≡ None → commands ≡ []
-waits_none [] waiting is none = refl
-waits_none (c ∷ commands) waiting is none = absurd (cc (is, none))
-
-module _ {D : Type 0} (s : Kept D) (table : TableState) (waiting : Option (List ℕ)) (counted : IsCounted s table waiting) where
+module _ {D : Type 0} (s : Kept D) (table : TableState) (waiting : Waits) (counted : IsCounted s table waiting) where
   pub length-pending : length (pending_commands s) ≡ length s.history - s.covered
   length-pending = length-map (drop s.covered s.history) (λ (e : Entry). e.command) ∙ length-drop s.covered s.history
 
+  count_is : waiting.count ≡ length s.history - s.covered
+  count_is = ap (λ (w : Waits). w.count) counted.waiting_is ∙ length-pending
+
   -- where nothing waits, all are covered
-  pub none_waits : waiting ≡ None → s.covered ≡ length s.history
-  none_waits none =
-      let empty = waits_none (pending_commands s) waiting counted.waiting_is none in
-      omega (arith, length-pending, ap (λ (l : List Command). length l) empty, counted.covers)
+  pub none_waits : waiting.count ≡ 0 → s.covered ≡ length s.history
+  none_waits none = omega (arith, none, count_is, counted.covers)
 
   pub all_stands : s.covered ≡ length s.history → (c : List ℕ) → StandsForEither s c → StandsFor (table_of s) c
   all_stands all c either =
@@ -63,22 +59,22 @@ module _ {D : Type 0} (s : Kept D) (table : TableState) (waiting : Option (List 
     waiting_is = counted.waiting_is;
   }
 
-  module _ (body : List ℕ) (some : waiting ≡ Some body) where
-    waits : (body ≡ batch.spelling (pending_commands s)) × (0 < length (pending_commands s))
-    waits = waits_some (pending_commands s) waiting body counted.waiting_is some
+  module _ (some : 0 < waiting.count) where
+    waits : body_of waiting ≡ batch.spelling (pending_commands s)
+    waits = ap body_of counted.waiting_is ∙ batch_body (pending_commands s)
 
     pub more : s.covered < length s.history
-    more = omega (arith, waits.1, length-pending)
+    more = omega (arith, some, count_is)
 
-    pub used_is : (bytes : ℕ) → bytes ≡ 5 + length body → s.used + bytes ≡ used_after s
-    used_is bytes is = omega (arith, is, ap (λ (l : List ℕ). length l) waits.0)
+    pub used_is : (bytes : ℕ) → bytes ≡ 5 + length (body_of waiting) → s.used + bytes ≡ used_after s
+    used_is bytes is = omega (arith, is, ap (λ (l : List ℕ). length l) waits)
 
     takes : batch.Takes (pending_commands s)
-    takes = (omega (arith, waits.1), omega (arith, length-pending, counted.most), counted.spelled)
+    takes = (omega (arith, more, length-pending), omega (arith, length-pending, counted.most), counted.spelled)
 
-    pub counted_committed : (disk : D) → IsCounted (committed s disk) table None
-    counted_committed disk =
-        let none : drop (length s.history) s.history ≡ [] = drop_of_length-le s.history (omega arith) in
+    pub counted_committed : (disk : D) (left : Waits) → left.count ≡ 0 → left.spelled ≡ [] → IsCounted (committed s disk) table left
+    counted_committed disk left none no_bytes =
+        let all : drop (length s.history) s.history ≡ [] = drop_of_length-le s.history (omega arith) in
         record {
           legal = counted.legal;
           table_is = counted.table_is;
@@ -87,38 +83,38 @@ module _ {D : Type 0} (s : Kept D) (table : TableState) (waiting : Option (List 
           size = counted.size;
           gate_fits = omega (arith, counted.record_fits more);
           record_fits = λ less. absurd (omega (arith, less));
-          spelled = subst (λ (l : List Entry). AllByRecursion IsSpelled (commands_of l)) (sym none) _;
-          waiting_is = ap (λ (l : List Entry). record_body (commands_of l)) (sym none);
+          spelled = subst (λ (l : List Entry). AllByRecursion IsSpelled (commands_of l)) (sym all) _;
+          waiting_is = none_left left none no_bytes ∙ ap (λ (l : List Entry). waits_of (commands_of l)) (sym all);
         }
 
     module _ (images : D → List ℕ → Type 0) (side : Side) (gate : Gate)
         (settled : IsSettled s.area side gate s.generation s.used (covered_table s) (images s.disk)) where
-      pub commit_each : (c : List ℕ) → WholeOrGrew s.area side gate settled.head settled.bodies body c → StandsForEither s c
+      pub commit_each : (c : List ℕ) → WholeOrGrew s.area side gate settled.head settled.bodies (body_of waiting) c → StandsForEither s c
       commit_each c either =
           grown images side gate s counted.size settled takes c
-          (subst (λ (b : List ℕ). WholeOrGrew s.area side gate settled.head settled.bodies b c) waits.0 either)
+          (subst (λ (b : List ℕ). WholeOrGrew s.area side gate settled.head settled.bodies b c) waits either)
 
       pub commit_moments : (moment : D → ℕ) (images_since : D → ℕ → List ℕ → Type 0) (disk : D)
-          → EachSince moment images_since s.disk disk (WholeOrGrew s.area side gate settled.head settled.bodies body)
+          → EachSince moment images_since s.disk disk (WholeOrGrew s.area side gate settled.head settled.bodies (body_of waiting))
           → EachSince moment images_since s.disk disk (StandsForEither s)
       commit_moments moment images_since disk since =
-          weakened moment images_since s.disk disk (WholeOrGrew s.area side gate settled.head settled.bodies body) (StandsForEither s)
+          weakened moment images_since s.disk disk (WholeOrGrew s.area side gate settled.head settled.bodies (body_of waiting)) (StandsForEither s)
           since commit_each
 
       pub commit_settled : (disk : D)
-          → ((c : List ℕ) → images disk c → StandsWhole s.area side gate c settled.head (settled.bodies ++ body ∷ []))
+          → ((c : List ℕ) → images disk c → StandsWhole s.area side gate c settled.head (settled.bodies ++ body_of waiting ∷ []))
           → IsSettled s.area side gate s.generation (used_after s) (table_of s) (images disk)
       commit_settled disk each =
           resettled images side gate s counted.size settled takes disk (used_after s) refl
-          (subst (λ (b : List ℕ). (c : List ℕ) → images disk c → StandsWhole s.area side gate c settled.head (settled.bodies ++ b ∷ [])) waits.0 each)
+          (subst (λ (b : List ℕ). (c : List ℕ) → images disk c → StandsWhole s.area side gate c settled.head (settled.bodies ++ b ∷ [])) waits each)
 
       pub commit_standing : (disk : D)
-          → ((c : List ℕ) → images disk c → StandsWhole s.area side gate c settled.head (settled.bodies ++ body ∷ []))
+          → ((c : List ℕ) → images disk c → StandsWhole s.area side gate c settled.head (settled.bodies ++ body_of waiting ∷ []))
           → IsStanding images side gate (committed s disk)
       commit_standing disk each = standing_fresh images side gate s counted.size disk (commit_settled disk each)
 
       pub commit_stands : (disk : D)
-          → ((c : List ℕ) → images disk c → StandsWhole s.area side gate c settled.head (settled.bodies ++ body ∷ []))
+          → ((c : List ℕ) → images disk c → StandsWhole s.area side gate c settled.head (settled.bodies ++ body_of waiting ∷ []))
           → (c : List ℕ) → images disk c → StandsFor (table_of s) c
       commit_stands disk each =
           settled_stands s.area side gate s.generation (used_after s) (table_of s) (images disk) counted.size (commit_settled disk each)

@@ -1,21 +1,23 @@
 -- What an entry more leaves.
-use Rattle.std.proofs.Common.{◌≡◌, inl, inr, ℕ, ◌+◌, ◌<◌, ◌≤◌, Bool, List, [], ◌∷◌, ◌++◌, length, drop, false}
+use Rattle.std.proofs.Common.{◌≡◌, inl, inr, ◌+◌, ◌<◌, ◌≤◌, ◌^◌, Bool, List, [], ◌∷◌, ◌++◌, length, drop, false}
 use Rattle.std.proofs.Common.{sym, ◌∙◌, ap, subst, arith, length-append}
-use Rattle.std.specs.Prelude.{Option, Some, None, if◌then◌else◌, nat_le, nat_lt}
+use Rattle.std.specs.Prelude.{Some, None, if◌then◌else◌, nat_le, nat_lt}
 use Rattle.std.specs.List.{AllByRecursion}
 use Rattle.std.proofs.lemmas.Bool.{cases_Bool, leb-false, ltb-false}
-use Rattle.std.proofs.lemmas.List.{drop-append-le}
+use Rattle.std.proofs.lemmas.List.{drop-append-le, length-drop, length-map}
 use Rattle.run_plan.specs.declared.command.Command.{Command}
 use Rattle.run_table.specs.Step.{stepped}
 use Rattle.run_table.specs.TableState.{TableState}
-use Rattle.table_text.specs.Commands.{IsSpelled, batch}
+use Rattle.table_text.specs.Commands.{IsSpelled, command_bytes}
 use Rattle.act_store.specs.Entries.{IsLegal, commands_of, table_after}
 use Rattle.act_store.specs.Kept.{Kept, pending_commands, table_of}
 use Rattle.act_store.specs.Plain.{area_full, failed_earlier, history_full, record_end, refusal_of_apply, refusal_of_room}
-use Rattle.act_store.specs.Promise.{IsCounted, record_body}
+use Rattle.act_store.specs.Promise.{IsCounted}
+use Rattle.act_store.specs.Waiting.{Waits, waits_of, with_command}
 use Rattle.act_store.specs.declared.entry.Entry.{Entry}
 use Rattle.act_store.proofs.Histories.{commands-append, legal_more, table_more}
 use Rattle.act_store.proofs.Meanings.{all_push}
+use Rattle.act_store.proofs.Records.{length_with, waits_more}
 
 -- what is known where a command is not refused
 pub record IsAdmitted {D : Type 0} (s : Kept D) (command : Command) : Type 0 where
@@ -51,12 +53,30 @@ module _ {D : Type 0} (s : Kept D) (command : Command) where
             )
       ]
 
-body_with : (commands : List Command) (command : Command) (body : List ℕ) → body ≡ batch.spelling (commands ++ command ∷ [])
-    → Some body ≡ record_body (commands ++ command ∷ [])
-body_with [] command body is = ap (λ (b : List ℕ). Some b) is
-body_with (c ∷ commands) command body is = ap (λ (b : List ℕ). Some b) is
+-- A command that is not refused can be added to what waits.
+module _ {D : Type 0} (s : Kept D) (table : TableState) (waiting : Waits) (counted : IsCounted s table waiting) (command : Command)
+    (admitted : IsAdmitted s command) where
+  pub few_wait : waiting.count + 1 < 2 ^ 32
+  few_wait =
+      omega (
+        arith,
+        ap (λ (w : Waits). w.count) counted.waiting_is,
+        length-map (drop s.covered s.history) (λ (e : Entry). e.command),
+        length-drop s.covered s.history,
+        admitted.fewer,
+      )
 
-module _ {D : Type 0} (s : Kept D) (table : TableState) (waiting : Option (List ℕ)) (counted : IsCounted s table waiting)
+  pub record_is_short : 4 + length waiting.spelled + length (command_bytes command) < 2 ^ 32
+  record_is_short =
+      omega (
+        arith,
+        ap (λ (w : Waits). length w.spelled) counted.waiting_is,
+        length_with (pending_commands s) command,
+        admitted.room,
+        counted.size.most,
+      )
+
+module _ {D : Type 0} (s : Kept D) (table : TableState) (waiting : Waits) (counted : IsCounted s table waiting)
     (command : Command) (entry : Entry) (history : List Entry) (asked : entry.command ≡ command)
     (reply : entry.reply ≡ (stepped table command).reply) (is : history ≡ s.history ++ entry ∷ []) where
   pending_more : commands_of (drop s.covered history) ≡ pending_commands s ++ command ∷ []
@@ -73,9 +93,9 @@ module _ {D : Type 0} (s : Kept D) (table : TableState) (waiting : Option (List 
   told = reply ∙ ap (λ (t : TableState). (stepped t command).reply) counted.table_is
       ∙ ap (λ (c : Command). (stepped (table_of s) c).reply) (sym asked)
 
-  pub counted_entered : (body : List ℕ) → body ≡ batch.spelling (pending_commands s ++ command ∷ []) → IsSpelled command
-      → IsAdmitted s command → IsCounted (record s { history = history }) (stepped table command).table (Some body)
-  counted_entered body spells spelled admitted = record {
+  pub counted_entered : (more : Waits) → more ≡ with_command waiting command → IsSpelled command
+      → IsAdmitted s command → IsCounted (record s { history = history }) (stepped table command).table more
+  counted_entered more added spelled admitted = record {
     legal = subst (λ (l : List Entry). IsLegal s.base l) (sym is) (legal_more s.base s.history entry counted.legal told);
     table_is =
         ap (λ (t : TableState). (stepped t command).table) counted.table_is
@@ -89,5 +109,7 @@ module _ {D : Type 0} (s : Kept D) (table : TableState) (waiting : Option (List 
         λ _. subst (λ (cs : List Command). record_end s cs ≤ s.area) (sym pending_more) admitted.room;
     spelled = subst (λ (cs : List Command). AllByRecursion IsSpelled cs) (sym pending_more)
         (all_push IsSpelled (pending_commands s) command counted.spelled spelled);
-    waiting_is = body_with (pending_commands s) command body spells ∙ ap record_body (sym pending_more);
+    waiting_is =
+        added ∙ ap (λ (w : Waits). with_command w command) counted.waiting_is ∙ waits_more (pending_commands s) command
+        ∙ ap waits_of (sym pending_more);
   }

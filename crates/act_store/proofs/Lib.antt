@@ -12,3 +12,5 @@ mod Reopening
 mod Replaying
 mod Settling
 mod Spelling
+mod TextOfTable
+mod WholeTexts

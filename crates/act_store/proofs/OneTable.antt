@@ -14,11 +14,7 @@ use Rattle.table_text.proofs.CommandReaders.{batch_reads}
 use Rattle.table_text.proofs.Readers.{none_begins}
 use Rattle.act_store.specs.Images.{StandsFor}
 use Rattle.act_store.specs.Meaning.{MeansTable, SpellCommands}
-use Rattle.act_store.specs.TableText.{SpellsTable}
-
-one_text : (one two : TableState) (text : List ℕ) → SpellsTable one text → SpellsTable two text → one ≡ two
-unfolding SpellsTable
-one_text one two text first second = first.0 ∙ sym second.0
+use Rattle.act_store.proofs.TextOfTable.{one_text}
 
 same_batches : (one two : List (List Command)) → AllByRecursion batch.Takes one → AllByRecursion batch.Takes two
     → map batch.spelling one ≡ map batch.spelling two → one ≡ two

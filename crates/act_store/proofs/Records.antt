@@ -1,15 +1,16 @@
 -- The bytes of a record of commands.
-use Rattle.std.proofs.Common.{◌≡◌, ℕ, ◌+◌, ◌-◌, ◌≤◌, List, [], ◌∷◌, ◌++◌, length, take, drop, refl, sym, ◌∙◌, ap, subst, arith, length-append, append_assoc}
-use Rattle.std.specs.Prelude.{Option, IfSome, flat_map}
+use Rattle.std.proofs.Common.{◌≡◌, ℕ, ◌+◌, ◌-◌, ◌≤◌, List, [], ◌∷◌, ◌++◌, length, take, drop, refl, sym, ◌∙◌, ap, arith}
+use Rattle.std.proofs.Common.{append_assoc, drop_of_length-le, length-append, length-drop, length-take-le}
+use Rattle.std.specs.Prelude.{flat_map}
 use Rattle.std.specs.Int.{to_be_bytes, w32}
-use Rattle.std.proofs.lemmas.List.{take_at, drop_at, append-nil}
+use Rattle.std.proofs.lemmas.List.{append-nil, drop-append-le, drop-take, drop_at, take-append-le, take_at}
 use Rattle.std.proofs.lemmas.List.Concat.{flat_map-append}
-use Rattle.gated_journal.specs.Appends.{record_of, body_in}
+use Rattle.gated_journal.specs.Appends.{record_of}
 use Rattle.run_plan.specs.declared.command.Command.{Command}
 use Rattle.table_text.specs.Commands.{batch, command_bytes}
 use Rattle.table_text.specs.Format.{word_bytes}
 use Rattle.act_store.specs.Plain.{batch_length}
-use Rattle.act_store.specs.Promise.{record_body}
+use Rattle.act_store.specs.Waiting.{body_of, spelled_between, waits_of, with_command}
 
 pub length_word : (n : ℕ) → length (word_bytes n) ≡ 4
 unfolding word_bytes
@@ -29,36 +30,34 @@ length_record body =
     let four : length number ≡ 4 = refl in
     omega (arith, length-append (number ++ body) (0 ∷ []), length-append number body, four)
 
--- what stands between the first eight bytes and the last one
-between_is : (a b f : List ℕ) (x : ℕ) → length a ≡ 4 → length b ≡ 4
-    → take ((length ((a ++ (b ++ f)) ++ x ∷ []) - 1) - 8) (drop 8 ((a ++ (b ++ f)) ++ x ∷ [])) ≡ f
-between_is a b f x first second =
-    let whole = (a ++ (b ++ f)) ++ x ∷ [] in
-    let parted : whole ≡ (a ++ b) ++ (f ++ x ∷ []) =
-    ap (λ (l : List ℕ). l ++ x ∷ []) (sym (append_assoc a b f)) ∙ append_assoc (a ++ b) f (x ∷ []) in
-    let eight : length (a ++ b) ≡ 8 = omega (arith, length-append a b, first, second) in
-    let count : (length whole - 1) - 8 ≡ length f =
-    omega (arith, ap (λ (l : List ℕ). length l) parted, length-append (a ++ b) (f ++ x ∷ []), length-append f (x ∷ []), eight) in
-    ap (λ (n : ℕ). take n (drop 8 whole)) count
-    ∙ ap (λ (l : List ℕ). take (length f) (drop 8 l)) parted
-    ∙ ap (λ (l : List ℕ). take (length f) l) (drop_at (a ++ b) (f ++ x ∷ []) 8 eight)
-    ∙ take_at f (x ∷ []) (length f) refl
+-- what is written back over the whole of a list
+pub written_over : (now was : List ℕ) (n : ℕ) → length now ≡ n → length was ≡ n → take n (now ++ drop (length now) was) ≡ now
+written_over now was n same long =
+    ap (λ (l : List ℕ). take n (now ++ l)) (drop_of_length-le was (omega (arith, same, long))) ∙ take_at now [] n same
 
-pub commands_between : (commands : List Command)
-    → take ((length (record_of (batch.spelling commands)) - 1) - 8) (drop 8 (record_of (batch.spelling commands))) ≡ flat_map command_bytes commands
-commands_between commands =
-    between_is (to_be_bytes w32 (batch_length commands)) (word_bytes (length commands)) (flat_map command_bytes commands) 0 refl
-    (length_word (length commands))
-
--- the body of bytes between four and one
-middle_is : (a m : List ℕ) (x : ℕ) → length a ≡ 4 → body_in ((a ++ m) ++ x ∷ []) ≡ m
-middle_is a m x first =
-    let whole = (a ++ m) ++ x ∷ [] in
-    let count : length whole - 5 ≡ length m = omega (arith, length-append (a ++ m) (x ∷ []), length-append a m, first) in
-    ap (λ (n : ℕ). take n (drop 4 whole)) count
-    ∙ ap (λ (l : List ℕ). take (length m) (drop 4 l)) (append_assoc a m (x ∷ []))
-    ∙ ap (λ (l : List ℕ). take (length m) l) (drop_at a (m ++ x ∷ []) 4 first)
-    ∙ take_at m (x ∷ []) (length m) refl
+-- a spelling behind the others, in the place of the last byte, and that byte behind it
+pub spelled_behind : (bytes more now : List ℕ) (gate last : ℕ) → length bytes ≡ gate + 1 → 8 ≤ gate
+    → now ≡ take gate (bytes ++ more) ++ (drop (gate + 1) (bytes ++ more) ++ last ∷ [])
+    → spelled_between now ≡ spelled_between bytes ++ more
+spelled_behind bytes more now gate last long eight is =
+    let front = take gate bytes in
+    let spelled = drop 8 front ++ more in
+    let first : length front ≡ gate = length-take-le gate bytes (omega (arith, long)) in
+    let parts : now ≡ front ++ (more ++ last ∷ []) =
+    is ∙ ap (λ (l : List ℕ). l ++ (drop (gate + 1) (bytes ++ more) ++ last ∷ [])) (take-append-le gate bytes more (omega (arith, long)))
+    ∙ ap (λ (l : List ℕ). front ++ (l ++ last ∷ [])) (drop_at bytes more (gate + 1) long) in
+    let behind : drop 8 now ≡ spelled ++ last ∷ [] =
+    ap (λ (l : List ℕ). drop 8 l) parts ∙ drop-append-le 8 front (more ++ last ∷ []) (omega (arith, first, eight))
+    ∙ sym (append_assoc (drop 8 front) more (last ∷ [])) in
+    let size : length now ≡ length bytes + length more =
+    omega (arith, ap (λ (l : List ℕ). length l) parts, length-append front (more ++ last ∷ []), length-append more (last ∷ []), first, long) in
+    let count : length spelled ≡ length now - 9 =
+    omega (arith, length-append (drop 8 front) more, length-drop 8 front, first, size, long, eight) in
+    let some : gate ≡ 8 + (length bytes - 9) = omega (arith, long, eight) in
+    ap (λ (l : List ℕ). take (length now - 9) l) behind
+    ∙ take_at spelled (last ∷ []) (length now - 9) count
+    ∙ ap (λ (n : ℕ). drop 8 (take n bytes) ++ more) some
+    ∙ ap (λ (l : List ℕ). l ++ more) (drop-take 8 (length bytes - 9) bytes)
 
 -- the commands that wait, and one more
 pub commands_with : (commands : List Command) (more : Command)
@@ -77,42 +76,12 @@ length_with commands more =
       length-append (flat_map command_bytes commands) (command_bytes more),
     )
 
-pub record_with : (commands : List Command) (more : Command) (count : ℕ) (front number waiting bytes : List ℕ) → length front ≡ 4
-    → count ≡ length commands + 1 → number ≡ to_be_bytes w32 count → waiting ≡ flat_map command_bytes commands
-    → bytes ≡ ((((front ++ number) ++ waiting) ++ command_bytes more) ++ 0 ∷ [])
-    → body_in bytes ≡ batch.spelling (commands ++ more ∷ [])
-record_with commands more count front number waiting bytes four counted numbered waits is =
-    let one_more : count ≡ length (commands ++ more ∷ []) = omega (arith, counted, length-append commands (more ∷ [])) in
-    let body = number ++ (waiting ++ command_bytes more) in
-    let parted : bytes ≡ (front ++ body) ++ 0 ∷ [] =
-    is ∙ ap (λ (l : List ℕ). l ++ 0 ∷ []) (append_assoc (front ++ number) waiting (command_bytes more)
-    ∙ append_assoc front number (waiting ++ command_bytes more)) in
-    ap body_in parted ∙ middle_is front body 0 four
-    ∙ ap (λ (l : List ℕ). l ++ (waiting ++ command_bytes more)) (numbered ∙ sym (word_is count) ∙ ap word_bytes one_more)
-    ∙ ap (λ (l : List ℕ). word_bytes (length (commands ++ more ∷ [])) ++ l)
-    (ap (λ (l : List ℕ). l ++ command_bytes more) waits ∙ sym (commands_with commands more))
+-- the body of the record of commands is the spelling of their batch
+pub batch_body : (commands : List Command) → body_of (waits_of commands) ≡ batch.spelling commands
+batch_body commands = ap (λ (l : List ℕ). l ++ flat_map command_bytes commands) (sym (word_is (length commands)))
 
-pub length_record_with : (commands : List Command) (more : Command) (count : ℕ) (front number waiting bytes : List ℕ) → length front ≡ 4
-    → number ≡ to_be_bytes w32 count → waiting ≡ flat_map command_bytes commands
-    → bytes ≡ ((((front ++ number) ++ waiting) ++ command_bytes more) ++ 0 ∷ [])
-    → length bytes ≡ 5 + batch_length (commands ++ more ∷ [])
-length_record_with commands more count front number waiting bytes four numbered waits is =
-    let size : length number ≡ 4 = ap (λ (l : List ℕ). length l) numbered in
-    omega (
-      arith,
-      ap (λ (l : List ℕ). length l) is,
-      length-append (((front ++ number) ++ waiting) ++ command_bytes more) (0 ∷ []),
-      length-append ((front ++ number) ++ waiting) (command_bytes more),
-      length-append (front ++ number) waiting,
-      length-append front number,
-      four,
-      size,
-      ap (λ (l : List ℕ). length l) waits,
-      length_with commands more,
-    )
-
--- what waits has a count
-pub has_count : (commands : List Command) (waiting : Option (List ℕ)) → waiting ≡ record_body commands → IfSome waiting (λ body. 4 ≤ length body)
-has_count [] waiting is = subst (λ (w : Option (List ℕ)). IfSome w (λ body. 4 ≤ length body)) (sym is) _
-has_count (c ∷ commands) waiting is =
-    subst (λ (w : Option (List ℕ)). IfSome w (λ body. 4 ≤ length body)) (sym is) (omega (arith, length_batch (c ∷ commands)))
+-- what waits with one command more
+pub waits_more : (commands : List Command) (more : Command) → with_command (waits_of commands) more ≡ waits_of (commands ++ more ∷ [])
+waits_more commands more =
+    ap (λ (n : ℕ). record { count = n; spelled = flat_map command_bytes commands ++ command_bytes more }) (sym (length-append commands (more ∷ [])))
+    ∙ ap (λ (l : List ℕ). record { count = length (commands ++ more ∷ []); spelled = l }) (sym (commands_with commands more))

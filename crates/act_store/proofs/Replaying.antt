@@ -1,8 +1,7 @@
 -- Records carried out one behind the other.
-use Rattle.std.proofs.Common.{◌≡◌, ℕ, ◌<◌, ◌≤◌, ◌^◌, List, [], ◌∷◌, ◌++◌, length, map, refl, sym, ◌∙◌, ap, subst, arith, append_assoc}
+use Rattle.std.proofs.Common.{◌≡◌, ℕ, ◌<◌, ◌≤◌, ◌^◌, List, [], ◌∷◌, ◌++◌, length, map, refl, sym, ◌∙◌, ap, subst, append_assoc}
 use Rattle.std.specs.Prelude.{Some, None}
 use Rattle.std.specs.List.{AllByRecursion}
-use Rattle.std.proofs.lemmas.List.{append-nil}
 use Rattle.gated_journal.specs.Layout.{framed, record_bytes}
 use Rattle.gated_journal.specs.Scanned.{OpensWith, Parts}
 use Rattle.gated_journal.proofs.OneReading.{same_frames}
@@ -19,40 +18,24 @@ use Rattle.act_store.specs.Meaning.{SpellCommands}
 use Rattle.act_store.specs.Replayed.{IsCarried, IsReplayed}
 use Rattle.act_store.proofs.Histories.{after-append}
 use Rattle.act_store.proofs.Meanings.{spell_more}
+use Rattle.act_store.proofs.WholeTexts.{none_longer, none_whole, whole}
 
 abbrev AreShort : List (List ℕ) → Type 0
 AreShort bodies = AllByRecursion (λ body. length body < 2 ^ 32) bodies
 
 -- ---- one body
 
-no_element : (l : List ℕ) → length l ≤ 0 → l ≡ []
-no_element [] none = refl
-no_element (x ∷ l) none = absurd (omega (arith, none))
-
-nothing_behind : (a rest : List ℕ) → a ++ rest ≡ a → rest ≡ []
-nothing_behind [] rest same = same
-nothing_behind (x ∷ a) rest same = nothing_behind a rest (cc same)
-
--- bytes that begin with a batch are no batch where some are left
-pub batch_left : (body rest : List ℕ) (found commands : List Command) → BeginsWith batch body found rest → Spells batch body commands → rest ≡ []
-batch_left body rest found commands begins spells =
-    let same : batch.spelling commands ++ [] ≡ batch.spelling found ++ rest = append-nil (batch.spelling commands) ∙ sym spells.1 ∙ begins.1 in
-    let one = none_begins batch batch_at batch_reads (batch.spelling commands) (batch.spelling found) [] rest commands found (spells.0, refl) (begins.0, refl) same in
-    nothing_behind (batch.spelling found) rest (sym begins.1 ∙ spells.1 ∙ one.0)
-
 pub no_batch : (body : List ℕ) → ((x : List Command) (rest : List ℕ) → BeginsWith batch body x rest → ⊥) → (commands : List Command) → Spells batch body commands → ⊥
-no_batch body none commands spells = none commands [] (spells.0, spells.1 ∙ sym (append-nil (batch.spelling commands)))
+no_batch body none commands spells = none_whole batch body none commands spells
 
 pub carried_whole : (body rest : List ℕ) (table last : TableState) (commands : List Command) → BeginsWith batch body commands rest
     → length rest ≤ 0 → last ≡ after table commands → IsCarried body table (Some last)
-carried_whole body rest table last commands begins none is =
-    let empty : rest ≡ [] = no_element rest none in
-    (commands, (begins.0, begins.1 ∙ ap (λ (l : List ℕ). batch.spelling commands ++ l) empty ∙ append-nil (batch.spelling commands)), sym is)
+carried_whole body rest table last commands begins none is = (commands, whole batch body rest commands begins none, sym is)
 
 pub left_over : (body rest : List ℕ) (table : TableState) (found : List Command) → BeginsWith batch body found rest → 0 < length rest
     → IsCarried body table None
 left_over body rest table found begins some commands spells =
-    omega (arith, some, ap (λ (l : List ℕ). length l) (batch_left body rest found commands begins spells))
+    none_longer batch (none_begins batch batch_at batch_reads) body rest found begins some commands spells
 
 -- ---- the records so far
 

@@ -12,3 +12,4 @@ pub mod Spelled
 pub mod Steps
 pub mod TableText
 pub mod Told
+pub mod Waiting

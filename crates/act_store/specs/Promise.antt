@@ -1,18 +1,18 @@
 -- What a store keeps, whatever its calls were: the promise of the images of its disk.
-use Rattle.std.specs.Prelude.{◌≡◌, ℕ, ◌<◌, ◌≤◌, List, [], ◌∷◌, length, false, Option, Some, None}
+use Rattle.std.specs.Prelude.{◌≡◌, ℕ, ◌<◌, ◌≤◌, List, length, false}
 use Rattle.std.specs.List.{AllByRecursion}
 use Rattle.gated_journal.specs.Layout.{Head, opened}
 use Rattle.gated_journal.specs.Whole.{StandsWhole}
 use Rattle.gated_journal.specs.declared.gate.Gate.{Gate}
 use Rattle.gated_journal.specs.declared.side.Side.{Side}
-use Rattle.run_plan.specs.declared.command.Command.{Command}
 use Rattle.run_table.specs.TableState.{TableState}
-use Rattle.table_text.specs.Commands.{IsSpelled, batch}
+use Rattle.table_text.specs.Commands.{IsSpelled}
 use Rattle.act_store.specs.Entries.{IsLegal}
 use Rattle.act_store.specs.Images.{IsAreaLength}
 use Rattle.act_store.specs.Kept.{Kept, StandsForEither, covered_table, pending_commands, table_of}
 use Rattle.act_store.specs.Meaning.{MeansTable}
 use Rattle.act_store.specs.Plain.{record_end}
+use Rattle.act_store.specs.Waiting.{Waits, waits_of}
 
 -- All images read as the same head and bodies, which stand for this table, up to the gate in use.
 pub record IsSettled (len : ℕ) (side : Side) (gate : Gate) (generation used : ℕ) (table : TableState) (images : List ℕ → Type 0) : Type 0 where
@@ -29,13 +29,8 @@ pub record IsStanding {D : Type 0} (images : D → List ℕ → Type 0) (side : 
   pub each : (c : List ℕ) → images s.disk c → StandsForEither s c
   pub settled : s.failed ≡ false → IsSettled s.area side gate s.generation s.used (covered_table s) (images s.disk)
 
--- the body of the record that is to be written, where there are commands for one
-abbrev pub record_body : List Command → Option (List ℕ)
-record_body [] = None
-record_body (command ∷ commands) = Some (batch.spelling (command ∷ commands))
-
--- What is kept in memory: a legal history, the table that it leads to, and the record of the entries that are not covered, which fits.
-pub record IsCounted {D : Type 0} (s : Kept D) (table : TableState) (waiting : Option (List ℕ)) : Type 0 where
+-- What is kept in memory: a legal history, the table that it leads to, and the entries that wait for a commit, whose record fits.
+pub record IsCounted {D : Type 0} (s : Kept D) (table : TableState) (waiting : Waits) : Type 0 where
   pub legal : IsLegal s.base s.history
   pub table_is : table ≡ table_of s
   pub covers : s.covered ≤ length s.history
@@ -44,4 +39,4 @@ pub record IsCounted {D : Type 0} (s : Kept D) (table : TableState) (waiting : O
   pub gate_fits : s.used < s.area
   pub record_fits : s.covered < length s.history → record_end s (pending_commands s) ≤ s.area
   pub spelled : AllByRecursion IsSpelled (pending_commands s)
-  pub waiting_is : waiting ≡ record_body (pending_commands s)
+  pub waiting_is : waiting ≡ waits_of (pending_commands s)

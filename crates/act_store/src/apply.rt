@@ -1,12 +1,14 @@
-ghost use Rattle.std.specs.Prelude.{◌≡◌, ◌⊎◌, ◌<◌, [], ◌∷◌, ◌++◌, Err, IfErr, IfOk, IfSome, OnErr, Some, vec_capacity, vec_len};
+ghost use Rattle.std.specs.Prelude.{◌≡◌, ◌⊎◌, ◌+◌, ◌<◌, ◌^◌, [], ◌∷◌, ◌++◌, length, Err, IfErr, IfOk, IfSome, OnErr, OnOk, Some, vec_capacity, vec_len};
 ghost use Rattle.wf_value.specs.Gives.{no_memory};
 ghost use Rattle.run_table.specs.Step.{stepped};
+ghost use Rattle.table_text.specs.Commands.{IsSpelled, command_bytes};
 ghost use Rattle.act_store.specs.Plain.{entered, receipt_of, refusal_of_apply};
+ghost use Rattle.act_store.specs.Waiting.{with_command};
 
 use crate::entry::Entry;
 use crate::receipt::Receipt;
 use crate::store::Store;
-use crate::waiting::{length_with, record_with};
+use crate::waiting::Waiting;
 use act_disk::Disk;
 use run_plan::{Command, Reply};
 use run_table::Table;
@@ -34,10 +36,14 @@ impl<D: Disk> Store<D> {
         if let Some(refusal) = self.refusal_of(&command) {
             return Err(refusal);
         }
-        let pending = &self.history[self.covered..];
-        let record = record_with(alloc, &self.waiting, pending, &command)?;
-        let reply = enter(alloc, &mut self.table, &mut self.history, seat, command)?;
-        self.waiting = Some(record);
+        let reply = enter(
+            alloc,
+            &mut self.table,
+            &mut self.history,
+            &mut self.waiting,
+            seat,
+            command,
+        )?;
         Ok(Receipt {
             reply,
             place: self.history.len() as u64,
@@ -54,8 +60,7 @@ impl<D: Disk> Store<D> {
         if self.history.len() >= MOST_ENTRIES {
             return Some(Refusal::Numbered(Code::HistoryFull));
         }
-        let pending = &self.history[self.covered..];
-        let batch = length_with(&self.waiting, pending, command);
+        let batch = self.waiting.batch_length_with(command);
         if self.areas.len < self.used + FRAME + batch + 1 {
             return Some(Refusal::Numbered(Code::AreaFull));
         }
@@ -63,33 +68,48 @@ impl<D: Disk> Store<D> {
     }
 }
 
-/// Carries out a command, and enters it at the end of a history. Where memory is refused nothing has changed.
+/// Carries out a command, and enters it at the end of a history and of what waits. Where memory is refused nothing has changed.
 fn enter(
     alloc: Global,
     table: &mut Table,
     history: &mut Vec<Entry>,
+    waiting: &mut Waiting,
     seat: u64,
     command: Command,
 ) -> Result<Reply, Refusal>
+    requires few { waiting.old.count + 1 < 2 ^ 32 }
+    requires fits { 4 + length waiting.old.spelled + length (command_bytes command) < 2 ^ 32 }
     ensures reply { IfOk result (λ reply. reply ≡ (stepped table.old command).reply) }
     ensures table { IfOk result (λ _. table.new ≡ (stepped table.old command).table) }
     ensures history { IfOk result (λ _. history.new.items ≡ history.old.items
         ++ record { seat = seat; command = command; reply = (stepped table.old command).reply } ∷ []) }
+    ensures waiting { OnOk result (waiting.new ≡ with_command waiting.old command) }
+    ensures spelled { OnOk result (IsSpelled command) }
     ensures same_table { OnErr result (table.new ≡ table.old) }
     ensures same_history { OnErr result (history.new.items ≡ history.old.items) }
+    ensures same_waiting { OnErr result (waiting.new ≡ waiting.old) }
     ensures refused { IfErr result (λ e. e ≡ no_memory) }
 {
     history.reserve(1)?;
-    let (reply, told) = table.step_with_copy(alloc, &command)?;
-    push_within(
-        history,
-        Entry {
-            seat,
-            command,
-            reply,
-        },
-    );
-    Ok(told)
+    let (count, spelled) = (waiting.count(), waiting.spelled_len());
+    waiting.add(alloc, &command)?;
+    match table.step_with_copy(alloc, &command) {
+        Err(refusal) => {
+            waiting.keep(count, spelled);
+            Err(refusal)
+        }
+        Ok((reply, told)) => {
+            push_within(
+                history,
+                Entry {
+                    seat,
+                    command,
+                    reply,
+                },
+            );
+            Ok(told)
+        }
+    }
 }
 
 /// Adds an entry for which there is room.

@@ -31,10 +31,10 @@ impl<D: Disk> Store<D> {
         if self.failed {
             return Err(Refusal::Numbered(Code::FailedEarlier));
         }
-        let Some(record) = &self.waiting else {
+        if self.waiting.is_empty() {
             return Ok(self.covered as u64);
-        };
-        let bytes = record.as_slice();
+        }
+        let bytes = self.waiting.as_slice();
         let areas = self.areas;
         match areas.grow(&mut self.disk, self.used, bytes) {
             Err(fault) => {
@@ -44,7 +44,7 @@ impl<D: Disk> Store<D> {
             Ok(()) => {
                 self.used += bytes.len() as u64;
                 self.covered = self.history.len();
-                self.waiting = None;
+                self.waiting.keep(0, 0);
                 Ok(self.covered as u64)
             }
         }

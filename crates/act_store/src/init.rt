@@ -6,6 +6,7 @@ ghost use Rattle.act_store.specs.Images.{StandsFor};
 ghost use Rattle.act_store.specs.Plain.{disk_not_empty, fresh};
 
 use crate::store::Store;
+use crate::waiting::Waiting;
 use act_disk::Disk;
 use gated_journal::{Gate, Side, Standing, make_areas};
 use run_table::Table;
@@ -56,7 +57,7 @@ impl<D: Disk> Store<D> {
                 covered: 0,
                 used: USED,
                 generation: 1,
-                waiting: None,
+                waiting: Waiting::new(),
                 failed: false,
             }),
         }

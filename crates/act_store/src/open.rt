@@ -6,6 +6,7 @@ ghost use Rattle.act_store.specs.Told.{IsCause};
 
 use crate::found::find;
 use crate::store::Store;
+use crate::waiting::Waiting;
 use act_disk::Disk;
 use gated_journal::Standing;
 use std::alloc::Global;
@@ -56,7 +57,7 @@ impl<D: Disk> Store<D> {
             covered: 0,
             used: found.spelled.used,
             generation: found.spelled.generation,
-            waiting: None,
+            waiting: Waiting::new(),
             failed: false,
         })
     }

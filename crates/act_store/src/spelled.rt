@@ -7,6 +7,7 @@ use crate::replay::replay;
 use gated_journal::scan;
 use run_table::Table;
 use std::alloc::Global;
+use table_text::read_table;
 use wf_value::Refusal;
 
 /// The version of an area's layout.
@@ -31,7 +32,7 @@ pub(crate) fn spelled_in(alloc: Global, area: &[u8]) -> Result<Option<Spelled>, 
     if found.head.version != VERSION {
         return Ok(None);
     }
-    let Some(first) = table_in(alloc, found.head.text) else {
+    let Some(first) = table_in(alloc, found.head.text)? else {
         return Ok(None);
     };
     match replay(alloc, first, found.records)? {
@@ -44,17 +45,17 @@ pub(crate) fn spelled_in(alloc: Global, area: &[u8]) -> Result<Option<Spelled>, 
     }
 }
 
-/// The text of the empty table.
-const EMPTY_TEXT: [u8; 12] = [0, 0, 0, 0, 0, 0, 0, 0, 0, 0, 0, 0];
-
-/// The table that a text spells, or `None` where it spells none.
-#[tactic(auto, unfolding(crate::specs::TableText::SpellsTable, crate::specs::TableText::empty_text))]
-fn table_in(alloc: Global, text: &[u8]) -> Option<Table>
-    ensures { IsTextOf text.now result }
+/// The table that a text spells, or `None` where it spells none. Bytes behind a table make it the text of none.
+#[tactic(auto, using(crate::proofs::TextOfTable::whole_text, crate::proofs::TextOfTable::longer_text, crate::proofs::TextOfTable::no_text))]
+fn table_in(alloc: Global, text: &[u8]) -> Result<Option<Table>, Refusal>
+    ensures spelled { IfOk result (λ found. IsTextOf text.now found) }
+    ensures refused { IfErr result (λ e. e ≡ no_memory) }
 {
-    if text == EMPTY_TEXT.as_slice() {
-        Some(Table::new(alloc))
-    } else {
-        None
+    let Some((table, rest)) = read_table(alloc, text)? else {
+        return Ok(None);
+    };
+    if rest.len() > 0 {
+        return Ok(None);
     }
+    Ok(Some(table))
 }

@@ -6,8 +6,9 @@ ghost use Rattle.run_table.specs.Sound.{IsSound};
 ghost use Rattle.run_table.specs.Step.{seen};
 
 use crate::entry::Entry;
+use crate::waiting::Waiting;
 use act_disk::Disk;
-use gated_journal::{Gate, Record, Standing};
+use gated_journal::{Gate, Standing};
 use run_plan::Number;
 use run_table::laws::{every_group_keeps_its_law, groups_have_one_holder_of_each_kind};
 use run_table::{RunView, Table};
@@ -33,8 +34,8 @@ pub struct Store<D: Disk> {
     /// The offset of the gate behind which the next record goes.
     pub(crate) used: u64,
     pub(crate) generation: u64,
-    /// The record of the entries that are not covered, where there are some.
-    pub(crate) waiting: Option<Record>,
+    /// The commands of the entries that are not covered.
+    pub(crate) waiting: Waiting,
     pub(crate) failed: bool,
 }
 

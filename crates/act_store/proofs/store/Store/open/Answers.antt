@@ -17,7 +17,7 @@ invariant_of-result g c =
     let same : spelled.table ≡ base = search rules in
     let none : c.new.result.items ≡ [] = c.new.ensures.items in
     let area = c.in-Ok.ensures.area in (
-      counted_begun d1 found.area base spelled.used spelled.generation c.new.result.items none spelled.table same area.0 area.1,
+      counted_begun d1 found.area base spelled.used spelled.generation c.new.result.items none spelled.table same c.new-2.result c.new-2.ensures area.0 area.1,
       (λ _. search (rules, arith)),
       λ honest. standing_begun d1 found.area base spelled.used spelled.generation c.new.result.items none disk.images found.chosen.side
           found.chosen.other area.0
