@@ -9,6 +9,7 @@ mod plays;
 mod rows;
 mod scripts;
 mod stops;
+mod texts;
 
 use crate::commands::{Words, command_of};
 use crate::holds::holds;

@@ -1,8 +1,9 @@
 //! Steps of the table, and the views of its runs.
 
 mod contexts;
+mod group_parts;
 mod steps;
-mod tables;
+pub mod tables;
 mod views;
 
 use crate::commands::{Words, command_of, number};

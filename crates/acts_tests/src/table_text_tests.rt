@@ -1,8 +1,9 @@
 //! The stored bytes of commands and of batches. The expected ones are those of the format, worked out by hand.
 
-mod no_tables;
+pub mod no_tables;
 mod reading_tables;
-mod tables;
+pub mod tables;
+mod whole_tables;
 
 use crate::commands::{Words, command_of};
 use crate::holds::{expect_bytes, holds};

@@ -37,10 +37,24 @@ fn answer_to_event(alloc: Global, body: &[u8]) -> u64 {
     }
 }
 
-fn expect_workflows(rt: &impl Abort, alloc: Global, rows: &[(&str, u64)]) {
-    for (body, want) in rows {
+/// What stands before a text and behind it in a workflow.
+type Around = (&'static str, &'static str);
+
+/// The text is the workflow.
+const WHOLE: Around = ("", "");
+
+/// The text is the members of its one job.
+const IN_JOB: Around = ("{\"jobs\":{\"a\":{", "}}}");
+
+/// The text is what stands behind the labels of that job.
+const BEHIND_LABELS: Around = ("{\"jobs\":{\"a\":{\"runs-on\":\"x\"", "}}}");
+
+/// Texts, and what is answered to the workflow of each.
+fn expect_answers(rt: &impl Abort, alloc: Global, around: Around, rows: &[(&str, u64)]) {
+    for &(text, want) in rows {
+        let body = long(rt, alloc, &[(around.0, 1), (text, 1), (around.1, 1)]);
         let answer = answer_to_workflow(alloc, body.as_bytes());
-        holds!(rt; answer == *want, body);
+        holds!(rt; answer == want, text);
     }
 }
 
@@ -83,7 +97,7 @@ const WORKFLOWS: [(&str, u64); 24] = [
 
 #[test]
 fn refuses_workflows(rt: HostRuntime) {
-    expect_workflows(&rt, rt.alloc(), &WORKFLOWS);
+    expect_answers(&rt, rt.alloc(), WHOLE, &WORKFLOWS);
     let answer = answer_to_workflow(rt.alloc(), b"{\"jobs\":{\"\xff\":{}}}");
     holds!(rt; answer == 10, "no UTF-8");
 }
@@ -130,26 +144,6 @@ fn refuses_events(rt: HostRuntime) {
     }
 }
 
-/// What is answered to a workflow of one job `a` with these members.
-fn numbered_job(alloc: Global, members: &str) -> Result<u64, Refusal> {
-    let body = format!(in alloc; "{{\"jobs\":{{\"a\":{{{members}}}}}}}")?;
-    Ok(number(read_workflow(alloc, body.as_bytes())))
-}
-
-fn answer_to_job(alloc: Global, members: &str) -> u64 {
-    match numbered_job(alloc, members) {
-        Ok(number) if number != 50 => number,
-        _ => numbered_job(alloc, members).unwrap_or(50),
-    }
-}
-
-fn expect_jobs(rt: &impl Abort, alloc: Global, rows: &[(&str, u64)]) {
-    for (members, want) in rows {
-        let answer = answer_to_job(alloc, members);
-        holds!(rt; answer == *want, members);
-    }
-}
-
 const LABELS: [(&str, u64); 9] = [
     ("\"runs-on\":\"${{ vars.l || 'linux' }}\"", ACCEPTED),
     (
@@ -167,7 +161,7 @@ const LABELS: [(&str, u64); 9] = [
 
 #[test]
 fn reads_templates_of_labels(rt: HostRuntime) {
-    expect_jobs(&rt, rt.alloc(), &LABELS);
+    expect_answers(&rt, rt.alloc(), IN_JOB, &LABELS);
 }
 
 const CONTINUE_ON_ERROR: [(&str, u64); 9] = [
@@ -193,7 +187,7 @@ const CONTINUE_ON_ERROR: [(&str, u64); 9] = [
 
 #[test]
 fn reads_continue_on_error(rt: HostRuntime) {
-    expect_jobs(&rt, rt.alloc(), &CONTINUE_ON_ERROR);
+    expect_answers(&rt, rt.alloc(), IN_JOB, &CONTINUE_ON_ERROR);
 }
 
 /// Of two faults in neighbouring members the earlier one is answered, in whatever order they stand.
@@ -219,7 +213,7 @@ const EARLIER_MEMBERS: [(&str, u64); 8] = [
 
 #[test]
 fn answers_the_earlier_of_two_members(rt: HostRuntime) {
-    expect_jobs(&rt, rt.alloc(), &EARLIER_MEMBERS);
+    expect_answers(&rt, rt.alloc(), IN_JOB, &EARLIER_MEMBERS);
 }
 
 /// And so outside the jobs.
@@ -236,7 +230,7 @@ const EARLIER_FAULTS: [(&str, u64); 5] = [
 
 #[test]
 fn answers_the_earlier_of_two_faults(rt: HostRuntime) {
-    expect_workflows(&rt, rt.alloc(), &EARLIER_FAULTS);
+    expect_answers(&rt, rt.alloc(), WHOLE, &EARLIER_FAULTS);
 }
 
 /// A workflow of `count` jobs, and one more whose id is refused where `bad` says so.

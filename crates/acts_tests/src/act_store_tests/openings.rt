@@ -17,7 +17,7 @@ const fn front(gate: u8, version: u8) -> [u8; 30] {
 }
 
 /// Lays bytes over what is there, as far as there are any.
-fn lay(file: &mut [u8], at: usize, bytes: &[u8]) {
+pub fn lay(file: &mut [u8], at: usize, bytes: &[u8]) {
     for (place, byte) in bytes.iter().enumerate() {
         if let Some(there) = file.get_mut(at.saturating_add(place)) {
             *there = *byte;

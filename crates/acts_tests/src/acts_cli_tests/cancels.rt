@@ -1,6 +1,6 @@
 //! Runs that are cancelled, runners that are lost, and bodies that are fetched. GitHub Docs, "Canceling a workflow".
 
-use crate::acts_cli_tests::scripts::{Row, expect_rows};
+use crate::acts_cli_tests::scripts::{Play, Row, expect_plays};
 use std::test::Fail;
 
 const BUILD: &str = r#"{"jobs":{"build":{"runs-on":"linux"}}}"#;
@@ -70,14 +70,17 @@ const FETCHED: [Row; 2] = [
     ("fetch 2", "refused 40"),
 ];
 
+const OF_ONE_JOB: [Play; 5] = [
+    (BUILD, &CANCELLED),
+    (BUILD, &CANCELLED_BEFORE_A_CLAIM),
+    (BUILD, &LOST),
+    (BUILD, &LOST_WHILE_STOPPING),
+    (BUILD, &FETCHED),
+];
+
 #[test]
 fn a_run_of_one_job(rt: HostRuntime) -> Result<(), Fail> {
-    let alloc = rt.alloc();
-    expect_rows(&rt, alloc, BUILD, &CANCELLED)?;
-    expect_rows(&rt, alloc, BUILD, &CANCELLED_BEFORE_A_CLAIM)?;
-    expect_rows(&rt, alloc, BUILD, &LOST)?;
-    expect_rows(&rt, alloc, BUILD, &LOST_WHILE_STOPPING)?;
-    expect_rows(&rt, alloc, BUILD, &FETCHED)
+    expect_plays(&rt, rt.alloc(), &OF_ONE_JOB)
 }
 
 /// A job that runs under each condition, once the run has been told to stop.
@@ -187,13 +190,16 @@ const LOST_UNDER_ALWAYS: [Row; 4] = [
 
 const ALWAYS: &str = r#"{"jobs":{"a":{"runs-on":"linux","if":"always()"}}}"#;
 
+const OF_MORE_JOBS: [Play; 4] = [
+    (EACH_CONDITION, &CONDITIONS_AFTER_A_CANCEL),
+    (AT_WORK, &JOBS_AT_WORK),
+    (THREE, &TWO_AND_A_LOST_ONE),
+    (ALWAYS, &LOST_UNDER_ALWAYS),
+];
+
 #[test]
 fn runs_of_more(rt: HostRuntime) -> Result<(), Fail> {
-    let alloc = rt.alloc();
-    expect_rows(&rt, alloc, EACH_CONDITION, &CONDITIONS_AFTER_A_CANCEL)?;
-    expect_rows(&rt, alloc, AT_WORK, &JOBS_AT_WORK)?;
-    expect_rows(&rt, alloc, THREE, &TWO_AND_A_LOST_ONE)?;
-    expect_rows(&rt, alloc, ALWAYS, &LOST_UNDER_ALWAYS)
+    expect_plays(&rt, rt.alloc(), &OF_MORE_JOBS)
 }
 
 const NO_LINES: [Row; 14] = [
@@ -215,5 +221,5 @@ const NO_LINES: [Row; 14] = [
 
 #[test]
 fn lines_that_are_none(rt: HostRuntime) -> Result<(), Fail> {
-    expect_rows(&rt, rt.alloc(), BUILD, &NO_LINES)
+    expect_plays(&rt, rt.alloc(), &[(BUILD, &NO_LINES)])
 }

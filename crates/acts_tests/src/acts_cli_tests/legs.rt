@@ -2,7 +2,7 @@
 //! "Workflow syntax for GitHub Actions", sections `jobs.<job_id>.strategy.fail-fast` and
 //! `jobs.<job_id>.strategy.max-parallel`, and "Running variations of jobs in a workflow".
 
-use crate::acts_cli_tests::scripts::{Row, expect_rows};
+use crate::acts_cli_tests::scripts::{Play, Row, expect_plays};
 use std::test::Fail;
 
 const FOUR_BY_TWO: &str =
@@ -111,19 +111,20 @@ const BESIDE_A_FAILURE_THAT_IS_PASSED_OVER: [Row; 11] = [
     ),
 ];
 
-#[test]
-fn failures_of_legs(rt: HostRuntime) -> Result<(), Fail> {
-    let alloc = rt.alloc();
-    expect_rows(&rt, alloc, FOUR_BY_TWO, &A_FAILURE_STOPS_THE_REST)?;
-    expect_rows(&rt, alloc, TWO, &A_STOPPING_LEG_SUCCEEDS)?;
-    expect_rows(&rt, alloc, TWO, &A_CANCELLED_LEG_STOPS_NONE)?;
-    expect_rows(&rt, alloc, WITHOUT_FAIL_FAST, &THE_REST_GOES_ON)?;
-    expect_rows(
-        &rt,
-        alloc,
+const FAILED_LEGS: [Play; 5] = [
+    (FOUR_BY_TWO, &A_FAILURE_STOPS_THE_REST),
+    (TWO, &A_STOPPING_LEG_SUCCEEDS),
+    (TWO, &A_CANCELLED_LEG_STOPS_NONE),
+    (WITHOUT_FAIL_FAST, &THE_REST_GOES_ON),
+    (
         TWO_OF_FOUR_PASSED_OVER,
         &BESIDE_A_FAILURE_THAT_IS_PASSED_OVER,
-    )
+    ),
+];
+
+#[test]
+fn failures_of_legs(rt: HostRuntime) -> Result<(), Fail> {
+    expect_plays(&rt, rt.alloc(), &FAILED_LEGS)
 }
 
 const ONE_AT_A_TIME: &str = concat!(
@@ -188,12 +189,15 @@ const STRATEGY_AS_LABELS: [Row; 3] = [
     ("claim r2 2 true-3", r#"lease 2 1 b 0 {"n":1}"#),
 ];
 
+const LEGS_FOR_RUNNERS: [Play; 3] = [
+    (ONE_AT_A_TIME, &ONE_LEG_AFTER_THE_OTHER),
+    (LABELS_OF_THEIR_OWN, &EACH_ITS_RUNNER),
+    (LABELS_BY_STRATEGY, &STRATEGY_AS_LABELS),
+];
+
 #[test]
 fn legs_and_their_runners(rt: HostRuntime) -> Result<(), Fail> {
-    let alloc = rt.alloc();
-    expect_rows(&rt, alloc, ONE_AT_A_TIME, &ONE_LEG_AFTER_THE_OTHER)?;
-    expect_rows(&rt, alloc, LABELS_OF_THEIR_OWN, &EACH_ITS_RUNNER)?;
-    expect_rows(&rt, alloc, LABELS_BY_STRATEGY, &STRATEGY_AS_LABELS)
+    expect_plays(&rt, rt.alloc(), &LEGS_FOR_RUNNERS)
 }
 
 const BUILD: &str = r#"{"jobs":{"build":{"runs-on":"linux"}}}"#;
@@ -225,9 +229,9 @@ const NO_BEATS: [Row; 8] = [
     ("beat r1 1 ", "refused 75"),
 ];
 
+const BEATING: [Play; 2] = [(BUILD, &BEATS), (BUILD, &NO_BEATS)];
+
 #[test]
 fn runners_that_beat(rt: HostRuntime) -> Result<(), Fail> {
-    let alloc = rt.alloc();
-    expect_rows(&rt, alloc, BUILD, &BEATS)?;
-    expect_rows(&rt, alloc, BUILD, &NO_BEATS)
+    expect_plays(&rt, rt.alloc(), &BEATING)
 }

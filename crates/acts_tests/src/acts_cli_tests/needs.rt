@@ -1,7 +1,7 @@
 //! Runs whose jobs need one another. GitHub Docs, "Workflow syntax for GitHub Actions", sections
 //! `jobs.<job_id>.needs` and `jobs.<job_id>.if`.
 
-use crate::acts_cli_tests::scripts::{Row, Script, expect_rows};
+use crate::acts_cli_tests::scripts::{Play, Row, Script, expect_plays};
 use std::alloc::Global;
 use std::test::Fail;
 use wf_value::Refusal;
@@ -100,14 +100,17 @@ const LEGS_AND_THEN_ANOTHER: [Row; 6] = [
     ),
 ];
 
+const NEEDING: [Play; 5] = [
+    (AFTER_ANY_END, &SKIPPED_FOR_ITS_ANCESTOR),
+    (AFTER_A_FAILURE, &NO_FAILURE),
+    (AFTER_A_FAILURE, &A_FAILURE),
+    (DIAMOND, &THROUGH_THE_DIAMOND),
+    (AFTER_A_MATRIX, &LEGS_AND_THEN_ANOTHER),
+];
+
 #[test]
 fn jobs_that_need_jobs(rt: HostRuntime) -> Result<(), Fail> {
-    let alloc = rt.alloc();
-    expect_rows(&rt, alloc, AFTER_ANY_END, &SKIPPED_FOR_ITS_ANCESTOR)?;
-    expect_rows(&rt, alloc, AFTER_A_FAILURE, &NO_FAILURE)?;
-    expect_rows(&rt, alloc, AFTER_A_FAILURE, &A_FAILURE)?;
-    expect_rows(&rt, alloc, DIAMOND, &THROUGH_THE_DIAMOND)?;
-    expect_rows(&rt, alloc, AFTER_A_MATRIX, &LEGS_AND_THEN_ANOTHER)
+    expect_plays(&rt, rt.alloc(), &NEEDING)
 }
 
 /// The result of a direct need is a text of the job's own templates. One that is further up has none.
@@ -169,12 +172,15 @@ const FLAGS_BY_RESULTS: [Row; 9] = [
     ),
 ];
 
+const BY_RESULTS: [Play; 3] = [
+    (RESULT_AS_LABEL, &LABELS_BY_RESULTS),
+    (OTHER_RESULTS, &LABELS_BY_OTHER_RESULTS),
+    (RESULT_AS_FLAG, &FLAGS_BY_RESULTS),
+];
+
 #[test]
 fn results_of_needs_in_templates(rt: HostRuntime) -> Result<(), Fail> {
-    let alloc = rt.alloc();
-    expect_rows(&rt, alloc, RESULT_AS_LABEL, &LABELS_BY_RESULTS)?;
-    expect_rows(&rt, alloc, OTHER_RESULTS, &LABELS_BY_OTHER_RESULTS)?;
-    expect_rows(&rt, alloc, RESULT_AS_FLAG, &FLAGS_BY_RESULTS)
+    expect_plays(&rt, rt.alloc(), &BY_RESULTS)
 }
 
 /// A workflow of 256 jobs of which each but the last needs the one behind it; the last has this member too.

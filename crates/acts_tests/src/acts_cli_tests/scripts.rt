@@ -10,6 +10,9 @@ use wf_value::Refusal;
 /// A line of a script, and its answer.
 pub type Row = (&'static str, &'static str);
 
+/// A workflow, and the rows that are played once run 1 of it is admitted.
+pub type Play = (&'static str, &'static [Row]);
+
 /// A line of a script.
 pub enum Line {
     /// A `push` to `o/r` is admitted: the delivery, and the workflow.
@@ -60,14 +63,14 @@ impl Script {
         Ok(())
     }
 
-    pub fn add_line(&mut self, line: &Line, answer: &str) -> Result<(), Refusal> {
+    fn add_line(&mut self, line: &Line, answer: &str) -> Result<(), Refusal> {
         match line {
             Line::Push(delivery, workflow) => self.admit(delivery, workflow, answer),
             Line::Words(words) => self.add(words, answer),
         }
     }
 
-    pub fn add_all(&mut self, rows: &[Row]) -> Result<(), Refusal> {
+    fn add_all(&mut self, rows: &[Row]) -> Result<(), Refusal> {
         for (line, answer) in rows {
             self.add(line, answer)?;
         }
@@ -98,15 +101,22 @@ impl Script {
 }
 
 /// Admits run 1, of this workflow, and plays the rows.
-pub fn expect_rows(
+fn expect_play(
     rt: &impl Abort,
     alloc: Global,
     workflow: &str,
     rows: &[Row],
-) -> Result<(), Fail> {
+) -> Result<(), Refusal> {
     let mut script = Script::admitting(alloc, workflow)?;
     script.add_all(rows)?;
-    script.expect(rt, alloc)?;
+    script.expect(rt, alloc)
+}
+
+/// Plays the rows of each workflow, each from an empty table.
+pub fn expect_plays(rt: &impl Abort, alloc: Global, plays: &[Play]) -> Result<(), Fail> {
+    for (workflow, rows) in plays {
+        expect_play(rt, alloc, workflow, rows)?;
+    }
     Ok(())
 }
 

@@ -5,12 +5,7 @@ use crate::run_plan_tests::replies::first_lease;
 use run_plan::{ClaimReply, LastCommand};
 use std::alloc::Global;
 use std::process::Abort;
-use wf_value::{Chars, Outcome, Refusal, TryCopy};
-
-/// The printed text of the kept reply.
-fn kept_text(alloc: Global, last: &LastCommand) -> Result<Chars, Refusal> {
-    last.reply(alloc)?.text(alloc)
-}
+use wf_value::{Outcome, Refusal, TryCopy};
 
 fn expect_reply(
     rt: &impl Abort,
@@ -18,7 +13,7 @@ fn expect_reply(
     last: &LastCommand,
     printed: &str,
 ) -> Result<(), Refusal> {
-    let text = kept_text(alloc, last)?;
+    let text = last.reply(alloc)?.text(alloc)?;
     expect_text(rt, text.as_str(), printed);
     Ok(())
 }
@@ -51,29 +46,21 @@ fn keeps_nothing(rt: &impl Abort, alloc: Global) -> Result<(), Refusal> {
     expect_claim(rt, alloc, &last.copy(alloc)?, "nothing")
 }
 
-fn claim_with_lease(alloc: Global) -> Result<LastCommand, Refusal> {
+fn keeps_a_lease(rt: &impl Abort, alloc: Global) -> Result<(), Refusal> {
     let lease = first_lease(alloc)?;
     let claim = claim(alloc, "r1", "1", "linux")?;
-    Ok(LastCommand::Claim(claim, ClaimReply::Lease(lease)))
-}
-
-fn keeps_a_lease(rt: &impl Abort, alloc: Global) -> Result<(), Refusal> {
-    let copy = claim_with_lease(alloc)?.copy(alloc)?;
-    expect_claim(rt, alloc, &copy, "lease 1 2 b 0 {}")
-}
-
-fn expect_report(rt: &impl Abort, alloc: Global, last: &LastCommand) -> Result<(), Refusal> {
-    expect_reply(rt, alloc, last, "ok")?;
-    holds!(rt; is_report(alloc, last, Outcome::Success)?);
-    holds!(rt; !is_report(alloc, last, Outcome::Failure)?);
-    holds!(rt; !is_claim(alloc, last, "2", "linux")?);
-    Ok(())
+    let last = LastCommand::Claim(claim, ClaimReply::Lease(lease));
+    expect_claim(rt, alloc, &last.copy(alloc)?, "lease 1 2 b 0 {}")
 }
 
 fn keeps_a_report(rt: &impl Abort, alloc: Global) -> Result<(), Refusal> {
     let done = done(alloc, "r1", "2", "1", Outcome::Success)?;
-    let copy = LastCommand::Done(done).copy(alloc)?;
-    expect_report(rt, alloc, &copy)
+    let last = LastCommand::Done(done).copy(alloc)?;
+    expect_reply(rt, alloc, &last, "ok")?;
+    holds!(rt; is_report(alloc, &last, Outcome::Success)?);
+    holds!(rt; !is_report(alloc, &last, Outcome::Failure)?);
+    holds!(rt; !is_claim(alloc, &last, "2", "linux")?);
+    Ok(())
 }
 
 fn keeps_replies(rt: &impl Abort, alloc: Global) -> Result<(), Refusal> {

@@ -2,7 +2,7 @@ use crate::commands::prepared;
 use crate::given::spelled;
 use crate::holds::{expect_bytes, expect_text, holds};
 use crate::run_plan_tests::{BODY, expect_twice};
-use run_plan::{Plan, PlannedJob, PlannedLeg, Prepared, plan};
+use run_plan::{PlannedJob, Prepared, plan};
 use std::alloc::Global;
 use std::process::Abort;
 use wf_expr::{Piece, Template};
@@ -24,53 +24,33 @@ fn expect_labels(rt: &impl Abort, found: &[Template], want: &[&str]) {
     }
 }
 
-/// One leg without a combination.
-fn expect_one_leg(rt: &impl Abort, legs: &[PlannedLeg]) {
-    holds!(rt; legs.len() == 1);
-    holds!(rt; legs[0].combo.len() == 0);
-}
-
+/// A job of one leg, which has no combination.
 fn expect_job(rt: &impl Abort, job: &PlannedJob, id: &str, labels: &[&str]) {
     expect_text(rt, job.id.as_str(), id);
-    expect_one_leg(rt, job.legs.as_slice());
+    let legs = job.legs.as_slice();
+    holds!(rt; legs.len() == 1);
+    holds!(rt; legs[0].combo.len() == 0);
     expect_labels(rt, job.labels.as_slice(), labels);
-}
-
-/// The only job of a plan.
-fn expect_only_job(rt: &impl Abort, jobs: &[PlannedJob], id: &str, labels: &[&str]) {
-    holds!(rt; jobs.len() == 1);
-    expect_job(rt, &jobs[0], id, labels);
-}
-
-fn expect_names(rt: &impl Abort, event: &Prepared) {
-    expect_text(rt, event.delivery().as_str(), "d1");
-    expect_text(rt, event.event().as_str(), "push");
-}
-
-fn expect_workflow(rt: &impl Abort, event: &Prepared) {
-    expect_text(rt, event.repo().as_str(), "o/r");
-    expect_text(rt, event.path().as_str(), "ci.json");
 }
 
 /// That the event is that of `BODY`.
 fn expect_first(rt: &impl Abort, event: &Prepared) {
-    expect_names(rt, event);
-    expect_workflow(rt, event);
+    expect_text(rt, event.delivery().as_str(), "d1");
+    expect_text(rt, event.event().as_str(), "push");
+    expect_text(rt, event.repo().as_str(), "o/r");
+    expect_text(rt, event.path().as_str(), "ci.json");
     expect_bytes(rt, event.body(), BODY.as_bytes());
     expect_text(rt, event.body_text(), BODY);
-    expect_only_job(rt, event.plan().as_slice(), "build", &["linux"]);
-}
-
-fn shares(rt: &impl Abort, event: &Prepared) -> Result<(), Refusal> {
-    let share = event.share()?;
-    expect_first(rt, &share);
-    Ok(())
+    let jobs = event.plan().as_slice();
+    holds!(rt; jobs.len() == 1);
+    expect_job(rt, &jobs[0], "build", &["linux"]);
 }
 
 fn prepares(rt: &impl Abort, alloc: Global) -> Result<(), Refusal> {
     let first = prepared(alloc, "d1", "push", BODY)?;
     expect_first(rt, &first);
-    shares(rt, &first)
+    expect_first(rt, &first.share()?);
+    Ok(())
 }
 
 #[test]
@@ -81,20 +61,13 @@ fn prepares_the_first_body(rt: HostRuntime) {
 const THREE_JOBS: &str =
     "{\"jobs\":{\"b\":{\"runs-on\":[\"linux\",\"x64\"]},\"B\":{\"runs-on\":\"gpu\"},\"a\":{\"runs-on\":\"\"}}}";
 
-fn expect_three(rt: &impl Abort, jobs: &[PlannedJob]) {
+fn plans(rt: &impl Abort, alloc: Global) -> Result<(), Refusal> {
+    let three = plan(alloc, read_workflow(alloc, THREE_JOBS.as_bytes())?)?;
+    let jobs = three.as_slice();
     holds!(rt; jobs.len() == 3);
     expect_job(rt, &jobs[0], "B", &["gpu"]);
     expect_job(rt, &jobs[1], "a", &[""]);
     expect_job(rt, &jobs[2], "b", &["linux", "x64"]);
-}
-
-fn three_jobs(alloc: Global) -> Result<Plan, Refusal> {
-    let workflow = read_workflow(alloc, THREE_JOBS.as_bytes())?;
-    plan(alloc, workflow)
-}
-
-fn plans(rt: &impl Abort, alloc: Global) -> Result<(), Refusal> {
-    expect_three(rt, three_jobs(alloc)?.as_slice());
     Ok(())
 }
 

@@ -8,7 +8,7 @@ use std::process::Abort;
 use wf_value::{Outcome, TryCopy};
 
 /// Runs of two workflows, the third the second of its own, each of whose legs a runner has.
-const LEASED: [Row; 6] = [
+pub const LEASED: [Row; 6] = [
     (Words::Admit("d1", BUILD), "created 1"),
     (Words::Claim("r1", "1", "linux"), "lease 1 1 build 0 {}"),
     (Words::Admit("d2", BUILD_ELSEWHERE), "created 2"),
@@ -17,7 +17,7 @@ const LEASED: [Row; 6] = [
     (Words::Claim("r3", "1", "linux"), "lease 3 3 build 0 {}"),
 ];
 
-const LEASED_RUNS: [(&str, &str); 3] = [
+pub const LEASED_RUNS: [(&str, &str); 3] = [
     ("1", "run 1 1 in_progress - build:open(running)"),
     ("2", "run 2 1 in_progress - build:open(running)"),
     ("3", "run 3 2 in_progress - build:open(running)"),
@@ -38,7 +38,7 @@ fn numbers_runs_by_workflow(rt: HostRuntime) {
 
 /// Runs, a runner's number, its last command with the reply, the lease that it holds, and the last
 /// lease of all.
-const GONE_ON: [Row; 8] = [
+pub const GONE_ON: [Row; 8] = [
     (Words::Claim("r1", "1", "linux"), "lease 1 1 build 0 {}"),
     (Words::Claim("r1", "1", "gpu"), "refused 43 1"),
     (Words::Claim("r1", "2", "linux"), "refused 42"),

@@ -54,7 +54,7 @@ const CHANGES: [(usize, usize, u8); 28] = [
 ];
 
 /// The run of the first row without its job, and with its job twice: its plan has one.
-const OTHER_COUNTS: [&[u8]; 2] = [
+pub const OTHER_COUNTS: [&[u8]; 2] = [
     &[1, 0, 0, 0, 0, 0],
     &[
         1, 0, 1, 0, 0, 0, 1, 2, 0, 0, 0, 0, 1, 0, 0, 0, 1, 2, 0, 0, 0, 0, 0, 0, 0, 0,
@@ -62,7 +62,7 @@ const OTHER_COUNTS: [&[u8]; 2] = [
 ];
 
 /// The bytes of a row with the byte at an offset changed.
-fn changed(alloc: Global, row: &Row<'_>, offset: usize, byte: u8) -> Result<Vec<u8>, Refusal> {
+pub fn changed(alloc: Global, row: &Row<'_>, offset: usize, byte: u8) -> Result<Vec<u8>, Refusal> {
     let mut bytes = bytes_of(alloc, row)?;
     if offset < bytes.len() {
         bytes[offset] = byte;

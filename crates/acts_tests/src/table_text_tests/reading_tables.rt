@@ -4,9 +4,7 @@ use super::tables::{ROWS, Row, bytes_of};
 use crate::holds::holds;
 use crate::run_plan_tests::expect_twice;
 use run_plan::Number;
-use run_table::{
-    JobParts, JobPhase, LastParts, Leg, LegPhase, Parts, RunParts, RunPhase, RunnerParts,
-};
+use run_table::{JobParts, JobPhase, LastParts, LegPhase, Parts, RunParts, RunPhase, RunnerParts};
 use std::alloc::Global;
 use std::process::Abort;
 use table_text::read_parts;
@@ -83,19 +81,16 @@ fn lease_or_0(lease: Option<Number>) -> u32 {
     }
 }
 
-/// That the legs of a job are one, in this phase and with this lease.
-fn expect_leg(rt: &impl Abort, legs: &[Leg], seen: &RunSeen) {
-    holds!(rt; legs.len() == 1);
-    let leg = &legs[0];
-    holds!(rt; leg_word(leg.phase) == seen.3);
-    holds!(rt; lease_or_0(leg.lease) == seen.4);
-}
-
+/// That the jobs are one, of one leg, and are as this says.
 fn expect_job(rt: &impl Abort, jobs: &[JobParts], seen: &RunSeen) {
     holds!(rt; jobs.len() == 1);
     let job = &jobs[0];
     holds!(rt; job_word(job.phase) == seen.2);
-    expect_leg(rt, job.legs.as_slice(), seen);
+    let legs = job.legs.as_slice();
+    holds!(rt; legs.len() == 1);
+    let leg = &legs[0];
+    holds!(rt; leg_word(leg.phase) == seen.3);
+    holds!(rt; lease_or_0(leg.lease) == seen.4);
 }
 
 /// That a run is the one of delivery `d1`, and is as this says.
@@ -106,16 +101,11 @@ fn expect_run(rt: &impl Abort, run: &RunParts, seen: &RunSeen) {
     expect_job(rt, run.jobs.as_slice(), seen);
 }
 
-/// The kind of a last command, and the lease that was given for it.
-fn last_seen(last: &LastParts) -> (&'static str, u32) {
-    match last {
+fn expect_runner(rt: &impl Abort, runner: &RunnerParts, seen: &RunnerSeen) {
+    let last = match &runner.last {
         LastParts::Claim(_, given) => ("claim", lease_or_0(*given)),
         LastParts::Done(_) => ("done", 0),
-    }
-}
-
-fn expect_runner(rt: &impl Abort, runner: &RunnerParts, seen: &RunnerSeen) {
-    let last = last_seen(&runner.last);
+    };
     holds!(rt; runner.name.as_str() == seen.0);
     holds!(rt; runner.number.get() == seen.1);
     holds!(rt; last.0 == seen.2);

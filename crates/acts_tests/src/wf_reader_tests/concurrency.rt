@@ -1,39 +1,23 @@
 //! The `concurrency` of a workflow and of a job, as it is read.
 
-use super::{ACCEPTED, number};
+use super::{ACCEPTED, Around, expect_answers};
 use crate::holds::holds;
 use std::alloc::Global;
 use std::process::Abort;
 use wf_expr::{Piece, Template};
 use wf_reader::{Concurrency, Flag, Workflow, read_workflow};
-use wf_value::Refusal;
 
-/// A workflow with this `concurrency`, and one with a job that has it.
-fn of_workflow(alloc: Global, value: &str) -> Result<String, Refusal> {
-    Ok(format!(in alloc; "{{\"concurrency\":{value},\"jobs\":{{\"a\":{{\"runs-on\":\"x\"}}}}}}")?)
-}
+/// The text is the `concurrency` of the workflow.
+const IN_WORKFLOW: Around = (
+    "{\"concurrency\":",
+    ",\"jobs\":{\"a\":{\"runs-on\":\"x\"}}}",
+);
 
-fn of_job(alloc: Global, value: &str) -> Result<String, Refusal> {
-    Ok(format!(in alloc; "{{\"jobs\":{{\"a\":{{\"runs-on\":\"x\",\"concurrency\":{value}}}}}}}")?)
-}
-
-/// The number of the refusal of each.
-fn numbers(alloc: Global, value: &str) -> Result<(u64, u64), Refusal> {
-    let workflow = of_workflow(alloc, value)?;
-    let job = of_job(alloc, value)?;
-    Ok((
-        number(read_workflow(alloc, workflow.as_bytes())),
-        number(read_workflow(alloc, job.as_bytes())),
-    ))
-}
-
-/// A second call has the memory that the first was refused.
-fn answers(alloc: Global, value: &str) -> (u64, u64) {
-    match numbers(alloc, value) {
-        Ok((workflow, job)) if workflow != 50 && job != 50 => (workflow, job),
-        _ => numbers(alloc, value).unwrap_or((50, 50)),
-    }
-}
+/// The text is that of its one job.
+const IN_THE_JOB: Around = (
+    "{\"jobs\":{\"a\":{\"runs-on\":\"x\",\"concurrency\":",
+    "}}}",
+);
 
 /// Values, and what is answered where a workflow has them and where a job has them.
 const VALUES: [(&str, u64, u64); 22] = [
@@ -90,9 +74,8 @@ const VALUES: [(&str, u64, u64); 22] = [
 #[test]
 fn answers_each_fault_of_a_concurrency(rt: HostRuntime) {
     for &(value, workflow, job) in &VALUES {
-        let found = answers(rt.alloc(), value);
-        holds!(rt; found.0 == workflow, value);
-        holds!(rt; found.1 == job, value);
+        expect_answers(&rt, rt.alloc(), IN_WORKFLOW, &[(value, workflow)]);
+        expect_answers(&rt, rt.alloc(), IN_THE_JOB, &[(value, job)]);
     }
 }
 

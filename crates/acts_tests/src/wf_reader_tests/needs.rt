@@ -1,28 +1,11 @@
 //! The `needs` and the `if` of a job, as they are read.
 
-use super::{ACCEPTED, number};
+use super::{ACCEPTED, Around, BEHIND_LABELS, expect_answers};
+use crate::given::spelled;
 use crate::holds::holds;
 use std::alloc::Global;
 use wf_reader::{Job, read_workflow};
 use wf_value::{Condition, Refusal};
-
-/// A workflow of one job with these members.
-fn workflow_with(alloc: Global, members: &str) -> Result<String, Refusal> {
-    Ok(format!(in alloc; "{{\"jobs\":{{\"a\":{{\"runs-on\":\"x\"{members}}}}}}}")?)
-}
-
-fn numbered(alloc: Global, members: &str) -> Result<u64, Refusal> {
-    let body = workflow_with(alloc, members)?;
-    Ok(number(read_workflow(alloc, body.as_bytes())))
-}
-
-/// A second call has the memory that the first was refused.
-fn answer(alloc: Global, members: &str) -> u64 {
-    match numbered(alloc, members) {
-        Ok(number) if number != 50 => number,
-        _ => numbered(alloc, members).unwrap_or(50),
-    }
-}
 
 fn word_of(condition: Condition) -> &'static str {
     match condition {
@@ -46,7 +29,10 @@ fn shown_job(alloc: Global, job: &Job) -> Result<String, Refusal> {
 }
 
 fn shown(alloc: Global, members: &str) -> Result<String, Refusal> {
-    let body = workflow_with(alloc, members)?;
+    let body = spelled(
+        alloc,
+        &[(BEHIND_LABELS.0, 1), (members, 1), (BEHIND_LABELS.1, 1)],
+    )?;
     let workflow = read_workflow(alloc, body.as_bytes())?;
     match workflow.jobs.as_slice() {
         [job] => shown_job(alloc, job),
@@ -98,47 +84,43 @@ fn reads_needs_and_conditions(rt: HostRuntime) {
     }
 }
 
-const NO_CONDITIONS: [&str; 28] = [
-    "null",
-    "0",
-    "1",
-    "[]",
-    "[true]",
-    "{}",
-    "\"\"",
-    "\" \"",
-    "\"${{ }}\"",
-    "\"${{}}\"",
-    "\"${{}\"",
-    "\"{{ true }}\"",
-    "\"${{ true\"",
-    "\"true }}\"",
-    "\"${{ true }} ${{ true }}\"",
-    "\"${{ ${{ true }} }}\"",
-    "\"$ {{ true }}\"",
-    "\"${{ true } }\"",
-    "\"success\"",
-    "\"success( )\"",
-    "\"success ()\"",
-    "\"Success()\"",
-    "\"TRUE\"",
-    "\"! cancelled()\"",
-    "\"!success()\"",
-    "\"always()\\t\"",
-    "\"${{\\nalways() }}\"",
-    "\"github.ref == 'x'\"",
+/// The text is the `if` of the one job.
+const IN_CONDITION: Around = ("{\"jobs\":{\"a\":{\"runs-on\":\"x\",\"if\":", "}}}");
+
+const NO_CONDITIONS: [(&str, u64); 28] = [
+    ("null", 26),
+    ("0", 26),
+    ("1", 26),
+    ("[]", 26),
+    ("[true]", 26),
+    ("{}", 26),
+    ("\"\"", 26),
+    ("\" \"", 26),
+    ("\"${{ }}\"", 26),
+    ("\"${{}}\"", 26),
+    ("\"${{}\"", 26),
+    ("\"{{ true }}\"", 26),
+    ("\"${{ true\"", 26),
+    ("\"true }}\"", 26),
+    ("\"${{ true }} ${{ true }}\"", 26),
+    ("\"${{ ${{ true }} }}\"", 26),
+    ("\"$ {{ true }}\"", 26),
+    ("\"${{ true } }\"", 26),
+    ("\"success\"", 26),
+    ("\"success( )\"", 26),
+    ("\"success ()\"", 26),
+    ("\"Success()\"", 26),
+    ("\"TRUE\"", 26),
+    ("\"! cancelled()\"", 26),
+    ("\"!success()\"", 26),
+    ("\"always()\\t\"", 26),
+    ("\"${{\\nalways() }}\"", 26),
+    ("\"github.ref == 'x'\"", 26),
 ];
 
 #[test]
 fn refuses_other_conditions(rt: HostRuntime) {
-    for &condition in &NO_CONDITIONS {
-        let body = format!(in rt.alloc(); ",\"if\":{condition}");
-        let answer = match body {
-            Ok(members) => answer(rt.alloc(), members.as_str()),
-            Err(_) => 50,
-        };
-        holds!(rt; answer == 26, condition);
-    }
+    expect_answers(&rt, rt.alloc(), IN_CONDITION, &NO_CONDITIONS);
 }
 
 /// A no-break space, and each other white space of ASCII, is no space.
@@ -152,10 +134,7 @@ fn takes_one_character_for_a_space(rt: HostRuntime) {
         (",\"if\":\"true\\u0000\"", 26),
         (",\"if\":\" true \"", ACCEPTED),
     ];
-    for (members, want) in rows {
-        let answer = answer(rt.alloc(), members);
-        holds!(rt; answer == want, members);
-    }
+    expect_answers(&rt, rt.alloc(), BEHIND_LABELS, &rows);
 }
 
 #[test]
@@ -170,8 +149,5 @@ fn refuses_other_needs(rt: HostRuntime) {
         (",\"needs\":[[\"b\"]]", 11),
         (",\"needs\":[\"b\",\"b\"]", ACCEPTED),
     ];
-    for (members, want) in rows {
-        let answer = answer(rt.alloc(), members);
-        holds!(rt; answer == want, members);
-    }
+    expect_answers(&rt, rt.alloc(), BEHIND_LABELS, &rows);
 }

@@ -1,33 +1,18 @@
-use super::{ACCEPTED, number};
+use super::{ACCEPTED, Around, BEHIND_LABELS, expect_answers};
+use crate::given::spelled;
 use crate::holds::holds;
 use std::alloc::Global;
 use wf_reader::{Strategy, read_workflow};
 use wf_value::{Matrix, Refusal};
 
-/// What is answered to a workflow of one job with this strategy.
-fn numbered(alloc: Global, strategy: [&str; 3]) -> Result<u64, Refusal> {
-    let [start, inner, end] = strategy;
-    let body = format!(in alloc;
-        "{{\"jobs\":{{\"a\":{{\"runs-on\":\"x\",\"strategy\":{start}{inner}{end}}}}}}}"
-    )?;
-    Ok(number(read_workflow(alloc, body.as_bytes())))
-}
+/// The text is the strategy of the one job.
+const IN_STRATEGY: Around = ("{\"jobs\":{\"a\":{\"runs-on\":\"x\",\"strategy\":", "}}}");
 
-/// A second call has the memory that the first was refused.
-fn answer(alloc: Global, strategy: [&str; 3]) -> u64 {
-    match numbered(alloc, strategy) {
-        Ok(number) if number != 50 => number,
-        _ => numbered(alloc, strategy).unwrap_or(50),
-    }
-}
-
-fn answer_to_strategy(alloc: Global, strategy: &str) -> u64 {
-    answer(alloc, ["", strategy, ""])
-}
-
-fn answer_to_matrix(alloc: Global, matrix: &str) -> u64 {
-    answer(alloc, ["{\"matrix\":", matrix, "}"])
-}
+/// The text is the matrix of that strategy.
+const IN_MATRIX: Around = (
+    "{\"jobs\":{\"a\":{\"runs-on\":\"x\",\"strategy\":{\"matrix\":",
+    "}}}}",
+);
 
 const STRATEGIES: [(&str, u64); 24] = [
     ("{}", ACCEPTED),
@@ -58,10 +43,7 @@ const STRATEGIES: [(&str, u64); 24] = [
 
 #[test]
 fn reads_strategies(rt: HostRuntime) {
-    for &(strategy, want) in &STRATEGIES {
-        let answer = answer_to_strategy(rt.alloc(), strategy);
-        holds!(rt; answer == want, strategy);
-    }
+    expect_answers(&rt, rt.alloc(), IN_STRATEGY, &STRATEGIES);
 }
 
 const MATRICES: [(&str, u64); 26] = [
@@ -101,10 +83,7 @@ const MATRICES: [(&str, u64); 26] = [
 
 #[test]
 fn reads_matrices(rt: HostRuntime) {
-    for &(matrix, want) in &MATRICES {
-        let answer = answer_to_matrix(rt.alloc(), matrix);
-        holds!(rt; answer == want, matrix);
-    }
+    expect_answers(&rt, rt.alloc(), IN_MATRIX, &MATRICES);
 }
 
 /// Of two faults the earlier one is answered, in whatever order they stand.
@@ -136,18 +115,12 @@ const EARLIER_IN_MATRIX: [(&str, u64); 15] = [
 
 #[test]
 fn answers_the_earlier_of_two_checks(rt: HostRuntime) {
-    for &(strategy, want) in &EARLIER_IN_STRATEGY {
-        let answer = answer_to_strategy(rt.alloc(), strategy);
-        holds!(rt; answer == want, strategy);
-    }
+    expect_answers(&rt, rt.alloc(), IN_STRATEGY, &EARLIER_IN_STRATEGY);
 }
 
 #[test]
 fn answers_the_earlier_of_two_parts_of_a_matrix(rt: HostRuntime) {
-    for &(matrix, want) in &EARLIER_IN_MATRIX {
-        let answer = answer_to_matrix(rt.alloc(), matrix);
-        holds!(rt; answer == want, matrix);
-    }
+    expect_answers(&rt, rt.alloc(), IN_MATRIX, &EARLIER_IN_MATRIX);
 }
 
 fn push_matrix(alloc: Global, text: &mut String, matrix: &Matrix) -> Result<(), Refusal> {
@@ -173,7 +146,10 @@ fn shown(alloc: Global, strategy: &Strategy) -> Result<String, Refusal> {
 
 /// What the strategy of the one job of a workflow says.
 fn shown_of_job(alloc: Global, strategy: &str) -> Result<String, Refusal> {
-    let body = format!(in alloc; "{{\"jobs\":{{\"a\":{{\"runs-on\":\"x\"{strategy}}}}}}}")?;
+    let body = spelled(
+        alloc,
+        &[(BEHIND_LABELS.0, 1), (strategy, 1), (BEHIND_LABELS.1, 1)],
+    )?;
     let workflow = read_workflow(alloc, body.as_bytes())?;
     match workflow.jobs.as_slice() {
         [job] => match &job.strategy {

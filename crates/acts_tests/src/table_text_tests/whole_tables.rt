@@ -1,0 +1,95 @@
+//! Whole tables are read from their stored bytes, and from parts that are those of no sound table none is. The offsets are those of the
+//! format, worked out by hand.
+
+use super::no_tables::changed;
+use super::tables::{ROWS, Row, bytes_of};
+use crate::holds::{expect_bytes, holds};
+use crate::run_plan_tests::expect_twice;
+use run_table::Table;
+use std::alloc::Global;
+use std::process::Abort;
+use table_text::{read_parts, read_table, write_table};
+use wf_value::Refusal;
+
+/// The table at the front of the bytes, which has to be there, and how many bytes are left behind it.
+fn table_of(rt: &impl Abort, alloc: Global, bytes: &[u8]) -> Result<(Table, usize), Refusal> {
+    match read_table(alloc, bytes)? {
+        Some((table, rest)) => Ok((table, rest.len())),
+        None => panic!(rt; "no table"),
+    }
+}
+
+/// That the bytes of a row, with one more behind them, are read as a table that is written as these bytes.
+fn expect_row(rt: &impl Abort, alloc: Global, row: &Row<'_>) -> Result<(), Refusal> {
+    let want = bytes_of(alloc, row)?;
+    let mut bytes = bytes_of(alloc, row)?;
+    bytes.push(7)?;
+    let (table, left) = table_of(rt, alloc, bytes.as_slice())?;
+    holds!(rt; left == 1);
+    holds!(rt; table.runners().len() <= 4_294_967_295);
+    let mut out = Vec::new(alloc);
+    write_table(alloc, &mut out, &table)?;
+    expect_bytes(rt, out.as_slice(), want.as_slice());
+    Ok(())
+}
+
+fn reads_whole_tables(rt: &impl Abort, alloc: Global) -> Result<(), Refusal> {
+    let (empty, left) = table_of(rt, alloc, &[0; 14])?;
+    holds!(rt; left == 2);
+    holds!(rt; empty.last_lease() == 0);
+    holds!(rt; empty.runs().is_empty() && empty.runners().is_empty());
+    for row in &ROWS {
+        expect_row(rt, alloc, row)?;
+    }
+    Ok(())
+}
+
+#[test]
+fn whole_tables_are_read_again(rt: HostRuntime) {
+    expect_twice(
+        &rt,
+        reads_whole_tables(&rt, rt.alloc()),
+        reads_whole_tables(&rt, rt.alloc()),
+    );
+}
+
+/// A row, the offset of the byte that is changed, and the byte that stands there then: the parts are read, but they are those of no
+/// sound table.
+const CHANGES: [(usize, usize, u8); 12] = [
+    // a waiting run and an ended one with an open job; a blocked job with a leg, and a successful one whose leg is ready
+    (0, 107, 0),
+    (0, 107, 2),
+    (0, 109, 0),
+    (0, 109, 2),
+    // a waiting leg, which is ready by a rule; a ready leg with a lease
+    (0, 114, 1),
+    (0, 118, 1),
+    // a lease above the last; a leg that is not at work and whose lease is held
+    (1, 3, 0),
+    (1, 114, 5),
+    // a runner whose last command is another's, and one whose last command has another number
+    (1, 128, b'2'),
+    (1, 132, 2),
+    // a kept lease that is no leg's; nobody holds the lease of the running leg
+    (1, 161, 2),
+    (1, 165, 0),
+];
+
+fn reads_no_unsound_table(rt: &impl Abort, alloc: Global) -> Result<(), Refusal> {
+    for &(row, offset, byte) in &CHANGES {
+        holds!(rt; row < 7);
+        let bytes = changed(alloc, &ROWS[row], offset, byte)?;
+        holds!(rt; read_parts(alloc, bytes.as_slice())?.is_some(), offset);
+        holds!(rt; read_table(alloc, bytes.as_slice())?.is_none(), offset);
+    }
+    Ok(())
+}
+
+#[test]
+fn parts_of_no_sound_table_are_no_table(rt: HostRuntime) {
+    expect_twice(
+        &rt,
+        reads_no_unsound_table(&rt, rt.alloc()),
+        reads_no_unsound_table(&rt, rt.alloc()),
+    );
+}
