@@ -1,6 +1,6 @@
 -- What a making has written.
-use Rattle.std.proofs.Common.{◌≡◌, ◌∙◌, inl, inr, ℕ, List, [], ◌++◌, take, drop, take-append-drop, append-nil}
-use Rattle.std.proofs.Common.{Result, Ok, Err, IfErr, refl, sym, arith}
+use Rattle.std.proofs.Common.{◌≡◌, ◌∙◌, inl, inr, ℕ, List, [], take, drop, take-append-drop, append-nil}
+use Rattle.std.proofs.Common.{Result, Ok, Err, IfErr, sym, arith}
 use Rattle.std.specs.Prelude.{IsErrAnd}
 use Rattle.std.proofs.Math.Nat.{eq-zero-or-pos}
 use Rattle.wf_value.specs.declared.refusal.Refusal.{Refusal}

@@ -1,6 +1,6 @@
 -- What a play writes, line by line.
 use Rattle.std.proofs.Common.{◌≡◌, ◌≢◌, ◌∙◌, ◌⊎◌, inl, inr, ℕ, List, [], ◌∷◌, ◌++◌, length, take, drop, true, false}
-use Rattle.std.proofs.Common.{cond, filter, Result, Ok, Err, OnErr, IfErr, ◌≤◌, refl, sym, ap, subst, append_assoc, append-nil}
+use Rattle.std.proofs.Common.{cond, filter, Result, Ok, Err, IfErr, ◌≤◌, refl, sym, ap, subst, append_assoc, append-nil}
 use Rattle.std.proofs.Common.{take-append-drop, Option, Some, None, IfSome, ◌<◌, arith, length-append}
 use Rattle.std.specs.Io.KnownBytes.{Appends, Consumes}
 use Rattle.std.proofs.KnownBytes.{Appends-nil}

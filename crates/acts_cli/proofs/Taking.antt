@@ -1,23 +1,22 @@
 -- What a line of a script is answered, by what the store's step tells.
-use Rattle.std.proofs.Common.{◌≡◌, ◌∙◌, ◌⊎◌, ⊎_elim, inl, inr, ℕ, List, length, true, false, Bool, cond, Ok, Err, Some, None, ◌≤◌, ◌<◌, refl, sym, ap, arith}
+use Rattle.std.proofs.Common.{◌≡◌, ◌∙◌, ◌⊎◌, ⊎_elim, inl, inr, ℕ, List, length, true, false, cond, Ok, Err, None, ◌≤◌, ◌<◌, refl, sym, ap, arith}
 use Rattle.std.specs.Prelude.{nat_lt}
 use Rattle.std.proofs.Math.Nat.{eq-or-lt_of_le}
 use Rattle.std.proofs.lemmas.Bool.Decides.{nat_tests}
 use Rattle.wf_value.specs.Gives.{no_memory}
 use Rattle.wf_value.specs.RefusalText.{refusal_text}
 use Rattle.wf_value.specs.declared.refusal.Refusal.{Refusal}
-use Rattle.run_plan.specs.ReplyText.{reply_text}
 use Rattle.run_plan.specs.declared.command.Command.{Command}
 use Rattle.run_table.specs.Step.{stepped}
 use Rattle.act_store.specs.Kept.{Kept, table_of}
-use Rattle.act_store.specs.Plain.{broken, committed, entered, failed_earlier, refusal_of_apply}
+use Rattle.act_store.specs.Plain.{committed, failed_earlier, refusal_of_apply}
 use Rattle.act_store.specs.Steps.{Covers, Takes}
 use Rattle.act_store.specs.declared.step.Played.{Played}
 use Rattle.act_store.specs.declared.step.Played.TheVariants as told
 use Rattle.act_store.specs.declared.step.Step.TheVariants as asked
-use Rattle.acts_cli.specs.Answers.{is_commit, commanded, carried_out, answer_of, after_line}
+use Rattle.acts_cli.specs.Answers.{is_commit, commanded, carried_out}
 use Rattle.acts_cli.specs.Line.{command_of}
-use Rattle.acts_cli.specs.PlainStore.{PlainStore, without_disk, all_covered, applied, covering, played_text, taken}
+use Rattle.acts_cli.specs.PlainStore.{PlainStore, without_disk, all_covered, applied, covering, played_text}
 use Rattle.acts_cli.specs.Play.{IsAnswer}
 
 -- ---- as it is defined

@@ -1,6 +1,6 @@
 -- The plain store that a script is played over: what a store keeps, without its disk; and what a step of it is answered, with memory and a
 -- device that answer. Own: there is no public source.
-use Rattle.std.specs.Prelude.{ℕ, ◌<◌, length, nat_lt, codes, ◌++◌, List, Option, Some, None, if◌then◌else◌}
+use Rattle.std.specs.Prelude.{ℕ, length, nat_lt, codes, ◌++◌, List, Option, Some, None, if◌then◌else◌}
 use Rattle.std.specs.Fmt.{decimal}
 use Rattle.wf_value.specs.RefusalText.{refusal_text}
 use Rattle.wf_value.specs.declared.refusal.Refusal.{Refusal}

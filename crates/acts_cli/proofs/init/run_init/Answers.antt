@@ -1,4 +1,4 @@
-use Rattle.std.proofs.Common.{◌≡◌, ℕ, take, refl}
+use Rattle.std.proofs.Common.{◌≡◌, take, refl}
 use Rattle.std.proofs.KnownBytes.{Appends-kept}
 use Rattle.act_store.specs.Plain.{disk_not_empty}
 use Rattle.acts_cli.specs.Made.{made_line}

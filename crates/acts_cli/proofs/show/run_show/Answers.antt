@@ -1,4 +1,4 @@
-use Rattle.std.proofs.Common.{◌≡◌, [], refl, subst, inl}
+use Rattle.std.proofs.Common.{[], refl, subst, inl}
 use Rattle.std.proofs.KnownBytes.{Appends-nil, Appends-kept}
 use Rattle.run_table.specs.TableState.{TableState}
 use Rattle.act_store.specs.Images.{StandsFor}

@@ -1,10 +1,10 @@
-use Rattle.std.proofs.Common.{◌≡◌, ◌∙◌, ◌≤◌, ◌+◌, ◌++◌, [], length, Some, None, sym, ap, subst, arith}
+use Rattle.std.proofs.Common.{◌≡◌, ◌∙◌, ◌≤◌, ◌+◌, ◌++◌, [], length, Some, sym, ap, subst, arith}
 use Rattle.std.specs.Io.KnownBytes.{Appends}
 use Rattle.std.proofs.KnownBytes.{Appends-nil, Appends-trans}
 use Rattle.run_table.specs.Step.{seen}
 use Rattle.act_store.specs.Kept.{table_of}
 use Rattle.acts_cli.specs.Show.{shown, view_line}
-use Rattle.acts_cli.proofs.Showing.{before_all, lines_behind, not_there, one_run_more, past_last, within_run}
+use Rattle.acts_cli.proofs.Showing.{before_all, lines_behind, one_run_more, past_last, within_run}
 use Rattle.acts_cli.proofs.show.write_views.Goals as goal
 
 pub loop-place-init : goal.loop-place-init

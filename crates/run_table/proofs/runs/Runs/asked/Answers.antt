@@ -1,4 +1,4 @@
-use Rattle.std.specs.Prelude.{◌≡◌, Some, None, slice_get}
+use Rattle.std.specs.Prelude.{◌≡◌, None}
 use Rattle.std.proofs.Common.{ap, sym, ◌∙◌, rules}
 use Rattle.run_table.specs.GroupOf.{cancels_in_progress, group_at}
 use Rattle.run_table.specs.Holders.{holder_in_words, run_of}
