@@ -8,7 +8,7 @@ use Rattle.std.proofs.lemmas.Nat.{be_bytes_8, from_be_bytes-to_be_bytes_8}
 use Rattle.gated_journal.specs.Layout.{Head}
 use Rattle.gated_journal.specs.Scanned.{HasNumber, HasText, HasHead, HasFront}
 use Rattle.gated_journal.proofs.OneReading.{same_number_8, same_head, apart}
-use Rattle.gated_journal.proofs.Scanning.{AreBytes, AreBytes-take}
+use Rattle.wf_value.proofs.Bytes.{AreBytes, AreBytes-take}
 
 -- eight bytes spell the number that they are read as
 pub has_number : (bytes : List ℕ) (n : ℕ) (rest : List ℕ) → AreBytes bytes → 8 ≤ length bytes → n < 2 ^ 64

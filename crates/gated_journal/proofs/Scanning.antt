@@ -1,30 +1,12 @@
 -- What a scan finds is what stands there.
-use Rattle.std.proofs.Common.{◌≡◌, inl, inr, ℕ, ◌+◌, ◌<◌, ◌≤◌, ◌^◌, List, ◌++◌, length, get_or, take, drop, refl, sym, ◌∙◌, ap}
+use Rattle.std.proofs.Common.{◌≡◌, ℕ, ◌+◌, ◌<◌, ◌≤◌, ◌^◌, List, ◌++◌, length, take, drop, refl, sym, ◌∙◌, ap}
 use Rattle.std.proofs.Common.{arith, append_assoc, length-append, take-append-drop}
 use Rattle.std.specs.Int.{from_be_bytes, to_be_bytes, w32}
-use Rattle.std.proofs.lemmas.Bool.{cases_lt}
-use Rattle.std.proofs.lemmas.List.{take_at, length-take, length-drop, get_or-take, get_or_past}
-use Rattle.std.proofs.lemmas.Nat.{be_bytes_4, from_be_bytes-to_be_bytes_4}
+use Rattle.std.proofs.lemmas.List.{take_at, length-take, length-drop}
+use Rattle.std.proofs.lemmas.Nat.{from_be_bytes-to_be_bytes_4}
+use Rattle.wf_value.proofs.Bytes.{AreBytes, spell_number}
 use Rattle.gated_journal.specs.Layout.{framed}
 use Rattle.gated_journal.specs.Scanned.{Frames}
-
-abbrev pub AreBytes : List ℕ → Type 0
-AreBytes bytes = (i : ℕ) → get_or bytes i 0 < 256
-
-pub AreBytes-take : (n : ℕ) (bytes : List ℕ) → AreBytes bytes → AreBytes (take n bytes)
-AreBytes-take n bytes are i =
-    elim (cases_lt i n) [
-      | inl below ↦ rw (get_or-take n bytes i 0 below) (are i)
-      | inr past ↦ rw (get_or_past (take n bytes) i 0 (omega (arith, length-take n bytes))) (omega arith)
-    ]
-
--- four bytes spell the number that they are read as
-pub spells : (bytes : List ℕ) (n : ℕ) → AreBytes bytes → 4 ≤ length bytes → n ≡ from_be_bytes w32 (take 4 bytes)
-    → bytes ≡ to_be_bytes w32 n ++ drop 4 bytes
-spells bytes n are long is =
-    sym (take-append-drop 4 bytes)
-    ∙ ap (λ (l : List ℕ). l ++ drop 4 bytes) (sym (be_bytes_4 (take 4 bytes) n (omega (arith, length-take 4 bytes, long))
-    (AreBytes-take 4 bytes are) is))
 
 -- the number of bytes that the number says, and what stands behind them
 pub frames : (bytes : List ℕ) (n : ℕ) (behind body rest : List ℕ) → AreBytes bytes → 4 ≤ length bytes → n < 2 ^ 32
@@ -34,8 +16,10 @@ frames bytes n behind body rest are long fits is behind_is within body_is rest_i
     let many : length body ≡ n = omega (arith, ap (λ (l : List ℕ). length l) body_is, length-take n behind, within) in
     let parted : behind ≡ body ++ rest = sym (take-append-drop n behind) ∙ ap (λ (l : List ℕ). l ++ drop n behind) (sym body_is)
     ∙ ap (λ (l : List ℕ). body ++ l) (sym rest_is) in
+    let spelled : bytes ≡ to_be_bytes w32 n ++ drop 4 bytes = spell_number bytes are long
+    ∙ ap (λ (k : ℕ). to_be_bytes w32 k ++ drop 4 bytes) (sym is) in
     record {
-      split = spells bytes n are long is
+      split = spelled
           ∙ ap (λ (l : List ℕ). to_be_bytes w32 n ++ l) (sym behind_is ∙ parted)
           ∙ sym (append_assoc (to_be_bytes w32 n) body rest)
           ∙ ap (λ (k : ℕ). (to_be_bytes w32 k ++ body) ++ rest) (sym many);

@@ -16,7 +16,7 @@ use Rattle.table_text.specs.Format.{Format, word, text, pair}
 use Rattle.table_text.specs.Commands.{is_numbered, number, small_text, labels, is_faultless, body, outcome_byte, outcome, admit, claim, done, beat, IsSpelled, command_bytes, command, batch}
 use Rattle.table_text.specs.Reading.{Reader, word_at, text_at, pair_at, parts_at}
 use Rattle.table_text.specs.ReadingCommands.{number_at, small_text_at, labels_at, body_at, result_of, result_at, admit_at, claim_at, done_at, beat_at, command_of, command_at, batch_at}
-use Rattle.table_text.proofs.Bytes.{AreBytes, AreBytes-drop}
+use Rattle.wf_value.proofs.Bytes.{AreBytes, AreBytes-drop}
 use Rattle.table_text.proofs.Readers.{Fronts, Reads, bind_some, some_bind, word_reads, text_reads, only_reads, pair_reads, parts_reads, counted_reads}
 
 pub number_reads : Reads number number_at

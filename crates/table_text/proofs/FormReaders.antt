@@ -4,7 +4,7 @@ use Rattle.std.specs.Prelude.{Option, Some}
 use Rattle.std.proofs.lemmas.Option.{same_Some, none-some}
 use Rattle.table_text.specs.Format.{Format, byte, follow, parts, row}
 use Rattle.table_text.specs.Reading.{◌>>=◌, Reader, byte_at, follow_at, items_at, some_at}
-use Rattle.table_text.proofs.Bytes.{AreBytes, AreBytes-drop}
+use Rattle.wf_value.proofs.Bytes.{AreBytes, AreBytes-drop}
 use Rattle.table_text.proofs.Readers.{Fronts, Reads, bind_some, some_bind, items_sound, items_complete}
 
 byte_sound : (bytes : List ℕ) (found : ℕ × List ℕ) → AreBytes bytes → byte_at bytes ≡ Some found → Fronts byte bytes found

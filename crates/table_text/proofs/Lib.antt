@@ -1,4 +1,3 @@
-pub mod Bytes
 pub mod CommandReaders
 pub mod FormReaders
 pub mod Known

@@ -10,7 +10,7 @@ use Rattle.std.proofs.lemmas.Nat.{from_be_bytes-to_be_bytes_4}
 use Rattle.std.proofs.lemmas.Option.{same_Some, none-some, cond_some, some_pair_parts}
 use Rattle.table_text.specs.Format.{Format, NoneBeginsAnother, HasOneSpelling, StandsAtFront, word, word_bytes, text, text_bytes, only, pair, parts, counted}
 use Rattle.table_text.specs.Reading.{◌>>=◌, Reader, word_at, bytes_at, text_at, kept, only_at, pair_at, parts_at, items_at, with_front, counted_at}
-use Rattle.table_text.proofs.Bytes.{AreBytes, AreBytes-drop, spell_number, number_below}
+use Rattle.wf_value.proofs.Bytes.{AreBytes, AreBytes-drop, spell_number, number_below}
 
 -- The bytes are a spelling of what was found, and then the bytes behind it.
 pub record Fronts {A : Type 0} (format : Format A) (bytes : List ℕ) (found : A × List ℕ) : Type 0 where
