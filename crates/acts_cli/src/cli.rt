@@ -55,7 +55,7 @@ enum Request<'a> {
     Init(&'a str, AreaLength),
     /// The runs of the store in this file.
     Show(&'a str),
-    Explain(Explanation),
+    Explain(&'static Explanation),
 }
 
 /// `acts init FILE AREA`.
@@ -80,29 +80,51 @@ fn show_command<'a>(alloc: Global) -> Result<Command<'a>, AllocError> {
         .arg(file)
 }
 
-/// The command line of `acts`. Its `explain` takes one of these numbers.
-fn command<'a>(alloc: Global, numbers: &'a [&'a str]) -> Result<Command<'a>, AllocError> {
-    let play = Command::new(alloc, "play").about(
+/// `acts play`.
+fn play_command<'a>(alloc: Global) -> Command<'a> {
+    Command::new(alloc, "play").about(
         "Plays the script on standard input, and prints one answer for each line",
-    );
-    let check = Command::new(alloc, "check").about(
+    )
+}
+
+/// `acts check`.
+fn check_command<'a>(alloc: Global) -> Command<'a> {
+    Command::new(alloc, "check").about(
         "Reads the JSON of a workflow on standard input, and prints a line JOB LEG COMBO for each leg",
-    );
+    )
+}
+
+/// `acts explain NUMBER`, of one of these numbers.
+fn explain_command<'a>(alloc: Global, numbers: &'a [&'a str]) -> Result<Command<'a>, AllocError> {
     let number = Arg::new(alloc, "NUMBER")
         .required(true)
         .value_parser(numbers);
-    let explain = Command::new(alloc, "explain")
+    Command::new(alloc, "explain")
         .about("Says what the refusal with a number means, and what helps")
-        .arg(number)?;
-    Command::new(alloc, "acts")
+        .arg(number)
+}
+
+/// With the commands that read standard input.
+fn with_readers<'a>(alloc: Global, acts: Command<'a>) -> Result<Command<'a>, AllocError> {
+    acts.subcommand(play_command(alloc))?
+        .subcommand(check_command(alloc))
+}
+
+/// With the commands over a store in a file.
+fn with_stores<'a>(alloc: Global, acts: Command<'a>) -> Result<Command<'a>, AllocError> {
+    let acts = acts.subcommand(init_command(alloc)?)?;
+    acts.subcommand(show_command(alloc)?)
+}
+
+/// The command line of `acts`. Its `explain` takes one of these numbers.
+fn command<'a>(alloc: Global, numbers: &'a [&'a str]) -> Result<Command<'a>, AllocError> {
+    let acts = Command::new(alloc, "acts")
         .about("The coordinating half of GitHub Actions")
         .version(VERSION)
-        .subcommand_required(true)
-        .subcommand(play)?
-        .subcommand(check)?
-        .subcommand(init_command(alloc)?)?
-        .subcommand(show_command(alloc)?)?
-        .subcommand(explain)
+        .subcommand_required(true);
+    let acts = with_readers(alloc, acts)?;
+    let acts = with_stores(alloc, acts)?;
+    acts.subcommand(explain_command(alloc, numbers)?)
 }
 
 /// What the words of `acts init` ask for.
@@ -143,6 +165,10 @@ fn parse<'a>(
     words: &'a [String],
 ) -> Result<Request<'a>, Error> {
     let mut command = command(alloc, numbers)?;
+    parse_by(&mut command, words)
+}
+
+fn parse_by<'a>(command: &mut Command<'a>, words: &'a [String]) -> Result<Request<'a>, Error> {
     let matches = command.try_get_matches_from_mut(words)?;
     match request_of(&matches) {
         Some(request) => Ok(request),
@@ -207,7 +233,7 @@ fn tell<R: Print + Eprint>(rt: &R, error: &Error) -> Result<u8, Refusal> {
     Ok(if error.use_stderr() { 2 } else { 0 })
 }
 
-fn print_line<R: Print>(rt: &R, explanation: Explanation) -> Result<(), Refusal> {
+fn print_line<R: Print>(rt: &R, explanation: &Explanation) -> Result<(), Refusal> {
     match rt.println(explanation) {
         Ok(()) => Ok(()),
         Err(_) => Err(Refusal::Numbered(Code::StreamFailed)),

@@ -14,7 +14,7 @@ pub struct Explanation {
 }
 
 /// The refusals that can be met, in order. docs/FORMATS.md repeats them.
-const EXPLANATIONS: [Explanation; 34] = [
+static EXPLANATIONS: [Explanation; 34] = [
     Explanation {
         number: "10",
         meaning: "a body, or a workflow, is not JSON, or not UTF-8",
@@ -252,18 +252,22 @@ impl fmt::Display for Explanation {
     }
 }
 
+fn explanations() -> &'static [Explanation] {
+    &EXPLANATIONS
+}
+
 /// The numbers that are explained.
 pub fn numbers(alloc: Global) -> Result<Vec<&'static str>, AllocError> {
     let mut numbers = Vec::new(alloc);
-    for explanation in EXPLANATIONS {
+    for explanation in explanations() {
         numbers.push(explanation.number)?;
     }
     Ok(numbers)
 }
 
 /// What is said of the refusal with this number, or `None` where it is not explained.
-pub fn explanation_of(number: &str) -> Option<Explanation> {
-    EXPLANATIONS
-        .into_iter()
+pub fn explanation_of(number: &str) -> Option<&'static Explanation> {
+    explanations()
+        .iter()
         .find(|explanation| explanation.number == number)
 }

@@ -72,6 +72,29 @@ fn play<D: Disk, W: Write>(
     Ok(())
 }
 
+/// Reads a script, and plays it over a store that is empty.
+fn play_input<D: Disk, R: Read, W: Write>(
+    alloc: Global,
+    store: &mut Store<D>,
+    reader: &mut R,
+    writer: &mut W,
+) -> Result<(), Refusal>
+    requires { without_disk store.old ≡ start }
+    ensures read { (read : List ℕ) × Consumes (R.remaining reader.old) (R.remaining reader.new) read
+        × (length read ≤ 1048577) }
+    ensures written { IfSome (R.remaining reader.old) (λ script. (out : List ℕ)
+        × Appends (W.contents writer.old) (W.contents writer.new) out × Ends script out result) }
+{
+    let script = read_at_most(alloc, reader, MOST_BYTES + 1)?;
+    if script.len() > MOST_BYTES {
+        return Err(Refusal::Numbered(Code::InputTooLong));
+    }
+    match play(alloc, store, &script, writer) {
+        Ok(()) => flush(writer),
+        Err(refusal) => Err(refusal),
+    }
+}
+
 /// Plays a script over a store in memory, which begins empty: reads it, and writes one answer and a line feed
 /// for each line that is not empty. A script over 1,048,576 bytes is refused 76 with nothing written, and no
 /// more than 1,048,577 bytes are read. A failed read or write is 61. Where memory is refused for a line's
@@ -89,12 +112,5 @@ pub fn run_script<R: Read, W: Write>(
         × Appends (W.contents writer.old) (W.contents writer.new) out × Ends script out result) }
 {
     let mut store = store_in_memory(alloc)?;
-    let script = read_at_most(alloc, reader, MOST_BYTES + 1)?;
-    if script.len() > MOST_BYTES {
-        return Err(Refusal::Numbered(Code::InputTooLong));
-    }
-    match play(alloc, &mut store, &script, writer) {
-        Ok(()) => flush(writer),
-        Err(refusal) => Err(refusal),
-    }
+    play_input(alloc, &mut store, reader, writer)
 }

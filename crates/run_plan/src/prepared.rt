@@ -1,4 +1,4 @@
-ghost use Rattle.std.specs.Prelude.{◌≡◌, ◌<◌, ◌≤◌, [], Err, Ok, false, length, option_copied};
+ghost use Rattle.std.specs.Prelude.{◌≡◌, ◌<◌, ◌≤◌, [], Err, IfOk, Ok, false, length, option_copied};
 ghost use Rattle.std.specs.Str.{IsUtf8, is_utf8};
 ghost use Rattle.wf_value.specs.declared.code.Code.TheVariants.{NotJson, TooLong};
 ghost use Rattle.wf_value.specs.declared.refusal.Refusal.TheVariants.{Numbered};
@@ -180,6 +180,19 @@ fn origin_and_jobs(event: Event) -> (Origin, Jobs)
     (origin, jobs)
 }
 
+/// What a body says: where it is from, and the plan of its workflow. Or the first of its faults.
+fn origin_and_plan(alloc: Global, body: &[u8]) -> Result<(Origin, Plan), Refusal>
+    ensures gives { Gives (λ p. p.1) result (unless_faulty (faults_of body.now) (plan_of body.now)) }
+    ensures origin { IfOk result (λ p. IsOrigin p.0 (event_of body.now)) }
+    ensures too_long { 65536 < length body.now → result ≡ Err (Numbered TooLong) }
+    ensures no_text { length body.now ≤ 65536 → is_utf8 body.now ≡ false → result ≡ Err (Numbered NotJson) }
+{
+    let read = read_event(alloc, body)?;
+    let (origin, jobs) = origin_and_jobs(read);
+    let plan = plan_jobs(alloc, jobs)?;
+    Ok((origin, plan))
+}
+
 /// An event made ready: its body is read and planned, and refused with the first of its faults, 10 to 26.
 /// Want of memory is 50. A body that is too long or no UTF-8 is refused memory or not.
 pub fn prepare(
@@ -196,9 +209,7 @@ pub fn prepare(
     ensures no_text { length body.items ≤ 65536 → is_utf8 body.items ≡ false
         → result ≡ Err (Numbered NotJson) }
 {
-    let read = read_event(alloc, body.as_slice())?;
-    let (origin, jobs) = origin_and_jobs(read);
-    let plan = plan_jobs(alloc, jobs)?;
+    let (origin, plan) = origin_and_plan(alloc, body.as_slice())?;
     let admission = Admission {
         delivery,
         event,

@@ -60,6 +60,11 @@ use Rattle.run_table.proofs.Unbegun.{AllStill, LegUnbegun, There, leg_all_still,
 bad : false ≡ true → ⊥
 bad e = cc
 
+-- what is so of each of two is so of the one that is chosen
+either : (b : Bool) (x y : Moved) (P : Moved → Type 0) → P x → P y → P (if b then x else y)
+either true x y P of_x of_y = of_x
+either false x y P of_x of_y = of_y
+
 -- ---- a job that opens
 
 no_legs_yet : (planned : ℕ) (gathered : JobResult) (phase : JobPhase) (legs : List LegState) → LegsFit planned gathered phase legs
@@ -220,33 +225,39 @@ module _ (reached later : List RunState) (g : Group) (cancels : Holder → Bool)
 
   -- ---- a leg goes on
 
+  -- the newcomer is of the group that its own run holds
+  own_group_keeps : (runs : List RunState) (p : LegPlace) (z : LegState) → leg_at runs p ≡ Some z → z.phase ≡ leg.New
+      → Keeps runs (without_moves (with_leg_in (leg.Ended outcome.Cancelled) p runs))
+  own_group_keeps runs p z was is =
+      let next = with_leg_in (leg.Ended outcome.Cancelled) p runs in
+      quiet_goes_on (is_in reached g) cancels runs (without_moves next)
+      (unmoved_is_quiet (is_in reached g) cancels runs next (unseen_tells runs p z was is)
+      (leg_fades (leg_in_phase (leg.Ended outcome.Cancelled)) p runs (λ v e. absurd (bad e)) (λ v e. absurd (bad e))).waited
+      (still_of_all runs next (leg_all_still runs p (leg_in_phase (leg.Ended outcome.Cancelled)) ended_unbegun)))
+
+  -- or it arrives
+  leg_arrival_keeps : (runs : List RunState) (p : LegPlace) (z : LegState) → RunsFit runs → leg_at runs p ≡ Some z → z.phase ≡ leg.New
+      → HasOneEach runs → Grows (arrived (Holder.a_leg p) (with_leg_in leg.Waiting p runs)).runs reached
+      → Keeps runs (arrived (Holder.a_leg p) (with_leg_in leg.Waiting p runs))
+  leg_arrival_keeps runs p z fit was is each grows =
+      let now = with_leg_in leg.Waiting p runs in
+      let stay = (newcomer_waits runs p z fit was is).stay in
+      let comes : Comes runs now (Holder.a_leg p) = record {
+        waited = set_waits runs p z was (leg_in_phase leg.Waiting);
+        held = holds_before_leg (leg_in_phase leg.Waiting) p runs (λ v e. absurd (bad e));
+      } in
+      arrival_keeps runs now (Holder.a_leg p) fit stay.fit
+      (leg_set_tells runs p z leg.New leg.Waiting (Move.arrive (Holder.a_leg p)) was is refl (goes_to_arrive (Holder.a_leg p)))
+      (ap (status_by status_of_leg) was ∙ ap leg_status is) comes
+      (ap (passes (leg_passes leg_waits)) (set_itself runs p z was (leg_in_phase leg.Waiting))) (groups_stay runs now fit stay) each
+      (leg_all_still runs p (leg_in_phase leg.Waiting) (λ v un. record { no_lease = un.no_lease; cancelled = (λ o e. cc) })) grows
+
   newcomer_keeps : (runs : List RunState) (p : LegPlace) (z : LegState) → RunsFit runs → leg_at runs p ≡ Some z → z.phase ≡ leg.New
       → HasOneEach runs → Grows (newcomer_rule runs p).runs reached → Keeps runs (newcomer_rule runs p)
   newcomer_keeps runs p z fit was is each =
-      elim (is_in_group_of_run runs p) as
-      (λ b. Grows (if b then without_moves (with_leg_in (leg.Ended outcome.Cancelled) p runs)
-      else arrived (Holder.a_leg p) (with_leg_in leg.Waiting p runs)).runs reached
-      → Keeps runs (if b then without_moves (with_leg_in (leg.Ended outcome.Cancelled) p runs)
-      else arrived (Holder.a_leg p) (with_leg_in leg.Waiting p runs))) [
-        | true ↦ λ grows.
-            let next = with_leg_in (leg.Ended outcome.Cancelled) p runs in
-            quiet_goes_on (is_in reached g) cancels runs (without_moves next)
-            (unmoved_is_quiet (is_in reached g) cancels runs next (unseen_tells runs p z was is)
-            (leg_fades (leg_in_phase (leg.Ended outcome.Cancelled)) p runs (λ v e. absurd (bad e)) (λ v e. absurd (bad e))).waited
-            (still_of_all runs next (leg_all_still runs p (leg_in_phase (leg.Ended outcome.Cancelled)) ended_unbegun)))
-        | false ↦ λ grows.
-            let now = with_leg_in leg.Waiting p runs in
-            let stay = (newcomer_waits runs p z fit was is).stay in
-            let comes : Comes runs now (Holder.a_leg p) = record {
-              waited = set_waits runs p z was (leg_in_phase leg.Waiting);
-              held = holds_before_leg (leg_in_phase leg.Waiting) p runs (λ v e. absurd (bad e));
-            } in
-            arrival_keeps runs now (Holder.a_leg p) fit stay.fit
-            (leg_set_tells runs p z leg.New leg.Waiting (Move.arrive (Holder.a_leg p)) was is refl (goes_to_arrive (Holder.a_leg p)))
-            (ap (status_by status_of_leg) was ∙ ap leg_status is) comes
-            (ap (passes (leg_passes leg_waits)) (set_itself runs p z was (leg_in_phase leg.Waiting))) (groups_stay runs now fit stay) each
-            (leg_all_still runs p (leg_in_phase leg.Waiting) (λ v un. record { no_lease = un.no_lease; cancelled = (λ o e. cc) })) grows
-      ]
+      either (is_in_group_of_run runs p) (without_moves (with_leg_in (leg.Ended outcome.Cancelled) p runs))
+      (arrived (Holder.a_leg p) (with_leg_in leg.Waiting p runs)) (λ (m : Moved). Grows m.runs reached → Keeps runs m)
+      (λ _. own_group_keeps runs p z was is) (leg_arrival_keeps runs p z fit was is each)
 
   leg_rule_keeps : (runs : List RunState) (m : Moved) (p : LegPlace) (z : LegState) (phase : LegPhase) → RunsFit runs
       → leg_at runs p ≡ Some z → z.phase ≡ phase → leg_rule_in phase runs p ≡ Some m → HasOneEach runs → Grows runs reached

@@ -242,8 +242,7 @@ impl Content {
         let lease = Number::new(self.last_lease + 1);
         let told = lease_at(alloc, &self.runs, place, lease)?;
         let copy = told.copy(alloc)?;
-        let kept = ClaimReply::Lease(told.copy(alloc)?);
-        let runner = Runner::claiming(alloc, claim, Some(lease), kept)?;
+        let runner = Runner::leasing(alloc, claim, &told)?;
         self.runners.put(runner)?;
         self.last_lease = lease.get();
         self.runs

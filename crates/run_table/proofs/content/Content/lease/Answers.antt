@@ -15,9 +15,9 @@ returns-clause-step c =
     ∙ ap (λ x. with_leg c.args.place (λ _. x) c.self.inside.runs) c.leased.ensures in
     ap Ok
     (leased_table c.self.inside.last_lease c.self.inside.runs c.self.inside.runners c.args.self.now c.args.claim.now c.args.place
-    c.new-lease.result c.get-self-inside.result c.in_ok-told.told c.in_ok-copy-2.field-0 c.in_ok-runner.runner
+    c.new-lease.result c.get-self-inside.result c.in_ok-told.told c.in_ok-runner.runner
     c.put.new.self c.set_leg.new.self c.settle.new.self c.self.view_is c.new-lease.ensures
-    c.get-self-inside.ensures.value (given _ _ c.in_ok-told.ensures) (given _ _ c.in_ok-copy-2.ensures)
+    c.get-self-inside.ensures.value (given _ _ c.in_ok-told.ensures)
     (given _ _ c.in_ok-runner.ensures) (given _ _ c.in_ok-put.ensures.put) moved c.settle.ensures)
 
 pub settle-requires-clause-sound : goal.settle-requires-clause-sound
