@@ -1,9 +1,10 @@
 //! Commands, made of their words. Words that make none are refused 75.
 
 use run_plan::{
-    Beat, Claim, Command, DeliveryId, Done, EventName, Labels, Number, Prepared, RunnerName,
+    Beat, Claim, Command, DeliveryId, Done, EventName, Labels, Number, Prepared, Reply, RunnerName,
     prepare,
 };
+use run_table::Table;
 use std::alloc::Global;
 use wf_value::{Code, Outcome, Refusal};
 
@@ -103,4 +104,10 @@ pub fn command_of(alloc: Global, words: &Words<'_>) -> Result<Command, Refusal> 
         Words::Look(run) => Ok(Command::Look(number(run)?)),
         Words::Fetch(run) => Ok(Command::Fetch(number(run)?)),
     }
+}
+
+/// What a table answers a command.
+pub fn stepped(alloc: Global, table: &mut Table, words: &Words<'_>) -> Result<Reply, Refusal> {
+    let command = command_of(alloc, words)?;
+    table.step(alloc, &command)
 }

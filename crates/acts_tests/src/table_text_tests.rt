@@ -103,13 +103,32 @@ fn expect_command(
     Ok(())
 }
 
+/// That the command is written in so many bytes, and read again with one more behind them.
+fn expect_written(
+    rt: &impl Abort,
+    alloc: Global,
+    command: &Command,
+    size: usize,
+) -> Result<(), Refusal> {
+    let mut bytes = spelled(alloc, command)?;
+    holds!(rt; bytes.len() == size);
+    bytes.push(0)?;
+    expect_command(rt, alloc, bytes.as_slice(), command)
+}
+
+fn expect_size(
+    rt: &impl Abort,
+    alloc: Global,
+    words: &Words<'_>,
+    size: usize,
+) -> Result<(), Refusal> {
+    let command = command_of(alloc, words)?;
+    expect_written(rt, alloc, &command, size)
+}
+
 fn reads_what_is_written(rt: &impl Abort, alloc: Global) -> Result<(), Refusal> {
     for (words, size) in &SIZES {
-        let command = command_of(alloc, words)?;
-        let mut bytes = spelled(alloc, &command)?;
-        holds!(rt; bytes.len() == *size);
-        bytes.push(0)?;
-        expect_command(rt, alloc, bytes.as_slice(), &command)?;
+        expect_size(rt, alloc, words, *size)?;
     }
     Ok(())
 }
@@ -123,9 +142,14 @@ fn what_is_written_has_its_length_and_is_read_again(rt: HostRuntime) {
     );
 }
 
+fn spelled_words(alloc: Global, words: &Words<'_>) -> Result<Vec<u8>, Refusal> {
+    let command = command_of(alloc, words)?;
+    spelled(alloc, &command)
+}
+
 fn writes_commands(rt: &impl Abort, alloc: Global) -> Result<(), Refusal> {
     for (words, want) in &BYTES {
-        let bytes = spelled(alloc, &command_of(alloc, words)?)?;
+        let bytes = spelled_words(alloc, words)?;
         expect_bytes(rt, bytes.as_slice(), want);
     }
     Ok(())

@@ -2,26 +2,28 @@
 
 use super::{LEAST, made};
 use crate::commands::{Words, command_of};
-use crate::holds::holds;
+use crate::holds::{expect_text, holds};
 use crate::run_plan_tests::expect_twice;
 use crate::run_table_tests::BUILD;
 use act_disk::{Disk, MemoryDisk};
 use act_store::{Receipt, Store};
 use std::alloc::Global;
 use std::process::Abort;
-use wf_value::Refusal;
+use wf_value::{Chars, Refusal};
 
 /// Commands, and the printed replies.
-const ASKED: [(Words<'static>, &str); 5] = [
+const ASKED: &[(Words<'static>, &str)] = &[
     (Words::Admit("d1", BUILD), "created 1"),
     (Words::Claim("r1", "1", "linux"), "lease 1 1 build 0 {}"),
     (Words::Claim("r1", "1", "linux"), "lease 1 1 build 0 {}"),
     (Words::Claim("r1", "2", "linux"), "refused 42"),
-    (
-        Words::Look("1"),
-        "run 1 1 in_progress - build:open(running)",
-    ),
+    LAST,
 ];
+
+const LAST: (Words<'static>, &str) = (
+    Words::Look("1"),
+    "run 1 1 in_progress - build:open(running)",
+);
 
 fn asked(
     alloc: Global,
@@ -66,20 +68,53 @@ fn opened_again(
     }
 }
 
+/// The printed reply to what is asked, and asked again where memory was refused.
+fn reply_to(
+    rt: &impl Abort,
+    alloc: Global,
+    store: &mut Store<MemoryDisk>,
+    words: &Words<'_>,
+) -> Result<Chars, Refusal> {
+    let receipt = asked_again(rt, alloc, store, words)?;
+    holds!(rt; receipt.place == store.entries());
+    receipt.reply.text(alloc)
+}
+
+fn expect_reply(
+    rt: &impl Abort,
+    alloc: Global,
+    store: &mut Store<MemoryDisk>,
+    row: &(Words<'static>, &str),
+) -> Result<(), Refusal> {
+    let text = reply_to(rt, alloc, store, &row.0)?;
+    expect_text(rt, text.as_str(), row.1);
+    Ok(())
+}
+
+/// Asks all, and commits.
+fn plays_over(
+    rt: &impl Abort,
+    alloc: Global,
+    store: &mut Store<MemoryDisk>,
+) -> Result<(), Refusal> {
+    for row in ASKED {
+        expect_reply(rt, alloc, store, row)?;
+    }
+    let covered = store.commit()?;
+    holds!(rt; covered == 5);
+    Ok(())
+}
+
+/// What was committed stands in the store that opens.
+fn opens_to_the_last(rt: &impl Abort, alloc: Global, disk: MemoryDisk) -> Result<(), Refusal> {
+    let mut again = opened_again(rt, alloc, disk)?;
+    expect_reply(rt, alloc, &mut again, &LAST)
+}
+
 fn plays(rt: &impl Abort, alloc: Global) -> Result<(), Refusal> {
     let mut store = made(rt, alloc, MemoryDisk::new(alloc), LEAST);
-    for (words, want) in &ASKED {
-        let receipt = asked_again(rt, alloc, &mut store, words)?;
-        holds!(rt; receipt.place == store.entries());
-        let text = receipt.reply.text(alloc)?;
-        holds!(rt; text.as_str() == *want, want);
-    }
-    holds!(rt; store.commit()? == 5);
-    let mut again = opened_again(rt, alloc, store.into_disk())?;
-    let (words, want) = &ASKED[4];
-    let text = asked(alloc, &mut again, words)?.reply.text(alloc)?;
-    holds!(rt; text.as_str() == *want);
-    Ok(())
+    plays_over(rt, alloc, &mut store)?;
+    opens_to_the_last(rt, alloc, store.into_disk())
 }
 
 #[test]

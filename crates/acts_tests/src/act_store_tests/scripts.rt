@@ -1,12 +1,13 @@
 //! Random scripts, the tables that they lead to, and what tells these apart.
 
 use super::opened;
-use crate::commands::{Words, command_of};
+use crate::commands::{Words, command_of, stepped};
 use crate::gated_journal_tests::steps::Dice;
 use crate::holds::holds;
 use crate::run_table_tests::{BUILD, BUILD_ELSEWHERE, THREE};
 use act_disk::Disk;
 use act_store::Store;
+use run_plan::Reply;
 use run_table::Table;
 use std::alloc::Global;
 use std::process::Abort;
@@ -69,7 +70,7 @@ pub fn make_step<D: Disk>(
 }
 
 /// What tells the tables of scripts apart: each run, and each runner's last number. No probe changes a table.
-const PROBES: [Words<'static>; 5] = [
+const PROBES: &[Words<'static>] = &[
     Words::Look("1"),
     Words::Look("2"),
     Words::Look("3"),
@@ -77,43 +78,114 @@ const PROBES: [Words<'static>; 5] = [
     Words::Claim("r2", "99", "x"),
 ];
 
-/// What a table answers the probes.
+/// Adds what a table answers, and a line feed.
+fn push_answer(
+    alloc: Global,
+    table: &mut Table,
+    words: &Words<'_>,
+    told: &mut String,
+) -> Result<(), Refusal> {
+    let text = stepped(alloc, table, words)?.text(alloc)?;
+    push_line(told, text.as_str())
+}
+
+fn push_line(told: &mut String, line: &str) -> Result<(), Refusal> {
+    told.push_str(line)?;
+    told.push_str("\n")?;
+    Ok(())
+}
+
+/// Adds what a table answers the probes.
+fn push_told(alloc: Global, table: &mut Table, told: &mut String) -> Result<(), Refusal> {
+    for words in PROBES {
+        push_answer(alloc, table, words, told)?;
+    }
+    Ok(())
+}
+
 fn told(alloc: Global, table: &mut Table) -> Result<String, Refusal> {
     let mut told = String::new(alloc);
-    for words in &PROBES {
-        let command = command_of(alloc, words)?;
-        let text = table.step(alloc, &command)?.text(alloc)?;
-        told.push_str(text.as_str())?;
-        told.push_str("\n")?;
-    }
+    push_told(alloc, table, &mut told)?;
     Ok(told)
+}
+
+/// Adds what a store answers, and a line feed.
+fn push_reply<D: Disk>(
+    alloc: Global,
+    store: &mut Store<D>,
+    words: &Words<'_>,
+    told: &mut String,
+) -> Result<(), Refusal> {
+    let text = entered(alloc, store, words)?.text(alloc)?;
+    push_line(told, text.as_str())
+}
+
+/// What a store answers a command, which becomes an entry.
+pub fn entered<D: Disk>(
+    alloc: Global,
+    store: &mut Store<D>,
+    words: &Words<'_>,
+) -> Result<Reply, Refusal> {
+    let command = command_of(alloc, words)?;
+    Ok(store.apply(alloc, 0, command)?.reply)
+}
+
+fn push_told_by<D: Disk>(
+    alloc: Global,
+    store: &mut Store<D>,
+    told: &mut String,
+) -> Result<(), Refusal> {
+    for words in PROBES {
+        push_reply(alloc, store, words, told)?;
+    }
+    Ok(())
 }
 
 /// What a store answers the probes, which become entries.
 pub fn told_by<D: Disk>(alloc: Global, store: &mut Store<D>) -> Result<String, Refusal> {
     let mut told = String::new(alloc);
-    for words in &PROBES {
-        let command = command_of(alloc, words)?;
-        let text = store.apply(alloc, 0, command)?.reply.text(alloc)?;
-        told.push_str(text.as_str())?;
-        told.push_str("\n")?;
-    }
+    push_told_by(alloc, store, &mut told)?;
     Ok(told)
+}
+
+fn push_table(alloc: Global, table: &mut Table, tables: &mut Vec<String>) -> Result<(), Refusal> {
+    let told = told(alloc, table)?;
+    tables.push(told)?;
+    Ok(())
+}
+
+/// Makes the next step of a script, and adds what the table then answers, where the step is a command.
+fn push_next(
+    alloc: Global,
+    table: &mut Table,
+    dice: &mut Dice,
+    tables: &mut Vec<String>,
+) -> Result<(), Refusal> {
+    if let Some(words) = next_step(dice) {
+        let _reply = stepped(alloc, table, words)?;
+        push_table(alloc, table, tables)?;
+    }
+    Ok(())
+}
+
+fn push_tables(
+    alloc: Global,
+    table: &mut Table,
+    seed: u64,
+    tables: &mut Vec<String>,
+) -> Result<(), Refusal> {
+    let mut dice = Dice::new(seed);
+    push_table(alloc, table, tables)?;
+    for _ in 0..STEPS {
+        push_next(alloc, table, &mut dice, tables)?;
+    }
+    Ok(())
 }
 
 /// What the tables after 0, 1, 2 and more commands of a script answer the probes.
 pub fn tables_of(alloc: Global, seed: u64) -> Result<Vec<String>, Refusal> {
-    let mut table = Table::new(alloc);
-    let mut dice = Dice::new(seed);
     let mut tables = Vec::new(alloc);
-    tables.push(told(alloc, &mut table)?)?;
-    for _ in 0..STEPS {
-        if let Some(words) = next_step(&mut dice) {
-            let command = command_of(alloc, words)?;
-            let _reply = table.step(alloc, &command)?;
-            tables.push(told(alloc, &mut table)?)?;
-        }
-    }
+    push_tables(alloc, &mut Table::new(alloc), seed, &mut tables)?;
     Ok(tables)
 }
 

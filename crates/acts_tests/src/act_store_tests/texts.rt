@@ -1,7 +1,8 @@
 //! Stores that begin with the text of a table with runs and runners, and texts that are those of none.
 
 use super::openings::lay;
-use crate::commands::{Words, command_of, number};
+use super::scripts::entered;
+use crate::commands::{Words, number, stepped};
 use crate::holds::{expect_text, holds};
 use crate::run_plan_tests::expect_twice;
 use crate::run_table_tests::tables::{GONE_ON, LEASED, LEASED_RUNS};
@@ -34,17 +35,25 @@ fn opening(rt: &impl Abort, alloc: Global, disk: MemoryDisk) -> Result<Store<Mem
     }
 }
 
+fn lease_all(alloc: Global, table: &mut Table) -> Result<(), Refusal> {
+    for (words, _) in &LEASED {
+        let _reply = stepped(alloc, table, words)?;
+    }
+    Ok(())
+}
+
+fn text_of(rt: &impl Abort, alloc: Global, table: &Table) -> Result<Vec<u8>, Refusal> {
+    holds!(rt; table.runners().len() <= 4_294_967_295);
+    let mut text = Vec::new(alloc);
+    write_table(alloc, &mut text, table)?;
+    Ok(text)
+}
+
 /// The text of the table after `LEASED`.
 fn leased_text(rt: &impl Abort, alloc: Global) -> Result<Vec<u8>, Refusal> {
     let mut table = Table::new(alloc);
-    for (words, _) in &LEASED {
-        let command = command_of(alloc, words)?;
-        table.step(alloc, &command)?;
-    }
-    holds!(rt; table.runners().len() <= 4_294_967_295);
-    let mut text = Vec::new(alloc);
-    write_table(alloc, &mut text, &table)?;
-    Ok(text)
+    lease_all(alloc, &mut table)?;
+    text_of(rt, alloc, &table)
 }
 
 /// That the printed view of a run is this.
@@ -70,8 +79,8 @@ fn expect_reply(
     words: &Words<'_>,
     want: &str,
 ) -> Result<(), Refusal> {
-    let receipt = store.apply(alloc, 0, command_of(alloc, words)?)?;
-    expect_text(rt, receipt.reply.text(alloc)?.as_str(), want);
+    let text = entered(alloc, store, words)?.text(alloc)?;
+    expect_text(rt, text.as_str(), want);
     Ok(())
 }
 
@@ -79,21 +88,47 @@ fn expect_reply(
 /// it commits then is carried out from that table.
 fn goes_on(rt: &impl Abort, alloc: Global) -> Result<(), Refusal> {
     let text = leased_text(rt, alloc)?;
-    let mut store = opening(rt, alloc, disk_of(alloc, text.as_slice())?)?;
+    let disk = disk_of(alloc, text.as_slice())?;
+    opens_after(rt, alloc, goes_on_over(rt, alloc, disk)?)
+}
+
+fn goes_on_over(rt: &impl Abort, alloc: Global, disk: MemoryDisk) -> Result<MemoryDisk, Refusal> {
+    let mut store = opening(rt, alloc, disk)?;
+    expect_leased(rt, alloc, &store)?;
+    go_on(rt, alloc, &mut store)?;
+    Ok(store.into_disk())
+}
+
+fn expect_leased(rt: &impl Abort, alloc: Global, store: &Store<MemoryDisk>) -> Result<(), Refusal> {
     holds!(rt; store.entries() == 0 && store.covered() == 0);
     for &(id, want) in &LEASED_RUNS {
-        expect_seen(rt, alloc, &store, id, want)?;
+        expect_seen(rt, alloc, store, id, want)?;
     }
-    for (words, want) in &GONE_ON {
-        expect_reply(rt, alloc, &mut store, words, want)?;
-    }
-    holds!(rt; store.commit()? == 8);
-    let again = opening(rt, alloc, store.into_disk())?;
-    let failed = "run 1 1 completed failure build:failure(failure)";
-    expect_seen(rt, alloc, &again, "1", failed)?;
-    let running = "run 4 3 in_progress - build:open(running)";
-    expect_seen(rt, alloc, &again, "4", running)
+    Ok(())
 }
+
+fn go_on(rt: &impl Abort, alloc: Global, store: &mut Store<MemoryDisk>) -> Result<(), Refusal> {
+    for (words, want) in &GONE_ON {
+        expect_reply(rt, alloc, store, words, want)?;
+    }
+    let covered = store.commit()?;
+    holds!(rt; covered == 8);
+    Ok(())
+}
+
+/// What is committed stands in what opens.
+fn opens_after(rt: &impl Abort, alloc: Global, disk: MemoryDisk) -> Result<(), Refusal> {
+    let again = opening(rt, alloc, disk)?;
+    for &(id, want) in &GONE_ON_RUNS {
+        expect_seen(rt, alloc, &again, id, want)?;
+    }
+    Ok(())
+}
+
+const GONE_ON_RUNS: [(&str, &str); 2] = [
+    ("1", "run 1 1 completed failure build:failure(failure)"),
+    ("4", "run 4 3 in_progress - build:open(running)"),
+];
 
 #[test]
 fn steps_go_on_from_the_table_of_a_text(rt: HostRuntime) {
@@ -153,13 +188,23 @@ fn part<'a>(rt: &impl Abort, text: &'a [u8], from: usize, to: usize) -> &'a [u8]
 /// The second runner of the last but one row stands before the first.
 fn opens_no_other_order(rt: &impl Abort, alloc: Global) -> Result<(), Refusal> {
     let text = bytes_of(alloc, &ROWS[5])?;
-    let text = text.as_slice();
+    expect_opening(rt, alloc, text.as_slice())?;
+    let turned = turned(rt, alloc, text.as_slice())?;
+    expect_none(rt, alloc, turned.as_slice())
+}
+
+fn expect_opening(rt: &impl Abort, alloc: Global, text: &[u8]) -> Result<(), Refusal> {
+    let disk = disk_of(alloc, text)?;
+    let _store = opening(rt, alloc, disk)?;
+    Ok(())
+}
+
+fn turned(rt: &impl Abort, alloc: Global, text: &[u8]) -> Result<Vec<u8>, Refusal> {
     let mut turned = part(rt, text, 0, 123).to_vec(alloc)?;
     turned.extend_from_slice(part(rt, text, 166, 205))?;
     turned.extend_from_slice(part(rt, text, 123, 166))?;
     holds!(rt; turned.len() == text.len());
-    let _store = opening(rt, alloc, disk_of(alloc, text)?)?;
-    expect_none(rt, alloc, turned.as_slice())
+    Ok(turned)
 }
 
 /// A job with two legs, where its plan has one.

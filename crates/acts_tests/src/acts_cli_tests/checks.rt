@@ -2,7 +2,7 @@
 
 use crate::acts_cli_tests::{FailingReader, FailingWriter, number_of};
 use crate::given::spelled;
-use crate::holds::holds;
+use crate::holds::{expect_bytes, holds};
 use acts_cli::{MOST_BYTES, run_check};
 use std::alloc::Global;
 use std::process::Abort;
@@ -108,19 +108,38 @@ fn choices(alloc: Global, first: u32, count: u32) -> Result<String, Refusal> {
     Ok(lines)
 }
 
+/// That the grid with these members has these legs.
+fn expect_legs(rt: &impl Abort, alloc: Global, members: &str, legs: &str) -> Result<(), Refusal> {
+    let workflow = grid(alloc, members)?;
+    let printed = checked(alloc, workflow.as_bytes())?;
+    expect_bytes(rt, printed.as_slice(), legs.as_bytes());
+    Ok(())
+}
+
+fn takes_256_legs(rt: &impl Abort, alloc: Global) -> Result<(), Refusal> {
+    let legs = choices(alloc, 0, 256)?;
+    expect_legs(rt, alloc, "", legs.as_str())
+}
+
+fn refuses_one_more(rt: &impl Abort, alloc: Global) -> Result<(), Refusal> {
+    let workflow = grid(alloc, ",\"include\":[{\"x\":16}]")?;
+    expect_refused(rt, alloc, workflow.as_str(), 22);
+    Ok(())
+}
+
+fn takes_one_for_another(rt: &impl Abort, alloc: Global) -> Result<(), Refusal> {
+    let mut legs = choices(alloc, 1, 255)?;
+    legs.push_str("m 255 {\"x\":16}\n")?;
+    let members = ",\"include\":[{\"x\":16}],\"exclude\":[{\"x\":0,\"y\":0}]";
+    expect_legs(rt, alloc, members, legs.as_str())
+}
+
 /// 256 legs are the most, also where one is excluded and another included.
 #[test]
 fn bounds_the_legs(rt: HostRuntime) -> Result<(), Fail> {
-    let alloc = rt.alloc();
-    let all = checked(alloc, grid(alloc, "")?.as_bytes())?;
-    holds!(rt; all.as_slice() == choices(alloc, 0, 256)?.as_bytes());
-    let one_more = grid(alloc, ",\"include\":[{\"x\":16}]")?;
-    expect_refused(&rt, alloc, one_more.as_str(), 22);
-    let but_one = ",\"include\":[{\"x\":16}],\"exclude\":[{\"x\":0,\"y\":0}]";
-    let left = checked(alloc, grid(alloc, but_one)?.as_bytes())?;
-    let mut lines = choices(alloc, 1, 255)?;
-    lines.push_str("m 255 {\"x\":16}\n")?;
-    holds!(rt; left.as_slice() == lines.as_bytes());
+    takes_256_legs(&rt, rt.alloc())?;
+    refuses_one_more(&rt, rt.alloc())?;
+    takes_one_for_another(&rt, rt.alloc())?;
     Ok(())
 }
 

@@ -45,6 +45,12 @@ fn workflow_of(alloc: Global, ancestor: &str, need: &str) -> Result<String, Refu
     Ok(workflow)
 }
 
+fn add_claim(alloc: Global, script: &mut Script, job: &str, lease: u32) -> Result<(), Refusal> {
+    let claim = format!(in alloc; "claim r{job} 1 {job}")?;
+    let leased = format!(in alloc; "lease {lease} 1 {job} 0 {{}}")?;
+    script.add(claim.as_str(), leased.as_str())
+}
+
 /// Claims the leg of a job and reports its result, unless the job is skipped.
 fn add_end(
     alloc: Global,
@@ -56,9 +62,7 @@ fn add_end(
     if end == "skipped" {
         return Ok(());
     }
-    let claim = format!(in alloc; "claim r{job} 1 {job}")?;
-    let leased = format!(in alloc; "lease {lease} 1 {job} 0 {{}}")?;
-    script.add(claim.as_str(), leased.as_str())?;
+    add_claim(alloc, script, job, lease)?;
     let done = format!(in alloc; "done r{job} 2 {lease} {end}")?;
     script.add(done.as_str(), "ok")
 }
@@ -84,7 +88,7 @@ fn states(alloc: Global, success: bool, failure: bool) -> Result<String, Refusal
 }
 
 /// The result of `a`, that of `b`, whether `success()` then holds of what is behind `b`, and whether `failure()` does.
-const CASES: [(&str, &str, bool, bool); 16] = [
+const CASES: [Case; 16] = [
     ("success", "success", true, false),
     ("success", "failure", false, true),
     ("success", "cancelled", false, false),
@@ -112,22 +116,38 @@ fn status(ancestor: &str, need: &str) -> &'static str {
     }
 }
 
-fn expect_case(
-    rt: &impl Abort,
-    alloc: Global,
-    case: &(&str, &str, bool, bool),
-) -> Result<(), Refusal> {
+type Case = (&'static str, &'static str, bool, bool);
+
+fn script_of(alloc: Global, case: &Case) -> Result<Script, Refusal> {
+    let workflow = workflow_of(alloc, case.0, case.1)?;
+    Script::admitting(alloc, workflow.as_str())
+}
+
+fn add_ends(alloc: Global, script: &mut Script, case: &Case) -> Result<(), Refusal> {
+    add_end(alloc, script, "a", 1, case.0)?;
+    let lease = if case.0 == "skipped" { 1 } else { 2 };
+    add_end(alloc, script, "b", lease, case.1)
+}
+
+/// The run as it is seen then.
+fn view_of(alloc: Global, case: &Case) -> Result<String, Refusal> {
     let (ancestor, need, success, failure) = *case;
-    let workflow = workflow_of(alloc, ancestor, need)?;
-    let mut script = Script::admitting(alloc, workflow.as_str())?;
-    add_end(alloc, &mut script, "a", 1, ancestor)?;
-    let lease = if ancestor == "skipped" { 1 } else { 2 };
-    add_end(alloc, &mut script, "b", lease, need)?;
     let status = status(ancestor, need);
-    let (a, b) = (ended(alloc, ancestor)?, ended(alloc, need)?);
+    let a = ended(alloc, ancestor)?;
+    let b = ended(alloc, need)?;
     let rest = states(alloc, success, failure)?;
-    let view = format!(in alloc; "run 1 1 {status} - a:{a} b:{b} {rest}")?;
-    script.add("look 1", view.as_str())?;
+    Ok(format!(in alloc; "run 1 1 {status} - a:{a} b:{b} {rest}")?)
+}
+
+fn add_view(alloc: Global, script: &mut Script, case: &Case) -> Result<(), Refusal> {
+    let view = view_of(alloc, case)?;
+    script.add("look 1", view.as_str())
+}
+
+fn expect_case(rt: &impl Abort, alloc: Global, case: &Case) -> Result<(), Refusal> {
+    let mut script = script_of(alloc, case)?;
+    add_ends(alloc, &mut script, case)?;
+    add_view(alloc, &mut script, case)?;
     script.expect(rt, alloc)
 }
 

@@ -298,20 +298,33 @@ fn look_and_commit<D: Disk>(rt: &impl Abort, alloc: Global, store: &mut Store<D>
     }
 }
 
+/// The number with which an `admit` is refused, and 0 where it is the entry behind the others.
+fn number_of_admit<D: Disk>(
+    rt: &impl Abort,
+    alloc: Global,
+    store: &mut Store<D>,
+    entries: u64,
+) -> u64 {
+    let command = command_of(alloc, &Words::Admit("d1", BUILD)).expect(rt, "a command");
+    match store.apply(alloc, 0, command) {
+        Ok(receipt) => {
+            holds!(rt; receipt.place == entries.saturating_add(1), entries);
+            0
+        }
+        Err(refusal) => refusal.number(),
+    }
+}
+
+fn expect_filled(rt: &impl Abort, alloc: Global, times: u64, number: u64) {
+    let mut store = made(rt, alloc);
+    look_and_commit(rt, alloc, &mut store, times);
+    let told = number_of_admit(rt, alloc, &mut store, times);
+    holds!(rt; told == number, times);
+}
+
 #[test]
 fn fills_an_area(rt: HostRuntime) {
-    let alloc = rt.alloc();
     for &(times, number) in &FILLED {
-        let mut store = made(&rt, alloc);
-        look_and_commit(&rt, alloc, &mut store, times);
-        let command = command_of(alloc, &Words::Admit("d1", BUILD)).expect(&rt, "a command");
-        let told = match store.apply(alloc, 0, command) {
-            Ok(receipt) => {
-                holds!(rt; receipt.place == times.saturating_add(1), times);
-                0
-            }
-            Err(refusal) => refusal.number(),
-        };
-        holds!(rt; told == number, times);
+        expect_filled(&rt, rt.alloc(), times, number);
     }
 }

@@ -192,16 +192,28 @@ fn check_fault(
     check_images(rt, alloc, &inner, before.done..inner.calls().len(), allowed)
 }
 
-/// Each call of the disk fails in turn, by itself, and with all after it.
+/// A call of the disk fails by itself, and with all after it.
+fn check_call(
+    rt: &impl Abort,
+    alloc: Global,
+    seed: u64,
+    moments: &[Moment],
+    fresh: &Journal,
+    call: u64,
+) -> Result<(), Fail> {
+    let once = FuseDisk::once(two_areas(alloc, fresh, seed)?, call);
+    check_fault(rt, alloc, seed, moments, once)?;
+    let from = FuseDisk::from(two_areas(alloc, fresh, seed)?, call);
+    check_fault(rt, alloc, seed, moments, from)
+}
+
+/// Each call of the disk fails in turn.
 fn check_faults(rt: &impl Abort, alloc: Global, seed: u64) -> Result<(), Fail> {
     let fresh = Journal::new(alloc)?;
     let mut disk = two_areas(alloc, &fresh, seed)?;
     let moments = play(rt, alloc, seed, &mut disk)?;
     for call in 0..disk.calls().len() as u64 {
-        let once = FuseDisk::once(two_areas(alloc, &fresh, seed)?, call);
-        check_fault(rt, alloc, seed, &moments, once)?;
-        let from = FuseDisk::from(two_areas(alloc, &fresh, seed)?, call);
-        check_fault(rt, alloc, seed, &moments, from)?;
+        check_call(rt, alloc, seed, &moments, &fresh, call)?;
     }
     Ok(())
 }

@@ -1,6 +1,6 @@
 //! The stored bytes of tables. The expected ones are those of the format, worked out by hand.
 
-use crate::commands::{Words, command_of};
+use crate::commands::{Words, stepped};
 use crate::holds::holds;
 use crate::run_plan_tests::{BODY, expect_twice};
 use run_table::Table;
@@ -81,12 +81,16 @@ pub const ROWS: [Row<'static>; 7] = [
     ),
 ];
 
+fn step_all(alloc: Global, table: &mut Table, commands: &[Words<'_>]) -> Result<(), Refusal> {
+    for words in commands {
+        let _reply = stepped(alloc, table, words)?;
+    }
+    Ok(())
+}
+
 fn table_after(alloc: Global, commands: &[Words<'_>]) -> Result<Table, Refusal> {
     let mut table = Table::new(alloc);
-    for words in commands {
-        let command = command_of(alloc, words)?;
-        table.step(alloc, &command)?;
-    }
+    step_all(alloc, &mut table, commands)?;
     Ok(table)
 }
 
@@ -124,11 +128,15 @@ fn expect_table(rt: &impl Abort, alloc: Global, table: &Table, want: &[u8]) -> R
 fn writes_tables(rt: &impl Abort, alloc: Global) -> Result<(), Refusal> {
     expect_table(rt, alloc, &Table::new(alloc), &[0; 12])?;
     for row in &ROWS {
-        let table = table_after(alloc, row.0)?;
-        let want = bytes_of(alloc, row)?;
-        expect_table(rt, alloc, &table, want.as_slice())?;
+        expect_row(rt, alloc, row)?;
     }
     Ok(())
+}
+
+fn expect_row(rt: &impl Abort, alloc: Global, row: &Row<'_>) -> Result<(), Refusal> {
+    let want = bytes_of(alloc, row)?;
+    let table = table_after(alloc, row.0)?;
+    expect_table(rt, alloc, &table, want.as_slice())
 }
 
 #[test]

@@ -24,13 +24,19 @@ fn expect_row(rt: &impl Abort, alloc: Global, row: &Row<'_>) -> Result<(), Refus
     let want = bytes_of(alloc, row)?;
     let mut bytes = bytes_of(alloc, row)?;
     bytes.push(7)?;
-    let (table, left) = table_of(rt, alloc, bytes.as_slice())?;
+    let out = written_again(rt, alloc, bytes.as_slice())?;
+    expect_bytes(rt, out.as_slice(), want.as_slice());
+    Ok(())
+}
+
+/// The bytes of the table that is read. One byte is left behind it.
+fn written_again(rt: &impl Abort, alloc: Global, bytes: &[u8]) -> Result<Vec<u8>, Refusal> {
+    let (table, left) = table_of(rt, alloc, bytes)?;
     holds!(rt; left == 1);
     holds!(rt; table.runners().len() <= 4_294_967_295);
     let mut out = Vec::new(alloc);
     write_table(alloc, &mut out, &table)?;
-    expect_bytes(rt, out.as_slice(), want.as_slice());
-    Ok(())
+    Ok(out)
 }
 
 fn reads_whole_tables(rt: &impl Abort, alloc: Global) -> Result<(), Refusal> {
