@@ -1,4 +1,5 @@
-/* The same bytes by the system's own calls: the record of so many look-ups behind the present gate, a sync, the gate, a sync.
+/* The same bytes by the system's own calls: the record of so many look-ups behind the present gate, a sync, the gate, a sync, once
+ * and then COUNT times, of which it prints the seconds.
  * Arguments: FILE COUNT COMMANDS; FILE is that of a store with no record. */
 #define _GNU_SOURCE
 #include <fcntl.h>
@@ -41,8 +42,8 @@ int main(int argc, char **argv) {
     if (fd < 0 || commands > MOST) return 1;
     size_t size = record(bytes, commands);
     off_t at = FIRST_GATE;
-    clock_gettime(CLOCK_MONOTONIC, &start);
-    for (unsigned long i = 0; i < count; i++) {
+    for (unsigned long i = 0; i <= count; i++) {
+        if (i == 1) clock_gettime(CLOCK_MONOTONIC, &start);
         if (pwrite(fd, bytes, size, at + 1) != (ssize_t)size) return 1;
         if (fdatasync(fd) != 0) return 1;
         if (pwrite(fd, &gate, 1, at) != 1) return 1;

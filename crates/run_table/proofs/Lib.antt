@@ -23,6 +23,7 @@ pub mod Digits
 pub mod DirectNeeds
 pub mod Doors
 pub mod Entered
+pub mod EnteredRests
 pub mod EventsStay
 pub mod Firsts
 pub mod Found
@@ -46,6 +47,7 @@ pub mod HolderStatus
 pub mod HoldersFade
 pub mod HoldersKeep
 pub mod HoldersOnce
+pub mod Indexed
 pub mod JobKeeps
 pub mod JobPhases
 pub mod JobResult

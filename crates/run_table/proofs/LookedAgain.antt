@@ -307,7 +307,7 @@ module _ (runs next : List RunState) (keeps : KeepsBack runs next) where
       (whole_rests x.phase r x at (if_nothing (whole_goes_on_in x.phase runs r x) (Whole r) parts.1)))
 
   -- the runs before the place's own are as they were
-  runs_rest : (r : ℕ) → ((k : ℕ) → k < r → run_at next k ≡ run_at runs k) → NoneBefore (first_in_run runs) runs r
+  pub runs_rest : (r : ℕ) → ((k : ℕ) → k < r → run_at next k ≡ run_at runs k) → NoneBefore (first_in_run runs) runs r
       → NoneBefore (first_in_run next) next r
   runs_rest r same before k lt =
       ap (option_and_then (first_in_run next k)) (same k lt)

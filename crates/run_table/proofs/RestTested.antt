@@ -65,7 +65,7 @@ pub each_none : {X Y : Type 0} (f : ℕ → X → Option Y) (xs : List X) → fi
 each_none f xs e k x at =
     let here : k ≡ 0 + k = omega arith in ap (λ m. f m x) here ∙ each_none_from f xs 0 e k x at
 
-asked_none : {X Y : Type 0} (f : ℕ → X → Option Y) (xs : List X) → OfEach (NoneAt f) xs → (k : ℕ) (o : Option X) → slice_get xs k ≡ o
+pub asked_none : {X Y : Type 0} (f : ℕ → X → Option Y) (xs : List X) → OfEach (NoneAt f) xs → (k : ℕ) (o : Option X) → slice_get xs k ≡ o
     → option_and_then (f k) o ≡ None
 asked_none f xs each k None at = refl
 asked_none f xs each k (Some x) at = each k x at

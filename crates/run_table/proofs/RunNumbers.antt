@@ -31,7 +31,7 @@ fold_of_map : {X Y : Type 0} (g : ℕ → Y → ℕ) (f : X → Y) (a : ℕ) (xs
 fold_of_map g f a [] = refl
 fold_of_map g f a (x ∷ xs) = fold_of_map g f (g a (f x)) xs
 
-count_of_map : {X Y : Type 0} (test : Y → Bool) (f : X → Y) (xs : List X) → count_by (λ x. test (f x)) xs ≡ count_by test (map f xs)
+pub count_of_map : {X Y : Type 0} (test : Y → Bool) (f : X → Y) (xs : List X) → count_by (λ x. test (f x)) xs ≡ count_by test (map f xs)
 count_of_map test f xs = fold_of_map (λ a y. a + cond (test y) 1 0) f 0 xs
 
 -- ---- one run more

@@ -9,10 +9,13 @@ use Rattle.wf_value.specs.Gives.{Gives}
 use Rattle.wf_value.specs.declared.refusal.Refusal.{Refusal}
 use Rattle.run_plan.specs.Admitted.{Admitted}
 use Rattle.run_table.specs.BoundGroups.{AreBound, RunSays}
+use Rattle.run_table.specs.Counted.{AreCounted}
+use Rattle.run_table.specs.Delivered.{FindsFirst}
 use Rattle.run_table.specs.GroupOf.{RunFacts, run_facts_at}
 use Rattle.run_table.specs.RunNumber.{AreNumbered, events, numbers_after, run_number, same_workflow}
 use Rattle.run_table.specs.TableState.{RunState}
 use Rattle.run_table.specs.declared.groups.RunGroups.{RunGroups}
+use Rattle.run_table.specs.declared.runs.index.Index.{Index}
 use Rattle.run_table.proofs.Binding.{one_more as one_more_bound}
 use Rattle.run_table.proofs.BoundSays.{run_told}
 use Rattle.run_table.proofs.Doors.{given}
@@ -30,11 +33,18 @@ still_bound xs kept r x y lt is same are = record {
       are.each k run groups (sym (facts_same xs (slice_set xs r y) k (events_kept xs r x y lt is same)) ∙ told) is_kept);
 }
 
-pub still_kept : (xs : List RunState) (numbers : List ℕ) (kept : List RunGroups) (r : ℕ) (x y : RunState) → r < length xs
-    → x ≡ get_or xs r x → y.admitted ≡ x.admitted → AreNumbered xs numbers × AreBound xs kept
-    → AreNumbered (slice_set xs r y) numbers × AreBound (slice_set xs r y) kept
-still_kept xs numbers kept r x y lt is same are =
-    (still_numbered xs numbers r x y lt is same are.0, still_bound xs kept r x y lt is same are.1)
+pub still_kept : (xs : List RunState) (numbers : List ℕ) (kept : List RunGroups) (index : Index) (r : ℕ) (x y : RunState) → r < length xs
+    → x ≡ get_or xs r x → y.admitted ≡ x.admitted
+    → AreNumbered xs numbers × AreBound xs kept × FindsFirst (events xs) index.places.places × AreCounted (events xs) index.counts.counts
+    → AreNumbered (slice_set xs r y) numbers × AreBound (slice_set xs r y) kept × FindsFirst (events (slice_set xs r y)) index.places.places
+    × AreCounted (events (slice_set xs r y)) index.counts.counts
+still_kept xs numbers kept index r x y lt is same are =
+    let stay : events (slice_set xs r y) ≡ events xs = events_kept xs r x y lt is same in (
+      still_numbered xs numbers r x y lt is same are.0,
+      still_bound xs kept r x y lt is same are.1,
+      subst (λ (es : List Admitted). FindsFirst es index.places.places) (sym stay) are.2,
+      subst (λ (es : List Admitted). AreCounted es index.counts.counts) (sym stay) are.3,
+    )
 
 -- ---- one run more
 

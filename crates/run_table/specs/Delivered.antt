@@ -1,12 +1,18 @@
 -- Looking runs up by their deliveries. Own.
-use Rattle.std.specs.Prelude.{◌≡◌, ℕ, List, MatchOption, Option, Some, option_map}
-use Rattle.run_table.specs.Places.{run_at}
-use Rattle.run_table.specs.TableState.{RunState}
+use Rattle.std.specs.Prelude.{◌≡◌, ℕ, ◌<◌, List, String, Option, Some, option_map, slice_get}
+use Rattle.std.specs.BTreeMap.{BTreeMap, get_by_text}
+use Rattle.std.specs.declared.alloc.Global.{Global}
+use Rattle.run_plan.specs.Admitted.{Admitted}
 
--- the delivery of the run at a place
-abbrev pub delivery_at : List RunState → ℕ → Option (List ℕ)
-delivery_at runs r = option_map (λ x. x.admitted.delivery) (run_at runs r)
+-- the delivery of the event at a place
+abbrev pub delivery_at : List Admitted → ℕ → Option (List ℕ)
+delivery_at events r = option_map (λ event. event.delivery) (slice_get events r)
 
--- what is found is a run of that delivery, and where nothing is found no run has it
-abbrev pub FindsRun : List RunState → List ℕ → Option ℕ → Type 0
-FindsRun runs delivery found = MatchOption found ((r : ℕ) → delivery_at runs r ≡ Some delivery → ⊥) (λ r. delivery_at runs r ≡ Some delivery)
+-- the first event of a delivery stands at the place
+pub record IsFirst (events : List Admitted) (delivery : List ℕ) (r : ℕ) : Type 0 where
+  pub there : delivery_at events r ≡ Some delivery
+  pub first : (s : ℕ) → s < r → delivery_at events s ≡ Some delivery → ⊥
+
+-- where the first event of a delivery stands, the place is kept for it
+abbrev pub FindsFirst : List Admitted → BTreeMap (String Global) ℕ → Type 0
+FindsFirst events places = (delivery : List ℕ) (r : ℕ) → IsFirst events delivery r → get_by_text places delivery ≡ Some r

@@ -69,3 +69,7 @@ look_near runs (Whole r) = record { run = r; job = 0 }
 -- else from the first run
 abbrev pub look_again : Bool → List RunState → Place → JobPlace
 look_again freed runs place = if freed then record { run = 0; job = 0 } else look_near runs place
+
+-- Once a new run has arrived: from itself where it asks of no group, since it ends and stops nobody then; else from the first run.
+abbrev pub look_first : List RunState → ℕ → JobPlace
+look_first runs r = record { run = if is_some (group_at runs (Holder.a_run r)) then 0 else r; job = 0 }

@@ -170,8 +170,9 @@ impl Content {
         let place = self.runs.len();
         let run = Run::of_event(alloc, prepared)?;
         self.runs.add(alloc, run)?;
+        let start = self.runs.look_first(place);
         self.runs.arrive(&Holder::Run(place));
-        self.runs.settle();
+        self.runs.settle_from(start);
         Ok(Reply::Created(id_of(place)))
     }
 

@@ -1,12 +1,13 @@
 ghost use Rattle.std.specs.Prelude.{◌≡◌, ◌+◌, ◌≤◌, ◌<◌, ◌∷◌, ◌++◌, [], length, IfSome, OnErr, OnOk};
-ghost use Rattle.std.specs.Prelude.{option_map, option_copied, slice_get, Ok, ◌^◌, count_by};
+ghost use Rattle.std.specs.Prelude.{option_map, option_copied, slice_get, Ok, ◌^◌, false, true};
 ghost use Rattle.std.specs.List.{position};
 ghost use Rattle.std.specs.Option.{option_map_or};
 ghost use Rattle.wf_value.specs.Gives.{Gives};
 ghost use Rattle.run_table.specs.Fitting.{is_served};
 ghost use Rattle.run_table.specs.LegContext.{facts_at};
 ghost use Rattle.run_table.specs.Places.{job_at, leg_at, plan_at};
-ghost use Rattle.run_table.specs.RunNumber.{events, run_number, same_workflow};
+ghost use Rattle.run_table.specs.Counted.{IsOf};
+ghost use Rattle.run_table.specs.RunNumber.{events, run_number};
 ghost use Rattle.run_table.specs.Parallel.{most_at_work};
 ghost use Rattle.run_table.specs.Step.{is_delivered_as};
 ghost use Rattle.run_table.specs.Words.{combo_at, job_id, passes_over};
@@ -16,7 +17,9 @@ mod counts;
 mod ending;
 mod group_keys;
 mod groups;
+mod index;
 mod of;
+mod places;
 mod settling;
 
 use crate::groups::RunGroups;
@@ -25,6 +28,8 @@ use crate::leg::Leg;
 use crate::leg_view::LegView;
 use crate::place::LegPlace;
 use crate::run::Run;
+use crate::runs::counts::{Workflow, workflow_of};
+use crate::runs::index::Index;
 use run_plan::{DeliveryId, Label, PlannedJob};
 use std::alloc::Global;
 use std::marker::Model;
@@ -41,19 +46,23 @@ pub struct Runs {
     numbers: Vec<usize>,
     /// What each, and its legs, ask of concurrency groups.
     groups: Vec<RunGroups>,
+    index: Index,
 }
 
 impl Model for Runs {
     ghost use Rattle.std.specs.Prelude.{List};
     ghost use Rattle.run_table.specs.BoundGroups.{AreBound};
-    ghost use Rattle.run_table.specs.RunNumber.{AreNumbered};
+    ghost use Rattle.run_table.specs.Counted.{AreCounted};
+    ghost use Rattle.run_table.specs.Delivered.{FindsFirst};
+    ghost use Rattle.run_table.specs.RunNumber.{AreNumbered, events};
     ghost use Rattle.run_table.specs.TableState.{RunState};
 
     ghost Value = { List RunState };
 
     ghost view = { λ r. r.runs.items };
 
-    ghost invariant = { λ r. AreNumbered r.runs.items r.numbers.items × AreBound r.runs.items r.groups.items };
+    ghost invariant = { λ r. AreNumbered r.runs.items r.numbers.items × AreBound r.runs.items r.groups.items
+        × FindsFirst (events r.runs.items) r.index.places.places × AreCounted (events r.runs.items) r.index.counts.counts };
 }
 
 impl Runs {
@@ -64,6 +73,7 @@ impl Runs {
             runs: Vec::new(alloc),
             numbers: Vec::new(alloc),
             groups: Vec::new(alloc),
+            index: Index::new(alloc),
         }
     }
 
@@ -167,7 +177,23 @@ impl Runs {
         ensures found { result ≡ position (is_delivered_as delivery.now) self.now }
         ensures most { IfSome result (λ i. i < 100000) }
     {
-        position_of(&self.runs, delivery)
+        let place = self.index.places.place(delivery)?;
+        if self.is_delivered_at(place, delivery) {
+            Some(place)
+        } else {
+            None
+        }
+    }
+
+    /// Whether the run of the delivery stands at the place.
+    fn is_delivered_at(&self, place: usize, delivery: &DeliveryId) -> bool
+        ensures is { result ≡ option_map_or (is_delivered_as delivery.now) (slice_get self.now place) false }
+        ensures within { result ≡ true → place < 100000 }
+    {
+        match self.as_slice().get(place) {
+            Some(run) => run.is_delivered_as(delivery),
+            None => false,
+        }
     }
 
     /// A job at a place.
@@ -186,24 +212,36 @@ impl Runs {
         job.legs().get(place.leg)
     }
 
-    /// Adds a run at the end, with what it and its legs ask of groups. At an error it is not added.
+    /// Adds a run at the end, with its number and with what it and its legs ask of groups. At an error it is not added.
     pub(crate) fn add(&mut self, alloc: Global, run: Run) -> Result<(), Refusal>
         requires { length self.old < 100000 }
         ensures added { Gives (λ _. self.new) result (Ok (self.old ++ run ∷ [])) }
         ensures err { OnErr result (self.new ≡ self.old) }
     {
-        let number = count_same(&run, &self.runs) + 1;
-        self.add_numbered(alloc, run, number)
+        let found = self.position(run.prepared().delivery());
+        let workflow = workflow_of(alloc, run.prepared())?;
+        self.add_counted(alloc, run, found, workflow)
     }
 
-    /// The same, of a run whose number is known.
-    fn add_numbered(&mut self, alloc: Global, run: Run, number: usize) -> Result<(), Refusal>
+    /// The same, of a run of this workflow, whose delivery is found there in the runs so far.
+    fn add_counted(
+        &mut self,
+        alloc: Global,
+        run: Run,
+        found: Option<usize>,
+        workflow: Workflow,
+    ) -> Result<(), Refusal>
         requires room { length self.old < 100000 }
-        requires number { number ≡ count_by (λ other. same_workflow run.admitted other.admitted) self.old + 1 }
+        requires found { found ≡ position (is_delivered_as run.admitted.delivery) self.old }
+        requires workflow { IsOf workflow run.admitted }
         ensures added { Gives (λ _. self.new) result (Ok (self.old ++ run ∷ [])) }
         ensures err { OnErr result (self.new ≡ self.old) }
     {
-        let asked = RunGroups::bind(alloc, &run, self.runs.len() + 1, number)?;
+        let place = self.runs.len();
+        let number = self
+            .index
+            .make_room(alloc, run.prepared(), &workflow, place, found)?;
+        let asked = RunGroups::bind(alloc, &run, place + 1, number)?;
         let numbers = &mut self.numbers;
         push_all(
             &mut self.runs,
@@ -212,7 +250,9 @@ impl Runs {
             run,
             number,
             asked,
-        )
+        )?;
+        self.index.counts.add(workflow, number);
+        Ok(())
     }
 }
 
@@ -222,6 +262,7 @@ impl TryCopy for Runs {
             runs: copy_items(alloc, &self.runs)?,
             numbers: Vec::from_slice(alloc, self.numbers.as_slice())?,
             groups: copy_items(alloc, &self.groups)?,
+            index: self.index.copy()?,
         })
     }
 }
@@ -242,12 +283,6 @@ fn number_at(numbers: &[usize], r: usize) -> Option<usize>
         Some(number) => Some(*number),
         None => None,
     }
-}
-
-fn position_of(runs: &[Run], delivery: &DeliveryId) -> Option<usize>
-    ensures { result ≡ position (is_delivered_as delivery.now) runs.now }
-{
-    runs.iter().position(|run| run.is_delivered_as(delivery))
 }
 
 /// Adds a run and its number, or neither.
@@ -296,22 +331,4 @@ fn push_all(
             Err(refusal)
         }
     }
-}
-
-fn is_same_workflow(a: &Run, b: &Run) -> bool
-    ensures { result ≡ same_workflow a.now.admitted b.now.admitted }
-{
-    let one = a.prepared();
-    let other = b.prepared();
-    one.repo().as_str() == other.repo().as_str() && one.path().as_str() == other.path().as_str()
-}
-
-/// How many of the runs are of the same workflow.
-fn count_same(run: &Run, runs: &[Run]) -> usize
-    ensures count { result ≡ count_by (λ other. same_workflow run.now.admitted other.admitted) runs.now }
-    ensures most { result ≤ length runs.now }
-{
-    runs.iter()
-        .filter(|other| is_same_workflow(run, other))
-        .count()
 }

@@ -65,5 +65,5 @@ pub(crate) fn is_sound(
     if !do_runs_rest(alloc, runs, &taken)? {
         return Ok(false);
     }
-    do_deliveries_differ(alloc, runs.as_slice())
+    Ok(do_deliveries_differ(runs))
 }

@@ -1,4 +1,4 @@
-//! The runs of their parts. The number of each is known from the counts of those before it.
+//! The runs of their parts.
 
 ghost use Rattle.std.specs.Prelude.{◌≡◌, IfOk, MatchOption};
 ghost use Rattle.run_table.specs.BoundGroups.{ErrsOnlyByMemory};
@@ -6,7 +6,6 @@ ghost use Rattle.run_table.specs.TableOf.{AreAsPlanned};
 
 use crate::parts::RunParts;
 use crate::run::Run;
-use crate::runs::counts::Counts;
 use crate::runs::{MOST_RUNS, Runs};
 use std::alloc::Global;
 use wf_value::Refusal;
@@ -22,14 +21,10 @@ impl Runs {
             return Ok(None);
         }
         let mut runs = Runs::new(alloc);
-        let mut counts = Counts::new(alloc);
         for r in 0..parts.len() {
             let part = &parts[r];
             match Run::of_parts(alloc, part)? {
-                Some(run) => {
-                    let number = counts.add(&part.prepared)?;
-                    runs.add_numbered(alloc, run, number)?;
-                }
+                Some(run) => runs.add(alloc, run)?,
                 None => return Ok(None),
             }
         }

@@ -5,7 +5,7 @@ ghost use Rattle.std.specs.List.{list_any};
 ghost use Rattle.std.specs.Option.{option_map_or};
 ghost use Rattle.needs_graph.specs.Results.{fails_job, gathered, is_cancelled};
 ghost use Rattle.run_table.specs.FirstOf.{first_some, placed};
-ghost use Rattle.run_table.specs.LookAgain.{RestBefore, at_job_again, frees, is_new_at, look_again};
+ghost use Rattle.run_table.specs.LookAgain.{RestBefore, at_job_again, frees, is_new_at, look_again, look_first};
 ghost use Rattle.run_table.specs.Groups.{HasOneEach};
 ghost use Rattle.run_table.specs.Places.{job_at, leg_at, run_at, with_job};
 ghost use Rattle.run_table.specs.Rules.{closing_rule, decided, leg_end, leg_rule, may_run, newcomer_rule, rule_at, whole_rule, with_leg_in};
@@ -30,7 +30,17 @@ impl Runs {
         requires one_each { HasOneEach self.old }
         ensures { self.new ≡ settled self.old }
     {
-        let mut from = JobPlace { run: 0, job: 0 };
+        self.settle_from(JobPlace { run: 0, job: 0 });
+    }
+
+    /// The same, where no rule applies before a place.
+    pub(crate) fn settle_from(&mut self, start: JobPlace)
+        requires sound { RunsAreSound self.old }
+        requires one_each { HasOneEach self.old }
+        requires rest { RestBefore self.old start }
+        ensures { self.new ≡ settled self.old }
+    {
+        let mut from = start;
         while let Some(next) = self.take_first_rule(from) {
             from = next;
         }
@@ -68,6 +78,18 @@ impl Runs {
             Place::Closing(r, j) => self.at_job_again(*r, *j),
             Place::Whole(r) => JobPlace { run: *r, job: 0 },
         }
+    }
+
+    /// From where settling looks once a new run has arrived.
+    pub(crate) fn look_first(&self, newcomer: usize) -> JobPlace
+        ensures { result ≡ look_first self.now newcomer }
+    {
+        let run = if self.has_group(&Holder::Run(newcomer)) {
+            0
+        } else {
+            newcomer
+        };
+        JobPlace { run, job: 0 }
     }
 
     /// Whether the rule there may set a run or a leg of another run on its way: a leg arrives there in a group, and so may end or stop

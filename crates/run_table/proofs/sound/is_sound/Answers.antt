@@ -1,11 +1,8 @@
-use Rattle.std.proofs.Common.{◌≡◌, ◌≤◌, List, Bool, arith, false, true, None, Some, sym, subst, rules}
-use Rattle.std.specs.Bool.{Decides}
+use Rattle.std.proofs.Common.{◌≡◌, ◌≤◌, arith, false, true, None, Some, rules}
 use Rattle.run_table.specs.Settling.{first_place}
-use Rattle.run_table.specs.Sound.{DeliveriesDiffer, IsSound}
-use Rattle.run_table.specs.TableState.{RunState}
 use Rattle.run_table.proofs.GroupsOfTable.{found_each, found_none_of_each}
-use Rattle.run_table.proofs.OneAfterAnother.{like, no, not_so, when_ok}
-use Rattle.run_table.proofs.SoundOneByOne.{each_run, each_runner, table_with, to_sound}
+use Rattle.run_table.proofs.OneAfterAnother.{like, no, not_so}
+use Rattle.run_table.proofs.SoundOneByOne.{each_run, each_runner, to_sound}
 use Rattle.run_table.proofs.sound.is_sound.Goals as goal
 
 pub returns-then-leases-gt-LAST_NUMBER-clause-sound : goal.returns-then-leases-gt-LAST_NUMBER-clause-sound
@@ -48,10 +45,7 @@ returns-clause-sound c =
     let each_of_runners = c.are_runners_sound.ensures.0 (search rules) in
     let still : c.in_ok-do_runs_rest.field-0 ≡ true = search rules in
     let rests : first_place runs ≡ None = c.in_ok-do_runs_rest.ensures.rest.0 still in
-    when_ok c.do_deliveries_differ.result (λ (b : Bool). Decides b (DeliveriesDiffer c.as_slice.result.now))
-    (λ b. Decides b (IsSound (table_with leases runs runners)))
-    (λ b d. like b
+    like c.do_deliveries_differ.result
     (λ differ. to_sound leases runs runners c.requires.legs c.requires.held each each_of_runners c.requires.planned c.requires.rise c.requires.kept
-    last one rests (subst (λ (xs : List RunState). DeliveriesDiffer xs) c.as_slice.ensures.runs differ))
-    (λ s. subst (λ (xs : List RunState). DeliveriesDiffer xs) (sym c.as_slice.ensures.runs) s.deliveries_differ) d)
-    c.do_deliveries_differ.ensures.differ
+    last one rests differ)
+    (λ s. s.deliveries_differ) c.do_deliveries_differ.ensures

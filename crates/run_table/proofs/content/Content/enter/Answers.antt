@@ -1,6 +1,7 @@
 use Rattle.std.proofs.Common.{ap, sym}
 use Rattle.run_table.specs.TableState.{TableState}
 use Rattle.run_table.proofs.BeforeSettling.{entering_arrives, entering_settles}
+use Rattle.run_table.proofs.EnteredRests.{entering_rests}
 use Rattle.run_table.proofs.Doors.{given}
 use Rattle.run_table.proofs.content.Content.enter.Goals as goal
 
@@ -22,14 +23,20 @@ arrive-requires-clause-one_beside c =
     (ap (λ (t : TableState). t.runs) c.self.view_is) (sym (given _ _ c.in_ok-add.ensures.added)) (sym (given _ _ c.in_ok-run.ensures))
     c.len-place.ensures.len).one_beside
 
-pub settle-requires-clause-sound : goal.settle-requires-clause-sound
-settle-requires-clause-sound c =
+pub settle_from-requires-clause-sound : goal.settle_from-requires-clause-sound
+settle_from-requires-clause-sound c =
     (entering_settles c.args.self.now c.args.prepared.now c.self.inside.runs c.add.new.self c.arrive.new.self c.in_ok-run.run' c.len-place.result
     c.requires.sound (ap (λ (t : TableState). t.runs) c.self.view_is) (sym (given _ _ c.in_ok-add.ensures.added)) (sym (given _ _ c.in_ok-run.ensures))
     c.len-place.ensures.len c.arrive.ensures).sound
 
-pub settle-requires-clause-one_each : goal.settle-requires-clause-one_each
-settle-requires-clause-one_each c =
+pub settle_from-requires-clause-one_each : goal.settle_from-requires-clause-one_each
+settle_from-requires-clause-one_each c =
     (entering_settles c.args.self.now c.args.prepared.now c.self.inside.runs c.add.new.self c.arrive.new.self c.in_ok-run.run' c.len-place.result
     c.requires.sound (ap (λ (t : TableState). t.runs) c.self.view_is) (sym (given _ _ c.in_ok-add.ensures.added)) (sym (given _ _ c.in_ok-run.ensures))
     c.len-place.ensures.len c.arrive.ensures).one_each
+
+pub settle_from-requires-clause-rest : goal.settle_from-requires-clause-rest
+settle_from-requires-clause-rest c =
+    entering_rests c.args.self.now c.args.prepared.now c.self.inside.runs c.add.new.self c.arrive.new.self c.in_ok-run.run' c.len-place.result
+    c.look_first-start.result c.requires.sound (ap (λ (t : TableState). t.runs) c.self.view_is) (sym (given _ _ c.in_ok-add.ensures.added))
+    (sym (given _ _ c.in_ok-run.ensures)) c.len-place.ensures.len c.arrive.ensures c.look_first-start.ensures

@@ -1,10 +1,9 @@
 use Rattle.std.proofs.Common.{◌≡◌, take}
 use Rattle.run_plan.specs.PlanOf.{plan_of}
-use Rattle.run_table.specs.Counted.{AreCounted}
 use Rattle.run_table.specs.TableOf.{IsAsPlanned}
 use Rattle.run_table.proofs.OneAfterAnother.{SoFar}
 use Rattle.run_table.proofs.runs.Runs.of_parts.Given as goal
 
--- the runs so far, each as planned, and counted
+-- the runs so far, each as planned
 abbrev pub invariant-loop-r : goal.invariant-loop-r
-invariant-loop-r l = (l.runs ≡ take l.r l.parts) × SoFar (λ k x. IsAsPlanned (plan_of x.admitted.body) x.jobs) l.parts l.r × AreCounted l.runs l.counts.counts
+invariant-loop-r l = (l.runs ≡ take l.r l.parts) × SoFar (λ k x. IsAsPlanned (plan_of x.admitted.body) x.jobs) l.parts l.r

@@ -1,12 +1,12 @@
-use Rattle.std.proofs.Common.{◌≡◌, ◌+◌, rules}
-use Rattle.wf_reader.specs.Event.{event_of}
-use Rattle.run_table.proofs.Counting.{counted}
+use Rattle.run_table.proofs.Counting.{counted, kept_count}
 use Rattle.run_table.proofs.runs.counts.Counts.add.Goals as goal
 
-pub returns-clause-counted : goal.returns-clause-counted
-returns-clause-counted c =
-    let event = c.args.prepared.now in
-    let repo : c.as_str-repo.result.now ≡ (event_of event.body).repo = search rules in
-    let path : c.as_str-path.result.now ≡ (event_of event.body).path = search rules in
-    counted c.args.self.now.counts c.insert.new.self event c.as_str-repo.result.now c.as_str-path.result.now (c.count-number.result + 1)
-    c.in_ok-insert.ensures.updates repo path (search rules)
+pub unreachable-requires : goal.unreachable-requires
+unreachable-requires c =
+    kept_count c.args.self.now.counts c.args.workflow c.requires.0 c.requires.1 c.requires.2 c.in-Err.ensures.absent
+
+pub returns : goal.returns
+returns c = record {
+  counted = (λ run event of is.
+      counted c.args.self.now.counts c.insert.new.self run c.args.workflow c.args.number c.in-Ok.ensures.updates of is event);
+}

@@ -5,7 +5,7 @@ use Rattle.run_table.specs.Settling.{settled, left}
 use Rattle.run_table.specs.Sound.{RunsAreSound}
 use Rattle.run_table.specs.TableState.{RunState}
 use Rattle.run_table.specs.declared.place.JobPlace.{JobPlace}
-use Rattle.run_table.proofs.runs.Runs.settle.Given as goal
+use Rattle.run_table.proofs.runs.Runs.settle_from.Given as goal
 
 -- settling from here gives what settling from the start gives, and no rule applies before the place to look from
 pub record Settling (start runs : List RunState) (from : JobPlace) : Type 0 where
