@@ -106,7 +106,7 @@ impl Waiting {
         ensures refused { IfErr result (λ e. e ≡ no_memory) }
     {
         let mut bytes = bytes_of(alloc, self.record.take())?;
-        if let Err(refusal) = append(alloc, &mut bytes, command) {
+        if let Err(refusal) = append(&mut bytes, command) {
             self.record = Some(record_with(bytes, self.count));
             return Err(refusal);
         }
@@ -146,7 +146,7 @@ fn bytes_of(alloc: Global, held: Option<Record>) -> Result<Vec<u8>, AllocError>
 }
 
 /// Writes the spelling of a command behind the others, and the last byte behind it.
-fn append(alloc: Global, bytes: &mut Vec<u8>, command: &Command) -> Result<(), Refusal>
+fn append(bytes: &mut Vec<u8>, command: &Command) -> Result<(), Refusal>
     requires { 9 ≤ vec_len bytes.old }
     ensures long { OnOk result (vec_len bytes.new ≡ vec_len bytes.old + length (command_bytes command.now)) }
     ensures appended { OnOk result (spelled_between bytes.new.items ≡ spelled_between bytes.old.items ++ command_bytes command.now) }
@@ -155,7 +155,7 @@ fn append(alloc: Global, bytes: &mut Vec<u8>, command: &Command) -> Result<(), R
     ensures refused { IfErr result (λ e. e ≡ no_memory) }
 {
     let gate = bytes.len() - 1;
-    write_command(alloc, bytes, command)?;
+    write_command(bytes, command)?;
     move_to_end(bytes.as_mut_slice(), gate);
     Ok(())
 }

@@ -82,7 +82,7 @@ const NO_COMMANDS: [&[u8]; 18] = [
 
 fn spelled(alloc: Global, command: &Command) -> Result<Vec<u8>, Refusal> {
     let mut bytes = Vec::new(alloc);
-    write_command(alloc, &mut bytes, command)?;
+    write_command(&mut bytes, command)?;
     Ok(bytes)
 }
 
@@ -184,7 +184,7 @@ fn writes_a_batch(rt: &impl Abort, alloc: Global) -> Result<(), Refusal> {
     let commands = three_commands(alloc)?;
     holds!(rt; commands.len() == 3);
     let mut batch = Vec::new(alloc);
-    write_batch(alloc, &mut batch, commands.as_slice())?;
+    write_batch(&mut batch, commands.as_slice())?;
     expect_bytes(rt, batch.as_slice(), BATCH_OF_THREE);
     expect_batch(rt, alloc, batch.as_slice(), commands.as_slice())
 }

@@ -1,5 +1,6 @@
 pub mod CommandReaders
 pub mod FormReaders
+pub mod Keeping
 pub mod Known
 pub mod LengthLaws
 mod LengthRows

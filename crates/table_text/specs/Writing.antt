@@ -1,5 +1,5 @@
--- What is known of runs and jobs that are written, in the order in which they stand.
-use Rattle.std.specs.Prelude.{◌≡◌, ◌≤◌, length, false}
+-- What is known of runs and jobs that are written, in the order in which they stand, and of bytes that a write has left half done.
+use Rattle.std.specs.Prelude.{◌≡◌, ◌≤◌, ℕ, List, length, take, false}
 use Rattle.std.specs.List.{AllByRecursion}
 use Rattle.run_table.specs.Stored.{is_new}
 use Rattle.run_table.specs.TableState.{LegState, JobState, RunState}
@@ -16,3 +16,7 @@ JobHasBytes j = (length j.legs ≤ 256) × AllByRecursion HasByte j.legs
 -- a run with the jobs of its plan, which all have bytes
 abbrev pub RunHasBytes : RunState → Type 0
 RunHasBytes r = (length r.jobs ≡ jobs_planned r.admitted) × AllByRecursion JobHasBytes r.jobs
+
+-- the bytes before stand at the front of those after
+abbrev pub Keeps : List ℕ → List ℕ → Type 0
+Keeps before after = take (length before) after ≡ before

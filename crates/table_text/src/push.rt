@@ -1,6 +1,9 @@
-ghost use Rattle.std.specs.Prelude.{◌≡◌, [], ◌∷◌, ◌++◌, ◌<◌, ◌^◌, length, OnOk};
+#![tactic(auto, using(crate::proofs::Keeping::unchanged, crate::proofs::Keeping::longer))]
+
+ghost use Rattle.std.specs.Prelude.{◌≡◌, [], ◌∷◌, ◌++◌, ◌<◌, ◌^◌, length, OnErr, OnOk};
 ghost use Rattle.table_text.specs.Commands.{IsSpelled, admit, beat, body, claim, command_bytes, done, kind_of, labels, number, outcome_byte, small_text};
 ghost use Rattle.table_text.specs.Format.{text_bytes, word_bytes};
+ghost use Rattle.table_text.specs.Writing.{Keeps};
 
 use crate::push_list::{Push, push_list};
 use run_plan::{Beat, Claim, Command, Done, Form, Labels, Number, Prepared, SmallText};
@@ -8,18 +11,20 @@ use std::alloc::AllocError;
 use wf_value::Outcome;
 
 /// Appends a number in four bytes.
-#[tactic(auto, unfolding(crate::specs::Format::word_bytes))]
+#[tactic(auto, using(crate::proofs::Keeping::unchanged, crate::proofs::Keeping::longer), unfolding(crate::specs::Format::word_bytes))]
 pub(crate) fn push_word(out: &mut Vec<u8>, value: u32) -> Result<(), AllocError>
-    ensures { OnOk result (out.new.items ≡ out.old.items ++ word_bytes value) }
+    ensures bytes { OnOk result (out.new.items ≡ out.old.items ++ word_bytes value) }
+    ensures kept { OnErr result (Keeps out.old.items out.new.items) }
 {
     out.extend_from_slice(&value.to_be_bytes())
 }
 
 /// Appends bytes behind their length.
-#[tactic(auto, unfolding(crate::specs::Format::text_bytes))]
+#[tactic(auto, using(crate::proofs::Keeping::unchanged, crate::proofs::Keeping::longer), unfolding(crate::specs::Format::text_bytes))]
 fn push_text(out: &mut Vec<u8>, text: &[u8]) -> Result<(), AllocError>
     requires { length text.now < 2 ^ 32 }
-    ensures { OnOk result (out.new.items ≡ out.old.items ++ text_bytes text.now) }
+    ensures bytes { OnOk result (out.new.items ≡ out.old.items ++ text_bytes text.now) }
+    ensures kept { OnErr result (Keeps out.old.items out.new.items) }
 {
     push_word(out, text.len() as u32)?;
     out.extend_from_slice(text)
@@ -28,6 +33,7 @@ fn push_text(out: &mut Vec<u8>, text: &[u8]) -> Result<(), AllocError>
 pub(crate) fn push_number(out: &mut Vec<u8>, value: Number) -> Result<(), AllocError>
     ensures takes { number.Takes value }
     ensures bytes { OnOk result (out.new.items ≡ out.old.items ++ word_bytes value) }
+    ensures kept { OnErr result (Keeps out.old.items out.new.items) }
 {
     push_word(out, value.get())
 }
@@ -38,6 +44,7 @@ pub(crate) fn push_small_text<F: Form>(
 ) -> Result<(), AllocError>
     ensures takes { (small_text F.allows).Takes text.now }
     ensures bytes { OnOk result (out.new.items ≡ out.old.items ++ text_bytes text.now) }
+    ensures kept { OnErr result (Keeps out.old.items out.new.items) }
 {
     push_text(out, text.as_str().as_bytes())
 }
@@ -57,6 +64,7 @@ impl<F: Form> Push for SmallText<F> {
 fn push_labels(out: &mut Vec<u8>, value: &Labels) -> Result<(), AllocError>
     ensures takes { labels.Takes value.now }
     ensures bytes { OnOk result (out.new.items ≡ out.old.items ++ labels.spelling value.now) }
+    ensures kept { OnErr result (Keeps out.old.items out.new.items) }
 {
     let list = value.as_slice();
     push_word(out, list.len() as u32)?;
@@ -65,7 +73,8 @@ fn push_labels(out: &mut Vec<u8>, value: &Labels) -> Result<(), AllocError>
 }
 
 fn push_outcome(out: &mut Vec<u8>, value: Outcome) -> Result<(), AllocError>
-    ensures { OnOk result (out.new.items ≡ out.old.items ++ outcome_byte value ∷ []) }
+    ensures bytes { OnOk result (out.new.items ≡ out.old.items ++ outcome_byte value ∷ []) }
+    ensures kept { OnErr result (Keeps out.old.items out.new.items) }
 {
     match value {
         Outcome::Success => out.extend_from_slice(&[1]),
@@ -78,6 +87,7 @@ fn push_outcome(out: &mut Vec<u8>, value: Outcome) -> Result<(), AllocError>
 fn push_body(out: &mut Vec<u8>, event: &Prepared) -> Result<(), AllocError>
     ensures takes { body.Takes event.now.body }
     ensures bytes { OnOk result (out.new.items ≡ out.old.items ++ text_bytes event.now.body) }
+    ensures kept { OnErr result (Keeps out.old.items out.new.items) }
 {
     push_text(out, event.body())
 }
@@ -85,6 +95,7 @@ fn push_body(out: &mut Vec<u8>, event: &Prepared) -> Result<(), AllocError>
 pub(crate) fn push_admit(out: &mut Vec<u8>, event: &Prepared) -> Result<(), AllocError>
     ensures takes { OnOk result (admit.Takes event.now) }
     ensures bytes { OnOk result (out.new.items ≡ out.old.items ++ admit.spelling event.now) }
+    ensures kept { OnErr result (Keeps out.old.items out.new.items) }
 {
     push_small_text(out, event.delivery())?;
     push_small_text(out, event.event())?;
@@ -95,6 +106,7 @@ pub(crate) fn push_admit(out: &mut Vec<u8>, event: &Prepared) -> Result<(), Allo
 pub(crate) fn push_claim(out: &mut Vec<u8>, asks: &Claim) -> Result<(), AllocError>
     ensures takes { OnOk result (claim.Takes asks.now) }
     ensures bytes { OnOk result (out.new.items ≡ out.old.items ++ claim.spelling asks.now) }
+    ensures kept { OnErr result (Keeps out.old.items out.new.items) }
 {
     push_small_text(out, &asks.runner)?;
     push_number(out, asks.number)?;
@@ -105,6 +117,7 @@ pub(crate) fn push_claim(out: &mut Vec<u8>, asks: &Claim) -> Result<(), AllocErr
 pub(crate) fn push_done(out: &mut Vec<u8>, report: &Done) -> Result<(), AllocError>
     ensures takes { OnOk result (done.Takes report.now) }
     ensures bytes { OnOk result (out.new.items ≡ out.old.items ++ done.spelling report.now) }
+    ensures kept { OnErr result (Keeps out.old.items out.new.items) }
 {
     push_small_text(out, &report.runner)?;
     push_number(out, report.number)?;
@@ -116,6 +129,7 @@ pub(crate) fn push_done(out: &mut Vec<u8>, report: &Done) -> Result<(), AllocErr
 fn push_beat(out: &mut Vec<u8>, asks: &Beat) -> Result<(), AllocError>
     ensures takes { OnOk result (beat.Takes asks.now) }
     ensures bytes { OnOk result (out.new.items ≡ out.old.items ++ beat.spelling asks.now) }
+    ensures kept { OnErr result (Keeps out.old.items out.new.items) }
 {
     push_small_text(out, &asks.runner)?;
     push_number(out, asks.lease)?;
@@ -124,7 +138,8 @@ fn push_beat(out: &mut Vec<u8>, asks: &Beat) -> Result<(), AllocError>
 
 /// Appends the byte that says which command it is.
 fn push_kind(out: &mut Vec<u8>, asked: &Command) -> Result<(), AllocError>
-    ensures { OnOk result (out.new.items ≡ out.old.items ++ kind_of asked.now ∷ []) }
+    ensures bytes { OnOk result (out.new.items ≡ out.old.items ++ kind_of asked.now ∷ []) }
+    ensures kept { OnErr result (Keeps out.old.items out.new.items) }
 {
     match asked {
         Command::Admit(_) => out.extend_from_slice(&[1]),
@@ -142,6 +157,7 @@ fn push_kind(out: &mut Vec<u8>, asked: &Command) -> Result<(), AllocError>
 pub(crate) fn push_command(out: &mut Vec<u8>, asked: &Command) -> Result<(), AllocError>
     ensures takes { OnOk result (IsSpelled asked.now) }
     ensures bytes { OnOk result (out.new.items ≡ out.old.items ++ command_bytes asked.now) }
+    ensures kept { OnErr result (Keeps out.old.items out.new.items) }
 {
     push_kind(out, asked)?;
     match asked {

@@ -1,7 +1,9 @@
 //! Values appended one behind the other.
+#![tactic(auto, using(crate::proofs::Keeping::unchanged, crate::proofs::Keeping::longer))]
 
-ghost use Rattle.std.specs.Prelude.{◌≡◌, ◌++◌, ℕ, List, flat_map, OnOk};
+ghost use Rattle.std.specs.Prelude.{◌≡◌, ◌++◌, ℕ, List, flat_map, OnErr, OnOk};
 ghost use Rattle.std.specs.List.{AllByRecursion};
+ghost use Rattle.table_text.specs.Writing.{Keeps};
 
 use std::alloc::AllocError;
 
@@ -17,7 +19,8 @@ pub(crate) trait Push {
     fn push_to(&self, out: &mut Vec<u8>) -> Result<(), AllocError>
         requires { can_push self.now }
         ensures takes { OnOk result (takes self.now) }
-        ensures bytes { OnOk result (out.new.items ≡ out.old.items ++ spelling self.now) };
+        ensures bytes { OnOk result (out.new.items ≡ out.old.items ++ spelling self.now) }
+        ensures kept { OnErr result (Keeps out.old.items out.new.items) };
 }
 
 /// Appends each value, one behind the other.
@@ -25,6 +28,7 @@ pub(crate) fn push_list<T: Push>(out: &mut Vec<u8>, list: &[T]) -> Result<(), Al
     requires { AllByRecursion T.can_push list.now }
     ensures takes { OnOk result (AllByRecursion T.takes list.now) }
     ensures bytes { OnOk result (out.new.items ≡ out.old.items ++ flat_map T.spelling list.now) }
+    ensures kept { OnErr result (Keeps out.old.items out.new.items) }
 {
     for value in list {
         value.push_to(out)?;

@@ -1,11 +1,12 @@
 //! The parts of a table's spelling, each appended to bytes.
+#![tactic(auto, using(crate::proofs::Keeping::unchanged, crate::proofs::Keeping::longer))]
 
-ghost use Rattle.std.specs.Prelude.{◌≡◌, [], ◌∷◌, ◌++◌, ◌≤◌, length, OnOk};
+ghost use Rattle.std.specs.Prelude.{◌≡◌, [], ◌∷◌, ◌++◌, ◌≤◌, length, OnErr, OnOk};
 ghost use Rattle.run_table.specs.Stored.{is_new, stored_last, stored_runner, stored_table};
 ghost use Rattle.run_table.specs.TableState.{JobState, RunState, RunnerState};
 ghost use Rattle.table_text.specs.Format.{word_bytes};
 ghost use Rattle.table_text.specs.Tables.{flag_byte, job, job_byte, last_command, lease, leg, leg_byte, run, run_byte, runner, table};
-ghost use Rattle.table_text.specs.Writing.{HasByte, JobHasBytes, RunHasBytes};
+ghost use Rattle.table_text.specs.Writing.{HasByte, JobHasBytes, Keeps, RunHasBytes};
 
 use crate::push::{push_admit, push_claim, push_done, push_number, push_small_text, push_word};
 use crate::push_list::{Push, push_list};
@@ -15,7 +16,8 @@ use std::alloc::AllocError;
 use wf_value::{JobResult, Outcome};
 
 fn push_byte(out: &mut Vec<u8>, value: u8) -> Result<(), AllocError>
-    ensures { OnOk result (out.new.items ≡ out.old.items ++ value ∷ []) }
+    ensures bytes { OnOk result (out.new.items ≡ out.old.items ++ value ∷ []) }
+    ensures kept { OnErr result (Keeps out.old.items out.new.items) }
 {
     out.extend_from_slice(&[value])
 }
@@ -68,6 +70,7 @@ fn flag_byte(flag: bool) -> u8
 fn push_lease(out: &mut Vec<u8>, value: Option<Number>) -> Result<(), AllocError>
     ensures takes { lease.Takes value }
     ensures bytes { OnOk result (out.new.items ≡ out.old.items ++ lease.spelling value) }
+    ensures kept { OnErr result (Keeps out.old.items out.new.items) }
 {
     match value {
         Some(number) => push_number(out, number),
@@ -129,6 +132,7 @@ impl Push for Run {
 fn push_kept(out: &mut Vec<u8>, reply: u8, given: Option<Number>) -> Result<(), AllocError>
     ensures takes { lease.Takes given }
     ensures bytes { OnOk result (out.new.items ≡ out.old.items ++ reply ∷ lease.spelling given) }
+    ensures kept { OnErr result (Keeps out.old.items out.new.items) }
 {
     push_byte(out, reply)?;
     push_lease(out, given)?;
@@ -138,6 +142,7 @@ fn push_kept(out: &mut Vec<u8>, reply: u8, given: Option<Number>) -> Result<(), 
 fn push_last(out: &mut Vec<u8>, value: &LastCommand) -> Result<(), AllocError>
     ensures takes { OnOk result (last_command.Takes (stored_last value.now)) }
     ensures bytes { OnOk result (out.new.items ≡ out.old.items ++ last_command.spelling (stored_last value.now)) }
+    ensures kept { OnErr result (Keeps out.old.items out.new.items) }
 {
     match value {
         LastCommand::Claim(claim, ClaimReply::Nothing) => {
@@ -184,6 +189,7 @@ pub(crate) fn push_table(out: &mut Vec<u8>, value: &Table) -> Result<(), AllocEr
     requires { length value.now.runners ≤ 4294967295 }
     ensures takes { OnOk result (table.Takes (stored_table value.now)) }
     ensures bytes { OnOk result (out.new.items ≡ out.old.items ++ table.spelling (stored_table value.now)) }
+    ensures kept { OnErr result (Keeps out.old.items out.new.items) }
 {
     let runs = value.runs();
     let runners = value.runners();

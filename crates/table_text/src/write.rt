@@ -1,54 +1,83 @@
-ghost use Rattle.std.specs.Prelude.{◌≡◌, ◌≤◌, IfErr, OnErr, OnOk, length};
+#![tactic(auto, using(crate::proofs::Keeping::unchanged, crate::proofs::Keeping::longer))]
+
+ghost use Rattle.std.specs.Prelude.{◌≡◌, ◌≤◌, ◌++◌, IfErr, IsOk, OnErr, OnOk, length, take};
+ghost use Rattle.std.specs.List.{AllByRecursion};
 ghost use Rattle.run_table.specs.Stored.{stored_table};
 ghost use Rattle.wf_value.specs.Gives.{no_memory};
-ghost use Rattle.table_text.specs.Commands.{batch, command};
+ghost use Rattle.table_text.specs.Commands.{IsSpelled, batch, command};
 ghost use Rattle.table_text.specs.Format.{Appends};
 ghost use Rattle.table_text.specs.Tables.{table};
+ghost use Rattle.table_text.specs.Writing.{Keeps};
 
 use crate::push::{push_command, push_word};
 use crate::push_list::push_list;
 use crate::push_table::push_table;
 use run_plan::Command;
 use run_table::Table;
-use std::alloc::Global;
+use std::alloc::AllocError;
 use wf_value::Refusal;
 
 /// Appends the spelling of a command. Where memory is refused, which is 50, the bytes are as they were.
-pub fn write_command(alloc: Global, out: &mut Vec<u8>, asked: &Command) -> Result<(), Refusal>
+pub fn write_command(out: &mut Vec<u8>, asked: &Command) -> Result<(), Refusal>
     ensures ok { OnOk result (Appends command out.old.items asked.now out.new.items) }
     ensures err { OnErr result (out.new.items ≡ out.old.items) }
     ensures refused { IfErr result (λ e. e ≡ no_memory) }
 {
-    let mut spelled = Vec::new(alloc);
-    push_command(&mut spelled, asked)?;
-    out.extend_from_slice(spelled.as_slice())?;
-    Ok(())
+    let before = out.len();
+    let written = push_command(out, asked);
+    all_or_none(out, before, written)
 }
 
 /// Appends the spelling of a batch. Where memory is refused, which is 50, the bytes are as they were.
-pub fn write_batch(alloc: Global, out: &mut Vec<u8>, commands: &[Command]) -> Result<(), Refusal>
+pub fn write_batch(out: &mut Vec<u8>, commands: &[Command]) -> Result<(), Refusal>
     requires some { 1 ≤ length commands.now }
     requires most { length commands.now ≤ 4294967295 }
     ensures ok { OnOk result (Appends batch out.old.items commands.now out.new.items) }
     ensures err { OnErr result (out.new.items ≡ out.old.items) }
     ensures refused { IfErr result (λ e. e ≡ no_memory) }
 {
-    let mut spelled = Vec::new(alloc);
-    push_word(&mut spelled, commands.len() as u32)?;
-    push_list(&mut spelled, commands)?;
-    out.extend_from_slice(spelled.as_slice())?;
+    let before = out.len();
+    let written = push_batch(out, commands);
+    all_or_none(out, before, written)
+}
+
+/// Appends their count, and each command.
+fn push_batch(out: &mut Vec<u8>, commands: &[Command]) -> Result<(), AllocError>
+    requires { length commands.now ≤ 4294967295 }
+    ensures takes { OnOk result (AllByRecursion IsSpelled commands.now) }
+    ensures bytes { OnOk result (out.new.items ≡ out.old.items ++ batch.spelling commands.now) }
+    ensures kept { OnErr result (Keeps out.old.items out.new.items) }
+{
+    push_word(out, commands.len() as u32)?;
+    push_list(out, commands)?;
     Ok(())
 }
 
 /// Appends the spelling of a table. Where memory is refused, which is 50, the bytes are as they were.
-pub fn write_table(alloc: Global, out: &mut Vec<u8>, stored: &Table) -> Result<(), Refusal>
+pub fn write_table(out: &mut Vec<u8>, stored: &Table) -> Result<(), Refusal>
     requires { length stored.now.runners ≤ 4294967295 }
     ensures ok { OnOk result (Appends table out.old.items (stored_table stored.now) out.new.items) }
     ensures err { OnErr result (out.new.items ≡ out.old.items) }
     ensures refused { IfErr result (λ e. e ≡ no_memory) }
 {
-    let mut spelled = Vec::new(alloc);
-    push_table(&mut spelled, stored)?;
-    out.extend_from_slice(spelled.as_slice())?;
+    let before = out.len();
+    let written = push_table(out, stored);
+    all_or_none(out, before, written)
+}
+
+/// Takes away what was written of a value that was not written whole.
+fn all_or_none(
+    out: &mut Vec<u8>,
+    before: usize,
+    written: Result<(), AllocError>,
+) -> Result<(), Refusal>
+    ensures ok { OnOk result (IsOk written × (out.new.items ≡ out.old.items)) }
+    ensures err { OnErr result (out.new.items ≡ take before out.old.items) }
+    ensures refused { IfErr result (λ e. e ≡ no_memory) }
+{
+    if written.is_err() {
+        out.truncate(before);
+    }
+    written?;
     Ok(())
 }

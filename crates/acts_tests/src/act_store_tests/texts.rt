@@ -45,7 +45,7 @@ fn lease_all(alloc: Global, table: &mut Table) -> Result<(), Refusal> {
 fn text_of(rt: &impl Abort, alloc: Global, table: &Table) -> Result<Vec<u8>, Refusal> {
     holds!(rt; table.runners().len() <= 4_294_967_295);
     let mut text = Vec::new(alloc);
-    write_table(alloc, &mut text, table)?;
+    write_table(&mut text, table)?;
     Ok(text)
 }
 

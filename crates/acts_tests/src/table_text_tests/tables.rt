@@ -115,7 +115,7 @@ fn expect_table(rt: &impl Abort, alloc: Global, table: &Table, want: &[u8]) -> R
     let mut whole = BEFORE.to_vec(alloc)?;
     whole.extend_from_slice(want)?;
     let mut out = BEFORE.to_vec(alloc)?;
-    let written = write_table(alloc, &mut out, table);
+    let written = write_table(&mut out, table);
     let left = if written.is_ok() {
         whole.as_slice()
     } else {

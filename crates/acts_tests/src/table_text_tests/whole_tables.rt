@@ -35,7 +35,7 @@ fn written_again(rt: &impl Abort, alloc: Global, bytes: &[u8]) -> Result<Vec<u8>
     holds!(rt; left == 1);
     holds!(rt; table.runners().len() <= 4_294_967_295);
     let mut out = Vec::new(alloc);
-    write_table(alloc, &mut out, &table)?;
+    write_table(&mut out, &table)?;
     Ok(out)
 }
 

@@ -19,5 +19,5 @@ returns-clause-takes c =
 
 pub returns-clause-bytes : goal.returns-clause-bytes
 returns-clause-bytes c =
-    table_bytes c.args.value.now _ _ _ _ _ _ _ _ _ c.in_ok-push_word.ensures c.in_ok-push_word-2.ensures c.in_ok-push_list.ensures.bytes
-    c.in_ok-push_word-3.ensures c.in_ok-push_list-2.ensures.bytes c.last_lease.ensures.lease c.runs-runs.ensures.runs c.runners-runners.ensures.runners
+    table_bytes c.args.value.now _ _ _ _ _ _ _ _ _ c.in_ok-push_word.ensures.bytes c.in_ok-push_word-2.ensures.bytes c.in_ok-push_list.ensures.bytes
+    c.in_ok-push_word-3.ensures.bytes c.in_ok-push_list-2.ensures.bytes c.last_lease.ensures.lease c.runs-runs.ensures.runs c.runners-runners.ensures.runners

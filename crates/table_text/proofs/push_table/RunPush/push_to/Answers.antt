@@ -19,6 +19,6 @@ returns-clause-takes c =
 
 pub returns-clause-bytes : goal.returns-clause-bytes
 returns-clause-bytes c =
-    run_bytes _ _ _ _ _ _ _ _ _ _ _ _ _ c.in_ok-push_admit.ensures.bytes c.in_ok-push_byte.ensures c.in_ok-push_byte-2.ensures c.in_ok-push_list.ensures.bytes
+    run_bytes _ _ _ _ _ _ _ _ _ _ _ _ _ c.in_ok-push_admit.ensures.bytes c.in_ok-push_byte.ensures.bytes c.in_ok-push_byte-2.ensures.bytes c.in_ok-push_list.ensures.bytes
     (ap admit.spelling c.prepared.ensures) (c.run_byte.ensures ∙ ap run_byte c.phase.ensures) (c.flag_byte.ensures ∙ ap flag_byte c.is_stopping.ensures)
     (sym (flat_map-map job.spelling (λ (j : JobCells). j.state) c.jobs.result.now) ∙ ap (flat_map job.spelling) c.jobs.ensures)
