@@ -3,6 +3,7 @@ ghost use Rattle.wf_value.specs.Gives.{Gives};
 ghost use Rattle.run_plan.specs.LastCommand.{is_last_claim, is_last_report, kept_reply};
 ghost use Rattle.run_plan.specs.ReplyText.{carries_text};
 
+use crate::boxed_lease::BoxedLease;
 use crate::command::{Claim, Done};
 use crate::reply::{Lease, Reply};
 use std::alloc::Global;
@@ -51,7 +52,9 @@ impl LastCommand {
     {
         match self {
             LastCommand::Claim(_, ClaimReply::Nothing) => Ok(Reply::Nothing),
-            LastCommand::Claim(_, ClaimReply::Lease(lease)) => Ok(Reply::Lease(lease.copy(alloc)?)),
+            LastCommand::Claim(_, ClaimReply::Lease(lease)) => {
+                Ok(Reply::Lease(BoxedLease::new(alloc, lease.copy(alloc)?)?))
+            }
             LastCommand::Done(_) => Ok(Reply::Ok),
         }
     }

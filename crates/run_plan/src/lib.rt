@@ -1,6 +1,7 @@
 //! The plan of a workflow, and the commands and replies of the service.
 #![tactic(auto)]
 
+mod boxed_lease;
 mod combo_text;
 mod command;
 mod form;
@@ -13,6 +14,7 @@ mod prepared;
 mod reply;
 mod small_text;
 
+pub use boxed_lease::BoxedLease;
 pub use combo_text::text_of_combo;
 pub use command::{Beat, Claim, Command, Done};
 pub use form::{DeliveryForm, EventForm, Form, LabelForm, RunnerForm};

@@ -2,6 +2,7 @@ ghost use Rattle.std.specs.Prelude.{◌≡◌, false, IfOk, Ok, string_bytes};
 ghost use Rattle.wf_value.specs.Gives.{Gives};
 ghost use Rattle.run_plan.specs.ReplyText.{body_lines, carries_text, lease_line, lease_text, reply_text};
 
+use crate::boxed_lease::BoxedLease;
 use crate::combo_text::text_of_combo;
 use crate::number::Number;
 use std::alloc::{AllocError, Global};
@@ -85,7 +86,7 @@ fn body_lines(alloc: Global, body: &str) -> Result<String, AllocError>
 pub enum Reply {
     /// The run that the delivery made.
     Created(Number),
-    Lease(Lease),
+    Lease(BoxedLease),
     /// No leg is ready for the runner.
     Nothing,
     Ok,
@@ -147,7 +148,7 @@ impl Reply {
                 let run = run.get();
                 Ok(Chars::new(format!(in alloc; "created {run}")?))
             }
-            Reply::Lease(lease) => lease.text(alloc),
+            Reply::Lease(lease) => lease.get().text(alloc),
             Reply::Nothing => Chars::from_str(alloc, "nothing"),
             Reply::Ok => Chars::from_str(alloc, "ok"),
             Reply::Stop => Chars::from_str(alloc, "stop"),

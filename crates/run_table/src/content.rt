@@ -1,15 +1,16 @@
-ghost use Rattle.std.specs.Prelude.{◌≡◌, ◌<◌, ◌+◌, ◌-◌, true, false, length, Ok, IfOk, OnErr, IsOk, is_some, Some};
+ghost use Rattle.std.specs.Prelude.{◌≡◌, ◌<◌, ◌+◌, ◌-◌, true, false, length, Ok, IfErr, IfOk, OnErr, IsOk, is_some, Some};
 ghost use Rattle.std.specs.Option.{option_map_or};
 ghost use Rattle.wf_value.specs.declared.code.Code.TheVariants.{LastCounter};
-ghost use Rattle.wf_value.specs.Gives.{Gives};
+ghost use Rattle.wf_value.specs.Gives.{Gives, no_memory};
 ghost use Rattle.run_plan.specs.ReplyText.{carries_text};
+ghost use Rattle.run_plan.specs.declared.last_command.ClaimReply.TheVariants as given;
 ghost use Rattle.run_table.specs.Claims.{is_claim};
 ghost use Rattle.run_table.specs.Fitting.{first_fit};
 ghost use Rattle.run_table.specs.Groups.{HasOneEach};
 ghost use Rattle.run_table.specs.Sound.{IsSound, RunsAreSound};
 ghost use Rattle.run_table.specs.Step.{admission_answer, admitted, admitting, answer_of_run, answered, beat_answer};
 ghost use Rattle.run_table.specs.Step.{cancel_answer, cancelled, claim_answer, fetch_answer, losing, loss_answer, lost};
-ghost use Rattle.run_table.specs.Step.{claimed, claiming, empty, is_free};
+ghost use Rattle.run_table.specs.Step.{claimed, claiming, claiming_runner, empty, is_free};
 ghost use Rattle.run_table.specs.Step.{lease_answer, lease_at, leasing, look_answer, outcome, refused, report_answer};
 ghost use Rattle.run_table.specs.Step.{reported, reporting, seen, serving_nothing, step, unchanged, with_ended};
 ghost use Rattle.run_table.specs.Stops.{outcome_of_loss};
@@ -29,7 +30,7 @@ use crate::runs::{MOST_RUNS, Runs};
 use crate::turns::{answer_to_claim, answer_to_report};
 use crate::view::{RunView, look};
 use run_plan::{
-    Beat, Claim, ClaimReply, Command, Done, Lease, Number, Prepared, Reply, RunnerName,
+    Beat, BoxedLease, Claim, ClaimReply, Command, Done, Lease, Number, Prepared, Reply, RunnerName,
 };
 use std::alloc::Global;
 use std::marker::Model;
@@ -241,9 +242,7 @@ impl Content {
         ensures err { OnErr result (self.new ≡ self.old) }
     {
         let lease = Number::new(self.last_lease + 1);
-        let told = lease_at(alloc, &self.runs, place, lease)?;
-        let copy = told.copy(alloc)?;
-        let runner = Runner::leasing(alloc, claim, &told)?;
+        let (runner, told, copy) = told_twice(alloc, claim, &self.runs, place, lease)?;
         self.runners.put(runner)?;
         self.last_lease = lease.get();
         self.runs
@@ -445,6 +444,28 @@ fn answer_of_run(phase: RunPhase, stopping: bool) -> Option<Reply>
         RunPhase::Live => None,
         RunPhase::Ended => Some(refused(Code::RunCompleted)),
     }
+}
+
+/// What is kept of a runner that gets the leg, and what it is told, with a copy.
+fn told_twice(
+    alloc: Global,
+    claim: &Claim,
+    runs: &Runs,
+    place: LegPlace,
+    lease: Number,
+) -> Result<(Runner, BoxedLease, BoxedLease), Refusal>
+    requires { place.run < 100000 }
+    ensures runner { let told = lease_at runs.now place lease in
+        IfOk result (λ kept. kept.0 ≡ claiming_runner claim.now (Some lease) (given.Lease told)) }
+    ensures told { IfOk result (λ kept. kept.1 ≡ lease_at runs.now place lease) }
+    ensures copy { IfOk result (λ kept. kept.2 ≡ lease_at runs.now place lease) }
+    ensures refused { IfErr result (λ e. e ≡ no_memory) }
+{
+    let told = lease_at(alloc, runs, place, lease)?;
+    let runner = Runner::leasing(alloc, claim, &told)?;
+    let told = BoxedLease::new(alloc, told)?;
+    let copy = told.copy(alloc)?;
+    Ok((runner, told, copy))
 }
 
 /// What a runner is told of the leg that it gets.

@@ -2,7 +2,7 @@ use crate::commands::number;
 use crate::holds::{expect_text, holds};
 use crate::run_plan_tests::expect_twice;
 use crate::values::{Given, combo, expect_apart, texts};
-use run_plan::{Lease, Reply};
+use run_plan::{BoxedLease, Lease, Reply};
 use std::alloc::Global;
 use std::process::Abort;
 use wf_value::{Chars, Code, Refusal, Sequence};
@@ -105,7 +105,8 @@ pub fn first_lease(alloc: Global) -> Result<Lease, Refusal> {
 
 fn push_leases(alloc: Global, replies: &mut Vec<Reply>) -> Result<(), Refusal> {
     for row in &LEASES {
-        replies.push(Reply::Lease(lease(alloc, row)?))?;
+        let lease = BoxedLease::new(alloc, lease(alloc, row)?)?;
+        replies.push(Reply::Lease(lease))?;
     }
     Ok(())
 }

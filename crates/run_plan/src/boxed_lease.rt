@@ -1,0 +1,49 @@
+ghost use Rattle.std.specs.Prelude.{◌≡◌, IfOk, Ok};
+ghost use Rattle.wf_value.specs.Gives.{Gives};
+
+use crate::reply::Lease;
+use std::alloc::{AllocError, Global};
+use std::marker::Model;
+use wf_value::{Refusal, Same, TryCopy};
+
+/// A lease apart, so that a reply is no longer than a text: most replies tell of no lease. A contract sees the lease.
+#[derive(Drop)]
+pub struct BoxedLease {
+    inside: Box<Lease>,
+}
+
+impl Model for BoxedLease {
+    ghost use Rattle.run_plan.specs.declared.reply.Lease.{Lease};
+
+    ghost Value = { Lease };
+
+    ghost view = { λ b. b.inside.value };
+}
+
+impl BoxedLease {
+    pub fn new(alloc: Global, lease: Lease) -> Result<Self, AllocError>
+        ensures { IfOk result (λ boxed. boxed ≡ lease) }
+    {
+        Ok(BoxedLease {
+            inside: Box::new(alloc, lease)?,
+        })
+    }
+
+    pub fn get(&self) -> &Lease
+        ensures { result.now ≡ self.now }
+    {
+        &self.inside
+    }
+}
+
+impl TryCopy for BoxedLease {
+    fn copy(&self, alloc: Global) -> Result<Self, Refusal> {
+        Ok(BoxedLease::new(alloc, self.get().copy(alloc)?)?)
+    }
+}
+
+impl Same for BoxedLease {
+    fn same(&self, other: &Self) -> bool {
+        self.get().same(other.get())
+    }
+}
