@@ -3,7 +3,7 @@ use Rattle.std.proofs.Common.{◌≡◌, List, [], ◌∷◌, ◌++◌, map, Res
 use Rattle.std.specs.Prelude.{IsErrAnd}
 use Rattle.std.specs.List.{flat_map}
 use Rattle.wf_value.specs.declared.refusal.Refusal.{Refusal}
-use Rattle.wf_reader.specs.Faults.{unless_faulty}
+use Rattle.wf_reader.specs.Faults.{unless_faulty, in_turn}
 
 -- a part with a fault decides
 pub first_decides : {X Y : Type 0} (fs gs : List Refusal) (x : X) (y : Y) (e : Refusal) → unless_faulty fs x ≡ Err e
@@ -24,6 +24,12 @@ same_value (f ∷ fs) x v h = absurd cc
 pub skip : {X Y : Type 0} (fs gs : List Refusal) (x v : X) (y : Y) (r : Result Y Refusal) → unless_faulty fs x ≡ Ok v
     → unless_faulty gs y ≡ r → unless_faulty (fs ++ gs) y ≡ r
 skip fs gs x v y r h later = ap (λ hs. unless_faulty (hs ++ gs) y) (no_fault fs x v h) ∙ later
+
+-- checks that come in two parts
+pub of_both : (first later : List (List Refusal)) → in_turn (first ++ later) ≡ in_turn first ++ in_turn later
+of_both [] later = refl
+of_both (check ∷ first) later =
+    ap (λ fs. check ++ fs) (of_both first later) ∙ sym (append_assoc check (in_turn first) (in_turn later))
 
 -- of the checks of a list, where those of `rest` are left
 pub first_of_rest : {A X Y : Type 0} (f : A → List Refusal) (all rest more : List A) (a : A) (x : X) (y : Y) (e : Refusal)

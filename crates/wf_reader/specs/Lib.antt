@@ -8,6 +8,7 @@ pub mod Faults
 pub mod Flags
 pub mod Job
 pub mod JobCode
+pub mod JobParts
 pub mod Json
 pub mod JsonCode
 pub mod MatrixOf

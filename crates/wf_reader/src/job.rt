@@ -4,6 +4,7 @@ ghost use Rattle.serde_json.specs.View.{view};
 ghost use Rattle.wf_value.specs.Gives.{Gives};
 ghost use Rattle.wf_reader.specs.Faults.{unless_faulty};
 ghost use Rattle.wf_reader.specs.Job.{is_id_start, is_id_part, is_job_id, job_faults, job_of};
+ghost use Rattle.wf_reader.specs.JobParts.{start_faults, start_of, legs_faults, legs_of};
 
 use crate::concurrency::{Concurrency, read_concurrency};
 use crate::condition::read_condition;
@@ -65,8 +66,51 @@ fn is_id(text: &str) -> bool
     }
 }
 
+/// Where a job runs and when it starts.
+#[derive(Drop)]
+struct Start {
+    labels: Sequence<Template>,
+    needs: Sequence<Chars>,
+    condition: Condition,
+}
+
+/// How the legs of a job run.
+#[derive(Drop)]
+struct Legs {
+    continue_on_error: Flag,
+    concurrency: Option<Concurrency>,
+    strategy: Option<Strategy>,
+}
+
+/// Where a job runs and when it starts, or the first fault of its `runs-on`, its `needs` and its `if`.
+fn read_start(alloc: Global, job: &Value) -> Result<Start, Refusal>
+    ensures { Gives (λ s. s) result (unless_faulty (start_faults (view job.now)) (start_of (view job.now))) }
+{
+    let labels = read_runs_on(alloc, job)?;
+    let needs = read_needs(alloc, job)?;
+    let condition = read_condition(job)?;
+    Ok(Start {
+        labels,
+        needs,
+        condition,
+    })
+}
+
+/// How the legs of a job run, or the first fault of its `continue-on-error`, its `concurrency` and its `strategy`.
+fn read_legs(alloc: Global, job: &Value) -> Result<Legs, Refusal>
+    ensures { Gives (λ l. l) result (unless_faulty (legs_faults (view job.now)) (legs_of (view job.now))) }
+{
+    let continue_on_error = read_flag(alloc, job, "continue-on-error", Place::Job)?;
+    let concurrency = read_concurrency(alloc, job, Place::Job)?;
+    let strategy = read_strategy(alloc, job)?;
+    Ok(Legs {
+        continue_on_error,
+        concurrency,
+        strategy,
+    })
+}
+
 /// One job, or the first of its faults.
-#[tactic(auto, using(crate::proofs::InTurn::no_fault, crate::proofs::InTurn::same_value))]
 pub fn read_job(alloc: Global, id: &str, value: &Value) -> Result<Job, Refusal>
     ensures { Gives (λ j. j) result
         (unless_faulty (job_faults (id.now, view value.now)) (job_of (id.now, view value.now))) }
@@ -78,19 +122,15 @@ pub fn read_job(alloc: Global, id: &str, value: &Value) -> Result<Job, Refusal>
         return Err(wrong_kind());
     }
     refuse_left_out(value, "uses")?;
-    let labels = read_runs_on(alloc, value)?;
-    let needs = read_needs(alloc, value)?;
-    let condition = read_condition(value)?;
-    let continue_on_error = read_flag(alloc, value, "continue-on-error", Place::Job)?;
-    let concurrency = read_concurrency(alloc, value, Place::Job)?;
-    let strategy = read_strategy(alloc, value)?;
+    let start = read_start(alloc, value)?;
+    let legs = read_legs(alloc, value)?;
     Ok(Job {
         id: Chars::from_str(alloc, id)?,
-        labels,
-        needs,
-        condition,
-        continue_on_error,
-        concurrency,
-        strategy,
+        labels: start.labels,
+        needs: start.needs,
+        condition: start.condition,
+        continue_on_error: legs.continue_on_error,
+        concurrency: legs.concurrency,
+        strategy: legs.strategy,
     })
 }

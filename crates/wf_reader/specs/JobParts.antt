@@ -1,0 +1,51 @@
+-- The two parts of a job that are read after its id and its kind: what is wrong with each, and what it spells.
+use Rattle.std.specs.Prelude.{[], ◌∷◌, codes, List, option_map}
+use Rattle.serde_json.specs.Data.{Data}
+use Rattle.serde_json.specs.Find.{get}
+use Rattle.wf_value.specs.declared.code.Code.TheVariants.{NoLabels}
+use Rattle.wf_value.specs.declared.refusal.Refusal.{Refusal}
+use Rattle.wf_expr.specs.declared.place.Place.TheVariants as place
+use Rattle.wf_reader.specs.Concurrency.{concurrency_faults, concurrency_in}
+use Rattle.wf_reader.specs.Condition.{condition_faults, condition_where}
+use Rattle.wf_reader.specs.Faults.{in_turn, optional, required}
+use Rattle.wf_reader.specs.Flags.{flag_faults, flag_in}
+use Rattle.wf_reader.specs.Job.{labels_faults, labels_asked}
+use Rattle.wf_reader.specs.Json.{member_at}
+use Rattle.wf_reader.specs.Needs.{needs_faults, needs_in}
+use Rattle.wf_reader.specs.Strategy.{strategy_faults, strategy_of}
+use Rattle.wf_reader.specs.declared.job.Legs.{Legs}
+use Rattle.wf_reader.specs.declared.job.Start.{Start}
+
+-- ---- where it runs and when it starts: its runs-on, its needs and its if
+
+abbrev pub start_checks : Data → List (List Refusal)
+start_checks d = required NoLabels labels_faults (get (codes "runs-on") d)
+    ∷ optional needs_faults (get (codes "needs") d)
+    ∷ optional condition_faults (get (codes "if") d) ∷ []
+
+abbrev pub start_faults : Data → List Refusal
+start_faults d = in_turn (start_checks d)
+
+abbrev pub start_of : Data → Start
+start_of d = record {
+  labels = labels_asked (member_at (codes "runs-on") d);
+  needs = needs_in (member_at (codes "needs") d);
+  condition = condition_where (get (codes "if") d);
+}
+
+-- ---- how its legs run: its continue-on-error, its concurrency and its strategy
+
+abbrev pub legs_checks : Data → List (List Refusal)
+legs_checks d = optional (flag_faults place.Job) (get (codes "continue-on-error") d)
+    ∷ optional (concurrency_faults place.Job) (get (codes "concurrency") d)
+    ∷ optional strategy_faults (get (codes "strategy") d) ∷ []
+
+abbrev pub legs_faults : Data → List Refusal
+legs_faults d = in_turn (legs_checks d)
+
+abbrev pub legs_of : Data → Legs
+legs_of d = record {
+  continue_on_error = flag_in place.Job (member_at (codes "continue-on-error") d);
+  concurrency = option_map (concurrency_in place.Job) (get (codes "concurrency") d);
+  strategy = option_map strategy_of (get (codes "strategy") d);
+}
