@@ -1,6 +1,6 @@
 -- What a check has written, part by part.
-use Rattle.std.proofs.Common.{◌≡◌, ◌⊎◌, inl, inr, ℕ, suc, ◌+◌, ◌<◌, ◌≤◌, List, [], ◌∷◌, ◌++◌, length, drop, get_or, Option, Some, None}
-use Rattle.std.proofs.Common.{Result, Ok, Err, IfSome, IfErr, refl, sym, ap, subst, ◌∙◌, append_assoc, append-nil, arith}
+use Rattle.std.proofs.Common.{◌≡◌, ◌⊎◌, inl, inr, ℕ, suc, ◌+◌, ◌<◌, ◌≤◌, List, [], ◌∷◌, ◌++◌, length, drop, get_or}
+use Rattle.std.proofs.Common.{Result, Ok, Err, IfErr, refl, sym, ap, subst, ◌∙◌, append_assoc, append-nil, arith}
 use Rattle.std.proofs.Math.Seq.{drop-cons}
 use Rattle.std.specs.List.{flat_map, enumerate_from}
 use Rattle.std.specs.Prelude.{IsErrAnd}
@@ -15,6 +15,7 @@ use Rattle.run_plan.proofs.Prepares.{same_refusal}
 use Rattle.run_plan.specs.declared.planned.PlannedJob.{PlannedJob}
 use Rattle.run_plan.specs.declared.planned.PlannedLeg.{PlannedLeg}
 use Rattle.acts_cli.specs.Check.{leg_line, job_lines, plan_lines, checked, Written, ChecksTo}
+use Rattle.acts_cli.specs.Input.{RefusesInput}
 use Rattle.acts_cli.specs.Play.{most_bytes, stream_failed}
 
 -- one part more has been written whole
@@ -126,12 +127,9 @@ pub checks_within : {U : Type 0} (text out : List ℕ) (r : Result U Refusal) �
 checks_within text out (Ok u) fits h = (fits, h)
 checks_within text out (Err e) fits h = inr (inl (fits, h))
 
--- a text that was not read to its end
-pub unread : {U : Type 0} (text : List ℕ) (r : Result U Refusal) (e : Refusal) → IsErrAnd r (λ f. f ≡ e)
-    → (e ≡ stream_failed) ⊎ (e ≡ no_memory) → ChecksTo text [] r
+-- a text that was not read
+pub unread : {U : Type 0} (text : List ℕ) (r : Result U Refusal) (e : Refusal) → IsErrAnd r (λ f. f ≡ e) → RefusesInput e text
+    → ChecksTo text [] r
 unread text (Ok u) e is why = absurd is
-unread text (Err f) e is why = inr (inr (subst (λ x. (x ≡ stream_failed) ⊎ (x ≡ no_memory)) (sym is) why, refl))
-
-pub for_any : {X : Type 0} {P : X → Type 0} (o : Option X) → ((x : X) → P x) → IfSome o P
-for_any None f = tt
-for_any (Some x) f = f x
+unread text (Err f) e is (inl long) = inl (is ∙ long.0, long.1, refl)
+unread text (Err f) e is (inr why) = inr (inr (subst (λ x. (x ≡ stream_failed) ⊎ (x ≡ no_memory)) (sym is) why, refl))

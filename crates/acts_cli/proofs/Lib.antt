@@ -1,5 +1,6 @@
 pub mod Checks
 pub mod CutLines
+pub mod Inputs
 pub mod Making
 pub mod Plays
 mod Rows

@@ -1,19 +1,16 @@
 -- What a play writes, line by line.
 use Rattle.std.proofs.Common.{◌≡◌, ◌≢◌, ◌∙◌, ◌⊎◌, inl, inr, ℕ, List, [], ◌∷◌, ◌++◌, length, take, drop, true, false}
 use Rattle.std.proofs.Common.{cond, filter, Result, Ok, Err, IfErr, ◌≤◌, refl, sym, ap, subst, append_assoc, append-nil}
-use Rattle.std.proofs.Common.{take-append-drop, Option, Some, None, IfSome, ◌<◌, arith, length-append}
-use Rattle.std.specs.Io.KnownBytes.{Appends, Consumes}
-use Rattle.std.proofs.KnownBytes.{Appends-nil}
+use Rattle.std.proofs.Common.{take-append-drop}
 use Rattle.std.specs.Prelude.{IsErrAnd}
 use Rattle.std.specs.List.{All}
 use Rattle.std.specs.Str.Lines.{lines}
 use Rattle.std.proofs.lemmas.List.Elements.{All-head, All-tail}
 use Rattle.wf_value.specs.Gives.{no_memory}
-use Rattle.wf_value.specs.declared.code.Code.TheVariants.{InputTooLong}
 use Rattle.wf_value.specs.declared.refusal.Refusal.{Refusal}
-use Rattle.wf_value.specs.declared.refusal.Refusal.TheVariants.{Numbered}
 use Rattle.act_disk.specs.Failed.{device_failed}
 use Rattle.acts_cli.specs.Answers.{has_bytes, script_lines, answer_of, after_line, answers_from, printed}
+use Rattle.acts_cli.specs.Input.{RefusesInput}
 use Rattle.acts_cli.specs.PlainStore.{PlainStore}
 use Rattle.acts_cli.specs.Play.{IsAnswer, Answers, PlaysFrom, Plays, memory_refused, device_refused, stream_failed, most_bytes, Ends}
 
@@ -62,7 +59,8 @@ with_line : (ls : List (List ℕ)) (line : List ℕ) (rest : List (List ℕ)) �
     → filter has_bytes ls ≡ line ∷ filter has_bytes rest
 with_line ls line rest e h = ap (filter has_bytes) e ∙ ap (λ b. cond b (line ∷ filter has_bytes rest) (filter has_bytes rest)) h
 
-pub leads_past_empty : (first : PlainStore) (script : List ℕ) (t : PlainStore) (rest out line after : List ℕ) → Leads first script t rest out
+pub leads_past_empty : (first : PlainStore) (script : List ℕ) (t : PlainStore) (rest out line after : List ℕ)
+    → Leads first script t rest out
     → lines rest ≡ line ∷ lines after → has_bytes line ≡ false → Leads first script t after out
 leads_past_empty first script t rest out line after before e h more k =
     before more (subst (λ ls. Answers t ls more) (sym (without_empty (lines rest) line (lines after) e h)) k)
@@ -75,7 +73,8 @@ leads_past_line first script t then rest out line after a before e h is more k =
     (subst (λ ls. Answers t ls (a ∷ more)) (sym (with_line (lines rest) line (lines after) e h)) (then, is, k)) in
     (all.0, all.1, all.2 ∙ sym (append_assoc out (a ++ 10 ∷ []) (printed more)))
 
-pub leads_to_end : (first : PlainStore) (script : List ℕ) (t : PlainStore) (rest out : List ℕ) → Leads first script t rest out → lines rest ≡ []
+pub leads_to_end : (first : PlainStore) (script : List ℕ) (t : PlainStore) (rest out : List ℕ) → Leads first script t rest out
+    → lines rest ≡ []
     → PlaysFrom first script out
 leads_to_end first script t rest out before e =
     let all = before [] (subst (λ ls. Answers t (filter has_bytes ls) []) (sym e) tt) in
@@ -110,21 +109,15 @@ ends_after script out (Ok u) fits h why = (fits, h)
 ends_after script out (Err e) fits h why = inr (inr (inl why, inr (fits, [], subst (Plays script) (sym (append-nil out)) h)))
 
 -- the store was not made
-pub not_made : {U : Type 0} (script : List ℕ) (r : Result U Refusal) (e : Refusal) → IsErrAnd r (λ f. f ≡ e) → e ≡ device_failed → Ends script [] r
+pub not_made : {U : Type 0} (script : List ℕ) (r : Result U Refusal) (e : Refusal) → IsErrAnd r (λ f. f ≡ e) → e ≡ device_failed
+    → Ends script [] r
 not_made script (Ok u) e is why = absurd is
 not_made script (Err f) e is why = inr (inl (is ∙ why, refl))
 
--- the script was not read to its end
+-- the script was not read
 pub unread_ends : {U : Type 0} (script : List ℕ) (r : Result U Refusal) (e : Refusal) → IsErrAnd r (λ f. f ≡ e)
-    → (e ≡ stream_failed) ⊎ (e ≡ no_memory) → Ends script [] r
+    → RefusesInput e script → Ends script [] r
 unread_ends script (Ok u) e is why = absurd is
-unread_ends script (Err f) e is why = inr (inr (subst (λ x. (x ≡ stream_failed) ⊎ (x ≡ no_memory)) (sym is) why, inl refl))
-
--- more of it was read than is played
-pub too_long : (U : Type 0) (a b w : Option (List ℕ)) (read : List ℕ) → Consumes a b read → most_bytes < length read
-    → IfSome a (λ script. (out : List ℕ) × Appends w w out × Ends {U = U} script out (Err (Numbered InputTooLong)))
-too_long U None b w read consumed long = tt
-too_long U (Some x) None w read consumed long = absurd consumed
-too_long U (Some x) (Some y) w read consumed long =
-    let longer : most_bytes < length x = omega (arith, ap length consumed, length-append read y) in
-    ([], Appends-nil w, inl (refl, longer, refl))
+unread_ends script (Err f) e is (inl long) = inl (is ∙ long.0, long.1, refl)
+unread_ends script (Err f) e is (inr why) =
+    inr (inr (subst (λ x. (x ≡ stream_failed) ⊎ (x ≡ no_memory)) (sym is) why, inl refl))

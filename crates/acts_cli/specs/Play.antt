@@ -11,7 +11,7 @@ use Rattle.act_store.specs.Plain.{broken}
 use Rattle.acts_cli.specs.Answers.{script_lines, is_commit, answer_of, after_line, printed, output_from}
 use Rattle.acts_cli.specs.PlainStore.{PlainStore, start}
 
--- the longest script that is played
+-- the longest input that is read
 abbrev pub most_bytes : ℕ
 most_bytes = 1048576
 

@@ -4,14 +4,13 @@ ghost use Rattle.wf_value.specs.Gives.{Gives, no_memory};
 ghost use Rattle.acts_cli.specs.Check.{ChecksTo, Written, checked, job_lines, leg_line, leg_text, plan_lines};
 ghost use Rattle.acts_cli.specs.Play.{stream_failed};
 
-use crate::input::read_at_most;
+use crate::input::read_input;
 use crate::output::{flush, write_whole};
-use crate::play::MOST_BYTES;
 use run_plan::{Plan, PlannedJob, PlannedLeg, plan, text_of_combo};
 use std::alloc::{AllocError, Global};
 use std::io::{Read, Write};
 use wf_reader::read_workflow;
-use wf_value::{Code, Refusal};
+use wf_value::Refusal;
 
 fn leg_text(alloc: Global, job: &str, number: usize, combo: &str) -> Result<String, AllocError>
     ensures { IfOk result (λ s. string_bytes s ≡ leg_text job.now number combo.now) }
@@ -101,9 +100,6 @@ pub fn run_check<R: Read, W: Write>(
     ensures written { IfSome (R.remaining reader.old) (λ text. (out : List ℕ)
         × Appends (W.contents writer.old) (W.contents writer.new) out × ChecksTo text out result) }
 {
-    let text = read_at_most(alloc, reader, MOST_BYTES + 1)?;
-    if text.len() > MOST_BYTES {
-        return Err(Refusal::Numbered(Code::InputTooLong));
-    }
+    let text = read_input(alloc, reader)?;
     write_checked(alloc, &text, writer)
 }

@@ -1,11 +1,15 @@
-ghost use Rattle.std.specs.Prelude.{◌≡◌, ◌≤◌, ◌<◌, ◌⊎◌, ℕ, List, take, length, vec_len, IfOk, IfErr, OnErr};
+ghost use Rattle.std.specs.Prelude.{◌≡◌, ◌≤◌, ◌<◌, ◌⊎◌, ℕ, List, take, length, vec_len, IfOk, IfErr, IfSome, OnErr};
 ghost use Rattle.std.specs.Io.KnownBytes.{Consumes, IsAtEnd, Keeps};
 ghost use Rattle.wf_value.specs.Gives.{no_memory};
+ghost use Rattle.acts_cli.specs.Input.{IsReadAs, RefusesInput};
 ghost use Rattle.acts_cli.specs.Play.{stream_failed};
 
 use std::alloc::Global;
 use std::io::{ErrorKind, Read};
 use wf_value::{Code, Refusal};
+
+/// The longest input that is read, in bytes.
+pub const MOST_BYTES: usize = 1_048_576;
 
 /// How many bytes are read at a time.
 const CHUNK: usize = 8192;
@@ -29,7 +33,7 @@ fn read_some<R: Read>(reader: &mut R, buffer: &mut [u8]) -> Result<usize, Refusa
 }
 
 /// All bytes that a reader gives, up to a number of them. A failed read is 61, and want of memory 50.
-pub fn read_at_most<R: Read>(alloc: Global, reader: &mut R, most: usize) -> Result<Vec<u8>, Refusal>
+fn read_at_most<R: Read>(alloc: Global, reader: &mut R, most: usize) -> Result<Vec<u8>, Refusal>
     ensures limit { (read : List ℕ) × Consumes (R.remaining reader.old) (R.remaining reader.new) read × (length read ≤ most) }
     ensures bytes { IfOk result (λ v. Consumes (R.remaining reader.old) (R.remaining reader.new) v.items) }
     ensures bound { IfOk result (λ v. vec_len v ≤ most) }
@@ -47,4 +51,19 @@ pub fn read_at_most<R: Read>(alloc: Global, reader: &mut R, most: usize) -> Resu
         bytes.extend_from_slice(&buffer[..count])?;
     }
     Ok(bytes)
+}
+
+/// A whole input. One over 1,048,576 bytes is refused 76, and no more than 1,048,577 bytes are read. A failed read is 61,
+/// and want of memory 50.
+pub fn read_input<R: Read>(alloc: Global, reader: &mut R) -> Result<Vec<u8>, Refusal>
+    ensures read { (read : List ℕ) × Consumes (R.remaining reader.old) (R.remaining reader.new) read
+        × (length read ≤ 1048577) }
+    ensures whole { IfOk result (λ v. IfSome (R.remaining reader.old) (IsReadAs v.items)) }
+    ensures refused { IfErr result (λ e. IfSome (R.remaining reader.old) (RefusesInput e)) }
+{
+    let input = read_at_most(alloc, reader, MOST_BYTES + 1)?;
+    if input.len() > MOST_BYTES {
+        return Err(Refusal::Numbered(Code::InputTooLong));
+    }
+    Ok(input)
 }

@@ -20,5 +20,6 @@ mod show;
 pub use check::run_check;
 pub use cli::run;
 pub use init::run_init;
-pub use play::{MOST_BYTES, run_script};
+pub use input::MOST_BYTES;
+pub use play::run_script;
 pub use show::run_show;

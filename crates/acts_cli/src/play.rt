@@ -6,17 +6,14 @@ ghost use Rattle.acts_cli.specs.PlainStore.{start, without_disk};
 ghost use Rattle.acts_cli.specs.Play.{stream_failed, IsAnswer, PlaysFrom, Ends};
 
 use crate::answer::{answer_line, answer_to};
-use crate::input::read_at_most;
+use crate::input::read_input;
 use crate::lines::first_line;
 use crate::output::{flush, write_whole};
 use act_disk::{Disk, MemoryDisk};
 use act_store::Store;
 use std::alloc::Global;
 use std::io::{Read, Write};
-use wf_value::{Code, Refusal};
-
-/// The longest script that is played, in bytes.
-pub const MOST_BYTES: usize = 1_048_576;
+use wf_value::Refusal;
 
 /// How long each of the two areas of a script's store is, in bytes.
 const AREA: u64 = 8_388_608;
@@ -85,10 +82,7 @@ fn play_input<D: Disk, R: Read, W: Write>(
     ensures written { IfSome (R.remaining reader.old) (λ script. (out : List ℕ)
         × Appends (W.contents writer.old) (W.contents writer.new) out × Ends script out result) }
 {
-    let script = read_at_most(alloc, reader, MOST_BYTES + 1)?;
-    if script.len() > MOST_BYTES {
-        return Err(Refusal::Numbered(Code::InputTooLong));
-    }
+    let script = read_input(alloc, reader)?;
     match play(alloc, store, &script, writer) {
         Ok(()) => flush(writer),
         Err(refusal) => Err(refusal),

@@ -1,6 +1,6 @@
 use Rattle.std.proofs.Common.{[], arith}
 use Rattle.std.proofs.KnownBytes.{Consumes-nil, Appends-nil}
-use Rattle.acts_cli.proofs.Checks.{for_any}
+use Rattle.acts_cli.proofs.Inputs.{for_any}
 use Rattle.acts_cli.proofs.Plays.{not_made}
 use Rattle.acts_cli.proofs.play.run_script.Goals as goal
 

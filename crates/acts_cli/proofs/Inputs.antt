@@ -1,0 +1,33 @@
+-- What a call is told of an input that it reads.
+use Rattle.std.proofs.Common.{◌≡◌, ◌⊎◌, inl, inr, ℕ, ◌<◌, List, length, Option, Some, None, Result, Ok, Err, IfErr, IfSome, refl, sym, ap}
+use Rattle.std.proofs.Common.{subst, arith, length-append}
+use Rattle.std.specs.Io.KnownBytes.{Consumes}
+use Rattle.std.specs.Prelude.{IsErrAnd}
+use Rattle.wf_value.specs.Gives.{no_memory}
+use Rattle.wf_value.specs.declared.code.Code.TheVariants.{InputTooLong}
+use Rattle.wf_value.specs.declared.refusal.Refusal.{Refusal}
+use Rattle.wf_value.specs.declared.refusal.Refusal.TheVariants.{Numbered}
+use Rattle.acts_cli.specs.Input.{RefusesInput}
+use Rattle.acts_cli.specs.Play.{most_bytes, stream_failed}
+
+pub for_any : {X : Type 0} {P : X → Type 0} (o : Option X) → ((x : X) → P x) → IfSome o P
+for_any None f = tt
+for_any (Some x) f = f x
+
+pub from_each : {X : Type 0} {P Q : X → Type 0} (o : Option X) → IfSome o P → ((x : X) → P x → Q x) → IfSome o Q
+from_each None h f = tt
+from_each (Some x) h f = f x h
+
+-- it was not read to its end
+pub unread : {U : Type 0} (r : Result U Refusal) (e : Refusal) (input : Option (List ℕ)) → IsErrAnd r (λ f. f ≡ e)
+    → (e ≡ stream_failed) ⊎ (e ≡ no_memory) → IfErr r (λ f. IfSome input (RefusesInput f))
+unread (Ok u) e input is why = tt
+unread (Err f) e input is why =
+    for_any input (λ x. inr (subst (λ g. (g ≡ stream_failed) ⊎ (g ≡ no_memory)) (sym is) why))
+
+-- more of it was read than it may have
+pub too_long : (before after : Option (List ℕ)) (read : List ℕ) → Consumes before after read → most_bytes < length read
+    → IfSome before (RefusesInput (Numbered InputTooLong))
+too_long None after read consumed long = tt
+too_long (Some x) None read consumed long = absurd consumed
+too_long (Some x) (Some y) read consumed long = inl (refl, omega (arith, ap length consumed, length-append read y, long))

@@ -1,0 +1,15 @@
+-- What reading an input whole gives, and why it may be refused (own).
+use Rattle.std.specs.Prelude.{◌≡◌, ◌⊎◌, ℕ, ◌≤◌, ◌<◌, List, length}
+use Rattle.wf_value.specs.Gives.{no_memory}
+use Rattle.wf_value.specs.declared.code.Code.TheVariants.{InputTooLong}
+use Rattle.wf_value.specs.declared.refusal.Refusal.{Refusal}
+use Rattle.wf_value.specs.declared.refusal.Refusal.TheVariants.{Numbered}
+use Rattle.acts_cli.specs.Play.{most_bytes, stream_failed}
+
+-- all of it, where it is not too long
+abbrev pub IsReadAs : List ℕ → List ℕ → Type 0
+IsReadAs bytes input = (bytes ≡ input) × (length input ≤ most_bytes)
+
+-- it is too long, or the stream failed, or memory was wanting
+abbrev pub RefusesInput : Refusal → List ℕ → Type 0
+RefusesInput e input = ((e ≡ Numbered InputTooLong) × (most_bytes < length input)) ⊎ ((e ≡ stream_failed) ⊎ (e ≡ no_memory))
