@@ -91,18 +91,26 @@ pub fn beat(alloc: Global, name: &str, lease: &str) -> Result<Beat, Refusal> {
     Ok(Beat { runner, lease })
 }
 
-pub fn command_of(alloc: Global, words: &Words<'_>) -> Result<Command, Refusal> {
+/// What a runner sends, or that it is lost.
+fn command_of_runner(alloc: Global, words: &Words<'_>) -> Result<Command, Refusal> {
     match words {
-        Words::Admit(id, body) => Ok(Command::Admit(prepared(alloc, id, "push", body)?)),
         Words::Claim(name, count, asked) => Ok(Command::Claim(claim(alloc, name, count, asked)?)),
         Words::Done(name, count, lease, outcome) => {
             Ok(Command::Done(done(alloc, name, count, lease, *outcome)?))
         }
         Words::Beat(name, lease) => Ok(Command::Beat(beat(alloc, name, lease)?)),
-        Words::Cancel(run) => Ok(Command::Cancel(number(run)?)),
         Words::Lost(name) => Ok(Command::Lost(runner(alloc, name)?)),
+        _ => Err(Refusal::Numbered(Code::Line)),
+    }
+}
+
+pub fn command_of(alloc: Global, words: &Words<'_>) -> Result<Command, Refusal> {
+    match words {
+        Words::Admit(id, body) => Ok(Command::Admit(prepared(alloc, id, "push", body)?)),
+        Words::Cancel(run) => Ok(Command::Cancel(number(run)?)),
         Words::Look(run) => Ok(Command::Look(number(run)?)),
         Words::Fetch(run) => Ok(Command::Fetch(number(run)?)),
+        words => command_of_runner(alloc, words),
     }
 }
 

@@ -233,8 +233,8 @@ const EXPLAINED: &str = concat!(
 );
 
 /// Words, the room on standard output, and how that ends over the first script: with 0 where all is well
-/// and after a help text, and with 2 after a fault of the words.
-const ROWS: [(&[&str], usize, Ended<'static>); 22] = [
+/// and after a help text, and else with 1.
+const ROWS: [(&[&str], usize, Ended<'static>); 8] = [
     (PLAY, 10_000, (0, Some(FIRST_ANSWERS), Some(""))),
     (HELP, 10_000, (0, None, Some(""))),
     (HELP, 0, FULL),
@@ -248,23 +248,27 @@ const ROWS: [(&[&str], usize, Ended<'static>); 22] = [
         10_000,
         (0, Some(EXPLAINED), Some("")),
     ),
-    (&["acts"], 10_000, FAULT),
-    (&["acts", "serve"], 10_000, FAULT),
-    (&["acts", "play", "script"], 10_000, FAULT),
-    (&["acts", "check", "workflow"], 10_000, FAULT),
-    (&["acts", "--verbose", "play"], 10_000, FAULT),
-    (&["acts", "explain"], 10_000, FAULT),
-    (&["acts", "explain", "17", "18"], 10_000, FAULT),
-    (&["acts", "explain", "9"], 10_000, FAULT),
-    (&["acts", "explain", "017"], 10_000, FAULT),
-    (&["acts", "explain", "refused"], 10_000, FAULT),
     (&["acts", "init", "store", "4096"], 10_000, FULL),
     (&["acts", "init", "store", "1073741824"], 10_000, FULL),
-    (&["acts", "init", "store", "4095"], 10_000, FAULT),
-    (&["acts", "init", "store", "1073741825"], 10_000, FAULT),
-    (&["acts", "init", "store"], 10_000, FAULT),
     (&["acts", "show", "store"], 10_000, FULL),
-    (&["acts", "show"], 10_000, FAULT),
+];
+
+/// Words that are no command line of `acts`.
+const FAULTS: [&[&str]; 14] = [
+    &["acts"],
+    &["acts", "serve"],
+    &["acts", "play", "script"],
+    &["acts", "check", "workflow"],
+    &["acts", "--verbose", "play"],
+    &["acts", "explain"],
+    &["acts", "explain", "17", "18"],
+    &["acts", "explain", "9"],
+    &["acts", "explain", "017"],
+    &["acts", "explain", "refused"],
+    &["acts", "init", "store", "4095"],
+    &["acts", "init", "store", "1073741825"],
+    &["acts", "init", "store"],
+    &["acts", "show"],
 ];
 
 /// 1 after a refusal, which stands on standard error: of a page that is full, and of a file that can't be opened, as none can here.
@@ -277,6 +281,13 @@ const FAULT: Ended<'static> = (2, Some(""), None);
 fn ends_with_its_status(rt: HostRuntime) {
     for &(words, room, ended) in &ROWS {
         expect(&rt, rt.alloc(), words, FIRST, room, ended);
+    }
+}
+
+#[test]
+fn ends_a_fault_of_the_words_with_2(rt: HostRuntime) {
+    for words in &FAULTS {
+        expect(&rt, rt.alloc(), words, "look 1\n", 10_000, FAULT);
     }
 }
 

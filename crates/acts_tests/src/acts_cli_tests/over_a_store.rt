@@ -248,8 +248,8 @@ fn tells_that_the_device_fails_in_a_showing(rt: HostRuntime) {
     expect_showing(&rt, alloc, spared, 0, QUEUED);
 }
 
-/// A stop inside a call of the first commit, how it fills what was not synced, and what is shown then: inside the write of the record and its
-/// sync no run; inside the write of the gate and its sync none, or run 1.
+/// A stop inside a call of the first commit, how it fills what was not synced, and what is shown then: inside the write of the record and
+/// its sync no run; inside the write of the gate and its sync none, or run 1.
 const STOPS: [(u64, Fill, &str); 8] = [
     (6, Fill::Old, ""),
     (6, Fill::New, ""),
