@@ -43,7 +43,8 @@ module _ {D : Type 0} (s : Kept D) (table : TableState) (waiting : Waits) (count
 
   pub all_stands : s.covered ≡ length s.history → (c : List ℕ) → StandsForEither s c → StandsFor (table_of s) c
   all_stands all c either =
-      let same : covered_table s ≡ table_of s = ap (λ (l : List Entry). table_after s.base l) (take_all s.covered s.history (omega (arith, all))) in
+      let same : covered_table s ≡ table_of s =
+      ap (λ (l : List Entry). table_after s.base l) (take_all s.covered s.history (omega (arith, all))) in
       ⊎_elim (λ covered. subst (λ (t : TableState). StandsFor t c) same covered) (λ here. here) either
 
   pub counted_broken : (disk : D) → IsCounted (broken s disk) table waiting
@@ -98,7 +99,8 @@ module _ {D : Type 0} (s : Kept D) (table : TableState) (waiting : Waits) (count
           → EachSince moment images_since s.disk disk (WholeOrGrew s.area side gate settled.head settled.bodies (body_of waiting))
           → EachSince moment images_since s.disk disk (StandsForEither s)
       commit_moments moment images_since disk since =
-          weakened moment images_since s.disk disk (WholeOrGrew s.area side gate settled.head settled.bodies (body_of waiting)) (StandsForEither s)
+          weakened moment images_since s.disk disk (WholeOrGrew s.area side gate settled.head settled.bodies (body_of waiting))
+          (StandsForEither s)
           since commit_each
 
       pub commit_settled : (disk : D)
@@ -106,7 +108,8 @@ module _ {D : Type 0} (s : Kept D) (table : TableState) (waiting : Waits) (count
           → IsSettled s.area side gate s.generation (used_after s) (table_of s) (images disk)
       commit_settled disk each =
           resettled images side gate s counted.size settled takes disk (used_after s) refl
-          (subst (λ (b : List ℕ). (c : List ℕ) → images disk c → StandsWhole s.area side gate c settled.head (settled.bodies ++ b ∷ [])) waits each)
+          (subst (λ (b : List ℕ). (c : List ℕ) → images disk c → StandsWhole s.area side gate c settled.head (settled.bodies ++ b ∷ []))
+          waits each)
 
       pub commit_standing : (disk : D)
           → ((c : List ℕ) → images disk c → StandsWhole s.area side gate c settled.head (settled.bodies ++ body_of waiting ∷ []))

@@ -35,7 +35,8 @@ same_commands bodies one two first second =
     (same_batches first.batches second.batches first.takes second.takes (sym first.spelled ∙ second.spelled))
     ∙ sym second.commands_are
 
-one_meaning : (head : Head) (bodies : List (List ℕ)) (one two : TableState) → MeansTable head bodies one → MeansTable head bodies two → one ≡ two
+one_meaning : (head : Head) (bodies : List (List ℕ)) (one two : TableState) → MeansTable head bodies one
+    → MeansTable head bodies two → one ≡ two
 one_meaning head bodies one two first second =
     sym first.table_is
     ∙ ap (λ (t : TableState). after t first.commands) (one_text first.first second.first head.text first.text second.text)
@@ -48,7 +49,8 @@ one_table image one two first second =
     let spells = subst (λ (n : ℕ). Spells n second.side image second.head second.bodies) lens second.spells in
     let sides : second.side ≡ first.side = cc (spells.stands, first.spells.stands) in
     let reads = subst (λ (s : Side). Reads (area_on first.len s image) second.head second.bodies) sides spells.reads in
-    let same = one_reading (area_on first.len first.side image) second.head first.head second.bodies first.bodies reads first.spells.reads in
+    let same = one_reading (area_on first.len first.side image) second.head first.head second.bodies first.bodies reads
+    first.spells.reads in
     let heads = subst (λ (h : Head). MeansTable h second.bodies two) same.0 second.means in
     one_meaning first.head first.bodies one two first.means
     (subst (λ (b : List (List ℕ)). MeansTable first.head b two) same.1 heads)

@@ -45,7 +45,8 @@ module _ (len : ℕ) (file : List ℕ) (long : length file ≡ len + len) where
     no_table_in size none = record {
       some = one_stands size;
       none = λ table stands.
-          let spells = subst (λ (n : ℕ). Spells n stands.side file stands.head stands.bodies) (same_len stands.len stands.long) stands.spells in
+          let spells = subst (λ (n : ℕ). Spells n stands.side file stands.head stands.bodies) (same_len stands.len stands.long)
+          stands.spells in
           none stands.head stands.bodies table (reads_there stands.side stands.head stands.bodies spells) stands.means;
     }
 

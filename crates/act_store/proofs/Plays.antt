@@ -14,7 +14,8 @@ use Rattle.run_table.specs.TableState.{TableState}
 use Rattle.act_store.specs.Entries.{table_after}
 use Rattle.act_store.specs.Images.{StandsFor}
 use Rattle.act_store.specs.Kept.{Kept, StandsForEither, StandsForSome, pending_commands}
-use Rattle.act_store.specs.Plain.{area_full, broken, committed, entered, entry_of, failed_earlier, history_full, record_end, refusal_of_apply}
+use Rattle.act_store.specs.Plain.{area_full, broken, committed, entered, entry_of, failed_earlier, history_full, record_end}
+use Rattle.act_store.specs.Plain.{refusal_of_apply}
 use Rattle.act_store.specs.Steps.{Covers, Grows, Plays, PlaysSome, Survives, Takes}
 use Rattle.act_store.specs.declared.entry.Entry.{Entry}
 use Rattle.act_store.specs.declared.step.Played.{Played}
@@ -24,7 +25,8 @@ use Rattle.act_store.specs.declared.step.Step.TheVariants as asked
 
 -- ---- one step more
 
-pub plays_more : {D : Type 0} (during : Kept D → Played → Kept D → Type 0) (old mid new : Kept D) (steps : List Step) (answers : List Played)
+pub plays_more : {D : Type 0} (during : Kept D → Played → Kept D → Type 0) (old mid new : Kept D) (steps : List Step)
+    (answers : List Played)
     (step : Step) (answer : Played) → Plays during old steps answers mid → Takes mid step answer new → during mid answer new
     → Plays during old (steps ++ step ∷ []) (answers ++ answer ∷ []) new
 plays_more {D} during old mid new [] [] step answer plays takes so =
@@ -47,7 +49,8 @@ module _ {D : Type 0} (during : Kept D → Played → Kept D → Type 0) (old : 
       (subst (λ (l : List Played). Plays during old (take i steps ++ step ∷ []) l new) (sym all_is)
       (plays_more during old mid new (take i steps) answers step answer plays takes so))
 
-  pub first_played : (new : Kept D) (i : ℕ) (answers : List Played) → Plays during old (take i steps) answers new → PlaysSome during old steps new
+  pub first_played : (new : Kept D) (i : ℕ) (answers : List Played) → Plays during old (take i steps) answers new
+      → PlaysSome during old steps new
   first_played new i answers plays =
       record { first = take i steps; others = drop i steps; split = sym (take-append-drop i steps); answers = answers; plays = plays }
 
@@ -68,9 +71,11 @@ by_tests false false false e is device = cc
 -- ---- what one step leaves of what there was
 
 module _ {D : Type 0} where
-  no_device : (s : Kept D) (command : Command) (e : Refusal) → (e ≡ no_memory) ⊎ (refusal_of_apply s command ≡ Some e) → e ≡ device_failed → ⊥
+  no_device : (s : Kept D) (command : Command) (e : Refusal) → (e ≡ no_memory) ⊎ (refusal_of_apply s command ≡ Some e)
+      → e ≡ device_failed → ⊥
   no_device s command e cause device = ⊎_elim (λ memory. let clash : no_memory ≡ device_failed = sym memory ∙ device in cc)
-      (λ some. by_tests s.failed (nat_le 100000 (length s.history)) (nat_lt s.area (record_end s (pending_commands s ++ command ∷ []))) e some device)
+      (λ some. by_tests s.failed (nat_le 100000 (length s.history)) (nat_lt s.area (record_end s (pending_commands s ++ command ∷ [])))
+      e some device)
       cause
 
   same_grows : (old new : Kept D) → old.covered ≤ length old.history → new ≡ old → Grows old new
@@ -160,12 +165,14 @@ module _ {D : Type 0} where
       }) either
 
   -- the store as it is
-  pub either_now : (s : Kept D) → s.covered ≤ length s.history → (c : List ℕ) → StandsForEither s c → StandsForSome s.base s.history s.covered c
+  pub either_now : (s : Kept D) → s.covered ≤ length s.history → (c : List ℕ) → StandsForEither s c
+      → StandsForSome s.base s.history s.covered c
   either_now s within c either = either_grown s s (same_grows s s within refl) within c either
 
   -- ---- whatever came of the steps
 
-  pub some_played : (during : Kept D → Played → Kept D → Type 0) {V E : Type 0} (items : V → List Played) (result : Result V E) (old new : Kept D)
+  pub some_played : (during : Kept D → Played → Kept D → Type 0) {V E : Type 0} (items : V → List Played) (result : Result V E)
+      (old new : Kept D)
       (steps : List Step) → IfOk result (λ v. Plays during old steps (items v) new) → OnErr result (PlaysSome during old steps new)
       → PlaysSome during old steps new
   some_played during items (Ok v) old new steps all part =
@@ -232,7 +239,8 @@ module _ {D : Type 0} where
 
     -- ---- what a play leaves, whatever came of it
 
-    module _ (images : D → List ℕ → Type 0) (only : (disk : D) → honest disk → (c : List ℕ) → images_since disk (moment disk) c → images disk c)
+    module _ (images : D → List ℕ → Type 0) (only : (disk : D) → honest disk → (c : List ℕ) → images_since disk (moment disk) c
+        → images disk c)
         (old new : Kept D) (steps : List Step) (part : PlaysSome during old steps new) (within : old.covered ≤ length old.history)
         (promise : honest new.disk → (c : List ℕ) → images new.disk c → StandsForEither new c) where
       pub play_grows : Grows old new

@@ -50,7 +50,8 @@ spelled_behind bytes more now gate last long eight is =
     ap (λ (l : List ℕ). drop 8 l) parts ∙ drop-append-le 8 front (more ++ last ∷ []) (omega (arith, first, eight))
     ∙ sym (append_assoc (drop 8 front) more (last ∷ [])) in
     let size : length now ≡ length bytes + length more =
-    omega (arith, ap (λ (l : List ℕ). length l) parts, length-append front (more ++ last ∷ []), length-append more (last ∷ []), first, long) in
+    omega (arith, ap (λ (l : List ℕ). length l) parts, length-append front (more ++ last ∷ []), length-append more (last ∷ []), first, long)
+    in
     let count : length spelled ≡ length now - 9 =
     omega (arith, length-append (drop 8 front) more, length-drop 8 front, first, size, long, eight) in
     let some : gate ≡ 8 + (length bytes - 9) = omega (arith, long, eight) in
@@ -83,5 +84,6 @@ batch_body commands = ap (λ (l : List ℕ). l ++ flat_map command_bytes command
 -- what waits with one command more
 pub waits_more : (commands : List Command) (more : Command) → with_command (waits_of commands) more ≡ waits_of (commands ++ more ∷ [])
 waits_more commands more =
-    ap (λ (n : ℕ). record { count = n; spelled = flat_map command_bytes commands ++ command_bytes more }) (sym (length-append commands (more ∷ [])))
+    ap (λ (n : ℕ). record { count = n; spelled = flat_map command_bytes commands ++ command_bytes more })
+    (sym (length-append commands (more ∷ [])))
     ∙ ap (λ (l : List ℕ). record { count = length (commands ++ more ∷ []); spelled = l }) (sym (commands_with commands more))

@@ -21,7 +21,8 @@ legal_at : (base : TableState) (before behind : List Entry) (entry : Entry) → 
     → entry.reply ≡ (stepped (table_after base before) entry.command).reply
 legal_at base [] behind entry legal = cc legal
 legal_at base (e ∷ before) behind entry legal =
-    let rest : replies_of (before ++ entry ∷ behind) ≡ replies (stepped base e.command).table (commands_of (before ++ entry ∷ behind)) = cc legal in
+    let rest : replies_of (before ++ entry ∷ behind) ≡ replies (stepped base e.command).table (commands_of (before ++ entry ∷ behind)) =
+    cc legal in
     legal_at (stepped base e.command).table before behind entry rest
 
 front_at : (before behind : List Entry) (entry : Entry) (count : ℕ) → length before < count
@@ -78,7 +79,8 @@ module _ (base table : TableState) (history before behind : List Entry) (entry :
       ∙ table-append base before (entry ∷ later)
 
   -- an admission that is asked again, by the law of the table's steps
-  pub delivery_again : DeliveryLaw → (id : ℕ) (event again : Admitted) → entry.command ≡ command.Admit event → entry.reply ≡ reply.Created id
+  pub delivery_again : DeliveryLaw → (id : ℕ) (event again : Admitted) → entry.command ≡ command.Admit event
+      → entry.reply ≡ reply.Created id
       → again.delivery ≡ event.delivery → step table (command.Admit again) ≡ (table, reply.Created id)
   delivery_again law id event again asked created same =
       let given : (stepped here (command.Admit event)).reply ≡ reply.Created id =

@@ -25,7 +25,8 @@ AreShort bodies = AllByRecursion (λ body. length body < 2 ^ 32) bodies
 
 -- ---- one body
 
-pub no_batch : (body : List ℕ) → ((x : List Command) (rest : List ℕ) → BeginsWith batch body x rest → ⊥) → (commands : List Command) → Spells batch body commands → ⊥
+pub no_batch : (body : List ℕ) → ((x : List Command) (rest : List ℕ) → BeginsWith batch body x rest → ⊥) → (commands : List Command)
+    → Spells batch body commands → ⊥
 no_batch body none commands spells = none_whole batch body none commands spells
 
 pub carried_whole : (body rest : List ℕ) (table last : TableState) (commands : List Command) → BeginsWith batch body commands rest
@@ -75,7 +76,8 @@ module _ (records rest : List ℕ) (first table : TableState) (so : SoFar record
       (so.commands, subst (λ (l : List (List ℕ)). SpellCommands l so.commands) all so.spelled, so.table_is)
 
   -- records begin with those that were parted
-  starts : (parted bodies : List (List ℕ)) (behind : List ℕ) → AreShort parted → AreShort bodies → record_bytes parted ++ behind ≡ record_bytes bodies
+  starts : (parted bodies : List (List ℕ)) (behind : List ℕ) → AreShort parted → AreShort bodies
+      → record_bytes parted ++ behind ≡ record_bytes bodies
       → (more : List (List ℕ)) × (parted ++ more ≡ bodies)
   starts [] bodies behind one two same = (bodies, refl)
   starts (a ∷ parted) [] behind one two same = absurd (cc same)
@@ -86,7 +88,8 @@ module _ (records rest : List ℕ) (first table : TableState) (so : SoFar record
       let others = starts parted bodies behind one.1 two.1 frames.1 in
       (others.0, ap (λ (l : List ℕ). l ∷ parted ++ others.0) frames.0 ∙ ap (λ (l : List (List ℕ)). b ∷ l) others.1)
 
-  among : (batches : List (List Command)) (parted : List (List ℕ)) (body : List ℕ) (more : List (List ℕ)) → AllByRecursion batch.Takes batches
+  among : (batches : List (List Command)) (parted : List (List ℕ)) (body : List ℕ) (more : List (List ℕ))
+      → AllByRecursion batch.Takes batches
       → (parted ++ body ∷ []) ++ more ≡ map batch.spelling batches → (commands : List Command) × Spells batch body commands
   among [] [] body more takes same = absurd (cc same)
   among [] (p ∷ parted) body more takes same = absurd (cc same)

@@ -34,7 +34,8 @@ module _ (area : List ℕ) (head : Head) (records : List ℕ) (gate : ℕ) (scan
         none scanned.bodies means.commands scanned.reads.fits.each scanned.records_are
         (subst (λ (l : List (List ℕ)). SpellCommands l means.commands) (same other others reads).1 means.batched)
 
-    pub some_replayed : (last : TableState) → head.version ≡ 1 → IsReplayed records first (Some last) → SpellsArea area head.generation gate last
+    pub some_replayed : (last : TableState) → head.version ≡ 1 → IsReplayed records first (Some last)
+        → SpellsArea area head.generation gate last
     some_replayed last version replayed =
         let found = replayed scanned.bodies scanned.reads.fits.each scanned.records_are in
         record {

@@ -16,7 +16,8 @@ pub one_text : (one two : TableState) (text : List ℕ) → SpellsTable one text
 unfolding SpellsTable
 one_text one two text first second = one_value whole_table whole_begins_none text one two first second
 
-pub whole_text : (text rest : List ℕ) (found : TableState) → OpensWith whole_table text found rest → length rest ≤ 0 → SpellsTable found text
+pub whole_text : (text rest : List ℕ) (found : TableState) → OpensWith whole_table text found rest → length rest ≤ 0
+    → SpellsTable found text
 unfolding SpellsTable
 whole_text text rest found opens none = whole whole_table text rest found opens none
 

@@ -13,7 +13,8 @@ nothing_behind [] rest same = same
 nothing_behind (x ∷ a) rest same = nothing_behind a rest (cc same)
 
 -- what is spelled with nothing left is spelled whole
-pub whole : {A : Type 0} (format : Format A) (bytes rest : List ℕ) (x : A) → OpensWith format bytes x rest → length rest ≤ 0 → Spells format bytes x
+pub whole : {A : Type 0} (format : Format A) (bytes rest : List ℕ) (x : A) → OpensWith format bytes x rest → length rest ≤ 0
+    → Spells format bytes x
 whole format bytes rest x opens none =
     let empty : rest ≡ [] = no_element rest none in
     (opens.0, opens.1 ∙ ap (λ (l : List ℕ). format.spelling x ++ l) empty ∙ append-nil (format.spelling x))
@@ -30,7 +31,8 @@ module _ {A : Type 0} (format : Format A) (begins_none : NoneBeginsAnother forma
       nothing_behind (format.spelling found) rest (sym opens.1 ∙ spells.1 ∙ one.0)
 
   -- where bytes are left behind a spelling, nothing is spelled
-  pub none_longer : (bytes rest : List ℕ) (found : A) → OpensWith format bytes found rest → 0 < length rest → (x : A) → Spells format bytes x → ⊥
+  pub none_longer : (bytes rest : List ℕ) (found : A) → OpensWith format bytes found rest → 0 < length rest → (x : A)
+      → Spells format bytes x → ⊥
   none_longer bytes rest found opens some x spells =
       omega (arith, some, ap (λ (l : List ℕ). length l) (nothing_left bytes rest found x opens spells))
 

@@ -9,8 +9,9 @@ use Rattle.run_table.specs.TableState.{TableState}
 use Rattle.act_store.specs.Entries.{commands_of, table_after}
 use Rattle.act_store.specs.declared.entry.Entry.{Entry}
 
--- After each front of the history, what a stop leaves of it among them, every group has at most one holder of each kind, of all runs and legs
--- of the table; and the moves of every group over that front, behind those that stand for the holders it had at the base, keep the group law.
+-- After each front of the history, what a stop leaves of it among them, every group has at most one holder of each kind, of all runs and
+-- legs of the table; and the moves of every group over that front, behind those that stand for the holders it had at the base, keep the
+-- group law.
 pub record KeepsGroups (base : TableState) (history : List Entry) : Type 0 where
   pub one_pending : (before behind : List Entry) (g : Group) → history ≡ before ++ behind
       → length (pending_in (table_after base before).runs g) ≤ 1

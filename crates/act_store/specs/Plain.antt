@@ -1,5 +1,5 @@
--- The plain store: when each call is refused, what it answers, and what is kept then. It is told with memory and a device that answer; where
--- they do not, the calls' contracts say what is left. Own: there is no public source.
+-- The plain store: when each call is refused, what it answers, and what is kept then. It is told with memory and a device that answer;
+-- where they do not, the calls' contracts say what is left. Own: there is no public source.
 use Rattle.std.specs.Prelude.{◌≡◌, ◌⊎◌, ℕ, ◌+◌, List, [], ◌∷◌, ◌++◌, length, nat_le, nat_lt, if◌then◌else◌, true, false, Option, Some, None}
 use Rattle.wf_value.specs.declared.code.Code.TheVariants.{AreaFull, DiskNotEmpty, FailedEarlier, HistoryFull, NoArea, NoTable}
 use Rattle.wf_value.specs.declared.refusal.Refusal.{Refusal}
@@ -92,8 +92,8 @@ no_area = Numbered NoArea
 abbrev pub no_table : Refusal
 no_table = Numbered NoTable
 
--- What may keep a disk from being opened, and nothing else: want of memory, a device that fails, a disk on which no area stands, and an area that
--- spells no table.
+-- What may keep a disk from being opened, and nothing else: want of memory, a device that fails, a disk on which no area stands, and an
+-- area that spells no table.
 abbrev pub RefusesOpening : Refusal → Type 0
 RefusesOpening e = (e ≡ no_memory) ⊎ (e ≡ device_failed) ⊎ (e ≡ no_area) ⊎ (e ≡ no_table)
 

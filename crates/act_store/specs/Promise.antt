@@ -15,7 +15,8 @@ use Rattle.act_store.specs.Plain.{record_end}
 use Rattle.act_store.specs.Waiting.{Waits, waits_of}
 
 -- All images read as the same head and bodies, which stand for this table, up to the gate in use.
-pub record IsSettled (len : ℕ) (side : Side) (gate : Gate) (generation used : ℕ) (table : TableState) (images : List ℕ → Type 0) : Type 0 where
+pub record IsSettled (len : ℕ) (side : Side) (gate : Gate) (generation used : ℕ) (table : TableState)
+    (images : List ℕ → Type 0) : Type 0 where
   pub head : Head
   pub bodies : List (List ℕ)
   pub each : (c : List ℕ) → images c → StandsWhole len side gate c head bodies
@@ -23,8 +24,8 @@ pub record IsSettled (len : ℕ) (side : Side) (gate : Gate) (generation used : 
   pub generation_is : generation ≡ head.generation
   pub means : MeansTable head bodies table
 
--- Each image stands for the covered entries or for all. This holds of a store that has failed too, since its history grows no more. While it
--- has not failed, all images are settled at the covered ones, which is what the next record needs.
+-- Each image stands for the covered entries or for all. This holds of a store that has failed too, since its history grows no more. While
+-- it has not failed, all images are settled at the covered ones, which is what the next record needs.
 pub record IsStanding {D : Type 0} (images : D → List ℕ → Type 0) (side : Side) (gate : Gate) (s : Kept D) : Type 0 where
   pub each : (c : List ℕ) → images s.disk c → StandsForEither s c
   pub settled : s.failed ≡ false → IsSettled s.area side gate s.generation s.used (covered_table s) (images s.disk)

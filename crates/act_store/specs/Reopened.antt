@@ -6,8 +6,8 @@ use Rattle.act_store.specs.Images.{StandsFor}
 use Rattle.act_store.specs.Kept.{StandsForSome}
 use Rattle.act_store.specs.declared.entry.Entry.{Entry}
 
--- A legal history has this entry behind those, and it is one of the covered ones. A stop left an image that stands for some of the first entries,
--- with all that are covered; and the table is the one that the image stands for.
+-- A legal history has this entry behind those, and it is one of the covered ones. A stop left an image that stands for some of the first
+-- entries, with all that are covered; and the table is the one that the image stands for.
 pub record Reopens (base : TableState) (history : List Entry) (covered : ℕ) (before : List Entry) (entry : Entry) (behind : List Entry)
     (table : TableState) : Type 0 where
   pub legal : IsLegal base history

@@ -19,7 +19,8 @@ pub record SpellsArea (area : List ℕ) (generation used : ℕ) (table : TableSt
 -- The area spells this, or no table.
 abbrev pub IsSpelled : List ℕ → Option Spelled → Type 0
 IsSpelled area (Some found) = SpellsArea area found.generation found.used found.table
-IsSpelled area None = (head : Head) (bodies : List (List ℕ)) (table : TableState) → Reads area head bodies → MeansTable head bodies table → ⊥
+IsSpelled area None = (head : Head) (bodies : List (List ℕ)) (table : TableState) → Reads area head bodies
+    → MeansTable head bodies table → ⊥
 
 -- The text spells this table, or none.
 abbrev pub IsTextOf : List ℕ → Option TableState → Type 0

@@ -38,8 +38,8 @@ TellsStep (told.Refused e) old new = IsCause e old new
 TellsStep (told.Replied reply) old new = new ≡ old
 TellsStep (told.Count count) old new = new ≡ old
 
--- What a stop may leave during a step: whenever it comes, the image stands for the entries that were covered when the step began, or for all that
--- there were then.
+-- What a stop may leave during a step: whenever it comes, the image stands for the entries that were covered when the step began, or for
+-- all that there were then.
 pub record Survives {D : Type 0} (honest : D → Type 0) (moment fault_count : D → ℕ) (images_since : D → ℕ → List ℕ → Type 0) (old : Kept D)
     (answer : Played) (new : Kept D) : Type 0 where
   pub any_moment : honest old.disk → EachSince moment images_since old.disk new.disk (StandsForEither old)
@@ -54,7 +54,8 @@ Plays during old (s ∷ ss) [] new = ⊥
 Plays {D} during old (s ∷ ss) (p ∷ ps) new = (mid : Kept D) × Takes old s p mid × during old p mid × Plays during mid ss ps new
 
 -- The first of them, however many, and no other.
-pub record PlaysSome {D : Type 0} (during : Kept D → Played → Kept D → Type 0) (old : Kept D) (steps : List Step) (new : Kept D) : Type 0 where
+pub record PlaysSome {D : Type 0} (during : Kept D → Played → Kept D → Type 0) (old : Kept D) (steps : List Step)
+    (new : Kept D) : Type 0 where
   pub first : List Step
   pub others : List Step
   pub split : steps ≡ first ++ others

@@ -16,7 +16,8 @@ impl<D: Disk> Store<D> {
     /// At each moment of the call the disk stands for the entries that were covered or for all, and after `Ok` for all. 51 is answered
     /// exactly where the device fails; the store then has failed. It takes no memory, and is never refused for want of room.
     pub fn commit(&mut self) -> Result<u64, Refusal>
-        ensures any_moment { D.honest self.old.disk → EachSince D.moment D.images_since self.old.disk self.new.disk (StandsForEither self.old) }
+        ensures any_moment { D.honest self.old.disk
+            → EachSince D.moment D.images_since self.old.disk self.new.disk (StandsForEither self.old) }
         ensures stands { OnOk result (D.honest self.new.disk → (c : List ℕ) → D.images self.new.disk c → StandsFor (table_of self.old) c) }
         ensures covered { IfOk result (λ count. (count ≡ length self.old.history) × (self.new.covered ≡ count)) }
         ensures failed { self.old.failed ≡ true → (result ≡ Err failed_earlier) × (self.new ≡ self.old) }

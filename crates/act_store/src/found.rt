@@ -94,7 +94,8 @@ fn find_in<D: Disk>(alloc: Global, disk: &mut D, len: u64) -> Result<Found, Refu
 pub(crate) fn find<D: Disk>(alloc: Global, disk: &mut D) -> Result<Found, Refusal>
     requires { D.fault_count disk.old < u64.MAX }
     ensures found { IfOk result (λ found. D.honest disk.new → IsFound found (D.seen disk.old)) }
-    ensures area { IfOk result (λ found. IsAreaLength found.area × (found.spelled.used < found.area) × (D.size disk.old ≡ found.area + found.area)) }
+    ensures area { IfOk result (λ found. IsAreaLength found.area × (found.spelled.used < found.area)
+        × (D.size disk.old ≡ found.area + found.area)) }
     ensures no_area { result ≡ Err no_area → D.honest disk.new → HasNoArea (D.seen disk.old) }
     ensures no_table { result ≡ Err no_table → D.honest disk.new → HasNoTable (D.seen disk.old) }
     ensures nothing_stands { IfErr result (λ e. D.honest disk.new → HasNoArea (D.seen disk.old) → TellsNoArea e) }

@@ -1,4 +1,5 @@
-ghost use Rattle.std.specs.Prelude.{◌≡◌, ◌+◌, ◌<◌, ◌≤◌, ◌^◌, ◌==◌, List, [], ◌∷◌, ◌++◌, length, take, drop, slice_index, vec_len, IfErr, IfOk, IfSome, OnErr, OnOk, None};
+ghost use Rattle.std.specs.Prelude.{◌≡◌, ◌+◌, ◌<◌, ◌≤◌, ◌^◌, ◌==◌, List, [], ◌∷◌, ◌++◌, length, take, drop, slice_index, vec_len, IfErr};
+ghost use Rattle.std.specs.Prelude.{IfOk, IfSome, OnErr, OnOk, None};
 ghost use Rattle.std.specs.Int.{to_be_bytes, w32};
 ghost use Rattle.wf_value.specs.Gives.{no_memory};
 ghost use Rattle.gated_journal.specs.Appends.{record_of};

@@ -21,7 +21,8 @@ made_in_part size n bytes (Ok u) e zero same is why = absurd is
 made_in_part size n bytes (Err f) e zero same is why = inr (inr (zero, is ∙ why, drop n bytes, take-append-drop n bytes ∙ same))
 
 -- all is written, and the writer is flushed
-pub made_all : {U : Type 0} (size : ℕ) (bytes : List ℕ) (r : Result U Refusal) → size ≡ 0 → bytes ≡ made_line → IfErr r (λ e. e ≡ stream_failed)
+pub made_all : {U : Type 0} (size : ℕ) (bytes : List ℕ) (r : Result U Refusal) → size ≡ 0 → bytes ≡ made_line
+    → IfErr r (λ e. e ≡ stream_failed)
     → Makes size bytes r
 made_all size bytes (Ok u) zero same why = (zero, same)
 made_all size bytes (Err e) zero same why = inr (inr (zero, why, [], append-nil bytes ∙ same))

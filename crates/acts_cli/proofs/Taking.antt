@@ -1,5 +1,6 @@
 -- What a line of a script is answered, by what the store's step tells.
-use Rattle.std.proofs.Common.{◌≡◌, ◌∙◌, ◌⊎◌, ⊎_elim, inl, inr, ℕ, List, length, true, false, cond, Ok, Err, None, ◌≤◌, ◌<◌, refl, sym, ap, arith}
+use Rattle.std.proofs.Common.{◌≡◌, ◌∙◌, ◌⊎◌, ⊎_elim, inl, inr, ℕ, List, length, true, false, cond, Ok, Err, None, ◌≤◌, ◌<◌, refl, sym, ap}
+use Rattle.std.proofs.Common.{arith}
 use Rattle.std.specs.Prelude.{nat_lt}
 use Rattle.std.proofs.Math.Nat.{eq-or-lt_of_le}
 use Rattle.std.proofs.lemmas.Bool.Decides.{nat_tests}
@@ -23,7 +24,10 @@ use Rattle.acts_cli.specs.Play.{IsAnswer}
 
 -- the line does what this says
 defined_as : (s after : PlainStore) (line : List ℕ) (p : Played) → carried_out s line ≡ (after, p) → IsAnswer s line (played_text p) after
-defined_as s after line p told = inl (sym (ap (λ (m : PlainStore × Played). played_text m.1) told), sym (ap (λ (m : PlainStore × Played). m.0) told))
+defined_as s after line p told = inl (
+  sym (ap (λ (m : PlainStore × Played). played_text m.1) told),
+  sym (ap (λ (m : PlainStore × Played). m.0) told),
+)
 
 commit_line : (s : PlainStore) (line : List ℕ) → is_commit line ≡ true → carried_out s line ≡ covering s
 commit_line s line is = ap (λ b. cond b (covering s) (commanded s (command_of line))) is
@@ -81,7 +85,8 @@ module _ {D : Type 0} where
   -- ---- a command
 
   pub command_answered : (old new : Kept D) (line : List ℕ) (command : Command) (p : Played) → is_commit line ≡ false
-      → command_of line ≡ Ok command → Takes old (asked.Apply command) p new → IsAnswer (without_disk old) line (played_text p) (without_disk new)
+      → command_of line ≡ Ok command → Takes old (asked.Apply command) p new
+      → IsAnswer (without_disk old) line (played_text p) (without_disk new)
   command_answered old new line command (told.Count count) is spelled takes = absurd takes
   command_answered old new line command (told.Replied reply) is spelled takes =
       let s = without_disk old in

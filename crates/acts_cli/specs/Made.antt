@@ -9,8 +9,8 @@ use Rattle.acts_cli.specs.Play.{stream_failed}
 abbrev pub made_line : List ℕ
 made_line = codes "made" ++ 10 ∷ []
 
--- How a making over a disk of this size ends, and what it has written by then. A disk that is not empty is refused with 55, and else the device
--- or the output may fail.
+-- How a making over a disk of this size ends, and what it has written by then. A disk that is not empty is refused with 55, and else the
+-- device or the output may fail.
 abbrev pub Makes : {U : Type 0} → ℕ → List ℕ → Result U Refusal → Type 0
 Makes size out (Ok u) = (size ≡ 0) × (out ≡ made_line)
 Makes size out (Err e) =

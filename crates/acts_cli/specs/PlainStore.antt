@@ -37,7 +37,8 @@ area_of_play = 8388608
 abbrev pub start : PlainStore
 start = fresh tt area_of_play
 
--- A command that is not refused is entered, and its answer is the reply of the table's step, from the table that all entries so far lead to.
+-- A command that is not refused is entered, and its answer is the reply of the table's step, from the table that all entries so far lead
+-- to.
 abbrev pub applied : PlainStore → Command → Option Refusal → PlainStore × Played
 applied s command None = (entered s 0 command, told.Replied (stepped (table_of s) command).reply)
 applied s command (Some e) = (s, told.Refused e)

@@ -24,7 +24,8 @@ front_generation n (gate ∷ behind) long =
     ap (λ (m : ℕ). open_generation (take m (gate ∷ behind))) first
     ∙ ap (λ (l : List ℕ). if eqb gate 0xA5 then Some (from_be_bytes w64 l) else None) eight
 
-pub same_generation : (start len : ℕ) (disk : List ℕ) → 10 ≤ len → open_generation (part start 10 disk) ≡ open_generation (part start len disk)
+pub same_generation : (start len : ℕ) (disk : List ℕ) → 10 ≤ len
+    → open_generation (part start 10 disk) ≡ open_generation (part start len disk)
 same_generation start len disk long =
     front_generation 10 (drop start disk) (omega arith) ∙ sym (front_generation len (drop start disk) long)
 

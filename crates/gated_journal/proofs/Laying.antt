@@ -67,7 +67,8 @@ module _ (len : ℕ) (front : List ℕ) (long : 2 ≤ len) (fits : length front 
         let held : Holds new len (0 ∷ []) =
         range_kept 0 1 mid new written.torn len 1 (omega (arith, areas.whole, long)) (inr (omega (arith, long))) ∙ areas.other_gate in
         shut (part len len new)
-        (part_held len len new new (omega (arith, whole_new)) 0 (0 ∷ []) (omega (arith, long)) (subst (λ (k : ℕ). Holds new k (0 ∷ [])) here held))
+        (part_held len len new new (omega (arith, whole_new)) 0 (0 ∷ []) (omega (arith, long))
+        (subst (λ (k : ℕ). Holds new k (0 ∷ [])) here held))
 
     pub made : StandsWhole len First Closed new head bodies
     made = record {
@@ -80,4 +81,5 @@ module _ (len : ℕ) (front : List ℕ) (long : 2 ≤ len) (fits : length front 
       → front ≡ 0 ∷ behind_gate head bodies → Fits head bodies → AreLaid len front mid → IsWritten 0 (0xA5 ∷ []) mid new
       → (c : List ℕ) → images c → StandsWhole len First Closed c head bodies
   each_made mid new images head bodies only is all areas written c now =
-      subst (λ (l : List ℕ). StandsWhole len First Closed l head bodies) (sym ((only c).0 now)) (made mid new head bodies is all areas written)
+      subst (λ (l : List ℕ). StandsWhole len First Closed l head bodies) (sym ((only c).0 now))
+      (made mid new head bodies is all areas written)

@@ -57,7 +57,8 @@ pub all_parted : (bodies parted : List (List ℕ)) (rest : List ℕ) → AllByRe
     → Parts (record_bytes bodies) parted rest → ((body past : List ℕ) → OpensWith rest body past → ⊥) → parted ≡ bodies
 all_parted [] [] rest short parts last = refl
 all_parted [] (p ∷ parted) rest short parts last = cc parts.split
-all_parted (b ∷ bodies) [] rest short parts last = absurd (last b (record_bytes bodies) (record { split = sym parts.split; short = short.0 }))
+all_parted (b ∷ bodies) [] rest short parts last =
+    absurd (last b (record_bytes bodies) (record { split = sym parts.split; short = short.0 }))
 all_parted (b ∷ bodies) (p ∷ parted) rest short parts last =
     let tails : framed b ++ record_bytes bodies ≡ (framed p ++ record_bytes parted) ++ rest = cc parts.split in
     let frames = same_frames b p (record_bytes bodies) (record_bytes parted ++ rest) short.0 parts.short.0

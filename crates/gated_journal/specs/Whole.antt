@@ -38,7 +38,8 @@ beside first second Second = first
 
 abbrev pub StandsBetween : Option ℕ → Option ℕ → Option Chosen → Type 0
 StandsBetween first second None = newer first second ≡ None
-StandsBetween first second (Some chosen) = (newer first second ≡ Some chosen.side) × (chosen.other ≡ gate_of (beside first second chosen.side))
+StandsBetween first second (Some chosen) =
+    (newer first second ≡ Some chosen.side) × (chosen.other ≡ gate_of (beside first second chosen.side))
 
 -- Two areas without an open gate: the first begins with these bytes.
 pub record AreLaid (len : ℕ) (front disk : List ℕ) : Type 0 where

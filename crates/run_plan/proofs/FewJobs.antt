@@ -1,5 +1,6 @@
 -- A body in which nothing is wrong has at most 256 jobs.
-use Rattle.std.specs.Prelude.{◌≡◌, ℕ, ◌≤◌, List, [], ◌∷◌, ◌++◌, map, length, Bool, true, false, nat_le, Option, Some, None, unwrap_or, codes, is_some, if◌then◌else◌, refl}
+use Rattle.std.specs.Prelude.{◌≡◌, ℕ, ◌≤◌, List, [], ◌∷◌, ◌++◌, map, length, Bool, true, false, nat_le, Option, Some, None, unwrap_or}
+use Rattle.std.specs.Prelude.{codes, is_some, if◌then◌else◌, refl}
 use Rattle.std.proofs.Common.{arith, ap, sym, ◌∙◌, inl, inr}
 use Rattle.std.proofs.lemmas.Bool.{cases_Bool, leb-true}
 use Rattle.std.proofs.lemmas.List.{length-map}
@@ -65,7 +66,8 @@ few_in_event d h =
     let inside : inside_envelope d ≡ [] = is_object (is_some (as_object d)) (inside_envelope d) h in
     few_in_workflow (member_at (codes "workflow") d)
     (there WrongKind workflow_faults_in (get (codes "workflow") d)
-    (fourth (required WrongKind filled_text_faults (get (codes "repo") d)) (required WrongKind filled_text_faults (get (codes "path") d)) (contexts_faults d)
+    (fourth (required WrongKind filled_text_faults (get (codes "repo") d)) (required WrongKind filled_text_faults (get (codes "path") d))
+    (contexts_faults d)
     (required WrongKind workflow_faults_in (get (codes "workflow") d)) inside))
 
 few_in_body : (short : Bool) (read : Option Data) → (if short then required NotJson event_faults_in read else fault TooLong) ≡ []
@@ -76,7 +78,8 @@ few_in_body false read h = absurd (cc)
 pub few_jobs : (b : List ℕ) → faults_of b ≡ [] → length (plan_of b) ≤ 256
 few_jobs b h =
     let ms = members_of (member_at (codes "jobs") (member_at (codes "workflow") (unwrap_or (json_of b) null))) in
-    let few : length ms ≤ 256 = few_in_body (nat_le (length b) 65536) (json_of b) (no_front (event_faults b) (plan_faults (event_of b).workflow) h) in
+    let few : length ms ≤ 256 = few_in_body (nat_le (length b) 65536) (json_of b)
+    (no_front (event_faults b) (plan_faults (event_of b).workflow) h) in
     let read : length (map job_of ms) ≡ length ms = length-map ms job_of in
     let planned : length (plan_of b) ≡ length (map job_of ms) = length-map (map job_of ms) planned_job in
     omega (arith, few, read, planned)

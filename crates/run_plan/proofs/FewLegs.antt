@@ -1,5 +1,6 @@
 -- A job has 256 legs at most in the plan of any body.
-use Rattle.std.specs.Prelude.{◌≡◌, ℕ, zero, suc, ◌≤◌, List, [], ◌∷◌, map, length, Bool, true, false, nat_lt, Option, Some, None, Err, Ok, slice_get, refl}
+use Rattle.std.specs.Prelude.{◌≡◌, ℕ, zero, suc, ◌≤◌, List, [], ◌∷◌, map, length, Bool, true, false, nat_lt, Option, Some, None, Err, Ok}
+use Rattle.std.specs.Prelude.{slice_get, refl}
 use Rattle.std.specs.Result.{result_unwrap_or}
 use Rattle.std.proofs.Common.{arith, ap, sym, ◌∙◌, subst, inl, inr, cond}
 use Rattle.std.proofs.lemmas.Bool.{cases_Bool, ltb-false}
@@ -38,7 +39,8 @@ few_legs job =
     length-map (result_unwrap_or (combinations_where (matrix_of job)) []) (λ c. record { combo = c }) in
     omega (arith, of_matrix, same)
 
-each_made : {X Y : Type 0} (P : Y → Type 0) (f : X → Y) → ((x : X) → P (f x)) → (xs : List X) (j : ℕ) (y : Y) → slice_get (map f xs) j ≡ Some y → P y
+each_made : {X Y : Type 0} (P : Y → Type 0) (f : X → Y) → ((x : X) → P (f x)) → (xs : List X) (j : ℕ) (y : Y)
+    → slice_get (map f xs) j ≡ Some y → P y
 each_made P f made [] j y e = cc
 each_made P f made (x ∷ xs) zero y e = let same : f x ≡ y = cc in subst P same (made x)
 each_made P f made (x ∷ xs) (suc j) y e = each_made P f made xs j y e

@@ -9,7 +9,8 @@ use Rattle.run_plan.specs.declared.planned.PlannedJob.{PlannedJob}
 use Rattle.run_plan.proofs.Faultless.{faultless, given}
 
 -- faults refuse every value
-pub same_refusal : {X Y : Type 0} (fs : List Refusal) (x : X) (y : Y) (e : Refusal) → unless_faulty fs x ≡ Err e → unless_faulty fs y ≡ Err e
+pub same_refusal : {X Y : Type 0} (fs : List Refusal) (x : X) (y : Y) (e : Refusal) → unless_faulty fs x ≡ Err e
+    → unless_faulty fs y ≡ Err e
 same_refusal [] x y e h = absurd cc
 same_refusal (f ∷ fs) x y e h = cc
 

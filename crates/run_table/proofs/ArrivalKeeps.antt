@@ -93,7 +93,8 @@ module _ (runs : List RunState) (fit : RunsFit runs) (newcomer : Holder) (g : Gr
         | inl same ↦ same
         | inr other ↦
             let test : Holder → Bool = λ k. is_pending_in runs g k && not (same_holder k newcomer) in
-            let gone = each_filtered (λ k. waits next k ≡ false) test (all_holders runs) (each_waits_not (others_pending g newcomer runs) runs) in
+            let gone = each_filtered (λ k. waits next k ≡ false) test (all_holders runs)
+            (each_waits_not (others_pending g newcomer runs) runs) in
             let passes = both (is_pending_in runs g h) (not (same_holder h newcomer)) before (ap not other.1) in
             let parts = and_parts (is_in next g h) (waits next h) e in
             absurd (true≢false (sym parts.1
@@ -120,7 +121,8 @@ module _ (runs : List RunState) (fit : RunsFit runs) (newcomer : Holder) (g : Gr
     pub displaced_one_each : HasOneEach (displaced g newcomer runs).runs
     displaced_one_each =
         let next = (displaced g newcomer runs).runs in
-        let besides = besides_fades runs next newcomer (groups_stay runs next fit (displaced_settles g newcomer runs fit).stay) mid_fades each in
+        let besides = besides_fades runs next newcomer (groups_stay runs next fit (displaced_settles g newcomer runs fit).stay)
+        mid_fades each in
         record {
           pending = (λ k h i e f.
               elim (one_or_another h newcomer) [
@@ -159,7 +161,8 @@ alone_one_each : (runs : List RunState) (newcomer : Holder) → group_at runs ne
 alone_one_each runs newcomer none each = record {
   pending = (λ g h k e f.
       elim (one_or_another h newcomer) [
-        | inl is_h ↦ absurd (in_no_group runs g newcomer none (ap (is_in runs g) (sym is_h) ∙ (and_parts (is_in runs g h) (waits runs h) e).0))
+        | inl is_h ↦ absurd (in_no_group runs g newcomer none
+            (ap (is_in runs g) (sym is_h) ∙ (and_parts (is_in runs g h) (waits runs h) e).0))
         | inr not_h ↦ elim (one_or_another k newcomer) [
           | inl is_k ↦
               absurd (in_no_group runs g newcomer none (ap (is_in runs g) (sym is_k) ∙ (and_parts (is_in runs g k) (waits runs k) f).0))

@@ -1,5 +1,6 @@
 -- An arrival, made by stopping the one that is found: in a group at most one other is pending, and at most one is running.
-use Rattle.std.specs.Prelude.{◌≡◌, ℕ, zero, suc, List, [], ◌∷◌, filter, find, ◌&&◌, not, Bool, true, false, is_some, Option, Some, None, if◌then◌else◌, refl}
+use Rattle.std.specs.Prelude.{◌≡◌, ℕ, zero, suc, List, [], ◌∷◌, filter, find, ◌&&◌, not, Bool, true, false, is_some, Option, Some, None}
+use Rattle.std.specs.Prelude.{if◌then◌else◌, refl}
 use Rattle.std.specs.List.{AllByRecursion}
 use Rattle.std.specs.Option.{option_map_or}
 use Rattle.std.proofs.Common.{ap, sym, ◌∙◌}
@@ -119,15 +120,18 @@ module _ (runs : List RunState) (newcomer : Holder) (g : Group) (its : group_at 
   the_pending_one_stopped =
       ap (λ o. option_map_or (λ h. (stop_holder h runs).runs)
       (find (λ k. option_map_or (λ v. is_pending_in runs v k && not (same_holder k newcomer)) o false) (all_holders runs)) runs) its
-      ∙ sym (at_the_first displace stopped_twice (λ k. is_pending_in runs g k && not (same_holder k newcomer)) one_other (all_holders runs) runs)
+      ∙ sym (at_the_first displace stopped_twice (λ k. is_pending_in runs g k && not (same_holder k newcomer)) one_other
+      (all_holders runs) runs)
 
   pub the_running_one_stopped : let mid = (displaced g newcomer runs).runs in
       option_map_or (λ h. (stop_holder h mid).runs) (first_meant mid newcomer Running) mid ≡ (in_progress_stopped g mid).runs
   the_running_one_stopped =
       let mid = (displaced g newcomer runs).runs in
       ap (λ o. option_map_or (λ h. (stop_holder h mid).runs)
-      (find (λ k. option_map_or (λ v. is_running_in mid v k) o false) (all_holders mid)) mid) (still_its runs fit newcomer g waiting its one)
-      ∙ sym (at_the_first stop_holder stopped_twice (is_running_in mid g) ((displaced_one_each runs fit newcomer g waiting its one).running g)
+      (find (λ k. option_map_or (λ v. is_running_in mid v k) o false) (all_holders mid)) mid)
+      (still_its runs fit newcomer g waiting its one)
+      ∙ sym (at_the_first stop_holder stopped_twice (is_running_in mid g)
+      ((displaced_one_each runs fit newcomer g waiting its one).running g)
       (all_holders mid) mid)
 
 -- ---- the arrival

@@ -38,7 +38,8 @@ record WorksUnder (l : LegState) : Type 0 where
   lease : ℕ
   is : work_of l ≡ Some lease
 
-leased : (phase : LegPhase) (lease : Option ℕ) → LeaseFits phase lease → is_at_work phase ≡ true → WorksUnder (record { phase = phase; lease = lease })
+leased : (phase : LegPhase) (lease : Option ℕ) → LeaseFits phase lease → is_at_work phase ≡ true
+    → WorksUnder (record { phase = phase; lease = lease })
 leased leg.New lease fits e = cc
 leased leg.Waiting lease fits e = cc
 leased leg.Ready lease fits e = cc

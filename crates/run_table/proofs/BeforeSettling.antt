@@ -49,7 +49,8 @@ pub record MayArrive (runs : List RunState) (newcomer : Holder) : Type 0 where
   pub sound : RunsAreSound runs
   pub one_beside : HasOneBeside runs newcomer
 
-pub new_run_arrives : (t : TableState) (event : Admitted) → IsSound t → MayArrive (t.runs ++ new_run event ∷ []) (Holder.a_run (length t.runs))
+pub new_run_arrives : (t : TableState) (event : Admitted) → IsSound t
+    → MayArrive (t.runs ++ new_run event ∷ []) (Holder.a_run (length t.runs))
 new_run_arrives t event s = record {
   is_pending = new_run_waits t.runs event;
   sound = sound_runs (t.runs ++ new_run event ∷ []) (all_fit t.runs event (table_fits t s));
@@ -66,7 +67,8 @@ entered_may_settle t event s = record {
 pub entering_arrives : (t : TableState) (event : Admitted) (runs added : List RunState) (run : RunState) (place : ℕ) → IsSound t
     → runs ≡ t.runs → added ≡ runs ++ run ∷ [] → run ≡ new_run event → place ≡ length runs → MayArrive added (Holder.a_run place)
 entering_arrives t event runs added run place s runs_are added_is run_is place_is =
-    let same : added ≡ t.runs ++ new_run event ∷ [] = added_is ∙ ap (λ v. runs ++ v ∷ []) run_is ∙ ap (λ xs. xs ++ new_run event ∷ []) runs_are in
+    let same : added ≡ t.runs ++ new_run event ∷ [] =
+    added_is ∙ ap (λ v. runs ++ v ∷ []) run_is ∙ ap (λ xs. xs ++ new_run event ∷ []) runs_are in
     let at : place ≡ length t.runs = place_is ∙ ap (λ (xs : List RunState). length xs) runs_are in
     subst (λ (xs : List RunState). MayArrive xs (Holder.a_run place)) (sym same)
     (subst (λ (n : ℕ). MayArrive (t.runs ++ new_run event ∷ []) (Holder.a_run n)) (sym at) (new_run_arrives t event s))
@@ -75,7 +77,8 @@ pub entering_settles : (t : TableState) (event : Admitted) (runs added new : Lis
     → runs ≡ t.runs → added ≡ runs ++ run ∷ [] → run ≡ new_run event → place ≡ length runs
     → new ≡ (arrived (Holder.a_run place) added).runs → MaySettle new
 entering_settles t event runs added new run place s runs_are added_is run_is place_is new_is =
-    let same : added ≡ t.runs ++ new_run event ∷ [] = added_is ∙ ap (λ v. runs ++ v ∷ []) run_is ∙ ap (λ xs. xs ++ new_run event ∷ []) runs_are in
+    let same : added ≡ t.runs ++ new_run event ∷ [] =
+    added_is ∙ ap (λ v. runs ++ v ∷ []) run_is ∙ ap (λ xs. xs ++ new_run event ∷ []) runs_are in
     let at : place ≡ length t.runs = place_is ∙ ap (λ (xs : List RunState). length xs) runs_are in
     let is : new ≡ (entered t event).runs =
     new_is ∙ ap (λ n. (arrived (Holder.a_run n) added).runs) at ∙ ap (λ xs. (arrived (Holder.a_run (length t.runs)) xs).runs) same in
@@ -106,7 +109,8 @@ reported_may_settle t report s none =
       one_each = ended_one_each report.lease report.result t.runs (table_fits t s) stay s.one_of_each_group;
     }
 
-pub lost_may_settle : (t : TableState) (name : List ℕ) (runner : RunnerState) (lease : ℕ) → IsSound t → runner_named t.runners name ≡ Some runner
+pub lost_may_settle : (t : TableState) (name : List ℕ) (runner : RunnerState) (lease : ℕ) → IsSound t
+    → runner_named t.runners name ≡ Some runner
     → runner.holds ≡ Some lease → MaySettle (with_ended lease (outcome_of_loss t.runs lease) t.runs)
 lost_may_settle t name runner lease s named holds =
     let stay = loss_stays t name runner lease (kept_from_sound t s) named holds in

@@ -1,5 +1,6 @@
 -- What is bound for a leg says what its templates say once results are known.
-use Rattle.std.specs.Prelude.{◌≡◌, ℕ, zero, suc, List, [], ◌∷◌, ◌++◌, ◌&&◌, length, filter_map, find, codes, Bool, true, false, Option, Some, None}
+use Rattle.std.specs.Prelude.{◌≡◌, ℕ, zero, suc, List, [], ◌∷◌, ◌++◌, ◌&&◌, length, filter_map, find, codes, Bool, true, false, Option}
+use Rattle.std.specs.Prelude.{Some, None}
 use Rattle.std.specs.Prelude.{option_map, option_and_then, slice_get, if◌then◌else◌, refl}
 use Rattle.std.specs.List.{cons_option, slice_index_or}
 use Rattle.std.specs.Option.{option_map_or, option_or}
@@ -142,7 +143,8 @@ leg_has_results run id number job j l results (context ∷ inner ∷ name ∷ []
     inner_by results (bytes_eq context (codes "needs") && bytes_eq name (codes "result")) found
     (option_and_then (λ r. r) (under inner (filter_map
     (λ k. option_map (λ (planned : PlannedJob). (planned.id, results k)) (slice_get plan k)) places)))
-    (option_and_then (λ r. r) (under inner (direct_needs run j))) (sent_value (event_of run.admitted.body).contexts (context ∷ inner ∷ name ∷ []))
+    (option_and_then (λ r. r) (under inner (direct_needs run j)))
+    (sent_value (event_of run.admitted.body).contexts (context ∷ inner ∷ name ∷ []))
     (result_of_id inner plan results places) (none_needed run j inner found refl)
     (λ both. nothing_sent (event_of run.admitted.body).contexts context (inner ∷ name ∷ [])
     (and_parts (bytes_eq context (codes "needs")) (bytes_eq name (codes "result")) both).0)
@@ -179,7 +181,8 @@ pub legs_say : (repository : List ℕ) (values : ℕ → Results → Values) (jo
     → ((l : ℕ) (k : Asked) → slice_get kept l ≡ Some k → Says repository (values l) asked k)
     → (l : ℕ) → SaysSo repository (values l) (asked_of_leg job l) (slice_get kept l)
 legs_say repository values job asked kept is same each l =
-    subst (λ (o : Option Concurrency). SaysSo repository (values l) (option_and_then (λ _. o) (slice_get job.legs l)) (slice_get kept l)) (sym is)
+    subst (λ (o : Option Concurrency). SaysSo repository (values l) (option_and_then (λ _. o) (slice_get job.legs l)) (slice_get kept l))
+    (sym is)
     (asked_where repository (values l) asked job.legs kept l same (each l) (slice_get job.legs l) refl (slice_get kept l) refl)
 
 nothing_asked : {X : Type 0} (o : Option PlannedLeg) → option_and_then (λ _. let none : Option X = None in none) o ≡ None

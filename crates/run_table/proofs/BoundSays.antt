@@ -13,7 +13,8 @@ use Rattle.group_name.specs.BoundGroup.{group_at as bound_group_at}
 use Rattle.run_plan.specs.PlanOf.{plan_of}
 use Rattle.run_plan.specs.declared.planned.PlannedJob.{PlannedJob}
 use Rattle.run_table.specs.BoundGroups.{AreBound, RunSays, SaysSo, asked_of, facts_by, is_set_by, kept_for, results_by_place}
-use Rattle.run_table.specs.GroupOf.{RunFacts, asked_of_leg, cancels_in_progress, group_at, leg_cancels, leg_group, named_group, run_cancels, run_context}
+use Rattle.run_table.specs.GroupOf.{RunFacts, asked_of_leg, cancels_in_progress, group_at, leg_cancels, leg_group, named_group, run_cancels}
+use Rattle.run_table.specs.GroupOf.{run_context}
 use Rattle.run_table.specs.GroupOf.{run_facts_at, run_group}
 use Rattle.run_table.specs.Holders.{run_of}
 use Rattle.run_table.specs.JobResults.{direct_needs}
@@ -38,7 +39,8 @@ says_group repository values (Some asked) (Some kept) says results = says.group 
 
 says_flag : (repository : List ℕ) (values : Results → Values) (asked : Option Concurrency) (kept : Option Asked)
     → SaysSo repository values asked kept → (results : Results)
-    → option_map_or (λ a. is_set_by results a.cancels) kept false ≡ option_map_or (λ c. is_set (values results) c.cancel_in_progress) asked false
+    → option_map_or (λ a. is_set_by results a.cancels) kept false
+    ≡ option_map_or (λ c. is_set (values results) c.cancel_in_progress) asked false
 says_flag repository values None None says results = refl
 says_flag repository values None (Some kept) says results = absurd says
 says_flag repository values (Some asked) None says results = absurd says

@@ -18,7 +18,12 @@ use Rattle.run_table.specs.declared.phases.RunPhase.TheVariants as run
 
 abbrev run_of : RunPhase → Bool → List JobState → RunState
 run_of phase stopping jobs =
-    record { admitted = record { delivery = codes "d1"; event = codes "push"; body = codes "{}" }; phase = phase; stopping = stopping; jobs = jobs }
+    record {
+      admitted = record { delivery = codes "d1"; event = codes "push"; body = codes "{}" };
+      phase = phase;
+      stopping = stopping;
+      jobs = jobs;
+    }
 
 abbrev open_job : List LegState → JobState
 open_job legs = record { phase = job.Open; legs = legs }
@@ -47,7 +52,8 @@ ended_run_stays = refl
 
 -- of an open job whose condition is false the legs that no runner has end, and the running ones are told to stop
 legs_of_a_stopped_job : stopped_where true (open_job
-    (unclaimed leg.New ∷ unclaimed leg.Waiting ∷ unclaimed leg.Ready ∷ claimed leg.Running ∷ claimed leg.Stopping ∷ claimed (leg.Ended outcome.Failure) ∷ []))
+    (unclaimed leg.New ∷ unclaimed leg.Waiting ∷ unclaimed leg.Ready ∷ claimed leg.Running ∷ claimed leg.Stopping ∷ claimed
+    (leg.Ended outcome.Failure) ∷ []))
     ≡ open_job (unclaimed (leg.Ended outcome.Cancelled) ∷ unclaimed (leg.Ended outcome.Cancelled) ∷ unclaimed (leg.Ended outcome.Cancelled)
     ∷ claimed leg.Stopping ∷ claimed leg.Stopping ∷ claimed (leg.Ended outcome.Failure) ∷ [])
 legs_of_a_stopped_job = refl
@@ -56,7 +62,8 @@ legs_of_a_stopped_job = refl
 blocked_job_stays : stopped_where true blocked_job ≡ blocked_job
 blocked_job_stays = refl
 
-job_goes_on : stopped_where false (open_job (unclaimed leg.Ready ∷ claimed leg.Running ∷ [])) ≡ open_job (unclaimed leg.Ready ∷ claimed leg.Running ∷ [])
+job_goes_on : stopped_where false (open_job (unclaimed leg.Ready ∷ claimed leg.Running ∷ []))
+    ≡ open_job (unclaimed leg.Ready ∷ claimed leg.Running ∷ [])
 job_goes_on = refl
 
 abbrev table_of : RunState → List RunnerState → TableState
@@ -65,7 +72,8 @@ table_of one runners = record { last_lease = 1; runs = one ∷ []; runners = run
 cancel_of_no_run : step empty (command.Cancel 1) ≡ (empty, refused NoRun)
 cancel_of_no_run = refl
 
-cancel_of_an_ended_run : step (table_of (run_of run.Ended false []) []) (command.Cancel 1) ≡ (table_of (run_of run.Ended false []) [], refused RunCompleted)
+cancel_of_an_ended_run : step (table_of (run_of run.Ended false []) []) (command.Cancel 1)
+    ≡ (table_of (run_of run.Ended false []) [], refused RunCompleted)
 cancel_of_an_ended_run = refl
 
 cancel_of_a_stopping_run : step (table_of (run_of run.Live true (open_job (claimed leg.Stopping ∷ []) ∷ [])) []) (command.Cancel 1)
@@ -83,7 +91,8 @@ running_leg_is_lost = refl
 stopping_leg_is_lost : outcome_of_loss (run_of run.Live false (open_job (claimed leg.Stopping ∷ []) ∷ []) ∷ []) 1 ≡ outcome.Cancelled
 stopping_leg_is_lost = refl
 
-running_leg_of_a_stopping_run_is_lost : outcome_of_loss (run_of run.Live true (open_job (claimed leg.Running ∷ []) ∷ []) ∷ []) 1 ≡ outcome.Failure
+running_leg_of_a_stopping_run_is_lost : outcome_of_loss (run_of run.Live true (open_job (claimed leg.Running ∷ []) ∷ []) ∷ []) 1
+    ≡ outcome.Failure
 running_leg_of_a_stopping_run_is_lost = refl
 
 abbrev claim_of_one : Claimed
@@ -99,8 +108,10 @@ loss_of_an_idle_runner : step (table_of (run_of run.Ended false []) (idle ∷ []
     ≡ (table_of (run_of run.Ended false []) (idle ∷ []), refused LeaseNotHeld)
 loss_of_an_idle_runner = refl
 
-fetched : step (table_of (run_of run.Ended false []) []) (command.Fetch 1) ≡ (table_of (run_of run.Ended false []) [], reply.Body (codes "{}"))
+fetched : step (table_of (run_of run.Ended false []) []) (command.Fetch 1)
+    ≡ (table_of (run_of run.Ended false []) [], reply.Body (codes "{}"))
 fetched = refl
 
-fetch_of_no_run : step (table_of (run_of run.Ended false []) []) (command.Fetch 2) ≡ (table_of (run_of run.Ended false []) [], refused NoRun)
+fetch_of_no_run : step (table_of (run_of run.Ended false []) []) (command.Fetch 2)
+    ≡ (table_of (run_of run.Ended false []) [], refused NoRun)
 fetch_of_no_run = refl

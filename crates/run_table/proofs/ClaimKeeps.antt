@@ -135,7 +135,8 @@ module _ (runs : List RunState) (p : LegPlace) (z : LegState) (f : LegState → 
       let now : with_leg_of p.leg f is_in.job ≡ y = some_job y (sym (job_is_now runs p z f is_in) ∙ at) in
       subst (λ (v : JobState). legs_at_work v ≤ most) now (omega (arith, less, more))
     where
-      some_job : (y : JobState) → Some (with_leg_of p.leg f (leg_in runs p z is).job) ≡ Some y → with_leg_of p.leg f (leg_in runs p z is).job ≡ y
+      some_job : (y : JobState) → Some (with_leg_of p.leg f (leg_in runs p z is).job) ≡ Some y
+          → with_leg_of p.leg f (leg_in runs p z is).job ≡ y
       some_job y e = cc
 
   -- and the others are as they were
@@ -186,7 +187,8 @@ serving_keeps t claim s none =
       kept_are_had = each_put t.runners new (λ x. KeptIsHad t.runs x.last) tt s.kept_are_had;
     }
   where
-    same_holds : ChangesAt (holds_at t.runners) (holds_at (with_runner t.runners (claiming_runner claim None given.Nothing))) claim.runner None
+    same_holds : ChangesAt (holds_at t.runners) (holds_at (with_runner t.runners (claiming_runner claim None given.Nothing)))
+        claim.runner None
         → holds_at t.runners claim.runner ≡ None
         → (name : List ℕ) → holds_at (with_runner t.runners (claiming_runner claim None given.Nothing)) name ≡ holds_at t.runners name
     same_holds changes before name =

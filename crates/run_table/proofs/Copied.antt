@@ -84,7 +84,8 @@ not_true : (b : Bool) → not b ≡ true → b ≡ false
 not_true true is = sym is
 not_true false is = refl
 
-plain_answer : (t : TableState) (answer : Option Reply) (change : Step) → is_free answer ≡ true → IsPlain (option_map_or (unchanged t) answer change)
+plain_answer : (t : TableState) (answer : Option Reply) (change : Step) → is_free answer ≡ true
+    → IsPlain (option_map_or (unchanged t) answer change)
 plain_answer t (Some reply) change free = not_true (carries_text reply) free
 plain_answer t None change free = absurd (cc free)
 

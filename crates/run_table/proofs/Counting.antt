@@ -1,5 +1,6 @@
 -- One more run is counted: its workflow has one more, and the others have as many as before.
-use Rattle.std.specs.Prelude.{◌≡◌, ℕ, ◌+◌, ◌&&◌, List, [], ◌∷◌, ◌++◌, Bool, true, false, cond, is_some, IsSomeAnd, MatchOption, Some, None, Option, refl}
+use Rattle.std.specs.Prelude.{◌≡◌, ℕ, ◌+◌, ◌&&◌, List, [], ◌∷◌, ◌++◌, Bool, true, false, cond, is_some, IsSomeAnd, MatchOption, Some, None}
+use Rattle.std.specs.Prelude.{Option, refl}
 use Rattle.std.specs.BTreeMap.{BTreeMap, UpdatesBy, get_by}
 use Rattle.std.specs.Cmp.{IsEquivalence}
 use Rattle.std.specs.Cmp.Lexicographic.{slice_cmp}
@@ -67,7 +68,8 @@ same_found D is (Some v) None h = absurd h
 
 -- ---- a change at one workflow
 
-other_stays : {X : Type 0} (eq : Workflow → Workflow → Bool) (test : Workflow → Bool) (old new : List (Workflow × X)) → KeepsOthers eq test old new
+other_stays : {X : Type 0} (eq : Workflow → Workflow → Bool) (test : Workflow → Bool) (old new : List (Workflow × X))
+    → KeepsOthers eq test old new
     → (other : Workflow → Bool) → IsKeyTest eq other → AreApart test other → lookup other new ≡ lookup other old
 unfolding KeepsOthers
 other_stays eq test old new keeps = keeps
@@ -79,7 +81,8 @@ abbrev count_at : BTreeMap Workflow ℕ → Texts → ℕ
 count_at counts a = unwrap_or (lookup (λ w. same a (texts_of w)) counts.entries) 0
 
 module _ (old new : BTreeMap Workflow ℕ) (a : Texts) (number : ℕ)
-    (updates : UpdatesBy (λ (x y : Workflow). order (texts_of x) (texts_of y)) (λ (w : Workflow). order a (texts_of w)) old new (Some number)) where
+    (updates : UpdatesBy (λ (x y : Workflow). order (texts_of x) (texts_of y)) (λ (w : Workflow). order a (texts_of w)) old new
+    (Some number)) where
   at_others : (b : Texts) → same a b ≡ false → count_at new b ≡ count_at old b
   at_others b differ =
       ap (λ (o : Option ℕ). unwrap_or o 0)
@@ -124,15 +127,18 @@ Puts old new a number =
 same_workflow_texts : (workflow : Workflow) (event : Admitted) → IsOf workflow event → texts_of workflow ≡ of_event event
 same_workflow_texts workflow event is = ap₂ (λ (a b : List ℕ). (a, b)) is.0 is.1
 
-pub counted : (old new : BTreeMap Workflow ℕ) (event : Admitted) (workflow : Workflow) (number : ℕ) → Puts old new (texts_of workflow) number
+pub counted : (old new : BTreeMap Workflow ℕ) (event : Admitted) (workflow : Workflow) (number : ℕ)
+    → Puts old new (texts_of workflow) number
     → IsOf workflow event → number ≡ count_of old event + 1 → (other : Admitted)
     → count_of new other ≡ cond (same_workflow other event) (count_of old other + 1) (count_of old other)
 counted old new event workflow number updates of is other =
-    counted_at old new (of_event event) number (subst (λ (a : Texts). Puts old new a number) (same_workflow_texts workflow event of) updates) is
+    counted_at old new (of_event event) number
+    (subst (λ (a : Texts). Puts old new a number) (same_workflow_texts workflow event of) updates) is
     (of_event other)
 
 -- a workflow without a count, whose count is made 0
-pub room_made : (old new : BTreeMap Workflow ℕ) (workflow copy : Workflow) → texts_of copy ≡ texts_of workflow → Puts old new (texts_of copy) 0
+pub room_made : (old new : BTreeMap Workflow ℕ) (workflow copy : Workflow) → texts_of copy ≡ texts_of workflow
+    → Puts old new (texts_of copy) 0
     → has_count old workflow ≡ false → (other : Admitted) → count_of new other ≡ count_of old other
 room_made old new workflow copy same updates none other =
     room_at old new (texts_of workflow) 0 (subst (λ (a : Texts). Puts old new a 0) same updates)
@@ -157,7 +163,8 @@ pub kept_count : (counts : BTreeMap Workflow ℕ) (workflow : Workflow) (event :
     → is_counted counts event ≡ true → get_by (λ (w : Workflow). order (texts_of workflow) (texts_of w)) counts ≡ None → ⊥
 kept_count counts workflow event of is none =
     let found : is_some (get_by (λ (w : Workflow). order (texts_of workflow) (texts_of w)) counts) ≡ true =
-    subst (λ (a : Texts). is_some (get_by (λ (w : Workflow). order a (texts_of w)) counts) ≡ true) (sym (same_workflow_texts workflow event of)) is in
+    subst (λ (a : Texts). is_some (get_by (λ (w : Workflow). order a (texts_of w)) counts) ≡ true)
+    (sym (same_workflow_texts workflow event of)) is in
     false≢true (sym (ap is_some none) ∙ found)
 
 -- ---- the events that are counted

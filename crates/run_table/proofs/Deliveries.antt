@@ -22,8 +22,10 @@ use Rattle.run_table.specs.Moves.{Holder, Step}
 use Rattle.run_table.specs.Places.{with_leg}
 use Rattle.run_table.specs.RunNumber.{events}
 use Rattle.run_table.specs.Settling.{settled}
-use Rattle.run_table.specs.Step.{admission_answer, admitting, cancel_answer, cancelling, claim_answer, claiming, entered, is_delivered_as, leased_leg}
-use Rattle.run_table.specs.Step.{leasing, losing, lost, new_run, refused, released, report_answer, reporting, serving_nothing, step, stepped, unchanged}
+use Rattle.run_table.specs.Step.{admission_answer, admitting, cancel_answer, cancelling, claim_answer, claiming, entered, is_delivered_as}
+use Rattle.run_table.specs.Step.{leased_leg}
+use Rattle.run_table.specs.Step.{leasing, losing, lost, new_run, refused, released, report_answer, reporting, serving_nothing, step}
+use Rattle.run_table.specs.Step.{stepped, unchanged}
 use Rattle.run_table.specs.Step.{with_ended}
 use Rattle.run_table.specs.StopMoves.{stop_holder}
 use Rattle.run_table.specs.Stops.{outcome_of_loss}
@@ -44,7 +46,8 @@ keeps_all t next same = ([], same ∙ sym (append-nil (events t.runs)))
 keeps_itself : (t : TableState) → Keeps t t
 keeps_itself t = keeps_all t t refl
 
-answered : (t : TableState) (answer : Option Reply) (change : Step) → Keeps t change.table → Keeps t (option_map_or (unchanged t) answer change).table
+answered : (t : TableState) (answer : Option Reply) (change : Step) → Keeps t change.table
+    → Keeps t (option_map_or (unchanged t) answer change).table
 answered t None change h = h
 answered t (Some given) change h = keeps_itself t
 
@@ -58,12 +61,13 @@ admits : (t : TableState) (event : Admitted) → Keeps t (admitting t event).tab
 admits t event = (event ∷ [], entered_events t event)
 
 claims : (t : TableState) (claim : Claimed) → Keeps t (claiming t claim).table
-claims t claim = elim (first_fit claim.labels t.runs) as (λ o. Keeps t (option_map_or (leasing t claim) o (serving_nothing t claim)).table) [
-  | None ↦ keeps_all t (serving_nothing t claim).table (settled_events t.runs)
-  | Some p ↦ keeps_all t (leasing t claim p).table
-      (let f : LegState → LegState = λ x. leased_leg (t.last_lease + 1) in
-      settled_events (with_leg p f t.runs) ∙ leg_events p f t.runs)
-]
+claims t claim = elim (first_fit claim.labels t.runs) as
+    (λ o. Keeps t (option_map_or (leasing t claim) o (serving_nothing t claim)).table) [
+      | None ↦ keeps_all t (serving_nothing t claim).table (settled_events t.runs)
+      | Some p ↦ keeps_all t (leasing t claim p).table
+          (let f : LegState → LegState = λ x. leased_leg (t.last_lease + 1) in
+          settled_events (with_leg p f t.runs) ∙ leg_events p f t.runs)
+    ]
 
 ends : (t : TableState) (lease : ℕ) (outcome : Outcome) → events (settled (with_ended lease outcome t.runs)) ≡ events t.runs
 ends t lease outcome = settled_events (with_ended lease outcome t.runs) ∙ ended_events lease outcome t.runs
@@ -121,7 +125,8 @@ len_map f p (x ∷ xs) = ap (λ (n : ℕ). cond (p (f x)) (1 + n) 0) (len_map f 
 abbrev at_place : ℕ → ℕ → Option ℕ
 at_place n l = cond (nat_lt n l) (Some n) None
 
-by_events : (delivery : List ℕ) (runs : List RunState) → position (is_event delivery) (events runs) ≡ position (is_delivered_as delivery) runs
+by_events : (delivery : List ℕ) (runs : List RunState)
+    → position (is_event delivery) (events runs) ≡ position (is_delivered_as delivery) runs
 by_events delivery runs =
     let adm = λ (x : RunState). x.admitted in
     ap (λ (n : ℕ). at_place n (length (events runs))) (len_map adm (λ e. not (is_event delivery e)) runs)
@@ -146,7 +151,8 @@ len_front p (x ∷ xs) ys less =
       | false ↦ λ h. refl
     ] less
 
-len_all : {X : Type 0} (p : X → Bool) (xs : List X) (y : X) → length xs ≤ prefix_len p xs → p y ≡ false → prefix_len p (xs ++ y ∷ []) ≡ length xs
+len_all : {X : Type 0} (p : X → Bool) (xs : List X) (y : X) → length xs ≤ prefix_len p xs → p y ≡ false
+    → prefix_len p (xs ++ y ∷ []) ≡ length xs
 len_all p [] y all fails = ap (λ (b : Bool). cond b (1 + 0) 0) fails
 len_all p (x ∷ xs) y all fails =
     elim (p x) as (λ b. length (x ∷ xs) ≤ cond b (1 + prefix_len p xs) 0 → cond b (1 + prefix_len p (xs ++ y ∷ [])) 0 ≡ length (x ∷ xs)) [
@@ -155,7 +161,8 @@ len_all p (x ∷ xs) y all fails =
     ] all
 
 -- what stands at a place stays there
-pub place_stays : (delivery : List ℕ) (t next : TableState) (i : ℕ) → Keeps t next → place_of delivery t ≡ Some i → place_of delivery next ≡ Some i
+pub place_stays : (delivery : List ℕ) (t next : TableState) (i : ℕ) → Keeps t next → place_of delivery t ≡ Some i
+    → place_of delivery next ≡ Some i
 place_stays delivery t next i keeps is =
     let p = is_event delivery in
     let q = λ (e : Admitted). not (is_event delivery e) in
@@ -172,10 +179,12 @@ place_stays delivery t next i keeps is =
 
 abbrev admitted_by : TableState → Admitted → Option ℕ → Bool → Step
 admitted_by t event place full =
-    option_map_or (unchanged t) (option_or (option_map (λ i. reply.Created (i + 1)) place) (if full then Some (refused LastCounter) else None))
+    option_map_or (unchanged t) (option_or (option_map (λ i. reply.Created (i + 1)) place)
+    (if full then Some (refused LastCounter) else None))
     (admitting t event)
 
-new_place : (t : TableState) (event : Admitted) → place_of event.delivery t ≡ None → place_of event.delivery (admitting t event).table ≡ Some (length t.runs)
+new_place : (t : TableState) (event : Admitted) → place_of event.delivery t ≡ None
+    → place_of event.delivery (admitting t event).table ≡ Some (length t.runs)
 new_place t event none =
     let q = λ (e : Admitted). not (is_event event.delivery e) in
     let old = events t.runs in
@@ -209,7 +218,10 @@ created_at t event id given =
 pub created_again : (t : TableState) (event : Admitted) (i : ℕ) → place_of event.delivery t ≡ Some i
     → step t (command.Admit event) ≡ (t, reply.Created (i + 1))
 created_again t event i is =
-    ap (λ (o : Option ℕ). ((admitted_by t event o (nat_le 100000 (length t.runs))).table, (admitted_by t event o (nat_le 100000 (length t.runs))).reply)) is
+    ap (λ (o : Option ℕ). (
+      (admitted_by t event o (nat_le 100000 (length t.runs))).table,
+      (admitted_by t event o (nat_le 100000 (length t.runs))).reply,
+    )) is
 
 -- ---- the law
 

@@ -54,7 +54,8 @@ module _ (runs : List RunState) (event : Admitted) where
       let of_run = sym (by_run test next p) ∙ e in
       elim (cases_eq p.run (length runs)) [
         | inl same ↦
-            let none = ap (passes asked) (ap (slice_get next) same ∙ at_the_end runs (new_run event)) ∙ no_leg_of_new_run test p.job p.leg event in
+            let none = ap (passes asked) (ap (slice_get next) same ∙ at_the_end runs (new_run event))
+            ∙ no_leg_of_new_run test p.job p.leg event in
             absurd (bad (sym none ∙ of_run))
         | inr other ↦ by_run test runs p ∙ ap (passes asked) (sym (before_the_end runs (new_run event) p.run other)) ∙ of_run
       ]
@@ -107,7 +108,8 @@ module _ (runs : List RunState) (event : Admitted) where
 
   new_run_one_each : RunsFit runs → HasOneEach runs → HasOneEach (arrived (Holder.a_run (length runs)) (runs ++ new_run event ∷ [])).runs
   new_run_one_each fit each =
-      arrival_one_each (runs ++ new_run event ∷ []) (all_fit runs event fit) (Holder.a_run (length runs)) new_run_waits (beside_new_run fit each)
+      arrival_one_each (runs ++ new_run event ∷ []) (all_fit runs event fit) (Holder.a_run (length runs)) new_run_waits
+      (beside_new_run fit each)
 
 -- ---- in a table
 

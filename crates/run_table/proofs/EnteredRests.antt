@@ -46,7 +46,8 @@ still_hold runs event (Holder.a_leg p) g at held =
     ∙ sym (by_run leg_holds runs p) ∙ held
 
 rested : (runs : List RunState) → first_place runs ≡ None → (n : ℕ) → NoneBefore (first_in_run runs) runs n
-rested runs rests n k lt = asked_none (first_in_run runs) runs (each_none (first_in_run runs) runs (sym (first_place_by_run runs) ∙ rests)) k _ refl
+rested runs rests n k lt = asked_none (first_in_run runs) runs
+    (each_none (first_in_run runs) runs (sym (first_place_by_run runs) ∙ rests)) k _ refl
 
 pub new_run_rests : (t : TableState) (event : Admitted) → IsSound t
     → RestBefore (t.runs ++ new_run event ∷ []) (record { run = length t.runs; job = 0 })
@@ -60,11 +61,13 @@ new_run_rests t event s =
     )
 
 -- the same of what the code has in its hands
-pub entering_rests : (t : TableState) (event : Admitted) (runs added new : List RunState) (run : RunState) (place : ℕ) (from : JobPlace) → IsSound t
+pub entering_rests : (t : TableState) (event : Admitted) (runs added new : List RunState) (run : RunState) (place : ℕ) (from : JobPlace)
+    → IsSound t
     → runs ≡ t.runs → added ≡ runs ++ run ∷ [] → run ≡ new_run event → place ≡ length runs
     → new ≡ (arrived (Holder.a_run place) added).runs → from ≡ look_first added place → RestBefore new from
 entering_rests t event runs added new run place from s runs_are added_is run_is place_is new_is from_is =
-    let same : added ≡ t.runs ++ new_run event ∷ [] = added_is ∙ ap (λ v. runs ++ v ∷ []) run_is ∙ ap (λ xs. xs ++ new_run event ∷ []) runs_are in
+    let same : added ≡ t.runs ++ new_run event ∷ [] =
+    added_is ∙ ap (λ v. runs ++ v ∷ []) run_is ∙ ap (λ xs. xs ++ new_run event ∷ []) runs_are in
     let at : place ≡ length t.runs = place_is ∙ ap (λ (xs : List RunState). length xs) runs_are in
     let h = Holder.a_run place in
     elim (group_at added h) as (λ o. group_at added h ≡ o → RestBefore new from) [
@@ -77,7 +80,8 @@ entering_rests t event runs added new run place from s runs_are added_is run_is 
           from_is ∙ ap (λ (o : Option Group). record { run = if is_some o then 0 else place; job = 0 }) is
           ∙ ap (λ (n : ℕ). record { run = n; job = 0 }) at in
           let stay : new ≡ t.runs ++ new_run event ∷ [] = new_is
-          ∙ ap (λ (o : Option Group). (option_map_or (room_made (cancels_in_progress added h) h added) o (without_moves added)).runs) is ∙ same in
+          ∙ ap (λ (o : Option Group). (option_map_or (room_made (cancels_in_progress added h) h added) o (without_moves added)).runs) is
+          ∙ same in
           subst (RestBefore new) (sym start)
           (subst (λ (xs : List RunState). RestBefore xs (record { run = length t.runs; job = 0 })) (sym stay) (new_run_rests t event s))
     ] refl

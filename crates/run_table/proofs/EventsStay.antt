@@ -16,7 +16,8 @@ use Rattle.run_table.specs.Moves.{Holder, Moved, and_then, at_each, without_move
 use Rattle.run_table.specs.Places.{LegPlace, job_at, leg_at, run_at, with_job, with_leg, with_run}
 use Rattle.run_table.specs.RunNumber.{events}
 use Rattle.run_table.specs.Rules.{closing_rule, decided, is_blocked, is_done, is_settled, leg_in_phase, leg_rule, leg_rule_in}
-use Rattle.run_table.specs.Rules.{newcomer_rule, opening_rule, result_at, rule_at, run_in_phase, settled_as, whole_rule, whole_rule_in, with_leg_in}
+use Rattle.run_table.specs.Rules.{newcomer_rule, opening_rule, result_at, rule_at, run_in_phase, settled_as, whole_rule, whole_rule_in}
+use Rattle.run_table.specs.Rules.{with_leg_in}
 use Rattle.run_table.specs.Settling.{first_place, first_rule, left, settled, settled_within}
 use Rattle.run_table.specs.Step.{with_ended}
 use Rattle.run_table.specs.StopMoves.{displace, stop_holder}
@@ -49,7 +50,8 @@ leg_events p f runs = job_events p.run p.job (λ (job : JobState). record job { 
 
 stopped_event : (phase : RunPhase) (r : RunState) → (stopped_in phase r).admitted ≡ r.admitted
 stopped_event run.Waiting r = refl
-stopped_event run.Live r = elim (r.stopping) as (λ b. (if b then r else told_to_stop r).admitted ≡ r.admitted) [ true ↦ refl | false ↦ refl ]
+stopped_event run.Live r = elim (r.stopping) as (λ b. (if b then r else told_to_stop r).admitted ≡ r.admitted)
+    [ true ↦ refl | false ↦ refl ]
 stopped_event run.Ended r = refl
 
 pub stop_events : (h : Holder) (runs : List RunState) → events (stop_holder h runs).runs ≡ events runs
@@ -71,7 +73,8 @@ arrived_events newcomer runs =
       | None ↦ refl
       | Some g ↦
           let after : List RunState = (displaced g newcomer runs).runs in
-          let first : events after ≡ events runs = each_events displace (others_pending g newcomer runs) runs (λ h now. stop_events h now) in
+          let first : events after ≡ events runs =
+          each_events displace (others_pending g newcomer runs) runs (λ h now. stop_events h now) in
           let second : events (stopped_where_asked cancels g after).runs ≡ events after =
           elim (cancels) as (λ b. events (stopped_where_asked b g after).runs ≡ events after) [
             | true ↦ each_events stop_holder (running_in after g) after (λ h now. stop_events h now)

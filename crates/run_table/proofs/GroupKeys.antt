@@ -34,8 +34,10 @@ pub named_for_run : (run : RunFacts) (asked : Concurrency) (repository id number
     → named_group repository (run_context (record { event = run.event; run_id = id; run_number = number })) asked ≡ run_group run
 named_for_run run asked repository id number asks same_repository same_id same_number =
     ap (λ r. named_group r (run_context (record { event = run.event; run_id = id; run_number = number })) asked) same_repository
-    ∙ ap (λ i. named_group (event_of run.event.body).repo (run_context (record { event = run.event; run_id = i; run_number = number })) asked) same_id
-    ∙ ap (λ n. named_group (event_of run.event.body).repo (run_context (record { event = run.event; run_id = run.run_id; run_number = n })) asked)
+    ∙ ap (λ i. named_group (event_of run.event.body).repo (run_context (record { event = run.event; run_id = i; run_number = number }))
+    asked) same_id
+    ∙ ap (λ n. named_group (event_of run.event.body).repo
+    (run_context (record { event = run.event; run_id = run.run_id; run_number = n })) asked)
     same_number
     ∙ ap (option_and_then (named_group (event_of run.event.body).repo (run_context run))) asks
 

@@ -134,11 +134,13 @@ own_group_cancels = refl
 -- run, whose second leg has not arrived yet.
 abbrev first_of_two : List ℕ
 first_of_two =
-    of_workflow (codes "{\"jobs\":{\"a\":{\"runs-on\":\"linux\",\"concurrency\":\"g\"},\"b\":{\"runs-on\":\"linux\",\"needs\":\"a\",\"if\":\"always()\",\"concurrency\":{\"group\":\"h\",\"cancel-in-progress\":true}}}}")
+    of_workflow (codes "{\"jobs\":{\"a\":{\"runs-on\":\"linux\",\"concurrency\":\"g\"},\"b\":{\"runs-on\":\"linux\",\"needs\":\"a\","
+    ++ codes "\"if\":\"always()\",\"concurrency\":{\"group\":\"h\",\"cancel-in-progress\":true}}}}")
 
 abbrev second_of_two : List ℕ
 second_of_two =
-    of_workflow (codes "{\"concurrency\":\"h\",\"jobs\":{\"m\":{\"runs-on\":\"linux\",\"concurrency\":{\"group\":\"g\",\"cancel-in-progress\":true},\"strategy\":{\"matrix\":{\"n\":[1,2]}}}}}")
+    of_workflow (codes "{\"concurrency\":\"h\",\"jobs\":{\"m\":{\"runs-on\":\"linux\",\"concurrency\":{\"group\":\"g\","
+    ++ codes "\"cancel-in-progress\":true},\"strategy\":{\"matrix\":{\"n\":[1,2]}}}}}")
 
 abbrev two_that_stop_each_other : List Command
 two_that_stop_each_other = admit (codes "a") first_of_two ∷ admit (codes "b") second_of_two ∷ command.Look 1 ∷ command.Look 2 ∷ []
@@ -176,7 +178,8 @@ they_keep_the_law = (refl, refl)
 
 abbrev run_of_group_and_legs : List ℕ
 run_of_group_and_legs =
-    of_workflow (codes "{\"concurrency\":\"x\",\"jobs\":{\"m\":{\"runs-on\":\"linux\",\"concurrency\":\"g\",\"strategy\":{\"matrix\":{\"n\":[1,2]}}},\"z\":{\"runs-on\":\"linux\",\"if\":\"always()\"}}}")
+    of_workflow (codes "{\"concurrency\":\"x\",\"jobs\":{\"m\":{\"runs-on\":\"linux\",\"concurrency\":\"g\","
+    ++ codes "\"strategy\":{\"matrix\":{\"n\":[1,2]}}},\"z\":{\"runs-on\":\"linux\",\"if\":\"always()\"}}}")
 
 abbrev behind_it : List ℕ
 behind_it = of_workflow (codes "{\"concurrency\":\"x\",\"jobs\":{\"go\":{\"runs-on\":\"linux\"}}}")
@@ -205,7 +208,8 @@ moves_of_the_legs : group_moves (group (codes "g")) empty both_cancelled
 unfolding on_tables
 moves_of_the_legs = refl
 
-cancelled_runs_keep_the_law : (plays_by_law (group (codes "x")) both_cancelled ≡ true) × (plays_by_law (group (codes "g")) both_cancelled ≡ true)
+cancelled_runs_keep_the_law : (plays_by_law (group (codes "x")) both_cancelled ≡ true)
+    × (plays_by_law (group (codes "g")) both_cancelled ≡ true)
 unfolding on_tables
 cancelled_runs_keep_the_law = (refl, refl)
 
@@ -213,7 +217,8 @@ cancelled_runs_keep_the_law = (refl, refl)
 
 abbrev group_of_each_leg : List ℕ
 group_of_each_leg =
-    of_workflow (codes "{\"jobs\":{\"m\":{\"runs-on\":\"linux\",\"concurrency\":\"g${{ matrix.n }}\",\"strategy\":{\"matrix\":{\"n\":[1,2]}}}}}")
+    of_workflow (codes "{\"jobs\":{\"m\":{\"runs-on\":\"linux\",\"concurrency\":\"g${{ matrix.n }}\","
+    ++ codes "\"strategy\":{\"matrix\":{\"n\":[1,2]}}}}}")
 
 abbrev first_leg_fails : List Command
 first_leg_fails = admit (codes "a") group_of_each_leg ∷ claim (codes "r1") 1 ∷ done (codes "r1") 2 1 Failure ∷ command.Look 1 ∷ []
@@ -260,7 +265,8 @@ empty_name_is_no_group = refl
 -- a job may name its group by how the jobs that it needs ended
 abbrev group_of_a_result : List ℕ
 group_of_a_result =
-    of_workflow (codes "{\"jobs\":{\"a\":{\"runs-on\":\"linux\"},\"b\":{\"runs-on\":\"linux\",\"needs\":\"a\",\"if\":\"always()\",\"concurrency\":\"${{ needs.a.result }}\"}}}")
+    of_workflow (codes "{\"jobs\":{\"a\":{\"runs-on\":\"linux\"},\"b\":{\"runs-on\":\"linux\",\"needs\":\"a\","
+    ++ codes "\"if\":\"always()\",\"concurrency\":\"${{ needs.a.result }}\"}}}")
 
 leg_in_the_group_of_a_result : group_moves (group (codes "failure")) empty
     (admit (codes "a") group_of_a_result ∷ claim (codes "r1") 1 ∷ done (codes "r1") 2 1 Failure ∷ [])

@@ -51,7 +51,8 @@ is_equal Greater e = cc
 -- groups that the order does not tell apart are equal for a map
 pub equal_for_maps : (g k : Group) → group_cmp g k ≡ Equal → IsTrue (group_eq g k)
 equal_for_maps g k e =
-    let parts = both_equal (slice_cmp nat_cmp (repository_bytes g) (repository_bytes k)) (slice_cmp nat_cmp (name_bytes g) (name_bytes k)) e in
+    let parts = both_equal (slice_cmp nat_cmp (repository_bytes g) (repository_bytes k))
+    (slice_cmp nat_cmp (name_bytes g) (name_bytes k)) e in
     both (bytes_eq (repository_bytes g) (repository_bytes k)) (bytes_eq (name_bytes g) (name_bytes k))
     ((bytes_eq-Decides (repository_bytes g) (repository_bytes k)).1 (exact_bytes (repository_bytes g) (repository_bytes k) parts.0))
     ((bytes_eq-Decides (name_bytes g) (name_bytes k)).1 (exact_bytes (name_bytes g) (name_bytes k) parts.1))
@@ -75,7 +76,8 @@ at_same g k same = ap (is_at (group_cmp g)) (sym (same_is_one g k same)) ∙ at_
 
 -- ---- what is found
 
-pub found_some : {X : Type 0} (test other : X → Bool) (xs : List X) (x : X) → find test xs ≡ Some x → other x ≡ true → list_any other xs ≡ true
+pub found_some : {X : Type 0} (test other : X → Bool) (xs : List X) (x : X) → find test xs ≡ Some x → other x ≡ true
+    → list_any other xs ≡ true
 found_some test other [] x e passes = cc
 found_some test other (y ∷ ys) x e passes =
     elim (test y) as (λ b. (if b then Some y else find test ys) ≡ Some x → (other y || list_any other ys) ≡ true) [
@@ -122,7 +124,8 @@ put_in cmp test k (x ∷ xs) none =
     at_key test k x xs (insert_key cmp xs k) (cmp k x) parts.0 (put_in cmp test k xs parts.1)
 
 -- what is there already is there afterwards
-pub there_already : (groups : List Group) (g k : Group) → has_group groups g ≡ true → has_group groups k ≡ (same_group k g || has_group groups k)
+pub there_already : (groups : List Group) (g k : Group) → has_group groups g ≡ true
+    → has_group groups k ≡ (same_group k g || has_group groups k)
 there_already groups g k has =
     elim (same_group k g) as (λ b. same_group k g ≡ b → has_group groups k ≡ (b || has_group groups k)) [
       | true ↦ λ is. ap (has_group groups) (same_is_one k g is) ∙ has

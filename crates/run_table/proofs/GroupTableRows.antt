@@ -1,5 +1,5 @@
 -- The holders of a group in tables written out, by computation.
-use Rattle.std.specs.Prelude.{◌≡◌, ℕ, List, [], ◌∷◌, codes, true, false, Some, None, refl}
+use Rattle.std.specs.Prelude.{◌≡◌, ℕ, List, [], ◌∷◌, ◌++◌, codes, true, false, Some, None, refl}
 use Rattle.wf_value.specs.declared.outcome.Outcome.TheVariants as outcome
 use Rattle.group_name.specs.Group.{Group}
 use Rattle.run_table.specs.GroupChanges.{base_moves}
@@ -48,7 +48,8 @@ runs_begin = refl
 -- a workflow with a job of the group
 abbrev with_job_in_group : List ℕ
 with_job_in_group =
-    codes "{\"repo\":\"o/r\",\"path\":\"p\",\"workflow\":{\"jobs\":{\"a\":{\"runs-on\":\"x\",\"concurrency\":\"g\",\"strategy\":{\"matrix\":{\"n\":[1,2,3,4]}}}}}}"
+    codes "{\"repo\":\"o/r\",\"path\":\"p\",\"workflow\":{\"jobs\":{\"a\":{\"runs-on\":\"x\",\"concurrency\":\"g\","
+    ++ codes "\"strategy\":{\"matrix\":{\"n\":[1,2,3,4]}}}}}}"
 
 -- a leg that has ended, one that has been told to stop, a waiting one and a new one
 abbrev four_legs : List RunState

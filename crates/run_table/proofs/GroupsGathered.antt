@@ -1,5 +1,6 @@
 -- The groups of runs and legs as they are gathered one after the other: each is new, or two clash.
-use Rattle.std.specs.Prelude.{◌≡◌, ◌⊎◌, ℕ, ◌+◌, ◌<◌, List, [], ◌||◌, not, Bool, true, false, Option, Some, None, Result, Ok, Err, IfOk, OnOk, refl}
+use Rattle.std.specs.Prelude.{◌≡◌, ◌⊎◌, ℕ, ◌+◌, ◌<◌, List, [], ◌||◌, not, Bool, true, false, Option, Some, None, Result, Ok, Err, IfOk}
+use Rattle.std.specs.Prelude.{OnOk, refl}
 use Rattle.std.proofs.Common.{arith, ap, sym, subst, ◌∙◌, inl, inr}
 use Rattle.std.proofs.lemmas.Bool.{cases_eq, true≢false}
 use Rattle.wf_value.specs.declared.refusal.Refusal.{Refusal}
@@ -206,7 +207,8 @@ module _ (group_of : Holder → Option Group) where
   pub legs_clash : (b : List Group) → Gathered group_of [] b IsARun → Clash group_of b IsALeg → DifferInGroup group_of → ⊥
   legs_clash b of_runs clash = two_clash (others_clash [] b IsARun IsALeg Each of_runs clash (λ h is. tt) (λ h is. tt) not_both)
 
-  pub all_new : (a b : List Group) (these : Holder → Type 0) (new : Bool) → AddsEach group_of a b these new → new ≡ true → Gathered group_of a b these
+  pub all_new : (a b : List Group) (these : Holder → Type 0) (new : Bool) → AddsEach group_of a b these new → new ≡ true
+      → Gathered group_of a b these
   all_new a b these true adds is = adds
   all_new a b these false adds is = cc
 

@@ -1,6 +1,7 @@
 -- The groups in which the runs and legs of a table stand: who stands in one is one of the table's, and where no two stand in one each
 -- group has at most one pending and one running holder.
-use Rattle.std.specs.Prelude.{◌≡◌, ℕ, ◌<◌, List, [], ◌∷◌, ◌||◌, length, Bool, true, false, is_none, Option, Some, None, if◌then◌else◌, MatchOption}
+use Rattle.std.specs.Prelude.{◌≡◌, ℕ, ◌<◌, List, [], ◌∷◌, ◌||◌, length, Bool, true, false, is_none, Option, Some, None, if◌then◌else◌}
+use Rattle.std.specs.Prelude.{MatchOption}
 use Rattle.std.specs.Prelude.{IfOk, Result, Ok, Err, refl}
 use Rattle.std.specs.List.{list_any}
 use Rattle.std.specs.Option.{option_map_or}
@@ -10,7 +11,8 @@ use Rattle.std.proofs.lemmas.Option.{slice_get_within}
 use Rattle.wf_value.specs.declared.refusal.Refusal.{Refusal}
 use Rattle.group_name.specs.Group.{Group}
 use Rattle.run_table.specs.GroupOf.{group_at}
-use Rattle.run_table.specs.GroupSets.{AreGroupsOf, AreTaken, DifferInGroup, IsALeg, IsALegOfJob, IsALegOfRun, IsARun, group_as, has_group, stands}
+use Rattle.run_table.specs.GroupSets.{AreGroupsOf, AreTaken, DifferInGroup, IsALeg, IsALegOfJob, IsALegOfRun, IsARun, group_as, has_group}
+use Rattle.run_table.specs.GroupSets.{stands}
 use Rattle.run_table.specs.Groups.{HasOneEach, all_holders, holds, is_in, is_pending_in, is_running_in, is_taken, same_group, waits}
 use Rattle.run_table.specs.Holders.{run_of}
 use Rattle.run_table.specs.Moves.{Holder}

@@ -12,7 +12,8 @@ use Rattle.run_table.specs.Places.{LegPlace, job_at, leg_at, run_at, with_job, w
 use Rattle.run_table.specs.RunConditions.{may_run_in}
 use Rattle.run_table.specs.StateWords.{is_live, is_open, settled_as}
 use Rattle.run_table.specs.StopMoves.{stop_holder}
-use Rattle.run_table.specs.Stops.{cancelled, stopped, stopped_in, stopped_phase, stopped_run, stopped_where, told_to_stop, with_stopped_legs}
+use Rattle.run_table.specs.Stops.{cancelled, stopped, stopped_in, stopped_phase, stopped_run, stopped_where, told_to_stop}
+use Rattle.run_table.specs.Stops.{with_stopped_legs}
 use Rattle.run_table.specs.TableState.{LegState, JobState, RunState}
 use Rattle.run_table.specs.declared.phases.LegPhase.{LegPhase}
 use Rattle.run_table.specs.declared.phases.LegPhase.TheVariants as leg
@@ -192,7 +193,8 @@ legs_stop_fades r j runs =
       held = (λ l y e. legs_weaken leg_holds (λ z. stopped_held z.phase) l y e);
     })
 
-where_weakens : (test : LegPhase → Bool) → Weakens (leg_passes test) stopped → (l : ℕ) (b : Bool) → Weakens (job_passes test l) (stopped_where b)
+where_weakens : (test : LegPhase → Bool) → Weakens (leg_passes test) stopped → (l : ℕ) (b : Bool)
+    → Weakens (job_passes test l) (stopped_where b)
 where_weakens test weak l b y e =
     elim (is_open y.phase && b) as
     (λ c. job_passes test l (if c then with_stopped_legs y else y) ≡ true → job_passes test l y ≡ true) [

@@ -83,7 +83,8 @@ pub displaced_settles : (g : Group) (newcomer : Holder) (runs : List RunState) �
     → Settles runs (displaced g newcomer runs).runs
 displaced_settles g newcomer runs fit = each_settles displace holder_stop_settles (others_pending g newcomer runs) runs fit
 
-pub asked_settles : (cancels : Bool) (g : Group) (runs : List RunState) → RunsFit runs → Settles runs (stopped_where_asked cancels g runs).runs
+pub asked_settles : (cancels : Bool) (g : Group) (runs : List RunState) → RunsFit runs
+    → Settles runs (stopped_where_asked cancels g runs).runs
 asked_settles true g runs fit = each_settles stop_holder holder_stop_settles (running_in runs g) runs fit
 asked_settles false g runs fit = settles_nothing runs fit
 

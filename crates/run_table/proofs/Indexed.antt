@@ -48,7 +48,8 @@ first_one test (y ∷ ys) i e =
 
 -- ---- the delivery of a run
 
-delivery_of : (runs : List RunState) (r : ℕ) (x : RunState) → slice_get runs r ≡ Some x → delivery_at (events runs) r ≡ Some x.admitted.delivery
+delivery_of : (runs : List RunState) (r : ℕ) (x : RunState) → slice_get runs r ≡ Some x
+    → delivery_at (events runs) r ≡ Some x.admitted.delivery
 delivery_of runs r x at =
     ap (option_map (λ (e : Admitted). e.delivery))
     (slice_get-map (λ (v : RunState). v.admitted) runs r ∙ ap (option_map (λ (v : RunState). v.admitted)) at)
@@ -144,7 +145,8 @@ abbrev pub Tells : List Admitted → List ℕ → Option ℕ → Type 0
 Tells es d None = (s : ℕ) → delivery_at es s ≡ Some d → ⊥
 Tells es d (Some r) = (s : ℕ) × (delivery_at es s ≡ Some d)
 
-pub place_tells : (runs : List RunState) (d : List ℕ) (found : Option ℕ) → found ≡ position (is_delivered_as d) runs → Tells (events runs) d found
+pub place_tells : (runs : List RunState) (d : List ℕ) (found : Option ℕ) → found ≡ position (is_delivered_as d) runs
+    → Tells (events runs) d found
 place_tells runs d None is = λ s has.
     let one = delivered runs d s has in
     true≢false
@@ -161,8 +163,10 @@ within es d r has =
 before_end : (es : List Admitted) (e : Admitted) (r : ℕ) → (r ≡ length es → ⊥) → delivery_at (es ++ e ∷ []) r ≡ delivery_at es r
 before_end es e r other = ap (option_map (λ (v : Admitted). v.delivery)) (before_the_end es e r other)
 
-delivery_at_end : (es : List Admitted) (e : Admitted) (d : List ℕ) (r : ℕ) → r ≡ length es → delivery_at (es ++ e ∷ []) r ≡ Some d → e.delivery ≡ d
-delivery_at_end es e d r at has = one (sym (ap (delivery_at (es ++ e ∷ [])) at ∙ ap (option_map (λ (v : Admitted). v.delivery)) (at_the_end es e)) ∙ has)
+delivery_at_end : (es : List Admitted) (e : Admitted) (d : List ℕ) (r : ℕ) → r ≡ length es → delivery_at (es ++ e ∷ []) r ≡ Some d
+    → e.delivery ≡ d
+delivery_at_end es e d r at has = one (sym
+    (ap (delivery_at (es ++ e ∷ [])) at ∙ ap (option_map (λ (v : Admitted). v.delivery)) (at_the_end es e)) ∙ has)
   where
     one : Some e.delivery ≡ Some d → e.delivery ≡ d
     one h = cc
@@ -217,7 +221,8 @@ module _ (es : List Admitted) (old new : Places) (d : List ℕ) (p : ℕ) where
       ]
 
 -- where all that is found is the same
-pub finds_the_same : (es : List Admitted) (old new : Places) → ((d : List ℕ) → get_by_text new d ≡ get_by_text old d) → FindsFirst es old → FindsFirst es new
+pub finds_the_same : (es : List Admitted) (old new : Places) → ((d : List ℕ) → get_by_text new d ≡ get_by_text old d) → FindsFirst es old
+    → FindsFirst es new
 finds_the_same es old new same finds d r first = same d ∙ finds d r first
 
 pub finds_none : (places : Places) → FindsFirst [] places
@@ -265,4 +270,5 @@ pub counted_more : (runs : List RunState) (run : RunState) (old new : BTreeMap W
     → ((event : Admitted) → count_of new event ≡ (if same_workflow event run.admitted then count_of old event + 1 else count_of old event))
     → AreCounted (events (runs ++ run ∷ [])) new
 counted_more runs run old new counted so =
-    subst (λ (es : List Admitted). AreCounted es new) (sym (events_more runs run)) (one_counted (events runs) run.admitted old new counted so)
+    subst (λ (es : List Admitted). AreCounted es new) (sym (events_more runs run))
+    (one_counted (events runs) run.admitted old new counted so)

@@ -23,7 +23,8 @@ use Rattle.run_table.proofs.LegReads.{had_at, works_at, had_from_leg, works_from
 use Rattle.run_table.proofs.OneEachRules.{settled_one_each}
 use Rattle.run_table.proofs.Optional.{from_and_then, from_map}
 use Rattle.run_table.proofs.Rests.{settled_has_no_place}
-use Rattle.run_table.proofs.RunFits.{RunsFit, admitted_at, plan_at_same, runs_fit, jobs_are_the_plans, run_phases_fit, jobs_fit, needs_come_first}
+use Rattle.run_table.proofs.RunFits.{RunsFit, admitted_at, plan_at_same, runs_fit, jobs_are_the_plans, run_phases_fit, jobs_fit}
+use Rattle.run_table.proofs.RunFits.{needs_come_first}
 use Rattle.run_table.proofs.RunFits.{leases_fit}
 use Rattle.run_table.proofs.RunnerPut.{apart, found_by_name, has_the_name, holds_at, stood}
 use Rattle.run_table.proofs.Settles.{Settles}
@@ -161,7 +162,8 @@ kept_from_sound t s = record {
   deliveries_differ = s.deliveries_differ;
   fit = runs_fit t.runs s.jobs_are_the_plans s.run_phases_fit s.jobs_fit s.needs_settled_first s.leases_fit;
   parallel_bounded = s.parallel_bounded;
-  agree = leases_agree t.last_lease t.runs t.runners s.runners_in_order s.leases_are_given s.leases_differ s.work_is_held s.held_is_at_work s.held_once;
+  agree = leases_agree t.last_lease t.runs t.runners s.runners_in_order s.leases_are_given s.leases_differ s.work_is_held
+      s.held_is_at_work s.held_once;
   last_lease_in_range = s.last_lease_in_range;
   runners_in_order = s.runners_in_order;
   lasts_are_own = s.lasts_are_own;

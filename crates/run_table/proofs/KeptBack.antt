@@ -93,17 +93,18 @@ legs_still_hold f r runs p strong e =
     ∙ passed_on (run_passes leg_holds p.job p.leg) f r runs strong p.run (sym (by_run leg_holds runs p) ∙ e)
 
 module _ (runs : List RunState) (r j : ℕ) (f : JobState → JobState)
-    (strong : (y : JobState) → job_at runs r j ≡ Some y → (l : ℕ) → job_passes leg_holds l y ≡ true → job_passes leg_holds l (f y) ≡ true) where
-  in_run : (i l : ℕ) (x : RunState) → run_at runs r ≡ Some x → run_passes leg_holds i l x ≡ true
-      → run_passes leg_holds i l (with_job_of j f x) ≡ true
-  in_run i l x at e =
-      passed_on (job_passes leg_holds l) f j x.jobs (λ y was now. strong y (job_in_run runs r j x at ∙ was) l now) i e
+    (strong : (y : JobState) → job_at runs r j ≡ Some y → (l : ℕ) → job_passes leg_holds l y ≡ true → job_passes leg_holds l (f y) ≡ true)
+  where
+    in_run : (i l : ℕ) (x : RunState) → run_at runs r ≡ Some x → run_passes leg_holds i l x ≡ true
+        → run_passes leg_holds i l (with_job_of j f x) ≡ true
+    in_run i l x at e =
+        passed_on (job_passes leg_holds l) f j x.jobs (λ y was now. strong y (job_in_run runs r j x at ∙ was) l now) i e
 
-  pub job_still_holds : (h : Holder) → holds runs h ≡ true → holds (with_job r j f runs) h ≡ true
-  job_still_holds (Holder.a_run s) e =
-      passed_on (λ (x : RunState). is_live x.phase) (with_job_of j f) r runs (λ x at now. now) s e
-  job_still_holds (Holder.a_leg p) e =
-      legs_still_hold (with_job_of j f) r runs p (λ x at now. in_run p.job p.leg x at now) e
+    pub job_still_holds : (h : Holder) → holds runs h ≡ true → holds (with_job r j f runs) h ≡ true
+    job_still_holds (Holder.a_run s) e =
+        passed_on (λ (x : RunState). is_live x.phase) (with_job_of j f) r runs (λ x at now. now) s e
+    job_still_holds (Holder.a_leg p) e =
+        legs_still_hold (with_job_of j f) r runs p (λ x at now. in_run p.job p.leg x at now) e
 
 -- one that did not hold goes to any phase
 pub leg_still_holds : (runs : List RunState) (p : LegPlace) (z : LegState) (f : LegState → LegState) → leg_at runs p ≡ Some z

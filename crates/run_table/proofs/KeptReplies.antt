@@ -24,8 +24,10 @@ use Rattle.run_plan.specs.declared.reply.Reply.TheVariants as reply
 use Rattle.run_table.specs.Fitting.{first_fit}
 use Rattle.run_table.specs.Histories.{after}
 use Rattle.run_table.specs.Moves.{Step}
-use Rattle.run_table.specs.Step.{admission_answer, admitting, cancel_answer, cancelling, claim_answer, claiming, claiming_runner, has_no_lease_left}
-use Rattle.run_table.specs.Step.{lease_answer, lease_at, leasing, losing, lost, refused, released, report_answer, reporting, reporting_runner}
+use Rattle.run_table.specs.Step.{admission_answer, admitting, cancel_answer, cancelling, claim_answer, claiming, claiming_runner}
+use Rattle.run_table.specs.Step.{has_no_lease_left}
+use Rattle.run_table.specs.Step.{lease_answer, lease_at, leasing, losing, lost, refused, released, report_answer, reporting}
+use Rattle.run_table.specs.Step.{reporting_runner}
 use Rattle.run_table.specs.Step.{outcome, serving_nothing, step, stepped, unchanged}
 use Rattle.run_table.specs.TableState.{RunnerState, TableState}
 use Rattle.run_table.specs.Turns.{answer_of_turn, holds_lease, holds_this, is_repeated, number_of, runner_named, turn_answer, with_runner}
@@ -104,7 +106,8 @@ module _ (name : List ℕ) (number : ℕ) (same : LastCommand → Bool) (kept : 
   answered t None change has h = h refl
   answered t (Some given) change has h = has
 
-  turn_is : (o : Option RunnerState) (n : ℕ) (test : LastCommand → Bool) (others : Option Reply) → option_or (answer_of_turn o n test) others ≡ None
+  turn_is : (o : Option RunnerState) (n : ℕ) (test : LastCommand → Bool) (others : Option Reply)
+      → option_or (answer_of_turn o n test) others ≡ None
       → n ≡ number_of o + 1
   turn_is o n test others none =
       elim (option_map_or (is_repeated n test) o false) as
@@ -136,7 +139,8 @@ module _ (name : List ℕ) (number : ℕ) (same : LastCommand → Bool) (kept : 
             (claiming_runner claim (Some (t.last_lease + 1)) (given.Lease (lease_at t.runs p (t.last_lease + 1)))) refl turn no_later has
       ]
 
-  has_report : (t : TableState) (report : Reported) → (report.runner ≡ name → report.number ≤ number) → report_answer t report ≡ None → Has t
+  has_report : (t : TableState) (report : Reported) → (report.runner ≡ name → report.number ≤ number)
+      → report_answer t report ≡ None → Has t
       → Has (reporting t report).table
   has_report t report no_later none has =
       let turn = turn_is (runner_named t.runners report.runner) report.number (is_last_report report)
@@ -198,7 +202,8 @@ both : (a b : Bool) → a ≡ true → b ≡ true → (a && b) ≡ true
 both a b one two = ap (λ (x : Bool). x && b) one ∙ ap (λ (x : Bool). true && x) two
 
 same_claim : (claim : Claimed) → same_claims claim claim ≡ true
-same_claim claim = both (bytes_eq claim.runner claim.runner && nat_eq claim.number claim.number) (pointwise bytes_eq claim.labels claim.labels)
+same_claim claim = both (bytes_eq claim.runner claim.runner && nat_eq claim.number claim.number)
+    (pointwise bytes_eq claim.labels claim.labels)
     (both (bytes_eq claim.runner claim.runner) (nat_eq claim.number claim.number) ((bytes_eq-Decides claim.runner claim.runner).1 refl)
     (eq-eqb claim.number claim.number refl)) (same_labels claim.labels)
 
@@ -212,7 +217,8 @@ same_report report =
     both (bytes_eq report.runner report.runner && nat_eq report.number report.number && nat_eq report.lease report.lease)
     (same_outcomes report.result report.result)
     (both (bytes_eq report.runner report.runner && nat_eq report.number report.number) (nat_eq report.lease report.lease)
-    (both (bytes_eq report.runner report.runner) (nat_eq report.number report.number) ((bytes_eq-Decides report.runner report.runner).1 refl)
+    (both (bytes_eq report.runner report.runner) (nat_eq report.number report.number)
+    ((bytes_eq-Decides report.runner report.runner).1 refl)
     (eq-eqb report.number report.number refl)) (eq-eqb report.lease report.lease refl)) (same_outcome report.result)
 
 -- ---- what a command keeps that is not refused
@@ -229,7 +235,8 @@ put_has t next new same kept is passes keeps = record {
 }
 
 -- what was kept already
-repeated_has : (t : TableState) (name : List ℕ) (number : ℕ) (same : LastCommand → Bool) (x : RunnerState) → runner_named t.runners name ≡ Some x
+repeated_has : (t : TableState) (name : List ℕ) (number : ℕ) (same : LastCommand → Bool) (x : RunnerState)
+    → runner_named t.runners name ≡ Some x
     → is_repeated number same x ≡ true → HasKept t name number same (kept_reply x.last)
 repeated_has t name number same x found is =
     let parts = and_parts (nat_eq x.number number) (same x.last) is in
@@ -260,8 +267,10 @@ module _ (t : TableState) (name : List ℕ) (number : ℕ) (same : LastCommand �
   first_has None found is = cc is
   first_has (Some x) found is = repeated_has t name number same x found is
 
-  pub taken_has : (IsRefused (option_map_or (unchanged t) (option_or (answer_of_turn (runner_named t.runners name) number same) others) change).reply → ⊥)
-      → HasKept (option_map_or (unchanged t) (option_or (answer_of_turn (runner_named t.runners name) number same) others) change).table name number
+  pub taken_has : (IsRefused (option_map_or (unchanged t) (option_or (answer_of_turn (runner_named t.runners name) number same) others)
+      change).reply → ⊥)
+      → HasKept (option_map_or (unchanged t) (option_or (answer_of_turn (runner_named t.runners name) number same) others) change).table
+      name number
       same (option_map_or (unchanged t) (option_or (answer_of_turn (runner_named t.runners name) number same) others) change).reply
   taken_has taken =
       let o = runner_named t.runners name in
@@ -270,9 +279,12 @@ module _ (t : TableState) (name : List ℕ) (number : ℕ) (same : LastCommand �
       → HasKept (turned t o b number others change).table name number same (turned t o b number others change).reply) [
         | true ↦ λ is h. first_has o refl is
         | false ↦ λ is h. elim (nat_eq number (number_of o + 1)) as
-            (λ b. (IsRefused (option_map_or (unchanged t) (option_or (if b then None else Some (reply.Refused (Turn (number_of o)))) others) change).reply → ⊥)
-            → HasKept (option_map_or (unchanged t) (option_or (if b then None else Some (reply.Refused (Turn (number_of o)))) others) change).table
-            name number same (option_map_or (unchanged t) (option_or (if b then None else Some (reply.Refused (Turn (number_of o)))) others) change).reply) [
+            (λ b. (IsRefused (option_map_or (unchanged t) (option_or (if b then None else Some (reply.Refused (Turn (number_of o)))) others)
+            change).reply → ⊥)
+            → HasKept (option_map_or (unchanged t) (option_or (if b then None else Some (reply.Refused (Turn (number_of o)))) others)
+            change).table
+            name number same (option_map_or (unchanged t) (option_or (if b then None else Some (reply.Refused (Turn (number_of o)))) others)
+            change).reply) [
               | true ↦ λ k. others_has others refl k
               | false ↦ λ k. absurd (k (Turn (number_of o), refl))
             ] h
@@ -283,7 +295,8 @@ if_refused true e r is = (e, cc is)
 if_refused false e r is = cc is
 
 claim_has : (t : TableState) (claim : Claimed) → (IsRefused (stepped t (command.Claim claim)).reply → ⊥)
-    → HasKept (stepped t (command.Claim claim)).table claim.runner claim.number (is_last_claim claim) (stepped t (command.Claim claim)).reply
+    → HasKept (stepped t (command.Claim claim)).table claim.runner claim.number (is_last_claim claim)
+    (stepped t (command.Claim claim)).reply
 claim_has t claim taken =
     taken_has t claim.runner claim.number (is_last_claim claim) others (claiming t claim) refuses changes taken
   where
@@ -303,7 +316,8 @@ claim_has t claim taken =
         elim (first_fit claim.labels t.runs) as
         (λ o. HasKept (option_map_or (leasing t claim) o (serving_nothing t claim)).table claim.runner claim.number (is_last_claim claim)
         (option_map_or (leasing t claim) o (serving_nothing t claim)).reply) [
-          | None ↦ put_has t (serving_nothing t claim).table (claiming_runner claim None given.Nothing) (is_last_claim claim) reply.Nothing refl
+          | None ↦ put_has t (serving_nothing t claim).table (claiming_runner claim None given.Nothing) (is_last_claim claim)
+              reply.Nothing refl
               (same_claim claim) refl
           | Some p ↦ (let told = lease_at t.runs p (t.last_lease + 1) in
               put_has t (leasing t claim p).table (claiming_runner claim (Some (t.last_lease + 1)) (given.Lease told)) (is_last_claim claim)
@@ -311,7 +325,8 @@ claim_has t claim taken =
         ]
 
 report_has : (t : TableState) (report : Reported) → (IsRefused (stepped t (command.Done report)).reply → ⊥)
-    → HasKept (stepped t (command.Done report)).table report.runner report.number (is_last_report report) (stepped t (command.Done report)).reply
+    → HasKept (stepped t (command.Done report)).table report.runner report.number (is_last_report report)
+    (stepped t (command.Done report)).reply
 report_has t report taken =
     taken_has t report.runner report.number (is_last_report report) others (reporting t report) refuses changes taken
   where
@@ -326,8 +341,10 @@ report_has t report taken =
           | false ↦ λ h. (Numbered LeaseNotHeld, some_same r (refused LeaseNotHeld) (sym h))
         ] is
 
-    changes : others ≡ None → HasKept (reporting t report).table report.runner report.number (is_last_report report) (reporting t report).reply
-    changes none = put_has t (reporting t report).table (reporting_runner report) (is_last_report report) reply.Ok refl (same_report report) refl
+    changes : others ≡ None → HasKept (reporting t report).table report.runner report.number (is_last_report report)
+        (reporting t report).reply
+    changes none = put_has t (reporting t report).table (reporting_runner report) (is_last_report report) reply.Ok refl
+        (same_report report) refl
 
 -- ---- both kinds of numbered commands
 
@@ -348,7 +365,8 @@ pub turn_has : (t : TableState) (c : Command) (name : List ℕ) (number : ℕ) �
     → HasKept (stepped t c).table name number (test_of c) (stepped t c).reply
 turn_has t (command.Claim claim) name number turn taken =
     let s = stepped t (command.Claim claim) in
-    at_turn (λ x n. HasKept s.table x n (is_last_claim claim) s.reply) claim.runner name claim.number number turn.0 turn.1 (claim_has t claim taken)
+    at_turn (λ x n. HasKept s.table x n (is_last_claim claim) s.reply) claim.runner name claim.number number turn.0 turn.1
+    (claim_has t claim taken)
 turn_has t (command.Done report) name number turn taken =
     let s = stepped t (command.Done report) in
     at_turn (λ x n. HasKept s.table x n (is_last_report report) s.reply) report.runner name report.number number turn.0 turn.1
@@ -363,12 +381,14 @@ turn_has t (command.Fetch id) name number turn taken = absurd turn
 pub turn_again : (t : TableState) (c : Command) (name : List ℕ) (number : ℕ) (kept : Reply) → HasTurn c name number
     → HasKept t name number (test_of c) kept → step t c ≡ (t, kept)
 turn_again t (command.Claim claim) name number kept turn has =
-    let own = at_turn (λ x n. HasKept t x n (is_last_claim claim) kept) name claim.runner number claim.number (sym turn.0) (sym turn.1) has in
+    let own = at_turn (λ x n. HasKept t x n (is_last_claim claim) kept) name claim.runner number claim.number (sym turn.0)
+    (sym turn.1) has in
     let others = if holds_lease (runner_named t.runners claim.runner) then Some (refused HasLease) else lease_answer t claim in
     ap (λ (o : Option Reply). outcome (option_map_or (unchanged t) (option_or o others) (claiming t claim)))
     (answer_again claim.runner claim.number (is_last_claim claim) kept t own)
 turn_again t (command.Done report) name number kept turn has =
-    let own = at_turn (λ x n. HasKept t x n (is_last_report report) kept) name report.runner number report.number (sym turn.0) (sym turn.1) has in
+    let own = at_turn (λ x n. HasKept t x n (is_last_report report) kept) name report.runner number report.number (sym turn.0)
+    (sym turn.1) has in
     let others = if holds_this report.lease (runner_named t.runners report.runner) then None else Some (refused LeaseNotHeld) in
     ap (λ (o : Option Reply). outcome (option_map_or (unchanged t) (option_or o others) (reporting t report)))
     (answer_again report.runner report.number (is_last_report report) kept t own)

@@ -136,7 +136,8 @@ module _ (last : ℕ) (had works had' works' : LegPlace → Option ℕ) (holds h
 
 -- ---- the leg of a lease ends
 
-module _ (last : ℕ) (had works works' : LegPlace → Option ℕ) (holds holds' : List ℕ → Option ℕ) (at : LegPlace) (runner : List ℕ) (lease : ℕ)
+module _ (last : ℕ) (had works works' : LegPlace → Option ℕ) (holds holds' : List ℕ → Option ℕ) (at : LegPlace)
+    (runner : List ℕ) (lease : ℕ)
     (agree : LeasesAgree last had works holds)
     (work_here : works at ≡ Some lease) (held_here : holds runner ≡ Some lease) (w : ChangesAt works works' at None)
     (r : ChangesAt holds holds' runner None) where

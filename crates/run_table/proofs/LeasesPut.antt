@@ -40,7 +40,11 @@ leg_put r j l legs x place a b c at is before more =
       },
       ap (λ (q : LegPlace). q.leg) same,
     ))
-    (λ p n h here. (same_place p (leg_place r j l) h.run_is h.job_is here ∙ sym is, sym its ∙ ap (lease_in_job legs) (sym here) ∙ h.lease_is))
+    (λ p n h here. (
+      same_place p (leg_place r j l) h.run_is h.job_is here ∙ sym is,
+      sym its ∙ ap (lease_in_job legs) (sym here)
+          ∙ h.lease_is,
+    ))
   where
     its : lease_in_job legs l ≡ x.lease
     its = ap (option_and_then (λ (y : LegState). y.lease)) at

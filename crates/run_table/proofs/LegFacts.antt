@@ -139,7 +139,8 @@ some_same x y e = cc
 none_there : (x : Admitted) → Some x ≡ None → ⊥
 none_there x e = cc
 
-pub taken_same : (n : ℕ) (all others : List Admitted) → ((s : ℕ) → s < n → slice_get all s ≡ slice_get others s) → take n all ≡ take n others
+pub taken_same : (n : ℕ) (all others : List Admitted) → ((s : ℕ) → s < n → slice_get all s ≡ slice_get others s)
+    → take n all ≡ take n others
 taken_same zero all others same = refl
 taken_same (suc n) [] [] same = refl
 taken_same (suc n) [] (y ∷ others) same = absurd (none_there y (sym (same 0 (omega arith))))

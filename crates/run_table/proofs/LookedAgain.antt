@@ -1,5 +1,6 @@
 -- After the rule at the first place where one applies, none applies before the place from where settling looks again.
-use Rattle.std.specs.Prelude.{◌≡◌, ◌⊎◌, ℕ, zero, suc, ◌+◌, ◌<◌, ◌≤◌, ◌&&◌, ◌||◌, min, List, [], ◌∷◌, Bool, true, false, length, nat_eq, is_some}
+use Rattle.std.specs.Prelude.{◌≡◌, ◌⊎◌, ℕ, zero, suc, ◌+◌, ◌<◌, ◌≤◌, ◌&&◌, ◌||◌, min, List, [], ◌∷◌, Bool, true, false, length, nat_eq}
+use Rattle.std.specs.Prelude.{is_some}
 use Rattle.std.specs.Prelude.{Option, Some, None, IfSome, option_map, option_and_then, slice_get, filter, if◌then◌else◌, refl}
 use Rattle.std.specs.List.{AllByRecursion, list_any, range_with_len, slice_index_or}
 use Rattle.std.specs.Option.{option_map_or, option_or}
@@ -17,7 +18,8 @@ use Rattle.run_table.specs.Rules.{rule_at}
 use Rattle.run_table.specs.Settling.{first_place}
 use Rattle.run_table.specs.StateWords.{is_blocked, is_done, is_live}
 use Rattle.run_table.specs.TableState.{LegState, JobState, RunState}
-use Rattle.run_table.specs.WithinRun.{first_in_job, first_in_jobs, first_in_run, first_of_legs, first_of_open, first_of_whole, goes_on, goes_on_in}
+use Rattle.run_table.specs.WithinRun.{first_in_job, first_in_jobs, first_in_run, first_of_legs, first_of_open, first_of_whole, goes_on}
+use Rattle.run_table.specs.WithinRun.{goes_on_in}
 use Rattle.run_table.specs.WithinRun.{leg_place, needs_settled_in, whole_goes_on_in}
 use Rattle.run_table.specs.Words.{all_have_results}
 use Rattle.run_table.specs.declared.phases.LegPhase.{LegPhase}

@@ -95,9 +95,11 @@ module _ (test : LegPlace → Bool) (runs : List RunState) where
       → Some (leg_place r j l) ≡ first_of_job test runs r j
   leg_found r j l before lt is = sym
       (legs_one_by_one r j (job_at runs r j)
-      ∙ found_in (λ (job : JobState). job.legs) (λ k leg. if test (leg_place r j k) then Some (leg_place r j k) else None) (job_at runs r j) l
+      ∙ found_in (λ (job : JobState). job.legs) (λ k leg. if test (leg_place r j k) then Some (leg_place r j k) else None)
+      (job_at runs r j) l
       (leg_place r j l)
-      (λ k less. not_taken (test (leg_place r j k)) (leg_place r j k) (option_and_then (λ (job : JobState). slice_get job.legs k) (job_at runs r j))
+      (λ k less. not_taken (test (leg_place r j k)) (leg_place r j k)
+      (option_and_then (λ (job : JobState). slice_get job.legs k) (job_at runs r j))
       (before k less))
       (taken_in (λ (job : JobState). job.legs) (test (leg_place r j l)) (leg_place r j l) (job_at runs r j) l is lt))
 
@@ -105,8 +107,10 @@ module _ (test : LegPlace → Bool) (runs : List RunState) where
       → option_map_or (λ (job : JobState). length job.legs) (job_at runs r j) 0 ≤ l → None ≡ first_of_job test runs r j
   no_leg_found r j l before le = sym
       (legs_one_by_one r j (job_at runs r j)
-      ∙ none_in (λ (job : JobState). job.legs) (λ k leg. if test (leg_place r j k) then Some (leg_place r j k) else None) (job_at runs r j) l
-      (λ k less. not_taken (test (leg_place r j k)) (leg_place r j k) (option_and_then (λ (job : JobState). slice_get job.legs k) (job_at runs r j))
+      ∙ none_in (λ (job : JobState). job.legs) (λ k leg. if test (leg_place r j k) then Some (leg_place r j k) else None)
+      (job_at runs r j) l
+      (λ k less. not_taken (test (leg_place r j k)) (leg_place r j k)
+      (option_and_then (λ (job : JobState). slice_get job.legs k) (job_at runs r j))
       (before k less)) le)
 
   -- ---- the jobs of a run
@@ -117,7 +121,8 @@ module _ (test : LegPlace → Bool) (runs : List RunState) where
   jobs_one_by_one r None = refl
   jobs_one_by_one r (Some run) = find-flat_map test (leg_places_of_job r) (placed run.jobs)
 
-  pub job_found : (r j : ℕ) (o : Option LegPlace) → ((k : ℕ) → k < j → first_of_job test runs r k ≡ None) → o ≡ first_of_job test runs r j → is_some o ≡ true
+  pub job_found : (r j : ℕ) (o : Option LegPlace) → ((k : ℕ) → k < j → first_of_job test runs r k ≡ None) → o ≡ first_of_job test runs r j
+      → is_some o ≡ true
       → o ≡ first_of_run test runs r
   job_found r j None before here some = cc
   job_found r j (Some p) before here some = sym
@@ -132,14 +137,16 @@ module _ (test : LegPlace → Bool) (runs : List RunState) where
 
   -- ---- the runs of a table
 
-  pub leg_of_run_found : (r : ℕ) (o : Option LegPlace) → ((k : ℕ) → k < r → first_of_run test runs k ≡ None) → o ≡ first_of_run test runs r → is_some o ≡ true
+  pub leg_of_run_found : (r : ℕ) (o : Option LegPlace) → ((k : ℕ) → k < r → first_of_run test runs k ≡ None) → o ≡ first_of_run test runs r
+      → is_some o ≡ true
       → o ≡ find test (leg_places runs)
   leg_of_run_found r None before here some = cc
   leg_of_run_found r (Some p) before here some = sym
       (find-flat_map test leg_places_of_run (placed runs)
       ∙ found_at (λ k run. find test (leg_places_of_run (k, run))) runs r p before (sym here))
 
-  pub no_leg_of_run_found : (r : ℕ) → ((k : ℕ) → k < r → first_of_run test runs k ≡ None) → length runs ≤ r → None ≡ find test (leg_places runs)
+  pub no_leg_of_run_found : (r : ℕ) → ((k : ℕ) → k < r → first_of_run test runs k ≡ None) → length runs ≤ r
+      → None ≡ find test (leg_places runs)
   no_leg_of_run_found r before le = sym
       (find-flat_map test leg_places_of_run (placed runs)
       ∙ none_found (λ k run. find test (leg_places_of_run (k, run))) runs r before le)

@@ -10,7 +10,8 @@ use Rattle.run_table.specs.Groups.{may_start}
 use Rattle.run_table.specs.JobResults.{results_of}
 use Rattle.run_table.specs.Places.{LegPlace, job_at, leg_at, run_at, with_job, with_leg, with_run}
 use Rattle.run_table.specs.Moves.{Holder, Move, Moved, without_moves}
-use Rattle.run_table.specs.Rules.{is_done, is_settled, settled_as, result_at, closing_rule, leg_rule, leg_rule_in, newcomer_rule, places, rule_at}
+use Rattle.run_table.specs.Rules.{is_done, is_settled, settled_as, result_at, closing_rule, leg_rule, leg_rule_in, newcomer_rule, places}
+use Rattle.run_table.specs.Rules.{rule_at}
 use Rattle.run_table.specs.Rules.{run_in_phase, whole_rule, whole_rule_in, with_leg_in}
 use Rattle.run_table.specs.Settling.{applies, first_place, first_rule}
 use Rattle.run_table.specs.TableState.{LegState, JobState, RunState}
@@ -94,7 +95,8 @@ job_closed runs new r j x at so =
 
 -- ---- the rule of a leg
 
-leg_of_phase : (runs : List RunState) (p : LegPlace) (phase : LegPhase) → Some phase ≡ option_map (λ (l : LegState). l.phase) (leg_at runs p)
+leg_of_phase : (runs : List RunState) (p : LegPlace) (phase : LegPhase)
+    → Some phase ≡ option_map (λ (l : LegState). l.phase) (leg_at runs p)
     → option_and_then (leg_rule runs p) (leg_at runs p) ≡ leg_rule_in phase runs p
 leg_of_phase runs p phase is =
     let from = from_map (λ (l : LegState). l.phase) (leg_at runs p) phase (sym is) in
@@ -108,7 +110,8 @@ if_may : (may : Bool) (m : Moved) (new : List RunState) → new ≡ m.runs → I
 if_may true m new so = so
 if_may false m new so = tt
 
-pub waiting_leg_moved : (runs new : List RunState) (p : LegPlace) → Some leg.Waiting ≡ option_map (λ (l : LegState). l.phase) (leg_at runs p)
+pub waiting_leg_moved : (runs new : List RunState) (p : LegPlace)
+    → Some leg.Waiting ≡ option_map (λ (l : LegState). l.phase) (leg_at runs p)
     → new ≡ with_leg_in leg.Ready p runs → IfSome (option_and_then (leg_rule runs p) (leg_at runs p)) (λ next. new ≡ next.runs)
 waiting_leg_moved runs new p is so =
     subst (λ o. IfSome o (λ (next : Moved). new ≡ next.runs)) (sym (leg_of_phase runs p leg.Waiting is))
@@ -127,7 +130,8 @@ waiting_run_moved runs new r x at is so =
     (if_may (may_start runs (Holder.a_run r)) (started (Holder.a_run r) (with_run r (run_in_phase run.Live) runs)) new so)
 
 pub live_run_moved : (runs new : List RunState) (r : ℕ) (x : RunState) → run_at runs r ≡ Some x → x.phase ≡ run.Live
-    → new ≡ with_run r (run_in_phase run.Ended) runs → IfSome (option_and_then (whole_rule runs r) (run_at runs r)) (λ next. new ≡ next.runs)
+    → new ≡ with_run r (run_in_phase run.Ended) runs
+    → IfSome (option_and_then (whole_rule runs r) (run_at runs r)) (λ next. new ≡ next.runs)
 live_run_moved runs new r x at is so =
     subst (λ o. IfSome o (λ (next : Moved). new ≡ next.runs)) (sym (run_of_phase runs r x run.Live at is))
     (if_may (list_all is_settled x.jobs) (record {

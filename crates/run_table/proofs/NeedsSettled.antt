@@ -20,7 +20,8 @@ use Rattle.run_table.specs.Places.{run_at}
 use Rattle.run_table.specs.Rules.{may_run}
 use Rattle.run_table.specs.TableState.{JobState, RunState}
 use Rattle.run_table.specs.WithinRun.{condition_in, may_run_in, needs_settled_in}
-use Rattle.run_table.specs.Words.{all_have_results, job_results, needs_graph_at, needs_have_settled, needs_in, results_so_far, settled_result}
+use Rattle.run_table.specs.Words.{all_have_results, job_results, needs_graph_at, needs_have_settled, needs_in, results_so_far}
+use Rattle.run_table.specs.Words.{settled_result}
 
 -- ---- by its run
 
@@ -120,7 +121,8 @@ all_still results next keeps (p ∷ ps) h =
 abbrev needs_of_admitted : Option Admitted → List (List ℕ)
 needs_of_admitted o = option_map_or (λ (event : Admitted). plan_graph (plan_of event.body)) o []
 
-graph_by_admitted : (o : Option RunState) → option_map_or needs_in o [] ≡ needs_of_admitted (option_map (λ (run : RunState). run.admitted) o)
+graph_by_admitted : (o : Option RunState)
+    → option_map_or needs_in o [] ≡ needs_of_admitted (option_map (λ (run : RunState). run.admitted) o)
 graph_by_admitted None = refl
 graph_by_admitted (Some run) = refl
 

@@ -8,7 +8,8 @@ use Rattle.std.proofs.lemmas.Slice.Eq.{bytes_eq-Decides}
 use Rattle.group_name.specs.Group.{Group}
 use Rattle.run_table.specs.FirstOf.{placed}
 use Rattle.run_table.specs.GroupOf.{group_at}
-use Rattle.run_table.specs.Groups.{HasOneBeside, HasOneEach, all_holders, holds, is_in, is_pending_in, is_running_in, is_taken, may_start, same_group, waits}
+use Rattle.run_table.specs.Groups.{HasOneBeside, HasOneEach, all_holders, holds, is_in, is_pending_in, is_running_in, is_taken, may_start}
+use Rattle.run_table.specs.Groups.{same_group, waits}
 use Rattle.run_table.specs.Moves.{Holder}
 use Rattle.run_table.specs.Places.{LegPlace, leg_at, leg_places, run_at}
 use Rattle.run_table.specs.TableState.{LegState, RunState}
@@ -62,7 +63,8 @@ one_that_holds runs (Holder.a_leg p) e = leg_there runs p _ (leg_at runs p) refl
 abbrev pub GroupsStay : List RunState → List RunState → Type 0
 GroupsStay runs next = (h : Holder) → IsOneOf runs h → group_at next h ≡ group_at runs h
 
-stays_there : (runs next : List RunState) → RunsFit runs → StayFit runs next → (h : Holder) → IsOneOf runs h → group_at next h ≡ group_at runs h
+stays_there : (runs next : List RunState) → RunsFit runs → StayFit runs next → (h : Holder) → IsOneOf runs h
+    → group_at next h ≡ group_at runs h
 stays_there runs next fit stay (Holder.a_run r) there = group_stays runs next fit stay (Holder.a_run r) tt
 stays_there runs next fit stay (Holder.a_leg p) there = group_stays runs next fit stay (Holder.a_leg p) there
 

@@ -38,7 +38,8 @@ use Rattle.run_table.proofs.SettlingKeeps.{first_rule_keeps, settling_keeps}
 
 -- ---- a job opens, or settles
 
-replicate_fails : (test : LegPhase → Bool) → test leg.New ≡ false → (n l : ℕ) → passes (leg_passes test) (slice_get (replicate n new_leg) l) ≡ false
+replicate_fails : (test : LegPhase → Bool) → test leg.New ≡ false → (n l : ℕ)
+    → passes (leg_passes test) (slice_get (replicate n new_leg) l) ≡ false
 replicate_fails test fails zero l = refl
 replicate_fails test fails (suc n) zero = fails
 replicate_fails test fails (suc n) (suc l) = replicate_fails test fails n l
@@ -104,7 +105,8 @@ newcomer_one_each runs p z fit was is each =
             waited = set_waits runs p z was (leg_in_phase leg.Waiting);
             held = holds_before_leg (leg_in_phase leg.Waiting) p runs (λ v e. absurd (bad e));
           } in
-          arrival_one_each next stay.fit (Holder.a_leg p) (ap (passes (leg_passes leg_waits)) (set_itself runs p z was (leg_in_phase leg.Waiting)))
+          arrival_one_each next stay.fit (Holder.a_leg p)
+          (ap (passes (leg_passes leg_waits)) (set_itself runs p z was (leg_in_phase leg.Waiting)))
           (newcomer_besides runs next (Holder.a_leg p) (groups_stay runs next fit stay) comes each)
     ]
 
@@ -146,8 +148,10 @@ live_holds runs r (Holder.a_run s) e =
 live_holds runs r (Holder.a_leg p) e =
     inr (leg_before leg_holds (run_in_phase run.Live) r runs p (λ x now. now) e)
 
-pub live_waits : (runs : List RunState) (r : ℕ) (h : Holder) → waits (with_run r (run_in_phase run.Live) runs) h ≡ true → waits runs h ≡ true
-live_waits runs r (Holder.a_run s) e = passed_changed (λ (x : RunState). run_waits x.phase) (run_in_phase run.Live) (λ x now. absurd (bad now)) r runs s e
+pub live_waits : (runs : List RunState) (r : ℕ) (h : Holder) → waits (with_run r (run_in_phase run.Live) runs) h ≡ true
+    → waits runs h ≡ true
+live_waits runs r (Holder.a_run s) e = passed_changed (λ (x : RunState). run_waits x.phase) (run_in_phase run.Live)
+    (λ x now. absurd (bad now)) r runs s e
 live_waits runs r (Holder.a_leg p) e = leg_before leg_waits (run_in_phase run.Live) r runs p (λ x now. now) e
 
 pub ended_fades : (r : ℕ) (runs : List RunState) → Fades runs (with_run r (run_in_phase run.Ended) runs)
@@ -185,7 +189,8 @@ rule_one_each runs m (Opening r j) fit live h each =
     let next = with_job r j (decided runs r j) runs in
     let taken = if_some (is_blocked made.value.phase && needs_have_settled runs r j) (without_moves next) m made.gives in
     let settles = subst (λ (v : Moved). Settles runs v.runs) (sym taken.1) (rule_settles runs m (Opening r j) fit live h) in
-    subst (λ (v : Moved). HasOneEach v.runs) taken.1 (fading_keeps runs next (groups_stay runs next fit settles.stay) (decided_fades runs r j) each)
+    subst (λ (v : Moved). HasOneEach v.runs) taken.1
+    (fading_keeps runs next (groups_stay runs next fit settles.stay) (decided_fades runs r j) each)
 rule_one_each runs m (AtLeg p) fit live h each =
     let made = from_and_then (leg_rule runs p) (leg_at runs p) m h in
     leg_rule_one_each runs m p made.value made.value.phase fit made.is refl made.gives each

@@ -60,7 +60,8 @@ own_run_alone runs m (Opening i j) r is plain other =
     let from = from_and_then (opening_rule runs i j) (job_at runs i j) m is in
     let made = if_some (is_blocked from.value.phase && needs_have_settled runs i j)
     (without_moves (with_job i j (decided runs i j) runs)) m from.gives in
-    elsewhere runs m.runs i (λ run. record run { jobs = changed_at j (decided runs i j) run.jobs }) r (ap (λ (v : Moved). v.runs) made.1) other
+    elsewhere runs m.runs i (λ run. record run { jobs = changed_at j (decided runs i j) run.jobs }) r
+    (ap (λ (v : Moved). v.runs) made.1) other
 own_run_alone runs m (AtLeg p) r is plain other =
     let from = from_and_then (leg_rule runs p) (leg_at runs p) m is in
     leg_alone runs m p from.value from.value.phase r refl (plain from.value from.is) from.gives other

@@ -63,7 +63,8 @@ pub claim_last : (runs : List RunState) (claim : _) (given : Option ℕ) (reply 
 claim_last runs claim None replied.Nothing is = record { stored = refl; is_a_legs = tt }
 claim_last runs claim None (replied.Lease told) is = absurd is
 claim_last runs claim (Some n) replied.Nothing is = absurd is
-claim_last runs claim (Some n) (replied.Lease told) is = record { stored = ap (λ m. stored.Claim claim (Some m)) is.0; is_a_legs = (is.1, is.2) }
+claim_last runs claim (Some n) (replied.Lease told) is =
+    record { stored = ap (λ m. stored.Claim claim (Some m)) is.0; is_a_legs = (is.1, is.2) }
 
 no_claim : (runs : List RunState) (claim : _) (given : Option ℕ) → ((reply : ClaimReply) → IsReplyAs runs given reply → ⊥)
     → (x : LastCommand) → stored_last x ≡ stored.Claim claim given → KeptIsALegs runs x → ⊥

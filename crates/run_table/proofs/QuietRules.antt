@@ -160,7 +160,8 @@ opening_holds runs r j y change fit was blocked =
     (λ v v_was l e. absurd (no_leg_holds v.legs l
     (ap (λ (w : JobState). w.legs) (let two : Some v ≡ Some y = sym v_was ∙ was in let one : v ≡ y = cc in one) ∙ none) e))
 
-live_still_holds : (runs : List RunState) (r : ℕ) (h : Holder) → holds runs h ≡ true → holds (with_run r (run_in_phase run.Live) runs) h ≡ true
+live_still_holds : (runs : List RunState) (r : ℕ) (h : Holder) → holds runs h ≡ true
+    → holds (with_run r (run_in_phase run.Live) runs) h ≡ true
 live_still_holds runs r (Holder.a_run s) e =
     passed_on (λ (x : RunState). is_live x.phase) (run_in_phase run.Live) r runs (λ x at now. refl) s e
 live_still_holds runs r (Holder.a_leg p) e = legs_still_hold (run_in_phase run.Live) r runs p (λ x at now. now) e

@@ -23,7 +23,8 @@ use Rattle.run_table.specs.Moves.{Holder, Move, Step}
 use Rattle.run_table.specs.Places.{LegPlace, leg_at, with_job, with_leg, with_run}
 use Rattle.run_table.specs.Rules.{leg_in_phase}
 use Rattle.run_table.specs.Sound.{IsSound}
-use Rattle.run_table.specs.Step.{empty, at_rest_after, entered, lease_end_moves, unchanged, admission_answer, new_run, admitting, admitted, claim_answer, claiming_runner}
+use Rattle.run_table.specs.Step.{empty, at_rest_after, entered, lease_end_moves, unchanged, admission_answer, new_run, admitting, admitted}
+use Rattle.run_table.specs.Step.{claim_answer, claiming_runner}
 use Rattle.run_table.specs.Step.{leased_leg, lease_at, leasing, serving_nothing, claiming, report_answer, reporting_runner}
 use Rattle.run_table.specs.Step.{with_ended, reporting, reported, stepped}
 use Rattle.run_table.specs.Step.{cancel_answer, cancelling, cancelled, losing, lost, refused, released}
@@ -101,24 +102,28 @@ after_end_keeps_leases p o q runs =
       | false ↦ end_keeps_leases p o q runs
     ]
 
-after_end_keeps_events : (p : LegPlace) (o : Outcome) (r : ℕ) (runs : List RunState) → admitted_at (after_end p o runs) r ≡ admitted_at runs r
+after_end_keeps_events : (p : LegPlace) (o : Outcome) (r : ℕ) (runs : List RunState)
+    → admitted_at (after_end p o runs) r ≡ admitted_at runs r
 after_end_keeps_events p o r runs =
     let ended = with_leg p (leg_in_phase (leg.Ended o)) runs in
-    let one = mapped_by_change (λ (x : RunState). x.admitted) (in_run p.job (in_job p.leg (leg_in_phase (leg.Ended o)))) (λ x. refl) p.run runs r in
+    let one = mapped_by_change (λ (x : RunState). x.admitted) (in_run p.job (in_job p.leg (leg_in_phase (leg.Ended o)))) (λ x. refl)
+    p.run runs r in
     elim (stops_others runs p o) as
     (λ b. admitted_at (if b then with_job p.run p.job with_stopped_legs ended else ended) r ≡ admitted_at runs r) [
       | true ↦ mapped_by_change (λ (x : RunState). x.admitted) (in_run p.job with_stopped_legs) (λ x. refl) p.run ended r ∙ one
       | false ↦ one
     ]
 
-pub with_ended_keeps_leases : (lease : ℕ) (o : Outcome) (q : LegPlace) (runs : List RunState) → had_at (with_ended lease o runs) q ≡ had_at runs q
+pub with_ended_keeps_leases : (lease : ℕ) (o : Outcome) (q : LegPlace) (runs : List RunState)
+    → had_at (with_ended lease o runs) q ≡ had_at runs q
 with_ended_keeps_leases lease o q runs =
     elim (place_of_lease runs lease) as (λ place. had_at (option_map_or (λ p. after_end p o runs) place runs) q ≡ had_at runs q) [
       | None ↦ refl
       | Some p ↦ after_end_keeps_leases p o q runs
     ]
 
-with_ended_keeps_events : (lease : ℕ) (o : Outcome) (r : ℕ) (runs : List RunState) → admitted_at (with_ended lease o runs) r ≡ admitted_at runs r
+with_ended_keeps_events : (lease : ℕ) (o : Outcome) (r : ℕ) (runs : List RunState)
+    → admitted_at (with_ended lease o runs) r ≡ admitted_at runs r
 with_ended_keeps_events lease o r runs =
     elim (place_of_lease runs lease) as (λ place. admitted_at (option_map_or (λ p. after_end p o runs) place runs) r ≡ admitted_at runs r) [
       | None ↦ refl
@@ -198,7 +203,8 @@ leasing_reads t claim p s none fit =
       runners =
           with_runner t.runners (claiming_runner claim (Some lease) (given.Lease told));
     }) (reply.Lease told) (leasing_keeps t claim p (kept_from_sound t s) none fit)
-    (λ i a e. mapped_by_change (λ (x : RunState). x.admitted) (in_run p.job (in_job p.leg (λ _. leased_leg lease))) (λ x. refl) p.run t.runs i ∙ e)
+    (λ i a e. mapped_by_change (λ (x : RunState). x.admitted) (in_run p.job (in_job p.leg (λ _. leased_leg lease))) (λ x. refl)
+    p.run t.runs i ∙ e)
     (λ q n e. elim (place_or_another q p) [
       | inl same ↦
           let number : lease ≡ n = some_is lease n (sym changes.here
@@ -209,7 +215,8 @@ leasing_reads t claim p s none fit =
             answer = ap (λ (v : LegPlace). reply.Lease (lease_at t.runs v lease)) (sym same)
                 ∙ ap (λ (m : ℕ). reply.Lease (lease_at t.runs q m)) number;
             event = at.place.run.admitted;
-            event_is = ap (λ (v : LegPlace). admitted_at t.runs v.run) same ∙ ap (option_map (λ (x : RunState). x.admitted)) at.place.run_is;
+            event_is = ap (λ (v : LegPlace). admitted_at t.runs v.run) same
+                ∙ ap (option_map (λ (x : RunState). x.admitted)) at.place.run_is;
           })
       | inr other ↦ inl (sym (changes.elsewhere q other) ∙ e)
     ])
@@ -241,7 +248,8 @@ cancel_reads t id s =
     let found = run_to_cancel t id none in
     let stop = stopped_run_settles t.runs (kept_from_sound t s).fit (id - 1) found.0 found.1 in
     let next = with_run (id - 1) stopped_run t.runs in
-    rest_reads t (command.Cancel id) (stop_holder (Holder.a_run (id - 1)) t.runs).moves (record t { runs = next }) reply.Ok (kept_settles t next (kept_from_sound t s) stop)
+    rest_reads t (command.Cancel id) (stop_holder (Holder.a_run (id - 1)) t.runs).moves (record t { runs = next }) reply.Ok
+    (kept_settles t next (kept_from_sound t s) stop)
     (λ i a e. stop.stay.same_admitted i ∙ e) (λ p n e. inl (sym (stop.same_had p) ∙ e)))
 
 loss_reads : (t : TableState) (name : List ℕ) → IsSound t → Reads t (command.Lost name) (lost t name)

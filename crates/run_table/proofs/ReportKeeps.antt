@@ -47,7 +47,8 @@ holds_it lease (Some x) e =
       | Some n ↦ λ f. ap Some (eqb-true n lease f)
     ] e
 
-pub has_it : (lease : ℕ) (o : Option LegState) → option_map_or (has_lease lease) o false ≡ true → option_and_then (λ y. y.lease) o ≡ Some lease
+pub has_it : (lease : ℕ) (o : Option LegState) → option_map_or (has_lease lease) o false ≡ true
+    → option_and_then (λ y. y.lease) o ≡ Some lease
 has_it lease None e = cc
 has_it lease (Some z) e =
     elim (z.lease) as (λ h. option_map_or (λ held. nat_eq held lease) h false ≡ true → h ≡ Some lease) [

@@ -14,7 +14,8 @@ use Rattle.run_table.specs.Moves.{Holder}
 use Rattle.run_table.specs.Settling.{first_place}
 use Rattle.run_table.specs.StateWords.{is_blocked, is_done, is_live}
 use Rattle.run_table.specs.TableState.{LegState, JobState, RunState}
-use Rattle.run_table.specs.WithinRun.{first_in_job, first_in_jobs, first_in_run, first_of_legs, first_of_open, goes_on, leg_place, needs_settled_in, whole_goes_on_in}
+use Rattle.run_table.specs.WithinRun.{first_in_job, first_in_jobs, first_in_run, first_of_legs, first_of_open, goes_on, leg_place}
+use Rattle.run_table.specs.WithinRun.{needs_settled_in, whole_goes_on_in}
 use Rattle.run_table.specs.declared.place.Place.{Place}
 use Rattle.run_table.specs.declared.place.Place.TheVariants.{AtLeg, Closing, Opening, Whole}
 use Rattle.run_table.proofs.Firsts.{none_found}
@@ -70,7 +71,8 @@ pub asked_none : {X Y : Type 0} (f : ℕ → X → Option Y) (xs : List X) → O
 asked_none f xs each k None at = refl
 asked_none f xs each k (Some x) at = each k x at
 
-pub none_of_each : {X Y : Type 0} (f : ℕ → X → Option Y) (xs : List X) → OfEach (NoneAt f) xs → first_some (λ e. f e.0 e.1) (placed xs) ≡ None
+pub none_of_each : {X Y : Type 0} (f : ℕ → X → Option Y) (xs : List X) → OfEach (NoneAt f) xs
+    → first_some (λ e. f e.0 e.1) (placed xs) ≡ None
 none_of_each f xs each =
     none_found f xs (length xs)
     (λ k lt. ap (option_and_then (f k)) refl ∙ asked_none f xs each k (slice_get xs k) refl) (omega arith)
@@ -109,7 +111,8 @@ done_closes false done y z (Some x) is e = cc
 pub job_closes : (runs : List RunState) (r j : ℕ) (run : RunState) (x : JobState) → is_done x ≡ true
     → Decides false (first_in_job runs r run j x ≡ None)
 job_closes runs r j run x done =
-    no (λ e. done_closes (is_blocked x.phase && needs_settled_in run j) (is_done x) (Opening r j) (Closing r j) (first_of_legs runs r j x.legs)
+    no (λ e. done_closes (is_blocked x.phase && needs_settled_in run j) (is_done x) (Opening r j) (Closing r j)
+    (first_of_legs runs r j x.legs)
     done e)
 
 or_none : {Y : Type 0} (o : Option Y) → option_or o None ≡ o

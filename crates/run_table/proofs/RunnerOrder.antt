@@ -1,6 +1,7 @@
 -- Runners in the order of their names: where the one of a name stands, or would.
 use Rattle.std.specs.Prelude.{◌≡◌, ◌⊎◌, ℕ, zero, suc, ◌<◌, ◌≤◌, List, [], ◌∷◌, ◌++◌, length, filter, find, Bool, true, false}
-use Rattle.std.specs.Prelude.{cond, if◌then◌else◌, is_some, Option, Some, None, option_and_then, slice_get, slice_set, OnErr, Result, Ok, Err, refl}
+use Rattle.std.specs.Prelude.{cond, if◌then◌else◌, is_some, Option, Some, None, option_and_then, slice_get, slice_set, OnErr, Result, Ok}
+use Rattle.std.specs.Prelude.{Err, refl}
 use Rattle.std.specs.List.{AllByRecursion, AllWithin, insert}
 use Rattle.std.specs.List.Sorted.{IsPartitionedBy}
 use Rattle.std.specs.Cmp.Lexicographic.{nat_list_cmp_total}
@@ -80,7 +81,8 @@ module _ {X : Type 0} (test keep : X → Bool) where
   pub find_kept : ((x : X) → test x ≡ true → keep x ≡ true) → (xs : List X) → find test (filter keep xs) ≡ find test xs
   find_kept h [] = refl
   find_kept h (x ∷ xs) =
-      elim (keep x) as (λ b. keep x ≡ b → find test (cond b (x ∷ filter keep xs) (filter keep xs)) ≡ cond (test x) (Some x) (find test xs)) [
+      elim (keep x) as (λ b. keep x ≡ b
+      → find test (cond b (x ∷ filter keep xs) (filter keep xs)) ≡ cond (test x) (Some x) (find test xs)) [
         | true ↦ λ is. ap (cond (test x) (Some x)) (find_kept h xs)
         | false ↦ λ is. find_kept h xs ∙ sym (ap (λ b. cond b (Some x) (find test xs)) (not_taken x is))
       ] refl
@@ -112,7 +114,8 @@ module _ {X : Type 0} (test keep : X → Bool) where
 abbrev pub AreAbove : List ℕ → List RunnerState → Type 0
 AreAbove name runners = AllByRecursion (λ r. name_cmp name r.name ≡ Less) runners
 
-pub all_above : (name : List ℕ) (x : RunnerState) (xs : List RunnerState) → name_cmp name x.name ≡ Less → AreAbove x.name xs → AreAbove name xs
+pub all_above : (name : List ℕ) (x : RunnerState) (xs : List RunnerState) → name_cmp name x.name ≡ Less → AreAbove x.name xs
+    → AreAbove name xs
 all_above name x xs lt =
     all_weaken (λ (r : RunnerState). name_cmp x.name r.name ≡ Less) (λ (r : RunnerState). name_cmp name r.name ≡ Less)
     (λ r more. nat_list_cmp_total.trans name x.name r.name lt more) xs
@@ -159,7 +162,8 @@ pub record Around (runners : List RunnerState) (name : List ℕ) : Type 0 where
   pub whole : runners ≡ filter (is_below name) runners ++ back
   pub ends : IsThere runners name back ⊎ IsAbsent runners name back
 
-first_below : (x : RunnerState) (xs : List RunnerState) (name : List ℕ) → name_cmp x.name name ≡ Less → Around xs name → Around (x ∷ xs) name
+first_below : (x : RunnerState) (xs : List RunnerState) (name : List ℕ) → name_cmp x.name name ≡ Less → Around xs name
+    → Around (x ∷ xs) name
 first_below x xs name lt a =
     let below : is_below name x ≡ true = ap is_lt lt in
     let not_above : is_above name x ≡ false = ap is_lt (after_less x.name name lt) in
@@ -196,7 +200,8 @@ all_after xs name above = record {
   ends = inr (record { is = sym (all_are_above xs name above); found = none_named name xs above });
 }
 
-first_is_it : (x : RunnerState) (xs : List RunnerState) (name : List ℕ) → name_cmp x.name name ≡ Equal → AreAbove name xs → Around (x ∷ xs) name
+first_is_it : (x : RunnerState) (xs : List RunnerState) (name : List ℕ) → name_cmp x.name name ≡ Equal → AreAbove name xs
+    → Around (x ∷ xs) name
 first_is_it x xs name eq above =
     let same : x.name ≡ name = exact_bytes x.name name eq in
     let back_equal : name_cmp name x.name ≡ Equal = Equal-from_same name x.name (sym same) in
@@ -267,7 +272,8 @@ module _ (runners : List RunnerState) (name : List ℕ) (h : names_rise runners 
       (all_pass (is_above name) runners) (ap (λ xs. slice_get xs 0) (sym is) ∙ e) in
       above_not_named name x (Less-from_is_lt _ passes)
 
-  nothing_kept : (o : Option RunnerState) → ((x : RunnerState) → o ≡ Some x → is_named name x ≡ false) → option_and_then (kept_named name) o ≡ None
+  nothing_kept : (o : Option RunnerState) → ((x : RunnerState) → o ≡ Some x → is_named name x ≡ false)
+      → option_and_then (kept_named name) o ≡ None
   nothing_kept None h = refl
   nothing_kept (Some x) h = ap (λ b. if b then Some x else None) (h x refl)
 
@@ -358,7 +364,8 @@ rise_around (x ∷ front) back new h below k above =
     (lt, all_above x.name new back lt above))
     (rise_around front back new (rises_rest (λ (r : RunnerState). r.name) x front h) below.1 k above)
 
-pub names_still_rise : (runners : List RunnerState) (new : RunnerState) → names_rise runners ≡ true → names_rise (with_runner runners new) ≡ true
+pub names_still_rise : (runners : List RunnerState) (new : RunnerState) → names_rise runners ≡ true
+    → names_rise (with_runner runners new) ≡ true
 names_still_rise runners new h =
     rise_around (filter (is_below new.name) runners) (filter (is_above new.name) runners) new
     (rise_filtered (is_below new.name) runners h) (all_pass (is_below new.name) runners) (rise_filtered (is_above new.name) runners h)

@@ -113,7 +113,8 @@ module _ (runners : List RunnerState) (new : RunnerState) where
       let back = find test (filter (is_above new.name) runners) in
       let parts : runner_named (with_runner runners new) name ≡ option_or front back =
       found_in_parts name ∙ ap (λ b. option_or front (cond b (Some new) back)) (not_new name other) in
-      elim (name_cmp name new.name) as (λ o. name_cmp name new.name ≡ o → runner_named (with_runner runners new) name ≡ runner_named runners name) [
+      elim (name_cmp name new.name) as (λ o. name_cmp name new.name ≡ o
+      → runner_named (with_runner runners new) name ≡ runner_named runners name) [
         | Less ↦ λ lt.
             let kept = find_kept test (is_below new.name)
             (λ x named. ap is_lt (ap (λ n. name_cmp n new.name) (same x named) ∙ lt)) runners in

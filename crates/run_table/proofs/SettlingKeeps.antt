@@ -35,23 +35,28 @@ settling_settles runs fit = settles_within (left runs) runs fit
 
 -- A rule that is taken at a live place keeps it.
 abbrev pub RulesKeep : (List RunState → Type 0) → Type 0
-RulesKeep Keeps = (runs : List RunState) (m : Moved) (place : Place) → RunsFit runs → LivePlace runs place → rule_at runs place ≡ Some m → Keeps runs → Keeps m.runs
+RulesKeep Keeps = (runs : List RunState) (m : Moved) (place : Place) → RunsFit runs → LivePlace runs place → rule_at runs place ≡ Some m
+    → Keeps runs → Keeps m.runs
 
-pub first_rule_keeps : (Keeps : List RunState → Type 0) → RulesKeep Keeps → (runs : List RunState) (m : Moved) → RunsFit runs → first_rule runs ≡ Some m
+pub first_rule_keeps : (Keeps : List RunState → Type 0) → RulesKeep Keeps → (runs : List RunState) (m : Moved) → RunsFit runs
+    → first_rule runs ≡ Some m
     → Keeps runs → Keeps m.runs
 first_rule_keeps Keeps each_rule runs m fit h kept =
     let made = from_and_then (rule_at runs) (first_place runs) m h in
     each_rule runs m made.value fit (first_place_is_live runs made.value made.is) made.gives kept
 
-keeps_within : (Keeps : List RunState → Type 0) → RulesKeep Keeps → (n : ℕ) (runs : List RunState) → RunsFit runs → Keeps runs → Keeps (settled_within n runs).runs
+keeps_within : (Keeps : List RunState → Type 0) → RulesKeep Keeps → (n : ℕ) (runs : List RunState) → RunsFit runs → Keeps runs
+    → Keeps (settled_within n runs).runs
 keeps_within Keeps each_rule zero runs fit kept = kept
 keeps_within Keeps each_rule (suc n) runs fit kept =
     elim (first_rule runs) as
     (λ o. first_rule runs ≡ o → Keeps (option_map_or (λ m. and_then m (settled_within n)) o (without_moves runs)).runs) [
       | None ↦ λ is. kept
       | Some m ↦ λ is.
-          keeps_within Keeps each_rule n m.runs (first_rule_settles runs m fit is).stay.fit (first_rule_keeps Keeps each_rule runs m fit is kept)
+          keeps_within Keeps each_rule n m.runs (first_rule_settles runs m fit is).stay.fit
+          (first_rule_keeps Keeps each_rule runs m fit is kept)
     ] refl
 
-pub settling_keeps : (Keeps : List RunState → Type 0) → RulesKeep Keeps → (runs : List RunState) → RunsFit runs → Keeps runs → Keeps (settled runs)
+pub settling_keeps : (Keeps : List RunState → Type 0) → RulesKeep Keeps → (runs : List RunState) → RunsFit runs → Keeps runs
+    → Keeps (settled runs)
 settling_keeps Keeps each_rule runs fit kept = keeps_within Keeps each_rule (left runs) runs fit kept

@@ -19,7 +19,8 @@ use Rattle.run_table.specs.Moves.{Holder, Step}
 use Rattle.run_table.specs.Places.{LegPlace, with_job, with_leg, with_run}
 use Rattle.run_table.specs.Rules.{leg_in_phase}
 use Rattle.run_table.specs.Sound.{IsSound}
-use Rattle.run_table.specs.Step.{empty, entered, unchanged, admission_answer, new_run, admitting, admitted, claim_answer, leased_leg, leasing}
+use Rattle.run_table.specs.Step.{empty, entered, unchanged, admission_answer, new_run, admitting, admitted, claim_answer, leased_leg}
+use Rattle.run_table.specs.Step.{leasing}
 use Rattle.run_table.specs.Step.{serving_nothing, claiming, claimed, report_answer, with_ended, reporting, reported, stepped}
 use Rattle.run_table.specs.Step.{cancel_answer, cancelling, cancelled, losing, lost, refused, released}
 use Rattle.run_table.specs.Skips.{SkipsAreDue}

@@ -34,7 +34,8 @@ lease_at_leg : (runs : List RunState) (p : LegPlace) (n : ℕ) (x : LegState) �
     → lease_of_leg runs p ≡ Some n
 lease_at_leg runs p n x at e = had_from_leg runs p x at ∙ e
 
-module _ (leases : Leases) (runs : List RunState) (runners : List RunnerState) (legs : (n : ℕ) → Finds (lease_of_leg runs) n (leg_of leases n))
+module _ (leases : Leases) (runs : List RunState) (runners : List RunnerState)
+    (legs : (n : ℕ) → Finds (lease_of_leg runs) n (leg_of leases n))
     (held : (n : ℕ) → Finds (lease_of_runner runners) n (runner_of leases n)) where
   -- ---- from the table
 
@@ -96,7 +97,8 @@ module _ (leases : Leases) (runs : List RunState) (runners : List RunnerState) (
         let place = leg_in runs p x at in
         ((each p.run place.place.run place.place.run_is).each_job p.job place.job place.place.job_is).each_leg p.leg x place.leg_is
 
-    is_held : (p : LegPlace) (x : LegState) (n : ℕ) → leg_at runs p ≡ Some x → is_at_work x.phase ≡ true → x.lease ≡ Some n → IsHeld runners n
+    is_held : (p : LegPlace) (x : LegState) (n : ℕ) → leg_at runs p ≡ Some x → is_at_work x.phase ≡ true → x.lease ≡ Some n
+        → IsHeld runners n
     is_held p x n at work e =
         let k = there (runner_of leases n) (((of_leg p x at).is_found n e).1 work) in
         let has = found_has (lease_of_runner runners) n (runner_of leases n) k.value (held n) k.is in

@@ -123,7 +123,8 @@ blocked_job_opens : (body : List ℕ) → needs_at (plan_graph (plan_of body)) 0
     → first_place (run_with body run.Live (blocked_job ∷ []) ∷ []) ≡ Some (Opening 0 0)
 blocked_job_opens body needs =
     let runs = run_with body run.Live (blocked_job ∷ []) ∷ [] in
-    ap (λ places. if is_some (if all_have_results (None ∷ []) places then Some (without_moves (with_job 0 0 (decided runs 0 0) runs)) else None)
+    ap (λ places. if is_some (if all_have_results (None ∷ []) places then Some
+    (without_moves (with_job 0 0 (decided runs 0 0) runs)) else None)
     then Some (Opening 0 0) else None) needs
 
 -- and waits where it needs a job that is open
@@ -131,7 +132,8 @@ blocked_job_waits : (body : List ℕ) → needs_at (plan_graph (plan_of body)) 0
     → first_place (run_with body run.Live (blocked_job ∷ open_job (leased_leg 1 ∷ []) ∷ []) ∷ []) ≡ None
 blocked_job_waits body needs =
     let runs = run_with body run.Live (blocked_job ∷ open_job (leased_leg 1 ∷ []) ∷ []) ∷ [] in
-    ap (λ places. if is_some (if all_have_results (None ∷ None ∷ []) places then Some (without_moves (with_job 0 0 (decided runs 0 0) runs)) else None)
+    ap (λ places. if is_some (if all_have_results (None ∷ None ∷ []) places then Some
+    (without_moves (with_job 0 0 (decided runs 0 0) runs)) else None)
     then Some (Opening 0 0) else None) needs
 
 -- with the legs of its plan

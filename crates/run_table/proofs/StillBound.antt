@@ -115,7 +115,8 @@ module _ (runs : List RunState) (run : RunState) (numbers : List ℕ) (n : ℕ) 
       }
 
 -- a run that was added with its number and with what it asks, or none of these
-pub all_added : {X : Type 0} (runs : List RunState) (run : RunState) (numbers : List ℕ) (kept : List RunGroups) (number : ℕ) (asked : RunGroups)
+pub all_added : {X : Type 0} (runs : List RunState) (run : RunState) (numbers : List ℕ) (kept : List RunGroups) (number : ℕ)
+    (asked : RunGroups)
     (new_runs : List RunState) (new_numbers : List ℕ) (new_kept : List RunGroups) (result : Result X Refusal) → length runs < 100000
     → AreNumbered runs numbers × AreBound runs kept → number ≡ count_by (λ other. same_workflow run.admitted other.admitted) runs + 1
     → RunSays (record { event = run.admitted; run_id = decimal (length runs + 1); run_number = decimal number }) asked
@@ -126,7 +127,8 @@ all_added runs run numbers kept number asked new_runs new_numbers new_kept (Ok x
     same_runs same_numbers same_kept =
     let next = given (runs ++ run ∷ []) new_runs run_added in
     let count = count_by (λ (other : RunState). same_workflow run.admitted other.admitted) runs in
-    let numbered = subst (λ (n : ℕ). AreNumbered (runs ++ run ∷ []) (numbers ++ n ∷ [])) (sym is) (one_more runs run numbers count room are.0 refl) in (
+    let numbered = subst (λ (n : ℕ). AreNumbered (runs ++ run ∷ []) (numbers ++ n ∷ [])) (sym is)
+    (one_more runs run numbers count room are.0 refl) in (
       subst (λ (rs : List RunState). AreNumbered rs new_numbers) next (subst (AreNumbered (runs ++ run ∷ [])) (sym number_added) numbered),
       subst (λ (rs : List RunState). AreBound rs new_kept) next
           (subst (AreBound (runs ++ run ∷ [])) (sym kept_added) (added_bound runs run numbers number are.0 numbered kept asked are.1 says)),

@@ -14,7 +14,8 @@ use Rattle.run_table.specs.Parallel.{is_at_work}
 use Rattle.run_table.specs.Places.{run_at, job_at, with_job, with_run}
 use Rattle.run_table.specs.Rules.{is_open, is_settled, result_at, settled_as}
 use Rattle.run_table.specs.Sound.{LegsFit, LeaseFits, PhaseFits}
-use Rattle.run_table.specs.Stops.{cancelled, stopped_in, stopped_phase, stopped_run, stopped, stopped_where, told_to_stop, with_stopped_legs}
+use Rattle.run_table.specs.Stops.{cancelled, stopped_in, stopped_phase, stopped_run, stopped, stopped_where, told_to_stop}
+use Rattle.run_table.specs.Stops.{with_stopped_legs}
 use Rattle.run_table.specs.TableState.{LegState, JobState, RunState}
 use Rattle.run_table.specs.WithinRun.{may_run_in}
 use Rattle.run_table.specs.Words.{planned_legs}
@@ -156,7 +157,11 @@ where_no_legs b y none =
 
 keeps_nothing : (runs : List RunState) (r : ℕ) (x : RunState) → RunFits runs r x → Keeps runs r x x
 keeps_nothing runs r x fits =
-    record { stays = record { same_admitted = refl; keeps_results = (λ j a e. e); fits = fits }; same_had = (λ j l. refl); same_works = (λ j l. refl) }
+    record {
+      stays = record { same_admitted = refl; keeps_results = (λ j a e. e); fits = fits };
+      same_had = (λ j l. refl);
+      same_works = (λ j l. refl);
+    }
 
 told_keeps : (runs : List RunState) (r : ℕ) (x : RunState) → RunFits runs r x → x.phase ≡ run.Live → Keeps runs r x (told_to_stop x)
 told_keeps runs r x fits live =

@@ -90,7 +90,8 @@ abbrev pub settled_upto : JobResult → ℕ → RunState → RunState
 settled_upto result n run = record run { jobs = upto (λ j. settled_as result j.1) 0 n run.jobs }
 
 pub next_settled : (result : JobResult) (run : RunState) (n : ℕ)
-    → record run { jobs = changed_at n (settled_as result) (upto (λ j. settled_as result j.1) 0 n run.jobs) } ≡ settled_upto result (n + 1) run
+    → record run { jobs = changed_at n (settled_as result) (upto (λ j. settled_as result j.1) 0 n run.jobs) }
+    ≡ settled_upto result (n + 1) run
 next_settled result run n =
     let next : suc n ≡ n + 1 = omega arith in
     ap (λ js. record run { jobs = js }) (upto_more (λ j. settled_as result j.1) 0 n run.jobs) ∙ ap (λ m. settled_upto result m run) next

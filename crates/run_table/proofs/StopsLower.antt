@@ -17,7 +17,8 @@ use Rattle.run_table.specs.RunConditions.{may_run_in}
 use Rattle.run_table.specs.Settling.{job_left, leg_left, leg_phases_left, left, legs_in_plan, run_left}
 use Rattle.run_table.specs.StateWords.{is_open, settled_as}
 use Rattle.run_table.specs.StopMoves.{displace, stop_holder}
-use Rattle.run_table.specs.Stops.{cancelled, stopped, stopped_in, stopped_phase, stopped_run, stopped_where, told_to_stop, with_stopped_legs}
+use Rattle.run_table.specs.Stops.{cancelled, stopped, stopped_in, stopped_phase, stopped_run, stopped_where, told_to_stop}
+use Rattle.run_table.specs.Stops.{with_stopped_legs}
 use Rattle.run_table.specs.TableState.{LegState, JobState, RunState}
 use Rattle.run_table.specs.declared.phases.LegPhase.{LegPhase}
 use Rattle.run_table.specs.declared.phases.LegPhase.TheVariants as leg
@@ -158,7 +159,8 @@ one_leg_of_run j l x =
 
 pub stop_lowers : (h : Holder) (runs : List RunState) → left (stop_holder h runs).runs ≤ left runs
 stop_lowers (Holder.a_run r) runs = sum_of_one run_left stopped_run runs r (λ x. stopped_in_lowers x.phase x)
-stop_lowers (Holder.a_leg p) runs = sum_of_one run_left (with_job_of p.job (with_leg_of p.leg stopped)) runs p.run (one_leg_of_run p.job p.leg)
+stop_lowers (Holder.a_leg p) runs = sum_of_one run_left (with_job_of p.job (with_leg_of p.leg stopped)) runs p.run
+    (one_leg_of_run p.job p.leg)
 
 each_lowers : (change : Holder → List RunState → Moved) → ((h : Holder) (runs : List RunState) → left (change h runs).runs ≤ left runs)
     → (hs : List Holder) (runs : List RunState) → left (at_each change hs runs).runs ≤ left runs

@@ -1,5 +1,6 @@
 -- The runs of a table can be stored: a new leg would have a rule, and no job has more legs than its plan.
-use Rattle.std.specs.Prelude.{◌≡◌, ℕ, zero, suc, ◌≤◌, List, [], ◌∷◌, map, flat_map, length, Bool, true, false, is_some, Option, Some, None, option_and_then}
+use Rattle.std.specs.Prelude.{◌≡◌, ℕ, zero, suc, ◌≤◌, List, [], ◌∷◌, map, flat_map, length, Bool, true, false, is_some, Option, Some, None}
+use Rattle.std.specs.Prelude.{option_and_then}
 use Rattle.std.specs.Prelude.{if◌then◌else◌, slice_get, refl}
 use Rattle.std.specs.List.{AllByRecursion, list_all}
 use Rattle.std.specs.Option.{option_map_or}
@@ -12,7 +13,8 @@ use Rattle.run_plan.proofs.FewLegs.{few_planned}
 use Rattle.run_table.specs.FirstOf.{placed}
 use Rattle.run_table.specs.JobResults.{settled_result}
 use Rattle.run_table.specs.Places.{LegPlace, job_at, leg_at, run_at}
-use Rattle.run_table.specs.Rules.{has_ended, is_live, is_settled, job_places, leg_rule, leg_rule_in, outcome_of, places, result_at, run_places}
+use Rattle.run_table.specs.Rules.{has_ended, is_live, is_settled, job_places, leg_rule, leg_rule_in, outcome_of, places, result_at}
+use Rattle.run_table.specs.Rules.{run_places}
 use Rattle.run_table.specs.Settling.{applies, first_place}
 use Rattle.run_table.specs.Sound.{IsSound, LegsFit, PhaseFits}
 use Rattle.run_table.specs.Stored.{IsStorable, LegsAreFew, is_new}
@@ -43,14 +45,16 @@ planned_few_of (Some x) j =
 planned_few : (runs : List RunState) (r j : ℕ) → planned_legs runs r j ≤ 256
 planned_few runs r j = planned_few_of (run_at runs r) j
 
-few_fit : (planned : ℕ) (gathered : JobResult) (phase : JobPhase) (legs : List LegState) → planned ≤ 256 → LegsFit planned gathered phase legs → length legs ≤ 256
+few_fit : (planned : ℕ) (gathered : JobResult) (phase : JobPhase) (legs : List LegState) → planned ≤ 256
+    → LegsFit planned gathered phase legs → length legs ≤ 256
 few_fit planned gathered job.Blocked legs few fits = let none : length legs ≡ 0 = ap length fits in omega (arith, none)
 few_fit planned gathered job.Open legs few fits = omega (arith, fits, few)
 few_fit planned gathered (job.Settled r) legs few (inl none) = let empty : length legs ≡ 0 = ap length none.0 in omega (arith, empty)
 few_fit planned gathered (job.Settled r) legs few (inr all) = let same = all.0 in omega (arith, same, few)
 
 legs_few : (t : TableState) → IsSound t → LegsAreFew t.runs
-legs_few t s r j x at = few_fit (planned_legs t.runs r j) (result_at t.runs r j x) x.phase x.legs (planned_few t.runs r j) (s.jobs_fit r j x at)
+legs_few t s r j x at = few_fit (planned_legs t.runs r j) (result_at t.runs r j x) x.phase x.legs (planned_few t.runs r j)
+    (s.jobs_fit r j x at)
 
 -- ---- no leg is new
 
@@ -65,7 +69,8 @@ record LegFound (runs : List RunState) (p : LegPlace) (x : LegState) : Type 0 wh
 leg_found : (runs : List RunState) (p : LegPlace) (x : LegState) → leg_at runs p ≡ Some x → LegFound runs p x
 leg_found runs p x at =
     elim (run_at runs p.run) as (λ o. run_at runs p.run ≡ o
-    → option_and_then (λ (y : JobState). slice_get y.legs p.leg) (option_and_then (λ (z : RunState). slice_get z.jobs p.job) o) ≡ Some x → LegFound runs p x) [
+    → option_and_then (λ (y : JobState). slice_get y.legs p.leg) (option_and_then (λ (z : RunState). slice_get z.jobs p.job) o) ≡ Some x
+    → LegFound runs p x) [
       | None ↦ λ is e. cc
       | Some z ↦ λ is e. elim (slice_get z.jobs p.job) as (λ o. slice_get z.jobs p.job ≡ o
           → option_and_then (λ (y : JobState). slice_get y.legs p.leg) o ≡ Some x → LegFound runs p x) [
@@ -75,13 +80,15 @@ leg_found runs p x at =
     ] refl at
 
 -- where no rule applies at the places of a live run, none does at a leg of it
-rests_at : (runs : List RunState) (p : LegPlace) (z : RunState) (y : JobState) (x : LegState) → first_place runs ≡ None → run_at runs p.run ≡ Some z
+rests_at : (runs : List RunState) (p : LegPlace) (z : RunState) (y : JobState) (x : LegState) → first_place runs ≡ None
+    → run_at runs p.run ≡ Some z
     → slice_get z.jobs p.job ≡ Some y → slice_get y.legs p.leg ≡ Some x → is_live z.phase ≡ true → applies runs (AtLeg p) ≡ false
 rests_at runs p z y x none run_is job_is leg_is live =
     let Rests = λ (place : Place). applies runs place ≡ false in
     let by_run = each_of_flat_map Rests run_places (placed runs) (none_found (applies runs) (places runs) none) in
     let of_run = each_of_placed (λ e. AllByRecursion Rests (run_places e)) runs p.run z by_run run_is in
-    let jobs = (each_of_append Rests (if is_live z.phase then flat_map (job_places p.run) (placed z.jobs) else []) (Whole p.run ∷ []) of_run).0 in
+    let jobs = (each_of_append Rests (if is_live z.phase then flat_map (job_places p.run) (placed z.jobs) else [])
+    (Whole p.run ∷ []) of_run).0 in
     let of_jobs = subst (λ b. AllByRecursion Rests (if b then flat_map (job_places p.run) (placed z.jobs) else [])) live jobs in
     let by_job = each_of_flat_map Rests (job_places p.run) (placed z.jobs) of_jobs in
     let of_job = each_of_placed (λ e. AllByRecursion Rests (job_places p.run e)) z.jobs p.job y by_job job_is in
@@ -90,7 +97,8 @@ rests_at runs p z y x none run_is job_is leg_is live =
     each_of_placed (λ e. Rests (at e)) y.legs p.leg x (each_of_map Rests at (placed y.legs) legs) leg_is
 
 -- a new leg has a rule
-new_goes_on : (runs : List RunState) (p : LegPlace) (x : LegState) → leg_at runs p ≡ Some x → x.phase ≡ leg.New → applies runs (AtLeg p) ≡ true
+new_goes_on : (runs : List RunState) (p : LegPlace) (x : LegState) → leg_at runs p ≡ Some x → x.phase ≡ leg.New
+    → applies runs (AtLeg p) ≡ true
 new_goes_on runs p x at new =
     ap (λ o. is_some (option_and_then (leg_rule runs p) o)) at
     ∙ ap (λ phase. is_some (leg_rule_in phase runs p)) new
@@ -107,13 +115,15 @@ none_at [] k x none at = cc
 none_at (y ∷ ys) k x none at = cc
 
 -- a job that is blocked has no leg, and one that has settled no new one
-is_not_blocked : (planned : ℕ) (gathered : JobResult) (phase : JobPhase) (legs : List LegState) (l : ℕ) (x : LegState) → LegsFit planned gathered phase legs
+is_not_blocked : (planned : ℕ) (gathered : JobResult) (phase : JobPhase) (legs : List LegState) (l : ℕ) (x : LegState)
+    → LegsFit planned gathered phase legs
     → slice_get legs l ≡ Some x → phase ≡ job.Blocked → ⊥
 is_not_blocked planned gathered job.Blocked legs l x fits at is = none_at legs l x fits at
 is_not_blocked planned gathered job.Open legs l x fits at is = cc
 is_not_blocked planned gathered (job.Settled r) legs l x fits at is = cc
 
-has_not_settled : (planned : ℕ) (gathered : JobResult) (phase : JobPhase) (legs : List LegState) (l : ℕ) (x : LegState) → LegsFit planned gathered phase legs
+has_not_settled : (planned : ℕ) (gathered : JobResult) (phase : JobPhase) (legs : List LegState) (l : ℕ) (x : LegState)
+    → LegsFit planned gathered phase legs
     → slice_get legs l ≡ Some x → x.phase ≡ leg.New → is_some (settled_result phase) ≡ true → ⊥
 has_not_settled planned gathered job.Blocked legs l x fits at new is = cc
 has_not_settled planned gathered job.Open legs l x fits at new is = cc
@@ -123,7 +133,8 @@ has_not_settled planned gathered (job.Settled r) legs l x (inr all) at new is =
     let not_ended : is_some (outcome_of x.phase) ≡ false = ap (λ phase. is_some (outcome_of phase)) new in
     cc
 
-live_by_jobs : (phase : RunPhase) (stopping : Bool) (jobs : List JobState) (j : ℕ) (y : JobState) → PhaseFits phase stopping jobs → slice_get jobs j ≡ Some y
+live_by_jobs : (phase : RunPhase) (stopping : Bool) (jobs : List JobState) (j : ℕ) (y : JobState) → PhaseFits phase stopping jobs
+    → slice_get jobs j ≡ Some y
     → (y.phase ≡ job.Blocked → ⊥) → (is_settled y ≡ true → ⊥) → is_live phase ≡ true
 live_by_jobs run.Waiting stopping jobs j y fits at not_blocked not_settled = absurd (not_blocked (fits.1 j y at))
 live_by_jobs run.Live stopping jobs j y fits at not_blocked not_settled = refl
@@ -139,7 +150,8 @@ not_new t s p x at new =
     let planned = planned_legs t.runs p.run p.job in
     let gathered = result_at t.runs p.run p.job y in
     let live = live_by_jobs f.in_run.phase f.in_run.stopping f.in_run.jobs p.job y (s.run_phases_fit p.run f.in_run f.run_is) f.job_is
-    (is_not_blocked planned gathered y.phase y.legs p.leg x fits f.leg_is) (has_not_settled planned gathered y.phase y.legs p.leg x fits f.leg_is new) in
+    (is_not_blocked planned gathered y.phase y.legs p.leg x fits f.leg_is)
+    (has_not_settled planned gathered y.phase y.legs p.leg x fits f.leg_is new) in
     let rests = rests_at t.runs p f.in_run y x s.no_rule_applies f.run_is f.job_is f.leg_is live in
     let goes_on = new_goes_on t.runs p x at new in
     cc

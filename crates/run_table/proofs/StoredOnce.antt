@@ -93,7 +93,8 @@ as_planned t s = record {
   each = (λ r x at. record {
     as_many = s.jobs_are_the_plans r x at;
     have_room = (λ j y at_j planned at_plan.
-        let many = ap (λ (o : Option PlannedJob). option_map_or (λ (k : PlannedJob). length k.legs) o 0) (plan_in t.runs r j x at ∙ at_plan) in
+        let many = ap (λ (o : Option PlannedJob). option_map_or (λ (k : PlannedJob). length k.legs) o 0)
+        (plan_in t.runs r j x at ∙ at_plan) in
         subst (λ n. HasRoom n y.legs) many (has_room _ _ y.phase y.legs (s.jobs_fit r j y (job_in_run t.runs r j x at ∙ at_j))));
   });
 }

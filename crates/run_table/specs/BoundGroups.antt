@@ -78,7 +78,8 @@ facts_by run j job l results =
       run_number = run.run_number;
       job = job;
       leg = l;
-      needs = filter_map (λ k. option_map (λ (planned : PlannedJob). (planned.id, results k)) (slice_get plan k)) (needs_at (plan_graph plan) j);
+      needs = filter_map (λ k. option_map (λ (planned : PlannedJob). (planned.id, results k)) (slice_get plan k))
+          (needs_at (plan_graph plan) j);
     }
 
 -- what is kept for a leg
@@ -94,7 +95,8 @@ pub record RunSays (run : RunFacts) (kept : RunGroups) : Type 0 where
   pub own : SaysSo (event_of run.event.body).repo (λ results. run_context run) (event_of run.event.body).workflow.concurrency kept.own
   pub as_many : length kept.jobs ≡ length (plan_of run.event.body)
   pub legs : (j l : ℕ) (job : PlannedJob) → slice_get (plan_of run.event.body) j ≡ Some job
-      → SaysSo (event_of run.event.body).repo (λ results. context_of (facts_by run j job l results)) (asked_of_leg job l) (kept_for kept j l)
+      → SaysSo (event_of run.event.body).repo (λ results. context_of (facts_by run j job l results)) (asked_of_leg job l)
+      (kept_for kept j l)
 
 -- ---- all runs
 

@@ -1,6 +1,6 @@
 -- What is carried out once, though it is asked again: the delivery of an event, by its id, and a runner's numbered command, by its number.
--- GitHub Docs, "Best practices for using webhooks": a redelivery has the id of the delivery (X-GitHub-Delivery). That it makes no second run,
--- and the numbers of runners, are own.
+-- GitHub Docs, "Best practices for using webhooks": a redelivery has the id of the delivery (X-GitHub-Delivery). That it makes no second
+-- run, and the numbers of runners, are own.
 use Rattle.std.specs.Prelude.{◌≡◌, ℕ, ◌≤◌, List}
 use Rattle.std.specs.List.{AllByRecursion}
 use Rattle.wf_value.specs.declared.refusal.Refusal.{Refusal}

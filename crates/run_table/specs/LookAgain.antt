@@ -1,5 +1,6 @@
 -- Where settling looks for its next rule, once it has taken one: no rule applies before.
-use Rattle.std.specs.Prelude.{◌≡◌, ℕ, ◌<◌, min, List, ◌&&◌, Bool, true, false, is_some, Option, Some, None, option_and_then, slice_get, if◌then◌else◌}
+use Rattle.std.specs.Prelude.{◌≡◌, ℕ, ◌<◌, min, List, ◌&&◌, Bool, true, false, is_some, Option, Some, None, option_and_then, slice_get}
+use Rattle.std.specs.Prelude.{if◌then◌else◌}
 use Rattle.std.specs.List.{slice_index_or}
 use Rattle.std.specs.Option.{option_map_or}
 use Rattle.needs_graph.specs.Ancestors.{dependents_of}

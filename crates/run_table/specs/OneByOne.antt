@@ -32,7 +32,8 @@ IsGiven last lease = (n : ℕ) → lease ≡ Some n → (1 ≤ n) × (n ≤ last
 
 -- the leg is the one that is found by its lease, and that lease is held where a runner is at work on it
 abbrev pub IsFound : Leases → LegPlace → LegState → Type 0
-IsFound leases p x = (n : ℕ) → x.lease ≡ Some n → (leg_of leases n ≡ Some p) × (is_at_work x.phase ≡ true → is_some (runner_of leases n) ≡ true)
+IsFound leases p x = (n : ℕ) → x.lease ≡ Some n → (leg_of leases n ≡ Some p)
+    × (is_at_work x.phase ≡ true → is_some (runner_of leases n) ≡ true)
 
 pub record LegIsSound (leases : Leases) (p : LegPlace) (x : LegState) : Type 0 where
   pub lease_fits : LeaseFits x.phase x.lease

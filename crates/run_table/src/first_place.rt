@@ -6,7 +6,8 @@ ghost use Rattle.run_table.specs.Cells.{states};
 ghost use Rattle.run_table.specs.LookAgain.{JobsRestBefore, NoneBefore, RestBefore};
 ghost use Rattle.run_table.specs.Settling.{first_place};
 ghost use Rattle.run_table.specs.StateWords.{is_settled};
-ghost use Rattle.run_table.specs.WithinRun.{first_in_job, first_in_jobs, first_in_run, first_of_legs, first_of_open, first_of_whole, goes_on};
+ghost use Rattle.run_table.specs.WithinRun.{first_in_job, first_in_jobs, first_in_run, first_of_legs, first_of_open, first_of_whole};
+ghost use Rattle.run_table.specs.WithinRun.{goes_on};
 
 use crate::holder::Holder;
 use crate::job::Job;

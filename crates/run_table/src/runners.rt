@@ -1,4 +1,5 @@
-ghost use Rattle.std.specs.Prelude.{◌≡◌, ◌<◌, [], filter, is_some, length, option_and_then, option_map, slice_get, slice_set, Ok, OnErr, true};
+ghost use Rattle.std.specs.Prelude.{◌≡◌, ◌<◌, [], filter, is_some, length, option_and_then, option_map, slice_get, slice_set, Ok, OnErr};
+ghost use Rattle.std.specs.Prelude.{true};
 ghost use Rattle.wf_value.specs.Gives.{Gives};
 ghost use Rattle.run_table.specs.Turns.{is_below, is_named, kept_named, names_rise, runner_named, with_runner};
 

@@ -13,11 +13,14 @@ use Rattle.run_plan.specs.declared.command.Done.{Done}
 use Rattle.run_plan.specs.declared.command.Command.{Command}
 use Rattle.run_plan.specs.declared.command.Command.TheVariants as asked
 use Rattle.table_text.specs.Format.{Format, word, text, pair}
-use Rattle.table_text.specs.Commands.{is_numbered, number, small_text, labels, is_faultless, body, outcome_byte, outcome, admit, claim, done, beat, IsSpelled, command_bytes, command, batch}
+use Rattle.table_text.specs.Commands.{is_numbered, number, small_text, labels, is_faultless, body, outcome_byte, outcome, admit, claim}
+use Rattle.table_text.specs.Commands.{done, beat, IsSpelled, command_bytes, command, batch}
 use Rattle.table_text.specs.Reading.{Reader, word_at, text_at, pair_at, parts_at}
-use Rattle.table_text.specs.ReadingCommands.{number_at, small_text_at, labels_at, body_at, result_of, result_at, admit_at, claim_at, done_at, beat_at, command_of, command_at, batch_at}
+use Rattle.table_text.specs.ReadingCommands.{number_at, small_text_at, labels_at, body_at, result_of, result_at, admit_at, claim_at}
+use Rattle.table_text.specs.ReadingCommands.{done_at, beat_at, command_of, command_at, batch_at}
 use Rattle.wf_value.proofs.Bytes.{AreBytes, AreBytes-drop}
-use Rattle.table_text.proofs.Readers.{Fronts, Reads, bind_some, some_bind, word_reads, text_reads, only_reads, pair_reads, parts_reads, counted_reads}
+use Rattle.table_text.proofs.Readers.{Fronts, Reads, bind_some, some_bind, word_reads, text_reads, only_reads, pair_reads, parts_reads}
+use Rattle.table_text.proofs.Readers.{counted_reads}
 
 pub number_reads : Reads number number_at
 unfolding number_at
@@ -42,7 +45,8 @@ chosen false x y z h = inr (refl, h)
 
 result_sound : (byte : ℕ) (r : Outcome) → result_of byte ≡ Some r → byte ≡ outcome_byte r
 result_sound byte r h =
-    elim (chosen (byte == 1) (Some ended.Success) (if byte == 2 then Some ended.Failure else (if byte == 3 then Some ended.Cancelled else None)) (Some r) h) [
+    elim (chosen (byte == 1) (Some ended.Success)
+    (if byte == 2 then Some ended.Failure else (if byte == 3 then Some ended.Cancelled else None)) (Some r) h) [
       | inl one ↦ subst (λ (q : Outcome). byte ≡ outcome_byte q) (same_Some ended.Success r one.1) (eqb-true byte 1 one.0)
       | inr other ↦ elim (chosen (byte == 2) (Some ended.Failure) (if byte == 3 then Some ended.Cancelled else None) (Some r) other.1) [
         | inl two ↦ subst (λ (q : Outcome). byte ≡ outcome_byte q) (same_Some ended.Failure r two.1) (eqb-true byte 2 two.0)
@@ -76,17 +80,21 @@ result_reads = record { sound = result_finds; complete = λ r rest fits. result_
 pub admit_reads : Reads admit admit_at
 unfolding admit_at
 admit_reads =
-    parts_reads (λ (a : Admitted). (a.delivery, (a.event, a.body))) (λ (p : List ℕ × (List ℕ × List ℕ)). record { delivery = p.0; event = p.1.0; body = p.1.1 })
+    parts_reads (λ (a : Admitted). (a.delivery, (a.event, a.body)))
+    (λ (p : List ℕ × (List ℕ × List ℕ)). record { delivery = p.0; event = p.1.0; body = p.1.1 })
     (pair (small_text is_delivery_byte) (pair (small_text is_event_byte) body))
     (pair_at (small_text_at is_delivery_byte) (pair_at (small_text_at is_event_byte) body_at))
     (λ _. refl) (λ _. refl)
-    (pair_reads (small_text is_delivery_byte) (pair (small_text is_event_byte) body) (small_text_at is_delivery_byte) (pair_at (small_text_at is_event_byte) body_at)
-    (small_text_reads is_delivery_byte) (pair_reads (small_text is_event_byte) body (small_text_at is_event_byte) body_at (small_text_reads is_event_byte) body_reads))
+    (pair_reads (small_text is_delivery_byte) (pair (small_text is_event_byte) body) (small_text_at is_delivery_byte)
+    (pair_at (small_text_at is_event_byte) body_at)
+    (small_text_reads is_delivery_byte) (pair_reads (small_text is_event_byte) body (small_text_at is_event_byte) body_at
+    (small_text_reads is_event_byte) body_reads))
 
 pub claim_reads : Reads claim claim_at
 unfolding claim_at
 claim_reads =
-    parts_reads (λ (c : Claim). (c.runner, (c.number, c.labels))) (λ (p : List ℕ × (ℕ × List (List ℕ))). record { runner = p.0; number = p.1.0; labels = p.1.1 })
+    parts_reads (λ (c : Claim). (c.runner, (c.number, c.labels)))
+    (λ (p : List ℕ × (ℕ × List (List ℕ))). record { runner = p.0; number = p.1.0; labels = p.1.1 })
     (pair (small_text is_runner_byte) (pair number labels))
     (pair_at (small_text_at is_runner_byte) (pair_at number_at labels_at))
     (λ _. refl) (λ _. refl)
@@ -96,13 +104,16 @@ claim_reads =
 pub done_reads : Reads done done_at
 unfolding done_at
 done_reads =
-    parts_reads (λ (d : Done). (d.runner, (d.number, (d.lease, d.result)))) (λ (p : List ℕ × (ℕ × (ℕ × Outcome))). record { runner = p.0; number = p.1.0; lease = p.1.1.0; result = p.1.1.1 })
+    parts_reads (λ (d : Done). (d.runner, (d.number, (d.lease, d.result))))
+    (λ (p : List ℕ × (ℕ × (ℕ × Outcome))). record { runner = p.0; number = p.1.0; lease = p.1.1.0; result = p.1.1.1 })
     (pair (small_text is_runner_byte) (pair number (pair number outcome)))
     (pair_at (small_text_at is_runner_byte) (pair_at number_at (pair_at number_at result_at)))
     (λ _. refl) (λ _. refl)
-    (pair_reads (small_text is_runner_byte) (pair number (pair number outcome)) (small_text_at is_runner_byte) (pair_at number_at (pair_at number_at result_at))
+    (pair_reads (small_text is_runner_byte) (pair number (pair number outcome)) (small_text_at is_runner_byte)
+    (pair_at number_at (pair_at number_at result_at))
     (small_text_reads is_runner_byte)
-    (pair_reads number (pair number outcome) number_at (pair_at number_at result_at) number_reads (pair_reads number outcome number_at result_at number_reads result_reads)))
+    (pair_reads number (pair number outcome) number_at (pair_at number_at result_at) number_reads
+    (pair_reads number outcome number_at result_at number_reads result_reads)))
 
 pub beat_reads : Reads beat beat_at
 unfolding beat_at
@@ -125,7 +136,8 @@ kind_sound kind format at made reads takes spelled rest found are h =
       rest = front.rest;
     })
 
-kind_complete : {A : Type 0} (format : Format A) (at : Reader A) (made : A → Command) → Reads format at → (x : A) (rest : List ℕ) → format.Takes x
+kind_complete : {A : Type 0} (format : Format A) (at : Reader A) (made : A → Command) → Reads format at → (x : A) (rest : List ℕ)
+    → format.Takes x
     → parts_at made at (format.spelling x ++ rest) ≡ Some (made x, rest)
 kind_complete format at made reads x rest fits =
     some_bind (at (format.spelling x ++ rest)) (λ y. Some (made y.0, y.1)) (x, rest) (reads.complete x rest fits)
@@ -145,7 +157,8 @@ last_kinds kind rest found are h =
       ]
     ]
 
-kinds_sound : (kind : ℕ) (rest : List ℕ) (found : Command × List ℕ) → AreBytes rest → command_of kind rest ≡ Some found → Fronts command (kind ∷ rest) found
+kinds_sound : (kind : ℕ) (rest : List ℕ) (found : Command × List ℕ) → AreBytes rest → command_of kind rest ≡ Some found
+    → Fronts command (kind ∷ rest) found
 unfolding command_of
 kinds_sound kind rest found are h =
     let fetch : Option (Command × List ℕ) = if kind == 8 then parts_at (λ (n : ℕ). asked.Fetch n) number_at rest else None in
@@ -172,7 +185,8 @@ kinds_sound kind rest found are h =
               | inl five ↦ subst (λ (k : ℕ). Fronts command (k ∷ rest) found) (sym (eqb-true kind 5 five.0))
                   (kind_sound 5 number number_at (λ (n : ℕ). asked.Cancel n) number_reads (λ x t. t) (λ _. refl) rest found are five.1)
               | inr not_five ↦
-                  elim (chosen (kind == 6) (parts_at (λ (r : List ℕ). asked.Lost r) (small_text_at is_runner_byte) rest) look (Some found) not_five.1) [
+                  elim (chosen (kind == 6) (parts_at (λ (r : List ℕ). asked.Lost r) (small_text_at is_runner_byte) rest) look
+                  (Some found) not_five.1) [
                     | inl six ↦ subst (λ (k : ℕ). Fronts command (k ∷ rest) found) (sym (eqb-true kind 6 six.0))
                         (kind_sound 6 (small_text is_runner_byte) (small_text_at is_runner_byte) (λ (r : List ℕ). asked.Lost r)
                         (small_text_reads is_runner_byte) (λ x t. t) (λ _. refl) rest found are six.1)
@@ -197,7 +211,8 @@ command_found (asked.Done report) rest fits = kind_complete done done_at (λ (d 
 command_found (asked.Beat asks) rest fits = kind_complete beat beat_at (λ (b : Beat). asked.Beat b) beat_reads asks rest fits
 command_found (asked.Cancel run) rest fits = kind_complete number number_at (λ (n : ℕ). asked.Cancel n) number_reads run rest fits
 command_found (asked.Lost runner) rest fits =
-    kind_complete (small_text is_runner_byte) (small_text_at is_runner_byte) (λ (r : List ℕ). asked.Lost r) (small_text_reads is_runner_byte) runner rest fits
+    kind_complete (small_text is_runner_byte) (small_text_at is_runner_byte) (λ (r : List ℕ). asked.Lost r)
+    (small_text_reads is_runner_byte) runner rest fits
 command_found (asked.Fetch run) rest fits = kind_complete number number_at (λ (n : ℕ). asked.Fetch n) number_reads run rest fits
 command_found (asked.Look run) rest fits = kind_complete number number_at (λ (n : ℕ). asked.Look n) number_reads run rest fits
 

@@ -22,7 +22,8 @@ unfolding byte_at
 byte_reads = record { sound = byte_sound; complete = λ b rest fits. refl }
 
 -- where each value is found from its parts, and no other has them
-pub some_reads : {A B : Type 0} (parts_of : B → A) (whole_of : A → Option B) (format : Format A) (at : Reader A) → ((b : B) → whole_of (parts_of b) ≡ Some b)
+pub some_reads : {A B : Type 0} (parts_of : B → A) (whole_of : A → Option B) (format : Format A) (at : Reader A)
+    → ((b : B) → whole_of (parts_of b) ≡ Some b)
     → ((a : A) (b : B) → whole_of a ≡ Some b → parts_of b ≡ a) → Reads format at → Reads (parts parts_of format) (some_at whole_of at)
 some_reads {A} {B} parts_of whole_of format at there back reads = record {
   sound = λ bytes found are h.
@@ -38,11 +39,13 @@ some_reads {A} {B} parts_of whole_of format at there back reads = record {
         rest = front.rest;
       });
   complete = λ b rest fits.
-      some_bind (at (format.spelling (parts_of b) ++ rest)) (λ a. whole_of a.0 >>= (λ c. Some (c, a.1))) (parts_of b, rest) (reads.complete (parts_of b) rest fits)
+      some_bind (at (format.spelling (parts_of b) ++ rest)) (λ a. whole_of a.0 >>= (λ c. Some (c, a.1))) (parts_of b, rest)
+      (reads.complete (parts_of b) rest fits)
       ∙ some_bind (whole_of (parts_of b)) (λ c. Some (c, rest)) b (there b);
 }
 
-pub follow_reads : {A B : Type 0} (first : Format A) (second : A → Format B) (first_at : Reader A) (second_at : A → Reader B) → Reads first first_at
+pub follow_reads : {A B : Type 0} (first : Format A) (second : A → Format B) (first_at : Reader A) (second_at : A → Reader B)
+    → Reads first first_at
     → ((a : A) → Reads (second a) (second_at a)) → Reads (follow first second) (follow_at first_at second_at)
 follow_reads {A} {B} first second first_at second_at one other = record {
   sound = λ bytes found are h.

@@ -1,5 +1,6 @@
 -- What texts and numbers of a form are known to be.
-use Rattle.std.proofs.Common.{◌≡◌, inl, inr, ◌++◌, ℕ, zero, suc, ◌+◌, ◌<◌, ◌≤◌, ◌^◌, List, [], ◌∷◌, length, take, get_or, refl, sym, ◌∙◌, ap, subst, arith}
+use Rattle.std.proofs.Common.{◌≡◌, inl, inr, ◌++◌, ℕ, zero, suc, ◌+◌, ◌<◌, ◌≤◌, ◌^◌, List, [], ◌∷◌, length, take, get_or, refl, sym, ◌∙◌}
+use Rattle.std.proofs.Common.{ap, subst, arith}
 use Rattle.std.specs.Prelude.{Bool, true, false, ◌&&◌, ◌≢◌, ◌⊎◌, Some, None, Ok, Err, nat_le, if◌then◌else◌}
 use Rattle.std.specs.List.{list_all, flat_map, AllByRecursion}
 use Rattle.std.proofs.lemmas.List.{flat_map_more}
@@ -37,7 +38,8 @@ is_numbered_within n low high = ap (λ b. b && nat_le n 999999999) (le-leb 1 n l
 
 -- ---- labels
 
-short_read : (kind : ℕ → Bool) (bytes : List ℕ) (found : List ℕ × List ℕ) → small_text_at kind bytes ≡ Some found → is_short kind found.0 ≡ true
+short_read : (kind : ℕ → Bool) (bytes : List ℕ) (found : List ℕ × List ℕ) → small_text_at kind bytes ≡ Some found
+    → is_short kind found.0 ≡ true
 unfolding small_text_at
 short_read kind bytes found h =
     let step = bind_some (text_at bytes) (λ x. kept (is_short kind) x.0 >>= (λ y. Some (y, x.1))) found h in
@@ -47,17 +49,21 @@ short_read kind bytes found h =
     let same : next.0 ≡ found.0 = ap (λ (p : List ℕ × List ℕ). p.0) (same_Some (next.0, t.1) found next.2) in
     sym (ap (is_short kind) (by.1 ∙ same)) ∙ by.0
 
-pub short_items : (kind : ℕ → Bool) (n : ℕ) (bytes : List ℕ) (found : List (List ℕ) × List ℕ) → items_at (small_text_at kind) n bytes ≡ Some found
+pub short_items : (kind : ℕ → Bool) (n : ℕ) (bytes : List ℕ) (found : List (List ℕ) × List ℕ)
+    → items_at (small_text_at kind) n bytes ≡ Some found
     → (length found.0 ≡ n) × (list_all (is_short kind) found.0 ≡ true)
 short_items kind zero bytes found h =
-    subst (λ (q : List (List ℕ) × List ℕ). (length q.0 ≡ zero) × (list_all (is_short kind) q.0 ≡ true)) (same_Some ([], bytes) found h) (refl, refl)
+    subst (λ (q : List (List ℕ) × List ℕ). (length q.0 ≡ zero) × (list_all (is_short kind) q.0 ≡ true))
+    (same_Some ([], bytes) found h) (refl, refl)
 short_items kind (suc n) bytes found h =
-    let step = bind_some (small_text_at kind bytes) (λ x. items_at (small_text_at kind) n x.1 >>= (λ xs. Some (x.0 ∷ xs.0, xs.1))) found h in
+    let step = bind_some (small_text_at kind bytes)
+    (λ x. items_at (small_text_at kind) n x.1 >>= (λ xs. Some (x.0 ∷ xs.0, xs.1))) found h in
     let x = step.0 in
     let next = bind_some (items_at (small_text_at kind) n x.1) (λ xs. Some (x.0 ∷ xs.0, xs.1)) found step.2 in
     let xs = next.0 in
     let behind = short_items kind n x.1 xs next.1 in
-    subst (λ (q : List (List ℕ) × List ℕ). (length q.0 ≡ suc n) × (list_all (is_short kind) q.0 ≡ true)) (same_Some (x.0 ∷ xs.0, xs.1) found next.2)
+    subst (λ (q : List (List ℕ) × List ℕ). (length q.0 ≡ suc n) × (list_all (is_short kind) q.0 ≡ true))
+    (same_Some (x.0 ∷ xs.0, xs.1) found next.2)
     (ap suc behind.0, ap (λ b. b && list_all (is_short kind) xs.0) (short_read kind bytes x step.1) ∙ behind.1)
 
 all_three : (a b c : Bool) → a ≡ true → b ≡ true → c ≡ true → (a && b && c) ≡ true
@@ -65,7 +71,8 @@ all_three true true c p q r = r
 all_three true false c p q r = q
 all_three false b c p q r = p
 
-pub labels_read : (n : ℕ) (bytes : List ℕ) (found : List (List ℕ) × List ℕ) → (nat_le 1 n && nat_le n 16) ≡ true → items_at (small_text_at is_label_byte) n bytes ≡ Some found
+pub labels_read : (n : ℕ) (bytes : List ℕ) (found : List (List ℕ) × List ℕ) → (nat_le 1 n && nat_le n 16) ≡ true
+    → items_at (small_text_at is_label_byte) n bytes ≡ Some found
     → are_labels found.0 ≡ true
 labels_read n bytes found within h =
     let items = short_items is_label_byte n bytes found h in
@@ -92,12 +99,14 @@ labels_take ls h =
 
 -- ---- a loop over a list
 
-all_taken : {X : Type 0} (P : X → Type 0) (xs : List X) (i : ℕ) (d : X) → i < length xs → AllByRecursion P (take i xs) → P (get_or xs i d) → AllByRecursion P (take (suc i) xs)
+all_taken : {X : Type 0} (P : X → Type 0) (xs : List X) (i : ℕ) (d : X) → i < length xs → AllByRecursion P (take i xs) → P (get_or xs i d)
+    → AllByRecursion P (take (suc i) xs)
 all_taken P [] i d below all one = absurd (omega (arith, below))
 all_taken P (x ∷ xs) zero d below all one = (one, tt)
 all_taken P (x ∷ xs) (suc i) d below all one = (all.0, all_taken P xs i d (omega (arith, below)) all.1 one)
 
-pub all_more : {X : Type 0} (P : X → Type 0) (xs : List X) (i : ℕ) (d : X) → i < length xs → AllByRecursion P (take i xs) → P (get_or xs i d) → AllByRecursion P (take (i + 1) xs)
+pub all_more : {X : Type 0} (P : X → Type 0) (xs : List X) (i : ℕ) (d : X) → i < length xs → AllByRecursion P (take i xs)
+    → P (get_or xs i d) → AllByRecursion P (take (i + 1) xs)
 all_more P xs i d below all one =
     let next : suc i ≡ i + 1 = omega arith in
     subst (λ (n : ℕ). AllByRecursion P (take n xs)) next (all_taken P xs i d below all one)
@@ -148,7 +157,8 @@ refused_some [] x r h = absurd (cc)
 refused_some (f ∷ fs) x r h = refl
 
 -- what preparing gives is an event with a body that passes
-pub kept_body : (b items d e : List ℕ) (z : Admitted) → items ≡ b → unless_faulty {X = Admitted} (faults_of items) (record { delivery = d; event = e; body = items }) ≡ Ok z
+pub kept_body : (b items d e : List ℕ) (z : Admitted) → items ≡ b
+    → unless_faulty {X = Admitted} (faults_of items) (record { delivery = d; event = e; body = items }) ≡ Ok z
     → kept is_faultless b ≡ Some z.body
 unfolding is_faultless
 kept_body b items d e z is h =
@@ -157,7 +167,8 @@ kept_body b items d e z is h =
     let same : b ≡ z.body = sym is ∙ ap (λ (a : Admitted). a.body) by.1 in
     ap (λ t. if t then Some b else None) (ap (λ (l : List ℕ). are_none (faults_of l)) (sym is) ∙ by.0) ∙ ap (λ (l : List ℕ). Some l) same
 
-pub same_event : (b items d e : List ℕ) (z : Admitted) → items ≡ b → unless_faulty {X = Admitted} (faults_of items) (record { delivery = d; event = e; body = items }) ≡ Ok z
+pub same_event : (b items d e : List ℕ) (z : Admitted) → items ≡ b
+    → unless_faulty {X = Admitted} (faults_of items) (record { delivery = d; event = e; body = items }) ≡ Ok z
     → z ≡ record { delivery = d; event = e; body = b }
 same_event b items d e z is h =
     let x : Admitted = record { delivery = d; event = e; body = items } in

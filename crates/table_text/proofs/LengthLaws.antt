@@ -1,5 +1,6 @@
 -- The length of a spelling is the sum over its fields.
-use Rattle.std.proofs.Common.{◌≡◌, ℕ, suc, ◌+◌, ◌<◌, ◌≤◌, List, [], ◌∷◌, ◌++◌, length, take, get_or, refl, sym, ◌∙◌, ap, arith, length-append}
+use Rattle.std.proofs.Common.{◌≡◌, ℕ, suc, ◌+◌, ◌<◌, ◌≤◌, List, [], ◌∷◌, ◌++◌, length, take, get_or, refl, sym, ◌∙◌, ap, arith}
+use Rattle.std.proofs.Common.{length-append}
 use Rattle.std.specs.Prelude.{Bool, true, flat_map, sum_by, nat_le}
 use Rattle.std.specs.List.{list_all}
 use Rattle.std.proofs.lemmas.Bool.{leb-true}
@@ -33,7 +34,8 @@ sum_same f g (x ∷ xs) same =
     sum_by-cons f x xs ∙ ap (λ k. k + sum_by f xs) (same x) ∙ ap (λ k. g x + k) (sum_same f g xs same) ∙ sym (sum_by-cons g x xs)
 
 -- the sum so far, and what is counted of one value more
-pub sum_more : {X : Type 0} (f : X → ℕ) (xs : List X) (i : ℕ) (d x : X) (total more : ℕ) → i < length xs → x ≡ get_or xs i d → total ≡ sum_by f (take i xs)
+pub sum_more : {X : Type 0} (f : X → ℕ) (xs : List X) (i : ℕ) (d x : X) (total more : ℕ) → i < length xs → x ≡ get_or xs i d
+    → total ≡ sum_by f (take i xs)
     → more ≡ f x → total + more ≡ sum_by f (take (i + 1) xs)
 sum_more f xs i d x total more below is so_far one =
     let next : sum_by f (take (i + 1) xs) ≡ sum_by f (take i xs) + f (get_or xs i d) = sum_by_more f xs i d below in
@@ -61,7 +63,8 @@ pub length_admit : (event : Admitted) → length (admit.spelling event) ≡ fiel
 length_admit event =
     length_two (text_bytes event.delivery) (text_bytes event.event ++ text_bytes event.body) (text_length event.delivery)
     (text_length event.event + text_length event.body) (length_text event.delivery)
-    (length_two (text_bytes event.event) (text_bytes event.body) (text_length event.event) (text_length event.body) (length_text event.event) (length_text event.body))
+    (length_two (text_bytes event.event) (text_bytes event.body) (text_length event.event) (text_length event.body)
+    (length_text event.event) (length_text event.body))
     ∙ omega arith
 
 pub length_command : (c : Command) → length_of command c ≡ command_length c
@@ -70,17 +73,21 @@ length_command (asked.Claim asks) =
     behind_one _
     (length_two (text_bytes asks.runner) (word_bytes asks.number ++ labels.spelling asks.labels) (text_length asks.runner)
     (4 + texts_length asks.labels) (length_text asks.runner)
-    (length_two (word_bytes asks.number) (labels.spelling asks.labels) 4 (texts_length asks.labels) (length_word asks.number) (length_labels asks.labels))
+    (length_two (word_bytes asks.number) (labels.spelling asks.labels) 4 (texts_length asks.labels) (length_word asks.number)
+    (length_labels asks.labels))
     ∙ omega arith)
 length_command (asked.Done report) =
     behind_one _
-    (length_two (text_bytes report.runner) (word_bytes report.number ++ (word_bytes report.lease ++ outcome_byte report.result ∷ [])) (text_length report.runner)
+    (length_two (text_bytes report.runner) (word_bytes report.number ++ (word_bytes report.lease ++ outcome_byte report.result ∷ []))
+    (text_length report.runner)
     (4 + (4 + 1)) (length_text report.runner)
-    (length_two (word_bytes report.number) (word_bytes report.lease ++ outcome_byte report.result ∷ []) 4 (4 + 1) (length_word report.number)
+    (length_two (word_bytes report.number) (word_bytes report.lease ++ outcome_byte report.result ∷ []) 4 (4 + 1)
+    (length_word report.number)
     (length_two (word_bytes report.lease) (outcome_byte report.result ∷ []) 4 1 (length_word report.lease) (length_outcome report.result)))
     ∙ omega arith)
 length_command (asked.Beat asks) =
-    behind_one _ (length_two (text_bytes asks.runner) (word_bytes asks.lease) (text_length asks.runner) 4 (length_text asks.runner) (length_word asks.lease))
+    behind_one _ (length_two (text_bytes asks.runner) (word_bytes asks.lease) (text_length asks.runner) 4 (length_text asks.runner)
+    (length_word asks.lease))
 length_command (asked.Cancel run) = behind_one _ (length_word run)
 length_command (asked.Lost runner) = behind_one _ (length_text runner)
 length_command (asked.Look run) = behind_one _ (length_word run)

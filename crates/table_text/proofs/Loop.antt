@@ -6,13 +6,16 @@ use Rattle.table_text.specs.declared.not_read.NotRead.TheVariants.{NoMemory, NoS
 use Rattle.table_text.specs.Reading.{Reader, Fails, items_at, with_front}
 use Rattle.table_text.proofs.Readers.{front_all, front_none, front_more}
 
-pub goes_on : {A : Type 0} (at : Reader A) (front : List A) (count i : ℕ) (bytes : List ℕ) (x : A) (after : List ℕ) (total : Option (List A × List ℕ)) → i < count
-    → at bytes ≡ Some (x, after) → with_front front (items_at at (count - i) bytes) ≡ total → with_front (front ++ x ∷ []) (items_at at (count - (i + 1)) after) ≡ total
+pub goes_on : {A : Type 0} (at : Reader A) (front : List A) (count i : ℕ) (bytes : List ℕ) (x : A) (after : List ℕ)
+    (total : Option (List A × List ℕ)) → i < count
+    → at bytes ≡ Some (x, after) → with_front front (items_at at (count - i) bytes) ≡ total
+    → with_front (front ++ x ∷ []) (items_at at (count - (i + 1)) after) ≡ total
 goes_on at front count i bytes x after total below h so_far =
     let k : count - i ≡ suc (count - (i + 1)) = omega arith in
     sym (front_more at front (count - i) (count - (i + 1)) bytes x after k h) ∙ so_far
 
-pub ends : {A : Type 0} (at : Reader A) (e : NotRead) (front : List A) (count i : ℕ) (bytes : List ℕ) (total : Option (List A × List ℕ)) → i < count
+pub ends : {A : Type 0} (at : Reader A) (e : NotRead) (front : List A) (count i : ℕ) (bytes : List ℕ) (total : Option (List A × List ℕ))
+    → i < count
     → Fails e (at bytes) → with_front front (items_at at (count - i) bytes) ≡ total → Fails e total
 ends at NoMemory front count i bytes total below h so_far = tt
 ends at NoSpelling front count i bytes total below h so_far =

@@ -8,8 +8,10 @@ use Rattle.std.proofs.lemmas.Bool.{ltb-false, le-ltb, leb-true, le-leb}
 use Rattle.std.proofs.lemmas.List.{take_at, drop_at, length-take}
 use Rattle.std.proofs.lemmas.Nat.{from_be_bytes-to_be_bytes_4}
 use Rattle.std.proofs.lemmas.Option.{same_Some, none-some, cond_some, some_pair_parts}
-use Rattle.table_text.specs.Format.{Format, NoneBeginsAnother, HasOneSpelling, StandsAtFront, word, word_bytes, text, text_bytes, only, pair, parts, counted}
-use Rattle.table_text.specs.Reading.{◌>>=◌, Reader, word_at, bytes_at, text_at, kept, only_at, pair_at, parts_at, items_at, with_front, counted_at}
+use Rattle.table_text.specs.Format.{Format, NoneBeginsAnother, HasOneSpelling, StandsAtFront, word, word_bytes, text, text_bytes, only}
+use Rattle.table_text.specs.Format.{pair, parts, counted}
+use Rattle.table_text.specs.Reading.{◌>>=◌, Reader, word_at, bytes_at, text_at, kept, only_at, pair_at, parts_at, items_at, with_front}
+use Rattle.table_text.specs.Reading.{counted_at}
 use Rattle.wf_value.proofs.Bytes.{AreBytes, AreBytes-drop, spell_number, number_below}
 
 -- The bytes are a spelling of what was found, and then the bytes behind it.
@@ -47,8 +49,10 @@ word_reads = record {
       });
   complete = λ n rest fits.
       let four : length (to_be_bytes w32 n) ≡ 4 = refl in
-      let long : nat_lt (length (to_be_bytes w32 n ++ rest)) 4 ≡ false = le-ltb (length (to_be_bytes w32 n ++ rest)) 4 (omega (arith, length-append (to_be_bytes w32 n) rest, four)) in
-      let number : from_be_bytes w32 (take 4 (to_be_bytes w32 n ++ rest)) ≡ n = ap (from_be_bytes w32) (take_at (to_be_bytes w32 n) rest 4 refl) ∙ from_be_bytes-to_be_bytes_4 n fits in
+      let long : nat_lt (length (to_be_bytes w32 n ++ rest)) 4 ≡ false =
+      le-ltb (length (to_be_bytes w32 n ++ rest)) 4 (omega (arith, length-append (to_be_bytes w32 n) rest, four)) in
+      let number : from_be_bytes w32 (take 4 (to_be_bytes w32 n ++ rest)) ≡ n =
+      ap (from_be_bytes w32) (take_at (to_be_bytes w32 n) rest 4 refl) ∙ from_be_bytes-to_be_bytes_4 n fits in
       let behind : drop 4 (to_be_bytes w32 n ++ rest) ≡ rest = drop_at (to_be_bytes w32 n) rest 4 refl in
       ap (λ b. if b then None else Some (from_be_bytes w32 (take 4 (to_be_bytes w32 n ++ rest)), drop 4 (to_be_bytes w32 n ++ rest))) long
       ∙ ap (λ m. Some (m, drop 4 (to_be_bytes w32 n ++ rest))) number
@@ -56,7 +60,8 @@ word_reads = record {
 }
 
 -- so many bytes, for which nothing but the count is asked
-pub bytes_sound : (n : ℕ) (bytes : List ℕ) (found : List ℕ × List ℕ) → bytes_at n bytes ≡ Some found → (length found.0 ≡ n) × (bytes ≡ found.0 ++ found.1) × (found.1 ≡ drop n bytes)
+pub bytes_sound : (n : ℕ) (bytes : List ℕ) (found : List ℕ × List ℕ) → bytes_at n bytes ≡ Some found → (length found.0 ≡ n)
+    × (bytes ≡ found.0 ++ found.1) × (found.1 ≡ drop n bytes)
 bytes_sound n bytes found h =
     let by = passed (nat_lt (length bytes) n) (take n bytes, drop n bytes) found h in
     let long : n ≤ length bytes = ltb-false (length bytes) n by.0 in
@@ -65,7 +70,8 @@ bytes_sound n bytes found h =
 
 pub bytes_complete : (t rest : List ℕ) → bytes_at (length t) (t ++ rest) ≡ Some (t, rest)
 bytes_complete t rest =
-    let long : nat_lt (length (t ++ rest)) (length t) ≡ false = le-ltb (length (t ++ rest)) (length t) (omega (arith, length-append t rest)) in
+    let long : nat_lt (length (t ++ rest)) (length t) ≡ false =
+    le-ltb (length (t ++ rest)) (length t) (omega (arith, length-append t rest)) in
     ap (λ b. if b then None else Some (take (length t) (t ++ rest), drop (length t) (t ++ rest))) long
     ∙ ap (λ (l : List ℕ). Some (l, drop (length t) (t ++ rest))) (take_at t rest (length t) refl)
     ∙ ap (λ (l : List ℕ). Some (t, l)) (drop_at t rest (length t) refl)
@@ -88,11 +94,13 @@ text_reads = record {
       };
   complete = λ t rest fits.
       ap text_at (append_assoc (word_bytes (length t)) t rest)
-      ∙ some_bind (word_at (word_bytes (length t) ++ (t ++ rest))) (λ n. bytes_at n.0 n.1) (length t, t ++ rest) (word_reads.complete (length t) (t ++ rest) fits)
+      ∙ some_bind (word_at (word_bytes (length t) ++ (t ++ rest))) (λ n. bytes_at n.0 n.1) (length t, t ++ rest)
+      (word_reads.complete (length t) (t ++ rest) fits)
       ∙ bytes_complete t rest;
 }
 
-pub only_reads : {A : Type 0} (test : A → Bool) (format : Format A) (at : Reader A) → Reads format at → Reads (only test format) (only_at test at)
+pub only_reads : {A : Type 0} (test : A → Bool) (format : Format A) (at : Reader A) → Reads format at
+    → Reads (only test format) (only_at test at)
 only_reads {A} test format at reads = record {
   sound = λ bytes found are h.
       let step = bind_some (at bytes) (λ x. kept test x.0 >>= (λ y. Some (y, x.1))) found h in
@@ -111,7 +119,8 @@ only_reads {A} test format at reads = record {
       ∙ some_bind (kept test x) (λ z. Some (z, rest)) x (ap (λ b. if b then Some x else None) fits.1);
 }
 
-pub pair_reads : {A B : Type 0} (first : Format A) (second : Format B) (first_at : Reader A) (second_at : Reader B) → Reads first first_at → Reads second second_at
+pub pair_reads : {A B : Type 0} (first : Format A) (second : Format B) (first_at : Reader A) (second_at : Reader B) → Reads first first_at
+    → Reads second second_at
     → Reads (pair first second) (pair_at first_at second_at)
 pair_reads {A} {B} first second first_at second_at one other = record {
   sound = λ bytes found are h.
@@ -130,12 +139,14 @@ pair_reads {A} {B} first second first_at second_at one other = record {
       });
   complete = λ p rest fits.
       ap (pair_at first_at second_at) (append_assoc (first.spelling p.0) (second.spelling p.1) rest)
-      ∙ some_bind (first_at (first.spelling p.0 ++ (second.spelling p.1 ++ rest))) (λ a. second_at a.1 >>= (λ b. Some ((a.0, b.0), b.1))) (p.0, second.spelling p.1 ++ rest)
+      ∙ some_bind (first_at (first.spelling p.0 ++ (second.spelling p.1 ++ rest))) (λ a. second_at a.1 >>= (λ b. Some ((a.0, b.0), b.1)))
+      (p.0, second.spelling p.1 ++ rest)
       (one.complete p.0 (second.spelling p.1 ++ rest) fits.0)
       ∙ some_bind (second_at (second.spelling p.1 ++ rest)) (λ b. Some ((p.0, b.0), b.1)) (p.1, rest) (other.complete p.1 rest fits.1);
 }
 
-pub parts_reads : {A B : Type 0} (parts_of : B → A) (whole_of : A → B) (format : Format A) (at : Reader A) → ((a : A) → parts_of (whole_of a) ≡ a) → ((b : B) → whole_of (parts_of b) ≡ b)
+pub parts_reads : {A B : Type 0} (parts_of : B → A) (whole_of : A → B) (format : Format A) (at : Reader A)
+    → ((a : A) → parts_of (whole_of a) ≡ a) → ((b : B) → whole_of (parts_of b) ≡ b)
     → Reads format at → Reads (parts parts_of format) (parts_at whole_of at)
 parts_reads {A} {B} parts_of whole_of format at there back reads = record {
   sound = λ bytes found are h.
@@ -148,7 +159,8 @@ parts_reads {A} {B} parts_of whole_of format at there back reads = record {
         rest = front.rest;
       });
   complete = λ b rest fits.
-      some_bind (at (format.spelling (parts_of b) ++ rest)) (λ a. Some (whole_of a.0, a.1)) (parts_of b, rest) (reads.complete (parts_of b) rest fits)
+      some_bind (at (format.spelling (parts_of b) ++ rest)) (λ a. Some (whole_of a.0, a.1)) (parts_of b, rest)
+      (reads.complete (parts_of b) rest fits)
       ∙ ap (λ x. Some (x, rest)) (back b);
 }
 
@@ -159,7 +171,8 @@ pub record Items {A : Type 0} (format : Format A) (n : ℕ) (bytes : List ℕ) (
   pub split : bytes ≡ flat_map format.spelling found.0 ++ found.1
   pub rest : AreBytes found.1
 
-pub items_sound : {A : Type 0} (format : Format A) (at : Reader A) → Reads format at → (n : ℕ) (bytes : List ℕ) (found : List A × List ℕ) → AreBytes bytes
+pub items_sound : {A : Type 0} (format : Format A) (at : Reader A) → Reads format at → (n : ℕ) (bytes : List ℕ) (found : List A × List ℕ)
+    → AreBytes bytes
     → items_at at n bytes ≡ Some found → Items format n bytes found
 items_sound {A} format at reads zero bytes found are h =
     subst (λ (q : List A × List ℕ). Items format zero bytes q) (same_Some ([], bytes) found h) (record {
@@ -184,14 +197,17 @@ items_sound {A} format at reads (suc n) bytes found are h =
       rest = behind.rest;
     })
 
-pub items_complete : {A : Type 0} (format : Format A) (at : Reader A) → Reads format at → (xs : List A) (rest : List ℕ) → AllByRecursion format.Takes xs
+pub items_complete : {A : Type 0} (format : Format A) (at : Reader A) → Reads format at → (xs : List A) (rest : List ℕ)
+    → AllByRecursion format.Takes xs
     → items_at at (length xs) (flat_map format.spelling xs ++ rest) ≡ Some (xs, rest)
 items_complete format at reads [] rest fits = refl
 items_complete format at reads (x ∷ xs) rest fits =
     ap (items_at at (suc (length xs))) (append_assoc (format.spelling x) (flat_map format.spelling xs) rest)
-    ∙ some_bind (at (format.spelling x ++ (flat_map format.spelling xs ++ rest))) (λ y. items_at at (length xs) y.1 >>= (λ ys. Some (y.0 ∷ ys.0, ys.1)))
+    ∙ some_bind (at (format.spelling x ++ (flat_map format.spelling xs ++ rest)))
+    (λ y. items_at at (length xs) y.1 >>= (λ ys. Some (y.0 ∷ ys.0, ys.1)))
     (x, flat_map format.spelling xs ++ rest) (reads.complete x (flat_map format.spelling xs ++ rest) fits.0)
-    ∙ some_bind (items_at at (length xs) (flat_map format.spelling xs ++ rest)) (λ ys. Some (x ∷ ys.0, ys.1)) (xs, rest) (items_complete format at reads xs rest fits.1)
+    ∙ some_bind (items_at at (length xs) (flat_map format.spelling xs ++ rest)) (λ ys. Some (x ∷ ys.0, ys.1)) (xs, rest)
+    (items_complete format at reads xs rest fits.1)
 
 -- a test that was passed
 pub took : {A : Type 0} (b : Bool) (x : Option A) (y : A) → (if b then x else None) ≡ Some y → (b ≡ true) × (x ≡ Some y)
@@ -202,7 +218,8 @@ pub both : (a b : Bool) → (a && b) ≡ true → (a ≡ true) × (b ≡ true)
 both true b h = (refl, h)
 both false b h = absurd (cc)
 
-pub counted_reads : {A : Type 0} (least most : ℕ) (format : Format A) (at : Reader A) → most < 2 ^ 32 → Reads format at → Reads (counted least most format) (counted_at least most at)
+pub counted_reads : {A : Type 0} (least most : ℕ) (format : Format A) (at : Reader A) → most < 2 ^ 32 → Reads format at
+    → Reads (counted least most format) (counted_at least most at)
 counted_reads least most format at small reads = record {
   sound = λ bytes found are h.
       let step = bind_some (word_at bytes) (λ n. if nat_le least n.0 && nat_le n.0 most then items_at at n.0 n.1 else None) found h in
@@ -225,7 +242,8 @@ counted_reads least most format at small reads = record {
       let n : ℕ = length xs in
       let behind : List ℕ = flat_map format.spelling xs ++ rest in
       let short : length xs < 2 ^ 32 = omega (arith, fits.1) in
-      let passes : (nat_le least (length xs) && nat_le (length xs) most) ≡ true = ap (λ b. b && nat_le (length xs) most) (le-leb least (length xs) fits.0) ∙ le-leb (length xs) most fits.1 in
+      let passes : (nat_le least (length xs) && nat_le (length xs) most) ≡ true =
+      ap (λ b. b && nat_le (length xs) most) (le-leb least (length xs) fits.0) ∙ le-leb (length xs) most fits.1 in
       ap (counted_at least most at) (append_assoc (word_bytes (length xs)) (flat_map format.spelling xs) rest)
       ∙ some_bind (word_at (word_bytes (length xs) ++ (flat_map format.spelling xs ++ rest)))
       (λ n. if nat_le least n.0 && nat_le n.0 most then items_at at n.0 n.1 else None) (length xs, flat_map format.spelling xs ++ rest)
@@ -236,20 +254,24 @@ counted_reads least most format at small reads = record {
 
 -- ---- a loop over a count
 
-pub front_all : {A : Type 0} (at : Reader A) (front : List A) (n : ℕ) (rest : List ℕ) → n ≡ 0 → with_front front (items_at at n rest) ≡ Some (front, rest)
+pub front_all : {A : Type 0} (at : Reader A) (front : List A) (n : ℕ) (rest : List ℕ) → n ≡ 0
+    → with_front front (items_at at n rest) ≡ Some (front, rest)
 front_all {A} at front n rest none =
     ap (λ (k : ℕ). with_front front (items_at at k rest)) none ∙ ap (λ (l : List A). Some (l, rest)) (append-nil front)
 
-pub front_none : {A : Type 0} (at : Reader A) (front : List A) (n k : ℕ) (bytes : List ℕ) → n ≡ suc k → at bytes ≡ None → with_front front (items_at at n bytes) ≡ None
+pub front_none : {A : Type 0} (at : Reader A) (front : List A) (n k : ℕ) (bytes : List ℕ) → n ≡ suc k → at bytes ≡ None
+    → with_front front (items_at at n bytes) ≡ None
 front_none {A} at front n k bytes is h =
     ap (λ (m : ℕ). with_front front (items_at at m bytes)) is
     ∙ ap (λ (p : Option (A × List ℕ)). with_front front (p >>= (λ x. items_at at k x.1 >>= (λ xs. Some (x.0 ∷ xs.0, xs.1))))) h
 
-joined : {A : Type 0} (front : List A) (x : A) (o : Option (List A × List ℕ)) → with_front front (o >>= (λ xs. Some (x ∷ xs.0, xs.1))) ≡ with_front (front ++ x ∷ []) o
+joined : {A : Type 0} (front : List A) (x : A) (o : Option (List A × List ℕ))
+    → with_front front (o >>= (λ xs. Some (x ∷ xs.0, xs.1))) ≡ with_front (front ++ x ∷ []) o
 joined front x None = refl
 joined {A} front x (Some xs) = ap (λ (l : List A). Some (l, xs.1)) (sym (append_assoc front (x ∷ []) xs.0))
 
-pub front_more : {A : Type 0} (at : Reader A) (front : List A) (n k : ℕ) (bytes : List ℕ) (x : A) (behind : List ℕ) → n ≡ suc k → at bytes ≡ Some (x, behind)
+pub front_more : {A : Type 0} (at : Reader A) (front : List A) (n k : ℕ) (bytes : List ℕ) (x : A) (behind : List ℕ) → n ≡ suc k
+    → at bytes ≡ Some (x, behind)
     → with_front front (items_at at n bytes) ≡ with_front (front ++ x ∷ []) (items_at at k behind)
 front_more {A} at front n k bytes x behind is h =
     ap (λ (m : ℕ). with_front front (items_at at m bytes)) is
@@ -270,13 +292,15 @@ pub one_spelling : {A : Type 0} (format : Format A) → HasOneSpelling format
 one_spelling format x takes = (format.spelling x, (takes, refl), λ other spelled. spelled.1)
 
 -- what was found stands at the front
-pub found_at_front : {A : Type 0} (format : Format A) (at : Reader A) → Reads format at → (bytes : List ℕ) (found : A × List ℕ) → AreBytes bytes → at bytes ≡ Some found
+pub found_at_front : {A : Type 0} (format : Format A) (at : Reader A) → Reads format at → (bytes : List ℕ) (found : A × List ℕ)
+    → AreBytes bytes → at bytes ≡ Some found
     → StandsAtFront format bytes (Some found)
 found_at_front format at reads bytes found are h =
     let front = reads.sound bytes found are h in
     (front.takes, front.split)
 
 -- and where nothing was found nothing does
-pub none_at_front : {A : Type 0} (format : Format A) (at : Reader A) → Reads format at → (bytes : List ℕ) → at bytes ≡ None → StandsAtFront format bytes None
+pub none_at_front : {A : Type 0} (format : Format A) (at : Reader A) → Reads format at → (bytes : List ℕ) → at bytes ≡ None
+    → StandsAtFront format bytes None
 none_at_front format at reads bytes h x rest opens =
     none-some (x, rest) (sym h ∙ ap at opens.1 ∙ reads.complete x rest opens.0)

@@ -58,7 +58,8 @@ leg_takes l old lease = ((leg_byte_fits l.phase, ap not old), lease)
 pub job_takes : (j : JobState) → length j.legs ≤ 256 → AllByRecursion leg.Takes j.legs → job.Takes j
 job_takes j few all = (job_byte_fits j.phase, (omega arith, omega (arith, few), all))
 
-pub run_takes : (r : RunState) → length r.jobs ≡ jobs_planned r.admitted → admit.Takes r.admitted → AllByRecursion job.Takes r.jobs → run.Takes r
+pub run_takes : (r : RunState) → length r.jobs ≡ jobs_planned r.admitted → admit.Takes r.admitted
+    → AllByRecursion job.Takes r.jobs → run.Takes r
 run_takes r many admitted all = (admitted, (run_byte_fits r.phase, (flag_byte_fits r.stopping, (many, all))))
 
 -- ---- lists
@@ -96,13 +97,15 @@ runs_have_bytes runs s =
       all_by_place JobHasBytes x.jobs (λ j y there. (
         s.legs_are_few r j y (job_is j y there),
         all_by_place HasByte y.legs (λ l z here.
-            s.no_leg_is_new (record { run = r; job = j; leg = l }) z (ap (option_and_then (λ (w : JobState). slice_get w.legs l)) (job_is j y there) ∙ here)),
+            s.no_leg_is_new (record { run = r; job = j; leg = l }) z
+            (ap (option_and_then (λ (w : JobState). slice_get w.legs l)) (job_is j y there) ∙ here)),
       )),
     ))
 
 -- ---- one part behind another
 
-pub run_bytes : (old a b c d event event' jobs jobs' : List ℕ) (x x' y y' : ℕ) → a ≡ old ++ event → b ≡ a ++ x ∷ [] → c ≡ b ++ y ∷ [] → d ≡ c ++ jobs
+pub run_bytes : (old a b c d event event' jobs jobs' : List ℕ) (x x' y y' : ℕ) → a ≡ old ++ event → b ≡ a ++ x ∷ [] → c ≡ b ++ y ∷ []
+    → d ≡ c ++ jobs
     → event ≡ event' → x ≡ x' → y ≡ y' → jobs ≡ jobs' → d ≡ old ++ (event' ++ x' ∷ y' ∷ jobs')
 run_bytes old a b c d event event' jobs jobs' x x' y y' one two three four e f g h =
     four
@@ -119,15 +122,18 @@ five_parts : (old a b c d e l n rs m qs : List ℕ) → a ≡ old ++ l → b ≡
     → e ≡ old ++ (l ++ ((n ++ rs) ++ (m ++ qs)))
 five_parts old a b c d e l n rs m qs one two three four five =
     five
-    ∙ ap (λ (k : List ℕ). k ++ qs) (four ∙ ap (λ (k : List ℕ). k ++ m) (three ∙ ap (λ (k : List ℕ). k ++ rs) (two ∙ ap (λ (k : List ℕ). k ++ n) one)))
+    ∙ ap (λ (k : List ℕ). k ++ qs) (four ∙ ap (λ (k : List ℕ). k ++ m)
+    (three ∙ ap (λ (k : List ℕ). k ++ rs) (two ∙ ap (λ (k : List ℕ). k ++ n) one)))
     ∙ append_assoc ((((old ++ l) ++ n) ++ rs)) m qs
     ∙ ap (λ (k : List ℕ). k ++ (m ++ qs)) (append_assoc (old ++ l) n rs)
     ∙ append_assoc (old ++ l) (n ++ rs) (m ++ qs)
     ∙ append_assoc old l ((n ++ rs) ++ (m ++ qs))
 
-pub table_bytes : (t : TableState) (old a b c d e : List ℕ) (lease : ℕ) (runs : List RunState) (runners : List RunnerState) → a ≡ old ++ word_bytes lease
+pub table_bytes : (t : TableState) (old a b c d e : List ℕ) (lease : ℕ) (runs : List RunState) (runners : List RunnerState)
+    → a ≡ old ++ word_bytes lease
     → b ≡ a ++ word_bytes (length runs) → c ≡ b ++ flat_map run.spelling runs → d ≡ c ++ word_bytes (length runners)
-    → e ≡ d ++ flat_map (λ (r : RunnerState). runner.spelling (stored_runner r)) runners → lease ≡ t.last_lease → runs ≡ t.runs → runners ≡ t.runners
+    → e ≡ d ++ flat_map (λ (r : RunnerState). runner.spelling (stored_runner r)) runners → lease ≡ t.last_lease → runs ≡ t.runs
+    → runners ≡ t.runners
     → e ≡ old ++ table.spelling (stored_table t)
 table_bytes t old a b c d e lease runs runners one two three four five same_lease same_runs same_runners =
     five_parts old a b c d e (word_bytes lease) (word_bytes (length runs)) (flat_map run.spelling runs) (word_bytes (length runners))
@@ -139,12 +145,15 @@ table_bytes t old a b c d e lease runs runners one two three four five same_leas
     ∙ ap (λ (qs : List RunnerState). old ++ (word_bytes t.last_lease ++ ((word_bytes (length t.runs) ++ flat_map run.spelling t.runs)
     ++ (word_bytes (length qs) ++ flat_map (λ (r : RunnerState). runner.spelling (stored_runner r)) qs)))) same_runners
     ∙ ap (λ n. old ++ (word_bytes t.last_lease ++ ((word_bytes (length t.runs) ++ flat_map run.spelling t.runs)
-    ++ (word_bytes n ++ flat_map (λ (r : RunnerState). runner.spelling (stored_runner r)) t.runners)))) (sym (length-map t.runners stored_runner))
+    ++ (word_bytes n ++ flat_map (λ (r : RunnerState). runner.spelling (stored_runner r)) t.runners))))
+    (sym (length-map t.runners stored_runner))
     ∙ ap (λ (l : List ℕ). old ++ (word_bytes t.last_lease ++ ((word_bytes (length t.runs) ++ flat_map run.spelling t.runs)
     ++ (word_bytes (length (map stored_runner t.runners)) ++ l)))) (sym (flat_map-map runner.spelling stored_runner t.runners))
 
-pub table_takes : (t : TableState) → t.last_lease ≤ 999999999 → length t.runs ≤ 100000 → AllByRecursion run.Takes t.runs → length t.runners ≤ 4294967295
-    → AllByRecursion (λ (r : RunnerState). runner.Takes (stored_runner r)) t.runners → names_rise t.runners ≡ true → table.Takes (stored_table t)
+pub table_takes : (t : TableState) → t.last_lease ≤ 999999999 → length t.runs ≤ 100000 → AllByRecursion run.Takes t.runs
+    → length t.runners ≤ 4294967295
+    → AllByRecursion (λ (r : RunnerState). runner.Takes (stored_runner r)) t.runners → names_rise t.runners ≡ true
+    → table.Takes (stored_table t)
 table_takes t low few runs most runners rise =
     let same = length-map t.runners stored_runner in
     let rises = rises_over (λ r. r.name) stored_runner t.runners ∙ rise in (

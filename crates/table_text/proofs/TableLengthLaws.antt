@@ -14,7 +14,8 @@ use Rattle.table_text.specs.Lengths.{command_length, fields_length, length_of, t
 use Rattle.table_text.specs.TableLengths.{job_length, last_length, run_length, runner_length, table_length}
 use Rattle.table_text.specs.Tables.{flag_byte, job, kept, last_command, lease, leg, run, run_byte, runner, table}
 use Rattle.table_text.specs.declared.kept.Kept.TheVariants as replied
-use Rattle.table_text.proofs.LengthLaws.{behind_one, length_admit, length_command, length_counted, length_text, length_two, length_word, sum_same}
+use Rattle.table_text.proofs.LengthLaws.{behind_one, length_admit, length_command, length_counted, length_text, length_two, length_word}
+use Rattle.table_text.proofs.LengthLaws.{sum_same}
 
 length_leg : (l : LegState) → length_of leg l ≡ 5
 length_leg l = behind_one (lease.spelling l.lease) (length_lease l.lease) ∙ omega arith
@@ -46,24 +47,28 @@ length_run : (r : RunState) → length_of run r ≡ run_length r
 length_run r =
     let jobs : length (flat_map job.spelling r.jobs) ≡ sum_by job_length r.jobs =
     length-flat_map job.spelling r.jobs ∙ sum_same (λ j. length (job.spelling j)) job_length r.jobs length_job in
-    length_two (admit.spelling r.admitted) (run_byte r.phase ∷ flag_byte r.stopping ∷ flat_map job.spelling r.jobs) (fields_length (asked.Admit r.admitted))
+    length_two (admit.spelling r.admitted) (run_byte r.phase ∷ flag_byte r.stopping ∷ flat_map job.spelling r.jobs)
+    (fields_length (asked.Admit r.admitted))
     (1 + (1 + sum_by job_length r.jobs)) (length_admit r.admitted)
     (behind_one (flag_byte r.stopping ∷ flat_map job.spelling r.jobs) (behind_one (flat_map job.spelling r.jobs) jobs))
     ∙ omega arith
 
 length_last : (l : LastParts) → length_of last_command l ≡ last_length l
 length_last (last.Claim claim None) =
-    length_two (command_bytes (asked.Claim claim)) (kept.spelling replied.Nothing) (command_length (asked.Claim claim)) 5 (length_command (asked.Claim claim)) (length_kept 0 0)
+    length_two (command_bytes (asked.Claim claim)) (kept.spelling replied.Nothing) (command_length (asked.Claim claim)) 5
+    (length_command (asked.Claim claim)) (length_kept 0 0)
     ∙ omega arith
   where
     length_kept : (b n : ℕ) → length (b ∷ word_bytes n) ≡ 5
     length_kept b n = behind_one (word_bytes n) (length_word n) ∙ omega arith
 length_last (last.Claim claim (Some n)) =
-    length_two (command_bytes (asked.Claim claim)) (kept.spelling (replied.Leased n)) (command_length (asked.Claim claim)) 5 (length_command (asked.Claim claim))
+    length_two (command_bytes (asked.Claim claim)) (kept.spelling (replied.Leased n)) (command_length (asked.Claim claim)) 5
+    (length_command (asked.Claim claim))
     (behind_one (word_bytes n) (length_word n) ∙ omega arith)
     ∙ omega arith
 length_last (last.Done report) =
-    length_two (command_bytes (asked.Done report)) (kept.spelling replied.Done) (command_length (asked.Done report)) 5 (length_command (asked.Done report))
+    length_two (command_bytes (asked.Done report)) (kept.spelling replied.Done) (command_length (asked.Done report)) 5
+    (length_command (asked.Done report))
     (behind_one (word_bytes 0) (length_word 0) ∙ omega arith)
     ∙ omega arith
 
@@ -71,7 +76,8 @@ length_runner : (r : StoredRunner) → length_of runner r ≡ runner_length r
 length_runner r =
     length_two (text_bytes r.name) (word_bytes r.number ++ (last_command.spelling r.last ++ lease.spelling r.holds)) (text_length r.name)
     (4 + (last_length r.last + 4)) (length_text r.name)
-    (length_two (word_bytes r.number) (last_command.spelling r.last ++ lease.spelling r.holds) 4 (last_length r.last + 4) (length_word r.number)
+    (length_two (word_bytes r.number) (last_command.spelling r.last ++ lease.spelling r.holds) 4 (last_length r.last + 4)
+    (length_word r.number)
     (length_two (last_command.spelling r.last) (lease.spelling r.holds) (last_length r.last) 4 (length_last r.last) (length_word _)))
     ∙ omega arith
 
@@ -79,7 +85,9 @@ pub length_table : (t : StoredTable) → length_of table t ≡ table_length t
 length_table t =
     let runs = length_counted run.spelling run_length t.runs length_run in
     let runners = length_counted runner.spelling runner_length t.runners length_runner in
-    length_two (word_bytes t.last_lease) _ 4 ((4 + sum_by run_length t.runs) + (4 + sum_by runner_length t.runners)) (length_word t.last_lease)
-    (length_two (word_bytes (length t.runs) ++ flat_map run.spelling t.runs) (word_bytes (length t.runners) ++ flat_map runner.spelling t.runners)
+    length_two (word_bytes t.last_lease) _ 4 ((4 + sum_by run_length t.runs) + (4 + sum_by runner_length t.runners))
+    (length_word t.last_lease)
+    (length_two (word_bytes (length t.runs) ++ flat_map run.spelling t.runs)
+    (word_bytes (length t.runners) ++ flat_map runner.spelling t.runners)
     (4 + sum_by run_length t.runs) (4 + sum_by runner_length t.runners) runs runners)
     ∙ omega arith

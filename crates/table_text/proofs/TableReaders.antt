@@ -25,16 +25,20 @@ use Rattle.table_text.specs.Commands.{admit, command, is_numbered, number, small
 use Rattle.table_text.specs.Format.{Format, byte, counted, follow, only, pair, parts, row, word, word_bytes}
 use Rattle.table_text.specs.Reading.{◌>>=◌, byte_at, counted_at, follow_at, items_at, pair_at, some_at, word_at}
 use Rattle.table_text.specs.ReadingCommands.{admit_at, command_at, number_at, small_text_at}
-use Rattle.table_text.specs.ReadingTables.{course_at, flag_at, job_at, job_phase_at, job_phases, kept_at, kept_of, last_at, last_lease_at, last_of, last_with, lease_at}
-use Rattle.table_text.specs.ReadingTables.{claim_with, lease_of, leg_at, leg_phase_at, leg_phases, of_byte, report_with, run_at, run_phase_at, run_phases, runner_at, runners_at, runs_at}
+use Rattle.table_text.specs.ReadingTables.{course_at, flag_at, job_at, job_phase_at, job_phases, kept_at, kept_of, last_at, last_lease_at}
+use Rattle.table_text.specs.ReadingTables.{last_of, last_with, lease_at}
+use Rattle.table_text.specs.ReadingTables.{claim_with, lease_of, leg_at, leg_phase_at, leg_phases, of_byte, report_with, run_at}
+use Rattle.table_text.specs.ReadingTables.{run_phase_at, run_phases, runner_at, runners_at, runs_at}
 use Rattle.table_text.specs.ReadingTables.{table_at, with_lease, without_lease}
-use Rattle.table_text.specs.Tables.{IsLease, flag_byte, is_last_lease, job, job_byte, jobs_planned, kept, kept_parts, last_command, last_parts, lease}
+use Rattle.table_text.specs.Tables.{IsLease, flag_byte, is_last_lease, job, job_byte, jobs_planned, kept, kept_parts, last_command}
+use Rattle.table_text.specs.Tables.{last_parts, lease}
 use Rattle.table_text.specs.Tables.{lease_word, leg, leg_byte, names_rise, run, run_byte, runner, table}
 use Rattle.table_text.specs.declared.kept.Kept.{Kept}
 use Rattle.table_text.specs.declared.kept.Kept.TheVariants as replied
 use Rattle.table_text.proofs.CommandReaders.{admit_reads, chosen, command_reads, number_reads, small_text_reads}
 use Rattle.table_text.proofs.FormReaders.{byte_reads, follow_reads, row_reads, some_reads}
-use Rattle.table_text.proofs.Readers.{Fronts, Reads, bind_some, both, counted_reads, only_reads, pair_reads, parts_reads, some_bind, word_reads}
+use Rattle.table_text.proofs.Readers.{Fronts, Reads, bind_some, both, counted_reads, only_reads, pair_reads, parts_reads, some_bind}
+use Rattle.table_text.proofs.Readers.{word_reads}
 
 -- ---- leases
 
@@ -172,7 +176,8 @@ course a = pair (parts run_byte byte) (pair (parts flag_byte byte) (row (jobs_pl
 course_reads : (a : Admitted) → Reads (course a) (course_at a)
 unfolding course_at
 course_reads a =
-    pair_reads (parts run_byte byte) (pair (parts flag_byte byte) (row (jobs_planned a) job)) run_phase_at (pair_at flag_at (items_at job_at (jobs_planned a)))
+    pair_reads (parts run_byte byte) (pair (parts flag_byte byte) (row (jobs_planned a) job)) run_phase_at
+    (pair_at flag_at (items_at job_at (jobs_planned a)))
     run_phase_reads
     (pair_reads (parts flag_byte byte) (row (jobs_planned a) job) flag_at (items_at job_at (jobs_planned a)) flag_reads
     (row_reads (jobs_planned a) job job_at job_reads))
@@ -182,7 +187,8 @@ unfolding run_at
 run_reads =
     parts_reads (λ (r : RunState). (r.admitted, (r.phase, (r.stopping, r.jobs))))
     (λ (p : Admitted × (RunPhase × (Bool × List JobState))). record { admitted = p.0; phase = p.1.0; stopping = p.1.1.0; jobs = p.1.1.1 })
-    (follow admit course) (follow_at admit_at course_at) (λ _. refl) (λ _. refl) (follow_reads admit course admit_at course_at admit_reads course_reads)
+    (follow admit course) (follow_at admit_at course_at) (λ _. refl) (λ _. refl)
+    (follow_reads admit course admit_at course_at admit_reads course_reads)
 
 -- ---- runners
 
@@ -219,7 +225,8 @@ kept_back (b, l) k h =
 
 pub kept_reads : Reads kept kept_at
 unfolding kept_at
-kept_reads = some_reads kept_parts kept_of (pair byte lease) (pair_at byte_at lease_at) kept_there kept_back (pair_reads byte lease byte_at lease_at byte_reads lease_reads)
+kept_reads = some_reads kept_parts kept_of (pair byte lease) (pair_at byte_at lease_at) kept_there kept_back
+    (pair_reads byte lease byte_at lease_at byte_reads lease_reads)
 
 last_there : (l : LastParts) → last_of (last_parts l) ≡ Some l
 last_there (last.Claim claim None) = refl
@@ -259,9 +266,11 @@ runner_reads =
     (λ (p : List ℕ × (ℕ × (LastParts × Option ℕ))). record { name = p.0; number = p.1.0; last = p.1.1.0; holds = p.1.1.1 })
     (pair (small_text is_runner_byte) (pair number (pair last_command lease)))
     (pair_at (small_text_at is_runner_byte) (pair_at number_at (pair_at last_at lease_at))) (λ _. refl) (λ _. refl)
-    (pair_reads (small_text is_runner_byte) (pair number (pair last_command lease)) (small_text_at is_runner_byte) (pair_at number_at (pair_at last_at lease_at))
+    (pair_reads (small_text is_runner_byte) (pair number (pair last_command lease)) (small_text_at is_runner_byte)
+    (pair_at number_at (pair_at last_at lease_at))
     (small_text_reads is_runner_byte)
-    (pair_reads number (pair last_command lease) number_at (pair_at last_at lease_at) number_reads (pair_reads last_command lease last_at lease_at last_reads lease_reads)))
+    (pair_reads number (pair last_command lease) number_at (pair_at last_at lease_at) number_reads
+    (pair_reads last_command lease last_at lease_at last_reads lease_reads)))
 
 -- ---- tables
 
@@ -276,7 +285,8 @@ runs_reads = counted_reads 0 100000 run run_at (omega arith) run_reads
 pub runners_reads : Reads (only names_rise (counted 0 4294967295 runner)) runners_at
 unfolding runners_at
 runners_reads =
-    only_reads names_rise (counted 0 4294967295 runner) (counted_at 0 4294967295 runner_at) (counted_reads 0 4294967295 runner runner_at (omega arith) runner_reads)
+    only_reads names_rise (counted 0 4294967295 runner) (counted_at 0 4294967295 runner_at)
+    (counted_reads 0 4294967295 runner runner_at (omega arith) runner_reads)
 
 pub table_reads : Reads table table_at
 unfolding table_at
@@ -285,6 +295,7 @@ table_reads =
     (λ (p : ℕ × (List RunState × List StoredRunner)). record { last_lease = p.0; runs = p.1.0; runners = p.1.1 })
     (pair (only is_last_lease word) (pair (counted 0 100000 run) (only names_rise (counted 0 4294967295 runner))))
     (pair_at last_lease_at (pair_at runs_at runners_at)) (λ _. refl) (λ _. refl)
-    (pair_reads (only is_last_lease word) (pair (counted 0 100000 run) (only names_rise (counted 0 4294967295 runner))) last_lease_at (pair_at runs_at runners_at)
+    (pair_reads (only is_last_lease word) (pair (counted 0 100000 run) (only names_rise (counted 0 4294967295 runner))) last_lease_at
+    (pair_at runs_at runners_at)
     last_lease_reads
     (pair_reads (counted 0 100000 run) (only names_rise (counted 0 4294967295 runner)) runs_at runners_at runs_reads runners_reads))

@@ -129,7 +129,8 @@ run_in phase = record stopping_run {
   phase = phase;
   stopping = false;
   jobs =
-      job_in job_phase.Blocked ∷ job_in job_phase.Open ∷ job_in (job_phase.Settled result.Success) ∷ job_in (job_phase.Settled result.Failure)
+      job_in job_phase.Blocked ∷ job_in job_phase.Open ∷ job_in (job_phase.Settled result.Success) ∷ job_in
+      (job_phase.Settled result.Failure)
       ∷ job_in (job_phase.Settled result.Cancelled) ∷ job_in (job_phase.Settled result.Skipped) ∷ [];
 }
 

@@ -25,7 +25,8 @@ one_stored one two first second same =
 
 pub whole_begins_none : NoneBeginsAnother whole_table
 whole_begins_none a b more other x y one two same =
-    let stored = none_begins table table_at table_reads a b more other (stored_table x) (stored_table y) (one.0.1, one.1) (two.0.1, two.1) same in
+    let stored = none_begins table table_at table_reads a b more other (stored_table x) (stored_table y) (one.0.1, one.1)
+    (two.0.1, two.1) same in
     (stored.0, one_stored x y one.0.0 two.0.0 stored.1)
 
 -- ---- from the parts that stand at the front of bytes
@@ -33,7 +34,8 @@ whole_begins_none a b more other x y one two same =
 pub whole_of_parts : (bytes rest : List ℕ) (parts : StoredTable) (t : TableState) → OpensWith table bytes parts rest → IsStoredAs parts t
     → OpensWith whole_table bytes t rest
 whole_of_parts bytes rest parts t opens is =
-    subst (λ (s : StoredTable). (IsSound t × table.Takes s) × (bytes ≡ table.spelling s ++ rest)) (sym is.stored) ((is.is_sound, opens.0), opens.1)
+    subst (λ (s : StoredTable). (IsSound t × table.Takes s) × (bytes ≡ table.spelling s ++ rest)) (sym is.stored)
+    ((is.is_sound, opens.0), opens.1)
 
 pub none_without_parts : (bytes : List ℕ) → StandsAtFront table bytes None → StandsAtFront whole_table bytes None
 none_without_parts bytes none t rest opens = none (stored_table t) rest (opens.0.1, opens.1)
@@ -42,6 +44,7 @@ pub none_of_parts : (bytes rest : List ℕ) (parts : StoredTable) → OpensWith 
     → StandsAtFront whole_table bytes None
 none_of_parts bytes rest parts opens none t other again =
     let same : table.spelling (stored_table t) ++ other ≡ table.spelling parts ++ rest = sym again.1 ∙ opens.1 in
-    let one = none_begins table table_at table_reads (table.spelling (stored_table t)) (table.spelling parts) other rest (stored_table t) parts
+    let one = none_begins table table_at table_reads (table.spelling (stored_table t)) (table.spelling parts) other rest
+    (stored_table t) parts
     (again.0.1, refl) (opens.0, refl) same in
     none t (record { is_sound = again.0.0; stored = one.1 })

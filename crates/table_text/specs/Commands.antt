@@ -50,7 +50,8 @@ outcome = record { Takes = λ (_ : Outcome). Unit {0}; spelling = λ r. outcome_
 
 -- the delivery, the event's name and the body
 abbrev pub admit : Format Admitted
-admit = parts (λ (a : Admitted). (a.delivery, (a.event, a.body))) (pair (small_text is_delivery_byte) (pair (small_text is_event_byte) body))
+admit = parts (λ (a : Admitted). (a.delivery, (a.event, a.body)))
+    (pair (small_text is_delivery_byte) (pair (small_text is_event_byte) body))
 
 -- the runner, the number and the labels
 abbrev pub claim : Format Claim
@@ -58,7 +59,8 @@ claim = parts (λ (c : Claim). (c.runner, (c.number, c.labels))) (pair (small_te
 
 -- the runner, the number, the lease and the result
 abbrev pub done : Format Done
-done = parts (λ (d : Done). (d.runner, (d.number, (d.lease, d.result)))) (pair (small_text is_runner_byte) (pair number (pair number outcome)))
+done = parts (λ (d : Done). (d.runner, (d.number, (d.lease, d.result))))
+    (pair (small_text is_runner_byte) (pair number (pair number outcome)))
 
 -- the runner and the lease
 abbrev pub beat : Format Beat

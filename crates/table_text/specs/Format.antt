@@ -18,11 +18,13 @@ OpensWith format bytes x rest = format.Takes x × (bytes ≡ format.spelling x +
 
 -- No spelling begins another: where bytes begin with two, these are one, and spell one value.
 abbrev pub NoneBeginsAnother : {A : Type 0} → Format A → Type 0
-NoneBeginsAnother {A} format = (a b more other : List ℕ) (x y : A) → Spells format a x → Spells format b y → a ++ more ≡ b ++ other → (a ≡ b) × (x ≡ y)
+NoneBeginsAnother {A} format = (a b more other : List ℕ) (x y : A) → Spells format a x → Spells format b y → a ++ more ≡ b ++ other
+    → (a ≡ b) × (x ≡ y)
 
 -- Each value that has a spelling has one.
 abbrev pub HasOneSpelling : {A : Type 0} → Format A → Type 0
-HasOneSpelling {A} format = (x : A) → format.Takes x → (bytes : List ℕ) × Spells format bytes x × ((other : List ℕ) → Spells format other x → other ≡ bytes)
+HasOneSpelling {A} format = (x : A) → format.Takes x → (bytes : List ℕ) × Spells format bytes x
+    × ((other : List ℕ) → Spells format other x → other ≡ bytes)
 
 -- The value has a spelling, which was appended.
 abbrev pub Appends : {A : Type 0} → Format A → List ℕ → A → List ℕ → Type 0
@@ -74,7 +76,10 @@ byte = record { Takes = λ n. n < 256; spelling = λ n. n ∷ [] }
 
 -- one value, and behind it another, whose format goes by the first
 abbrev pub follow : {A B : Type 0} → Format A → (A → Format B) → Format (A × B)
-follow first second = record { Takes = λ p. first.Takes p.0 × (second p.0).Takes p.1; spelling = λ p. first.spelling p.0 ++ (second p.0).spelling p.1 }
+follow first second = record {
+  Takes = λ p. first.Takes p.0 × (second p.0).Takes p.1;
+  spelling = λ p. first.spelling p.0 ++ (second p.0).spelling p.1;
+}
 
 -- just so many values, one behind the other, without a count
 abbrev pub row : {A : Type 0} → ℕ → Format A → Format (List A)

@@ -1,5 +1,6 @@
 -- Reading as a function: the value at the front of bytes and the bytes behind it, where there is one.
-use Rattle.std.specs.Prelude.{◌≡◌, ℕ, zero, suc, ◌∷◌, List, [], ◌++◌, length, take, drop, nat_lt, nat_le, ◌&&◌, if◌then◌else◌, Bool, Option, Some, None, Result, Ok, Err}
+use Rattle.std.specs.Prelude.{◌≡◌, ℕ, zero, suc, ◌∷◌, List, [], ◌++◌, length, take, drop, nat_lt, nat_le, ◌&&◌, if◌then◌else◌, Bool, Option}
+use Rattle.std.specs.Prelude.{Some, None, Result, Ok, Err}
 use Rattle.std.specs.Int.{from_be_bytes, w32}
 use Rattle.table_text.specs.declared.not_read.NotRead.{NotRead}
 use Rattle.table_text.specs.declared.not_read.NotRead.TheVariants.{NoMemory, NoSpelling}

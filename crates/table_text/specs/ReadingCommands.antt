@@ -25,7 +25,8 @@ unfoldable pub body_at : Reader (List ℕ)
 body_at bytes = only_at is_faultless text_at bytes
 
 abbrev pub result_of : ℕ → Option Outcome
-result_of byte = if byte == 1 then Some outcome.Success else (if byte == 2 then Some outcome.Failure else (if byte == 3 then Some outcome.Cancelled else None))
+result_of byte = if byte == 1 then Some outcome.Success
+    else (if byte == 2 then Some outcome.Failure else (if byte == 3 then Some outcome.Cancelled else None))
 
 unfoldable pub result_at : Reader Outcome
 result_at [] = None

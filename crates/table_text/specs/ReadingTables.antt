@@ -47,7 +47,8 @@ leg_phases =
 
 abbrev pub job_phases : List JobPhase
 job_phases =
-    job_phase.Blocked ∷ job_phase.Open ∷ job_phase.Settled result.Success ∷ job_phase.Settled result.Failure ∷ job_phase.Settled result.Cancelled
+    job_phase.Blocked ∷ job_phase.Open ∷ job_phase.Settled result.Success ∷ job_phase.Settled result.Failure ∷ job_phase.Settled
+    result.Cancelled
     ∷ job_phase.Settled result.Skipped ∷ []
 
 abbrev pub run_phases : List RunPhase
@@ -72,7 +73,8 @@ unfoldable pub leg_at : Reader LegState
 leg_at bytes = parts_at (λ (p : LegPhase × Option ℕ). record { phase = p.0; lease = p.1 }) (pair_at leg_phase_at lease_at) bytes
 
 unfoldable pub job_at : Reader JobState
-job_at bytes = parts_at (λ (p : JobPhase × List LegState). record { phase = p.0; legs = p.1 }) (pair_at job_phase_at (counted_at 0 4294967295 leg_at)) bytes
+job_at bytes = parts_at (λ (p : JobPhase × List LegState). record { phase = p.0; legs = p.1 })
+    (pair_at job_phase_at (counted_at 0 4294967295 leg_at)) bytes
 
 -- the phase, the stop flag and the jobs that the plan has
 unfoldable pub course_at : Admitted → Reader (RunPhase × (Bool × List JobState))
@@ -80,7 +82,8 @@ course_at a bytes = pair_at run_phase_at (pair_at flag_at (items_at job_at (jobs
 
 unfoldable pub run_at : Reader RunState
 run_at bytes =
-    parts_at (λ (p : Admitted × (RunPhase × (Bool × List JobState))). record { admitted = p.0; phase = p.1.0; stopping = p.1.1.0; jobs = p.1.1.1 })
+    parts_at (λ (p : Admitted × (RunPhase × (Bool × List JobState))). record
+    { admitted = p.0; phase = p.1.0; stopping = p.1.1.0; jobs = p.1.1.1 })
     (follow_at admit_at course_at) bytes
 
 -- ---- runners

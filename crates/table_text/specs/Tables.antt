@@ -107,7 +107,8 @@ last_command = parts last_parts (pair command kept)
 
 -- the name, the last number, the last command with its reply, and the lease that the runner holds
 abbrev pub runner : Format StoredRunner
-runner = parts (λ (r : StoredRunner). (r.name, (r.number, (r.last, r.holds)))) (pair (small_text is_runner_byte) (pair number (pair last_command lease)))
+runner = parts (λ (r : StoredRunner). (r.name, (r.number, (r.last, r.holds))))
+    (pair (small_text is_runner_byte) (pair number (pair last_command lease)))
 
 -- ---- tables
 

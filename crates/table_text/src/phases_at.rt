@@ -3,7 +3,8 @@
 ghost use Rattle.std.specs.Prelude.{not};
 ghost use Rattle.run_table.specs.Stored.{is_new};
 ghost use Rattle.table_text.specs.Reading.{Finds, kept};
-ghost use Rattle.table_text.specs.ReadingTables.{flag_at, flags, job_phase_at, job_phases, leg_phase_at, leg_phases, of_byte, run_phase_at, run_phases};
+ghost use Rattle.table_text.specs.ReadingTables.{flag_at, flags, job_phase_at, job_phases, leg_phase_at, leg_phases, of_byte, run_phase_at};
+ghost use Rattle.table_text.specs.ReadingTables.{run_phases};
 ghost use Rattle.table_text.specs.Tables.{flag_byte, job_byte, leg_byte, run_byte};
 
 use crate::front::byte_at;

@@ -1,7 +1,8 @@
 #![tactic(auto, using(crate::proofs::Keeping::unchanged, crate::proofs::Keeping::longer))]
 
 ghost use Rattle.std.specs.Prelude.{◌≡◌, [], ◌∷◌, ◌++◌, ◌<◌, ◌^◌, length, OnErr, OnOk};
-ghost use Rattle.table_text.specs.Commands.{IsSpelled, admit, beat, body, claim, command_bytes, done, kind_of, labels, number, outcome_byte, small_text};
+ghost use Rattle.table_text.specs.Commands.{IsSpelled, admit, beat, body, claim, command_bytes, done, kind_of, labels, number};
+ghost use Rattle.table_text.specs.Commands.{outcome_byte, small_text};
 ghost use Rattle.table_text.specs.Format.{text_bytes, word_bytes};
 ghost use Rattle.table_text.specs.Writing.{Keeps};
 

@@ -262,7 +262,8 @@ braced-assoc : (before inner more after x : List ℕ)
 braced-assoc before inner more after x = simp append_assoc
 
 -- behind a `${{` an operand is due
-pub opening-read : (ps : List Piece) (w x : List ℕ) → run (InText ps w) (36 ∷ (123 ∷ (123 ∷ x))) ≡ run (OperandDue (ps ++ plain_piece w) []) x
+pub opening-read : (ps : List Piece) (w x : List ℕ)
+    → run (InText ps w) (36 ∷ (123 ∷ (123 ∷ x))) ≡ run (OperandDue (ps ++ plain_piece w) []) x
 opening-read ps w x =
     run-some (InText ps w) (AfterDollar ps w) 36 (123 ∷ (123 ∷ x)) refl
     ∙ (run-some (AfterDollar ps w) (AfterBrace ps w) 123 (123 ∷ x) refl

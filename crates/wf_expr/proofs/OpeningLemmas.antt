@@ -33,7 +33,8 @@ front-no_opening : (text front rest : List ℕ) → text ≡ front ++ rest → I
 front-no_opening text front rest split u lacks before after e =
     let b = encode_utf8_all before in
     let a = encode_utf8_all after in
-    let whole : front ≡ b ++ (36 ∷ (123 ∷ (123 ∷ a))) = sym (encodes-chars front u) ∙ (ap encode_utf8_all e ∙ encoded-opening before after) in
+    let whole : front ≡ b ++ (36 ∷ (123 ∷ (123 ∷ a))) =
+    sym (encodes-chars front u) ∙ (ap encode_utf8_all e ∙ encoded-opening before after) in
     let inside : length b < length front = omega (arith, ap length whole, length-append b (36 ∷ (123 ∷ (123 ∷ a)))) in
     lacks (length b) inside (a ++ rest)
     (ap (drop (length b)) (split ∙ (ap (λ t. t ++ rest) whole ∙ append_assoc b (36 ∷ (123 ∷ (123 ∷ a))) rest))

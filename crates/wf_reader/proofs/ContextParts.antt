@@ -1,5 +1,6 @@
 -- The contexts that are taken out of an envelope, one after another.
-use Rattle.std.proofs.Common.{◌≡◌, ℕ, List, [], ◌∷◌, Bool, true, false, true≢false, cond, Option, Some, option_map, is_eq, nat_cmp, bytes_eq}
+use Rattle.std.proofs.Common.{◌≡◌, ℕ, List, [], ◌∷◌, Bool, true, false, true≢false, cond, Option, Some, option_map, is_eq, nat_cmp}
+use Rattle.std.proofs.Common.{bytes_eq}
 use Rattle.std.proofs.Common.{String, Global, string_bytes, codes, refl, sym, ap, ◌∙◌}
 use Rattle.std.proofs.lemmas.Map.Text.{is_eq-slice_cmp}
 use Rattle.std.proofs.lemmas.Slice.Eq.{bytes_eq-Decides}
@@ -27,7 +28,8 @@ one_less : (b : Bool) (q name : List ℕ) (e : Entry) (es : List Entry) → (q �
     → get_member q (members_view (remove_entry (is_name name) es)) ≡ get_member q (members_view es)
     → get_member q (members_view (cond b es (e ∷ remove_entry (is_name name) es))) ≡ get_member q (members_view (e ∷ es))
 one_less true q name e es other is later =
-    let same : name ≡ string_bytes e.0 = (bytes_eq-Decides name (string_bytes e.0)).0 (sym (is_eq-slice_cmp name (string_bytes e.0)) ∙ is) in
+    let same : name ≡ string_bytes e.0 = (bytes_eq-Decides name (string_bytes e.0)).0
+    (sym (is_eq-slice_cmp name (string_bytes e.0)) ∙ is) in
     sym (member_later q e es (λ h. other (h ∙ sym same)))
 one_less false q name e es other is later =
     ap (λ r. match_ordering (slice_cmp nat_cmp q (string_bytes e.0)) r (Some (view e.1)) r) later

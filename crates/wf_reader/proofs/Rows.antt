@@ -191,7 +191,8 @@ templates : workflow_of (codes "{\"jobs\":{\"a\":{\"runs-on\":\"${{ vars.os }}-x
 unfolding on_bodies
 templates = refl
 
-envelope : event_of (codes "{\"repo\":\"o/r\",\"path\":\"ci.json\",\"vars\":{\"l\":1},\"workflow\":{\"jobs\":{\"build\":{\"runs-on\":\"linux\"}}}}")
+envelope : event_of (codes "{\"repo\":\"o/r\",\"path\":\"ci.json\",\"vars\":{\"l\":1},"
+    ++ codes "\"workflow\":{\"jobs\":{\"build\":{\"runs-on\":\"linux\"}}}}")
     ≡ record {
       repo = codes "o/r";
       path = codes "ci.json";

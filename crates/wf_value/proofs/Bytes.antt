@@ -24,7 +24,8 @@ pub spell_number : (bytes : List ℕ) → AreBytes bytes → 4 ≤ length bytes
     → bytes ≡ to_be_bytes w32 (from_be_bytes w32 (take 4 bytes)) ++ drop 4 bytes
 spell_number bytes are long =
     sym (take-append-drop 4 bytes)
-    ∙ ap (λ (l : List ℕ). l ++ drop 4 bytes) (sym (be_bytes_4 (take 4 bytes) (from_be_bytes w32 (take 4 bytes)) (omega (arith, length-take 4 bytes, long))
+    ∙ ap (λ (l : List ℕ). l ++ drop 4 bytes)
+    (sym (be_bytes_4 (take 4 bytes) (from_be_bytes w32 (take 4 bytes)) (omega (arith, length-take 4 bytes, long))
     (AreBytes-take 4 bytes are) refl))
 
 -- and it has four

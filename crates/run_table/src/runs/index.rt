@@ -32,8 +32,8 @@ impl Index {
         }
     }
 
-    /// Takes the memory for the run of an event of this workflow, which is to stand at the place, and answers its number. The place is kept for its
-    /// delivery unless one of its runs was found before; the run is not counted yet.
+    /// Takes the memory for the run of an event of this workflow, which is to stand at the place, and answers its number. The place is kept
+    /// for its delivery unless one of its runs was found before; the run is not counted yet.
     pub(crate) fn make_room(
         &mut self,
         alloc: Global,
@@ -48,7 +48,8 @@ impl Index {
         ensures number { IfOk result (λ number. number ≡ count_of self.old.counts.counts event.now + 1) }
         ensures kept { OnOk result ((other : List ℕ) → get_by_text self.new.places.places other
             ≡ (if is_none found && bytes_eq event.now.delivery other then Some place else get_by_text self.old.places.places other)) }
-        ensures same { OnErr result ((other : List ℕ) → get_by_text self.new.places.places other ≡ get_by_text self.old.places.places other) }
+        ensures same { OnErr result ((other : List ℕ)
+            → get_by_text self.new.places.places other ≡ get_by_text self.old.places.places other) }
         ensures uncounted { (other : Admitted) → count_of self.new.counts.counts other ≡ count_of self.old.counts.counts other }
         ensures room { OnOk result (is_counted self.new.counts.counts event.now ≡ true) }
     {

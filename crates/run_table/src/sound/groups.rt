@@ -3,7 +3,8 @@
 ghost use Rattle.std.specs.Prelude.{◌≡◌, IfOk, MatchOption, Ok};
 ghost use Rattle.wf_value.specs.Gives.{Gives};
 ghost use Rattle.run_table.specs.BoundGroups.{ErrsOnlyByMemory};
-ghost use Rattle.run_table.specs.GroupSets.{AddsEach, AreGroupsOf, AreTaken, DifferInGroup, IsALeg, IsALegOfJob, IsALegOfRun, IsARun, group_as, stands};
+ghost use Rattle.run_table.specs.GroupSets.{AddsEach, AreGroupsOf, AreTaken, DifferInGroup, IsALeg, IsALegOfJob, IsALegOfRun, IsARun};
+ghost use Rattle.run_table.specs.GroupSets.{group_as, stands};
 ghost use Rattle.run_table.specs.Groups.{HasOneEach};
 ghost use Rattle.run_table.specs.Holders.{holder_in_words};
 

@@ -9,7 +9,8 @@ ghost use Rattle.run_table.specs.GroupSets.{AreTaken};
 ghost use Rattle.run_table.specs.Holders.{holder_in_words};
 ghost use Rattle.run_table.specs.Settling.{first_place};
 ghost use Rattle.run_table.specs.StateWords.{is_blocked};
-ghost use Rattle.run_table.specs.WithinRun.{first_in_job, first_in_jobs, first_in_run, first_of_legs, goes_on, needs_settled_in, whole_goes_on_in};
+ghost use Rattle.run_table.specs.WithinRun.{first_in_job, first_in_jobs, first_in_run, first_of_legs, goes_on, needs_settled_in};
+ghost use Rattle.run_table.specs.WithinRun.{whole_goes_on_in};
 
 use crate::first_place::has_settled_jobs;
 use crate::holder::Holder;

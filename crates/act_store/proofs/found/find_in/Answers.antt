@@ -38,7 +38,8 @@ returns-in-None-clause-no_table g c = λ _ honest2.
     no_table_in len file (g.met.D.Disk.seen_length d0 honest0 ∙ c.requires.size) chosen
     (subst (λ (o : Option Chosen). IsChosen len o file) c.in-Some.is (c.in_ok-chosen.ensures.found honest1)) c.requires.area
     (subst (λ (l : List ℕ). IsSpelled l None) there
-    (subst (λ (o : Option Spelled). IsSpelled (part area.start area.len (disk.seen d1)) o) c.in-None.is (c.in_ok-spelled.ensures.spelled honest2)))
+    (subst (λ (o : Option Spelled). IsSpelled (part area.start area.len (disk.seen d1)) o) c.in-None.is
+    (c.in_ok-spelled.ensures.spelled honest2)))
 
 pub returns-in_err-spelled-clause-nothing_stands : goal.returns-in_err-spelled-clause-nothing_stands
 returns-in_err-spelled-clause-nothing_stands g c =

@@ -10,7 +10,8 @@ returns-clause-found g c = λ honest2.
     let honest1 = c.generation_at.ensures.honest honest2 in
     let honest0 = c.first_generation.ensures.honest honest1 in
     let file = disk.seen c.args.disk.now in
-    chosen_told len file (omega (arith, c.requires.long)) (omega (arith, c.requires.within, g.met.D.Disk.seen_length c.args.disk.now honest0))
+    chosen_told len file (omega (arith, c.requires.long))
+    (omega (arith, c.requires.within, g.met.D.Disk.seen_length c.args.disk.now honest0))
     c.in_ok-first.first c.in_ok-second.second c.chosen_of.result
     (c.in_ok-first.ensures.generation honest1 ∙ same_generation 0 len file c.requires.long)
     (c.in_ok-second.ensures.generation honest2 ∙ ap (λ l. open_generation (part len 10 l)) (c.first_generation.ensures.seen honest1)

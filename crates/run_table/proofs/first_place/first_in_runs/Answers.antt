@@ -20,7 +20,8 @@ pub returns-then-is_some : goal.returns-then-is_some
 returns-then-is_some c =
     let some : is_some c.first_in_run-place.result ≡ true = search rules in
     sym (place_by_run c.args.runs.now c.args.all.now c.requires.all
-    ∙ answer_found (first_in_run c.args.runs.now) c.args.all.now c.loop-r.r c.index-all-r.result c.first_in_run-place.result c.loop-r.invariant
+    ∙ answer_found (first_in_run c.args.runs.now) c.args.all.now c.loop-r.r c.index-all-r.result c.first_in_run-place.result
+    c.loop-r.invariant
     (omega arith) c.index-all-r.is c.first_in_run-place.ensures some)
 
 pub loop-r-preserved : goal.loop-r-preserved

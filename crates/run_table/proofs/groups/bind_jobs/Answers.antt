@@ -23,7 +23,8 @@ loop-j-preserved c =
     let told = c.args.told.now in
     let plan = c.as_slice-plan.result.now in
     let said : ℕ → List Asked → Type 0 = λ k kept. (job : PlannedJob) → slice_get (plan_of told.event.body) k ≡ Some job → (i : ℕ)
-    → SaysSo (event_of told.event.body).repo (λ results. context_of (facts_by told k job i results)) (asked_of_leg job i) (slice_get kept i) in
+    → SaysSo (event_of told.event.body).repo (λ results. context_of (facts_by told k job i results)) (asked_of_leg job i)
+    (slice_get kept i) in
     let is_plan : plan ≡ plan_of told.event.body =
     c.as_slice-plan.ensures ∙ c.plan.ensures ∙ ap (λ a. plan_of a.body) c.prepared.ensures
     ∙ ap (λ (t : RunFacts). plan_of t.event.body) c.told.view_is in
@@ -33,7 +34,8 @@ loop-j-preserved c =
     let its : said c.loop-j.j legs = λ job planned i.
     let same = some_job c.index-plan-j.result job (sym at ∙ ap (λ p. slice_get p c.loop-j.j) is_plan ∙ planned) in
     subst
-    (λ (x : PlannedJob). SaysSo (event_of told.event.body).repo (λ results. context_of (facts_by told c.loop-j.j x i results)) (asked_of_leg x i)
+    (λ (x : PlannedJob). SaysSo (event_of told.event.body).repo (λ results. context_of (facts_by told c.loop-j.j x i results))
+    (asked_of_leg x i)
     (slice_get legs i)) same (c.in_ok-legs.ensures.says i) in
     let here = subst (λ (n : ℕ). said n legs) (sym c.loop-j.invariant.0) its in (
       omega (arith, length-append old (legs ∷ []), ap length now, c.loop-j.invariant.0),

@@ -15,7 +15,9 @@ returns-in_ok-legs-in-Some-clause-says c = λ l.
     let repository = (event_of told.event.body).repo in
     let is : job.concurrency ≡ Some c.in-Some.asked = cc in
     subst
-    (λ (kept : List Asked). SaysSo repository (λ results. context_of (facts_by told c.args.j job l results)) (asked_of_leg job l) (slice_get kept l))
+    (λ (kept : List Asked). SaysSo repository (λ results. context_of (facts_by told c.args.j job l results)) (asked_of_leg job l)
+    (slice_get kept l))
     (sym c.new.ensures)
-    (legs_say repository (λ i results. context_of (facts_by told c.args.j job i results)) job c.in-Some.asked c.in_ok-legs-in-Some.legs.items is
+    (legs_say repository (λ i results. context_of (facts_by told c.args.j job i results)) job c.in-Some.asked
+    c.in_ok-legs-in-Some.legs.items is
     c.in_ok-legs-in-Some.ensures.each c.in_ok-legs-in-Some.ensures.says l)

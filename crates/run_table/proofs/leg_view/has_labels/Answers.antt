@@ -9,4 +9,5 @@ use Rattle.run_table.proofs.leg_view.has_labels.Goals as goal
 pub returns : goal.returns
 returns c =
     c.has_each.ensures
-    ∙ sym (list_all-map (has_label c.args.labels.now) (λ t. scalar_text (template_value (context_of c.args.context.now) t)) c.args.wanted.now)
+    ∙ sym (list_all-map (has_label c.args.labels.now) (λ t. scalar_text (template_value (context_of c.args.context.now) t))
+    c.args.wanted.now)

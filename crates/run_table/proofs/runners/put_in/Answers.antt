@@ -17,8 +17,12 @@ pub insert-requires : goal.insert-requires
 insert-requires c =
     let name = c.runner.inside.name in
     let at = c.count_below-place.ensures ∙ ap (λ (xs : List RunnerState). length (filter (is_below name) xs)) c.deref.ensures.value in
-    omega
-    (arith, place_in_range c.args.runners.now.items name c.requires c.count_below-place.result at, c.deref.ensures.len, ap length c.deref.ensures.value)
+    omega (
+      arith,
+      place_in_range c.args.runners.now.items name c.requires c.count_below-place.result at,
+      c.deref.ensures.len,
+      ap length c.deref.ensures.value,
+    )
 
 pub returns-then-is_known-clause-put : goal.returns-then-is_known-clause-put
 returns-then-is_known-clause-put c =

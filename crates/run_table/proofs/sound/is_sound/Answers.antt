@@ -46,6 +46,7 @@ returns-clause-sound c =
     let still : c.in_ok-do_runs_rest.field-0 ≡ true = search rules in
     let rests : first_place runs ≡ None = c.in_ok-do_runs_rest.ensures.rest.0 still in
     like c.do_deliveries_differ.result
-    (λ differ. to_sound leases runs runners c.requires.legs c.requires.held each each_of_runners c.requires.planned c.requires.rise c.requires.kept
+    (λ differ. to_sound leases runs runners c.requires.legs c.requires.held each each_of_runners c.requires.planned c.requires.rise
+    c.requires.kept
     last one rests differ)
     (λ s. s.deliveries_differ) c.do_deliveries_differ.ensures

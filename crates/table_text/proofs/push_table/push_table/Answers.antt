@@ -13,11 +13,15 @@ push_list-requires c =
 
 pub returns-clause-takes : goal.returns-clause-takes
 returns-clause-takes c =
-    table_takes c.args.value.now (subst (λ (n : ℕ). n ≤ 999999999) c.last_lease.ensures.lease c.last_lease.ensures.most) c.runs-runs.ensures.storable.few_runs
+    table_takes c.args.value.now (subst (λ (n : ℕ). n ≤ 999999999) c.last_lease.ensures.lease c.last_lease.ensures.most)
+    c.runs-runs.ensures.storable.few_runs
     (subst (AllByRecursion run.Takes) c.runs-runs.ensures.runs c.in_ok-push_list.ensures.takes) c.requires
-    (subst (AllByRecursion (λ (r : RunnerState). runner.Takes (stored_runner r))) c.runners-runners.ensures.runners c.in_ok-push_list-2.ensures.takes) c.runners-runners.ensures.rise
+    (subst (AllByRecursion (λ (r : RunnerState). runner.Takes (stored_runner r))) c.runners-runners.ensures.runners
+    c.in_ok-push_list-2.ensures.takes) c.runners-runners.ensures.rise
 
 pub returns-clause-bytes : goal.returns-clause-bytes
 returns-clause-bytes c =
-    table_bytes c.args.value.now _ _ _ _ _ _ _ _ _ c.in_ok-push_word.ensures.bytes c.in_ok-push_word-2.ensures.bytes c.in_ok-push_list.ensures.bytes
-    c.in_ok-push_word-3.ensures.bytes c.in_ok-push_list-2.ensures.bytes c.last_lease.ensures.lease c.runs-runs.ensures.runs c.runners-runners.ensures.runners
+    table_bytes c.args.value.now _ _ _ _ _ _ _ _ _ c.in_ok-push_word.ensures.bytes c.in_ok-push_word-2.ensures.bytes
+    c.in_ok-push_list.ensures.bytes
+    c.in_ok-push_word-3.ensures.bytes c.in_ok-push_list-2.ensures.bytes c.last_lease.ensures.lease c.runs-runs.ensures.runs
+    c.runners-runners.ensures.runners

@@ -6,7 +6,8 @@ use Rattle.table_text.proofs.TableReaders.{table_reads}
 use Rattle.table_text.proofs.read.read_parts.Goals as goal
 
 pub returns-in-Ok-clause-front : goal.returns-in-Ok-clause-front
-returns-in-Ok-clause-front c = found_at_front table table_at table_reads c.args.bytes.now _ (λ i. omega (arith, c.type_inv.bytes i)) c.in-Ok.ensures
+returns-in-Ok-clause-front c = found_at_front table table_at table_reads c.args.bytes.now _ (λ i. omega (arith, c.type_inv.bytes i))
+    c.in-Ok.ensures
 
 pub returns-in-Err-NoSpelling-clause-front : goal.returns-in-Err-NoSpelling-clause-front
 returns-in-Err-NoSpelling-clause-front c = none_at_front table table_at table_reads c.args.bytes.now

@@ -13,7 +13,8 @@ job_length-total-requires c =
 
 pub loop-value-preserved : goal.loop-value-preserved
 loop-value-preserved c = record {
-  length = sum_more (λ (j : JobCells). job_length j.state) c.args.list.now c.loop-value.value-index c.value-item.result c.value-item.result _ _ c.loop-value-test.true c.value-item.is
+  length = sum_more (λ (j : JobCells). job_length j.state) c.args.list.now c.loop-value.value-index c.value-item.result c.value-item.result
+      _ _ c.loop-value-test.true c.value-item.is
       c.loop-value.invariant.length c.job_length-total.ensures.length;
   most = omega (arith, c.loop-value.invariant.most, c.job_length-total.ensures.most);
 }

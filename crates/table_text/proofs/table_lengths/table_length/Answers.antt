@@ -23,6 +23,7 @@ returns c =
     let runs : c.run_list_length-runs.result ≡ sum_by run_length c.args.stored.now.runs =
     c.run_list_length-runs.ensures.length ∙ ap (sum_by run_length) c.runs.ensures.runs in
     let runners : c.runner_list_length-runners.result ≡ sum_by runner_length (stored_table c.args.stored.now).runners =
-    c.runner_list_length-runners.ensures.length ∙ ap (sum_by (λ (r : RunnerState). runner_length (stored_runner r))) c.runners.ensures.runners
+    c.runner_list_length-runners.ensures.length
+    ∙ ap (sum_by (λ (r : RunnerState). runner_length (stored_runner r))) c.runners.ensures.runners
     ∙ sym (sum_seen runner_length stored_runner c.args.stored.now.runners) in
     omega (arith, runs, runners, length_table (stored_table c.args.stored.now))

@@ -14,7 +14,16 @@ pub enter-requires-clause-few : goal.enter-requires-clause-few
 enter-requires-clause-few g c =
     let s = c.self.inside in
     let D = g.row.D.Denot in
-    let k : Kept D = record { disk = s.disk; area = s.areas.len; base = s.base; history = s.history.items; covered = s.covered; used = s.used; generation = s.generation; failed = s.failed } in
+    let k : Kept D = record {
+      disk = s.disk;
+      area = s.areas.len;
+      base = s.base;
+      history = s.history.items;
+      covered = s.covered;
+      used = s.used;
+      generation = s.generation;
+      failed = s.failed;
+    } in
     let command = c.args.command in
     let none : refusal_of_apply c.args.self.now command ≡ None = search rules in
     few_wait k s.table s.waiting c.self.invariant.0 command
@@ -24,7 +33,16 @@ pub enter-requires-clause-fits : goal.enter-requires-clause-fits
 enter-requires-clause-fits g c =
     let s = c.self.inside in
     let D = g.row.D.Denot in
-    let k : Kept D = record { disk = s.disk; area = s.areas.len; base = s.base; history = s.history.items; covered = s.covered; used = s.used; generation = s.generation; failed = s.failed } in
+    let k : Kept D = record {
+      disk = s.disk;
+      area = s.areas.len;
+      base = s.base;
+      history = s.history.items;
+      covered = s.covered;
+      used = s.used;
+      generation = s.generation;
+      failed = s.failed;
+    } in
     let command = c.args.command in
     let none : refusal_of_apply c.args.self.now command ≡ None = search rules in
     record_is_short k s.table s.waiting c.self.invariant.0 command
@@ -34,11 +52,21 @@ pub invariant_of-self-2 : goal.invariant_of-self-2
 invariant_of-self-2 g c =
     let s = c.self.inside in
     let D = g.row.D.Denot in
-    let k : Kept D = record { disk = s.disk; area = s.areas.len; base = s.base; history = s.history.items; covered = s.covered; used = s.used; generation = s.generation; failed = s.failed } in
+    let k : Kept D = record {
+      disk = s.disk;
+      area = s.areas.len;
+      base = s.base;
+      history = s.history.items;
+      covered = s.covered;
+      used = s.used;
+      generation = s.generation;
+      failed = s.failed;
+    } in
     let counted = c.self.invariant.0 in
     let command = c.args.command in
     let none : refusal_of_apply c.args.self.now command ≡ None = search rules in
-    let admitted : IsAdmitted k command = is_admitted k command (subst (λ (v : Kept D). refusal_of_apply v command ≡ None) (sym c.self.view_is) none) in
+    let admitted : IsAdmitted k command = is_admitted k command
+    (subst (λ (v : Kept D). refusal_of_apply v command ≡ None) (sym c.self.view_is) none) in
     let entry : Entry = record { seat = c.args.seat; command = command; reply = (stepped s.table command).reply } in
     let history = c.enter.new.history.items in
     let is : history ≡ s.history.items ++ entry ∷ [] = c.in_ok-reply.ensures.history in

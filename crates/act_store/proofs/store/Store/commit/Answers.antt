@@ -6,7 +6,8 @@ use Rattle.act_store.specs.Kept.{Kept, StandsForEither, table_of}
 use Rattle.act_store.specs.Plain.{committed}
 use Rattle.act_store.specs.Promise.{IsCounted, IsStanding}
 use Rattle.act_store.specs.Waiting.{body_of}
-use Rattle.act_store.proofs.Committing.{now_of, none_waits, all_stands, counted_broken, counted_committed, commit_each, commit_moments, commit_standing, commit_stands, more, used_is, same_committed}
+use Rattle.act_store.proofs.Committing.{now_of, none_waits, all_stands, counted_broken, counted_committed, commit_each, commit_moments}
+use Rattle.act_store.proofs.Committing.{commit_standing, commit_stands, more, used_is, same_committed}
 use Rattle.act_store.proofs.Records.{length_record}
 use Rattle.act_store.proofs.Settling.{standing_broken}
 use Rattle.act_store.proofs.store.Store.commit.Goals as goal
@@ -16,17 +17,36 @@ returns-then-is_empty-clause-stands g c =
     let s = c.self.inside in
     let disk = g.D.Disk in
     let D = g.row.D.Denot in
-    let k : Kept D = record { disk = s.disk; area = s.areas.len; base = s.base; history = s.history.items; covered = s.covered; used = s.used; generation = s.generation; failed = s.failed } in
+    let k : Kept D = record {
+      disk = s.disk;
+      area = s.areas.len;
+      base = s.base;
+      history = s.history.items;
+      covered = s.covered;
+      used = s.used;
+      generation = s.generation;
+      failed = s.failed;
+    } in
     let counted = c.self.invariant.0 in
     let none : s.waiting.count ≡ 0 = search (rules, arith) in
     subst (λ (v : Kept D). disk.honest v.disk → (image : List ℕ) → disk.images v.disk image → StandsFor (table_of v) image) c.self.view_is
-    (λ honest image now. all_stands k s.table s.waiting counted (none_waits k s.table s.waiting counted none) image ((c.self.invariant.2 honest).each image now))
+    (λ honest image now. all_stands k s.table s.waiting counted (none_waits k s.table s.waiting counted none) image
+    ((c.self.invariant.2 honest).each image now))
 
 pub grow-requires-clause-fits : goal.grow-requires-clause-fits
 grow-requires-clause-fits g c =
     let s = c.self.inside in
     let D = g.row.D.Denot in
-    let k : Kept D = record { disk = s.disk; area = s.areas.len; base = s.base; history = s.history.items; covered = s.covered; used = s.used; generation = s.generation; failed = s.failed } in
+    let k : Kept D = record {
+      disk = s.disk;
+      area = s.areas.len;
+      base = s.base;
+      history = s.history.items;
+      covered = s.covered;
+      used = s.used;
+      generation = s.generation;
+      failed = s.failed;
+    } in
     let counted = c.self.invariant.0 in
     let some : 0 < s.waiting.count = search (rules, arith) in
     let bytes = c.as_slice-bytes.ensures in
@@ -42,39 +62,72 @@ returns-in-Err-clause-any_moment g c =
     let s = c.self.inside in
     let disk = g.D.Disk in
     let D = g.row.D.Denot in
-    let k : Kept D = record { disk = s.disk; area = s.areas.len; base = s.base; history = s.history.items; covered = s.covered; used = s.used; generation = s.generation; failed = s.failed } in
+    let k : Kept D = record {
+      disk = s.disk;
+      area = s.areas.len;
+      base = s.base;
+      history = s.history.items;
+      covered = s.covered;
+      used = s.used;
+      generation = s.generation;
+      failed = s.failed;
+    } in
     let live : s.failed ≡ false = search rules in
     let some : 0 < s.waiting.count = search (rules, arith) in
     let body = body_of s.waiting in
     let bytes = c.as_slice-bytes.ensures in
-    subst (λ (v : Kept D). disk.honest v.disk → EachSince disk.moment disk.images_since v.disk c.grow.new.disk (StandsForEither v)) c.self.view_is
+    subst (λ (v : Kept D). disk.honest v.disk → EachSince disk.moment disk.images_since v.disk c.grow.new.disk (StandsForEither v))
+    c.self.view_is
     (λ honest.
     let settled = (c.self.invariant.2 honest).settled live in
-    commit_moments k s.table s.waiting c.self.invariant.0 some disk.images s.areas.side s.other settled disk.moment disk.images_since c.grow.new.disk
-    (c.grow.ensures.any_moment s.other settled.head settled.bodies body honest settled.each settled.used_is (bytes.bytes some) (bytes.short some)))
+    commit_moments k s.table s.waiting c.self.invariant.0 some disk.images s.areas.side s.other settled disk.moment disk.images_since
+    c.grow.new.disk
+    (c.grow.ensures.any_moment s.other settled.head settled.bodies body honest settled.each settled.used_is (bytes.bytes some)
+    (bytes.short some)))
 
 pub returns-in-Ok-clause-any_moment : goal.returns-in-Ok-clause-any_moment
 returns-in-Ok-clause-any_moment g c =
     let s = c.self.inside in
     let disk = g.D.Disk in
     let D = g.row.D.Denot in
-    let k : Kept D = record { disk = s.disk; area = s.areas.len; base = s.base; history = s.history.items; covered = s.covered; used = s.used; generation = s.generation; failed = s.failed } in
+    let k : Kept D = record {
+      disk = s.disk;
+      area = s.areas.len;
+      base = s.base;
+      history = s.history.items;
+      covered = s.covered;
+      used = s.used;
+      generation = s.generation;
+      failed = s.failed;
+    } in
     let live : s.failed ≡ false = search rules in
     let some : 0 < s.waiting.count = search (rules, arith) in
     let body = body_of s.waiting in
     let bytes = c.as_slice-bytes.ensures in
-    subst (λ (v : Kept D). disk.honest v.disk → EachSince disk.moment disk.images_since v.disk c.grow.new.disk (StandsForEither v)) c.self.view_is
+    subst (λ (v : Kept D). disk.honest v.disk → EachSince disk.moment disk.images_since v.disk c.grow.new.disk (StandsForEither v))
+    c.self.view_is
     (λ honest.
     let settled = (c.self.invariant.2 honest).settled live in
-    commit_moments k s.table s.waiting c.self.invariant.0 some disk.images s.areas.side s.other settled disk.moment disk.images_since c.grow.new.disk
-    (c.grow.ensures.any_moment s.other settled.head settled.bodies body honest settled.each settled.used_is (bytes.bytes some) (bytes.short some)))
+    commit_moments k s.table s.waiting c.self.invariant.0 some disk.images s.areas.side s.other settled disk.moment disk.images_since
+    c.grow.new.disk
+    (c.grow.ensures.any_moment s.other settled.head settled.bodies body honest settled.each settled.used_is (bytes.bytes some)
+    (bytes.short some)))
 
 pub invariant_of-self : goal.invariant_of-self
 invariant_of-self g c =
     let s = c.self.inside in
     let disk = g.D.Disk in
     let D = g.row.D.Denot in
-    let k : Kept D = record { disk = s.disk; area = s.areas.len; base = s.base; history = s.history.items; covered = s.covered; used = s.used; generation = s.generation; failed = s.failed } in
+    let k : Kept D = record {
+      disk = s.disk;
+      area = s.areas.len;
+      base = s.base;
+      history = s.history.items;
+      covered = s.covered;
+      used = s.used;
+      generation = s.generation;
+      failed = s.failed;
+    } in
     let counted = c.self.invariant.0 in
     let live : s.failed ≡ false = search rules in
     let some : 0 < s.waiting.count = search (rules, arith) in
@@ -86,10 +139,12 @@ invariant_of-self g c =
       λ honest1.
           let honest = c.grow.ensures.honest.0 honest1 in
           let settled = (c.self.invariant.2 honest).settled live in
-          let since = c.grow.ensures.any_moment s.other settled.head settled.bodies body honest settled.each settled.used_is (bytes.bytes some) (bytes.short some) in
+          let since = c.grow.ensures.any_moment s.other settled.head settled.bodies body honest settled.each settled.used_is
+          (bytes.bytes some) (bytes.short some) in
           standing_broken disk.images s.areas.side s.other k counted.size d1
           (λ image now. commit_each k s.table s.waiting counted some disk.images s.areas.side s.other settled image
-          (now_of disk.moment disk.images_since disk.images s.disk d1 (WholeOrGrew s.areas.len s.areas.side s.other settled.head settled.bodies body)
+          (now_of disk.moment disk.images_since disk.images s.disk d1
+          (WholeOrGrew s.areas.len s.areas.side s.other settled.head settled.bodies body)
           (g.met.D.Disk.counts_now d1 honest1) since image now)),
     )
 
@@ -98,7 +153,16 @@ invariant_of-self-in-Ok g c =
     let s = c.self.inside in
     let disk = g.D.Disk in
     let D = g.row.D.Denot in
-    let k : Kept D = record { disk = s.disk; area = s.areas.len; base = s.base; history = s.history.items; covered = s.covered; used = s.used; generation = s.generation; failed = s.failed } in
+    let k : Kept D = record {
+      disk = s.disk;
+      area = s.areas.len;
+      base = s.base;
+      history = s.history.items;
+      covered = s.covered;
+      used = s.used;
+      generation = s.generation;
+      failed = s.failed;
+    } in
     let counted = c.self.invariant.0 in
     let live : s.failed ≡ false = search rules in
     let some : 0 < s.waiting.count = search (rules, arith) in
@@ -110,7 +174,8 @@ invariant_of-self-in-Ok g c =
     let used = s.used + length c.as_slice-bytes.result.now in
     let grows : used ≡ _ = used_is k s.table s.waiting counted some (length c.as_slice-bytes.result.now)
     (ap (λ (l : List ℕ). length l) (bytes.bytes some) ∙ length_record body) in
-    subst (λ (v : Kept D). IsCounted v s.table c.keep.new.self × (v.failed ≡ false → disk.fault_count v.disk < 2 ^ 64 - 1) × (disk.honest v.disk → IsStanding disk.images s.areas.side s.other v))
+    subst (λ (v : Kept D). IsCounted v s.table c.keep.new.self × (v.failed ≡ false → disk.fault_count v.disk < 2 ^ 64 - 1)
+    × (disk.honest v.disk → IsStanding disk.images s.areas.side s.other v))
     (same_committed k d1 covered used all grows) (
       counted_committed k s.table s.waiting counted some d1 c.keep.new.self c.keep.ensures.count c.keep.ensures.spelled,
       (λ _. search (rules, arith)),
@@ -118,7 +183,8 @@ invariant_of-self-in-Ok g c =
           let honest = c.grow.ensures.honest.0 honest1 in
           let settled = (c.self.invariant.2 honest).settled live in
           commit_standing k s.table s.waiting counted some disk.images s.areas.side s.other settled d1
-          (c.in-Ok.ensures.grown s.other settled.head settled.bodies body honest settled.each settled.used_is (bytes.bytes some) (bytes.short some)),
+          (c.in-Ok.ensures.grown s.other settled.head settled.bodies body honest settled.each settled.used_is (bytes.bytes some)
+          (bytes.short some)),
     )
 
 pub returns-in-Ok-clause-stands : goal.returns-in-Ok-clause-stands
@@ -126,7 +192,16 @@ returns-in-Ok-clause-stands g c = λ honest1.
     let s = c.self.inside in
     let disk = g.D.Disk in
     let D = g.row.D.Denot in
-    let k : Kept D = record { disk = s.disk; area = s.areas.len; base = s.base; history = s.history.items; covered = s.covered; used = s.used; generation = s.generation; failed = s.failed } in
+    let k : Kept D = record {
+      disk = s.disk;
+      area = s.areas.len;
+      base = s.base;
+      history = s.history.items;
+      covered = s.covered;
+      used = s.used;
+      generation = s.generation;
+      failed = s.failed;
+    } in
     let live : s.failed ≡ false = search rules in
     let some : 0 < s.waiting.count = search (rules, arith) in
     let body = body_of s.waiting in
@@ -136,13 +211,23 @@ returns-in-Ok-clause-stands g c = λ honest1.
     let settled = (c.self.invariant.2 honest).settled live in
     subst (λ (v : Kept D). (image : List ℕ) → disk.images d1 image → StandsFor (table_of v) image) c.self.view_is
     (commit_stands k s.table s.waiting c.self.invariant.0 some disk.images s.areas.side s.other settled d1
-    (c.in-Ok.ensures.grown s.other settled.head settled.bodies body honest settled.each settled.used_is (bytes.bytes some) (bytes.short some)))
+    (c.in-Ok.ensures.grown s.other settled.head settled.bodies body honest settled.each settled.used_is (bytes.bytes some)
+    (bytes.short some)))
 
 pub returns-in-Ok-clause-some : goal.returns-in-Ok-clause-some
 returns-in-Ok-clause-some g c =
     let s = c.self.inside in
     let D = g.row.D.Denot in
-    let k : Kept D = record { disk = s.disk; area = s.areas.len; base = s.base; history = s.history.items; covered = s.covered; used = s.used; generation = s.generation; failed = s.failed } in
+    let k : Kept D = record {
+      disk = s.disk;
+      area = s.areas.len;
+      base = s.base;
+      history = s.history.items;
+      covered = s.covered;
+      used = s.used;
+      generation = s.generation;
+      failed = s.failed;
+    } in
     let some : 0 < s.waiting.count = search (rules, arith) in
     let bytes = c.as_slice-bytes.ensures in
     let d1 = c.grow.new.disk in
@@ -151,5 +236,6 @@ returns-in-Ok-clause-some g c =
     let used = s.used + length c.as_slice-bytes.result.now in
     let grows : used ≡ _ = used_is k s.table s.waiting c.self.invariant.0 some (length c.as_slice-bytes.result.now)
     (ap (λ (l : List ℕ). length l) (bytes.bytes some) ∙ length_record (body_of s.waiting)) in
-    subst (λ (v : Kept D). v.covered < length v.history → record k { disk = d1; covered = covered; used = used } ≡ committed v d1) c.self.view_is
+    subst (λ (v : Kept D). v.covered < length v.history → record k { disk = d1; covered = covered; used = used } ≡ committed v d1)
+    c.self.view_is
     (λ _. sym (same_committed k d1 covered used all grows))

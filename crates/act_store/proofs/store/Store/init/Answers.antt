@@ -15,7 +15,8 @@ invariant_of-result g c =
     let size : IsAreaLength area = record { least = c.requires.least; most = c.requires.most } in
     let none : c.new-in-Ok-2.result.items ≡ [] = c.new-in-Ok-2.ensures.items in
     let base : c.new.result ≡ empty = c.new.ensures in (
-      counted_begun d1 area c.new.result 30 1 c.new-in-Ok-2.result.items none c.new-in-Ok.result (c.new-in-Ok.ensures ∙ sym base) c.new-in-Ok-3.result c.new-in-Ok-3.ensures size (omega (arith, c.requires.least)),
+      counted_begun d1 area c.new.result 30 1 c.new-in-Ok-2.result.items none c.new-in-Ok.result (c.new-in-Ok.ensures ∙ sym base)
+          c.new-in-Ok-3.result c.new-in-Ok-3.ensures size (omega (arith, c.requires.least)),
       (λ _. search (rules, arith)),
       λ honest1.
           let honest = c.make_areas.ensures.honest.0 honest1 in

@@ -17,11 +17,13 @@ invariant_of-result g c =
     let same : spelled.table ≡ base = search rules in
     let none : c.new.result.items ≡ [] = c.new.ensures.items in
     let area = c.in-Ok.ensures.area in (
-      counted_begun d1 found.area base spelled.used spelled.generation c.new.result.items none spelled.table same c.new-2.result c.new-2.ensures area.0 area.1,
+      counted_begun d1 found.area base spelled.used spelled.generation c.new.result.items none spelled.table same c.new-2.result
+          c.new-2.ensures area.0 area.1,
       (λ _. search (rules, arith)),
       λ honest. standing_begun d1 found.area base spelled.used spelled.generation c.new.result.items none disk.images found.chosen.side
           found.chosen.other area.0
-          (settled_at found.area found.chosen.side found.chosen.other spelled.generation spelled.used spelled.table base (disk.images d1) same
+          (settled_at found.area found.chosen.side found.chosen.other spelled.generation spelled.used spelled.table base
+          (disk.images d1) same
           (found_settled found file (c.in-Ok.ensures.found honest) (disk.images d1) (c.in-Ok.ensures.stable honest))),
     )
 

@@ -6,7 +6,8 @@ use Rattle.run_table.proofs.run.Run.stop_legs.Goals as goal
 
 pub invariant_of-self : goal.invariant_of-self
 invariant_of-self c =
-    rooms_kept c.self.inside.jobs.items c.args.j c.index_mut-job.result.now c.stop_legs.new.self (search rules) c.index_mut-job.ensures.value
+    rooms_kept c.self.inside.jobs.items c.args.j c.index_mut-job.result.now c.stop_legs.new.self (search rules)
+    c.index_mut-job.ensures.value
     (ap (λ x. x.room) c.stop_legs.ensures) ∙ c.self.invariant
 
 pub returns-then-j-len : goal.returns-then-j-len

@@ -16,4 +16,5 @@ pub invariant_of-result : goal.invariant_of-result
 invariant_of-result c =
     let rise : c.do_names_rise.result ≡ true = search rules in
     let are : AreRunnersAs c.args.runs.now c.args.parts.now c.in-Some.runners.items = search rules in
-    sym (names_stored c.in-Some.runners.items) ∙ ap (rises_by (λ (r : StoredRunner). r.name)) are.stored ∙ sym c.do_names_rise.ensures ∙ rise
+    sym (names_stored c.in-Some.runners.items) ∙ ap (rises_by (λ (r : StoredRunner). r.name)) are.stored
+    ∙ sym c.do_names_rise.ensures ∙ rise

@@ -15,7 +15,8 @@ lease_at-requires c =
     let find = get nat_cmp c.args.legs.now in
     let found : find c.in-Some.lease ≡ Some c.in-Some-get.place.now =
     ap find (sym c.get.ensures.value) ∙ sym c.in-Some-get.ensures.value in
-    let has = found_has (lease_of_leg runs) c.in-Some.lease (find c.in-Some.lease) c.in-Some-get.place.now (c.requires.legs c.in-Some.lease) found in
+    let has = found_has (lease_of_leg runs) c.in-Some.lease (find c.in-Some.lease) c.in-Some-get.place.now
+    (c.requires.legs c.in-Some.lease) found in
     run_in_range runs c.in-Some-get.place.now c.in-Some.lease c.requires.few has
 
 pub returns-clause-of : goal.returns-clause-of
@@ -24,6 +25,7 @@ returns-clause-of c =
     let find = get nat_cmp c.args.legs.now in
     let found : find c.in-Some.lease ≡ Some c.in-Some-get.place.now =
     ap find (sym c.get.ensures.value) ∙ sym c.in-Some-get.ensures.value in
-    let has = found_has (lease_of_leg runs) c.in-Some.lease (find c.in-Some.lease) c.in-Some-get.place.now (c.requires.legs c.in-Some.lease) found in
+    let has = found_has (lease_of_leg runs) c.in-Some.lease (find c.in-Some.lease) c.in-Some-get.place.now
+    (c.requires.legs c.in-Some.lease) found in
     subst (λ (o : Option ℕ). IsReplyAs runs o (reply.Lease c.in_ok-told.told)) (sym c.in-Some.is)
     (a_reply runs c.in-Some.lease c.in-Some-get.place.now c.in_ok-told.told (search rules) has (sym (given _ _ c.in_ok-told.ensures)))

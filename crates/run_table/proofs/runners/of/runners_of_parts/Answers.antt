@@ -15,7 +15,8 @@ returns-in-None-clause-of c =
     let parts = c.args.parts.now in
     let part = c.index-parts-k.result in
     no_runners runs parts c.loop-k.k part (read_at parts c.loop-k.k part (omega arith) c.index-parts-k.is)
-    (subst (λ (o : Option RunnerState). MatchOption o ((x : RunnerState) → IsRunnerAs runs part x → ⊥) (λ x. IsRunnerAs runs part x)) c.in-None.is
+    (subst (λ (o : Option RunnerState). MatchOption o ((x : RunnerState) → IsRunnerAs runs part x → ⊥) (λ x. IsRunnerAs runs part x))
+    c.in-None.is
     c.in_ok-runner.ensures.of)
 
 pub loop-k-preserved : goal.loop-k-preserved
@@ -26,7 +27,8 @@ loop-k-preserved c =
     let x = c.in-Some.runner in
     let old = c.loop-k.runners.items in
     let now : c.push.new.self.items ≡ old ++ x ∷ [] = c.in_ok-push-in-Some.ensures.items in
-    let is = subst (λ (o : Option RunnerState). MatchOption o ((y : RunnerState) → IsRunnerAs runs part y → ⊥) (λ y. IsRunnerAs runs part y))
+    let is = subst (λ (o : Option RunnerState). MatchOption o ((y : RunnerState) → IsRunnerAs runs part y → ⊥)
+    (λ y. IsRunnerAs runs part y))
     c.in-Some.is c.in_ok-runner.ensures.of in
     let at = read_at parts c.loop-k.k part (omega arith) c.index-parts-k.is in (
       subst (λ (items : List RunnerState). map stored_runner items ≡ take (c.loop-k.k + 1) parts) (sym now)

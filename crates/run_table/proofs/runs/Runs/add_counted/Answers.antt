@@ -19,9 +19,11 @@ invariant_of-self-in_err-asked c =
     let items = c.self.inside.runs.items in
     let same : c.prepared.result.now ≡ c.args.run.admitted = search rules in
     let at : c.len-place.result ≡ length items = search rules in
-    let found = c.requires.found ∙ ap (λ (runs : List RunState). position (is_delivered_as c.args.run.admitted.delivery) runs) (sym c.self.view_is) in
+    let found = c.requires.found ∙ ap (λ (runs : List RunState). position (is_delivered_as c.args.run.admitted.delivery) runs)
+    (sym c.self.view_is) in
     let room =
-    room_made items c.self.inside.index c.make_room.new.self c.args.run.admitted c.prepared.result.now c.len-place.result c.args.found same found at
+    room_made items c.self.inside.index c.make_room.new.self c.args.run.admitted c.prepared.result.now c.len-place.result
+    c.args.found same found at
     c.in_ok-number.ensures.kept c.make_room.ensures.uncounted c.self.invariant.2 c.self.invariant.3 in
     (c.self.invariant.0, c.self.invariant.1, room.finds, room.counted)
 
@@ -30,14 +32,17 @@ invariant_of-self-in_err-push_all c =
     let items = c.self.inside.runs.items in
     let same : c.prepared.result.now ≡ c.args.run.admitted = search rules in
     let at : c.len-place.result ≡ length items = search rules in
-    let found = c.requires.found ∙ ap (λ (runs : List RunState). position (is_delivered_as c.args.run.admitted.delivery) runs) (sym c.self.view_is) in
+    let found = c.requires.found ∙ ap (λ (runs : List RunState). position (is_delivered_as c.args.run.admitted.delivery) runs)
+    (sym c.self.view_is) in
     let room =
-    room_made items c.self.inside.index c.make_room.new.self c.args.run.admitted c.prepared.result.now c.len-place.result c.args.found same found at
+    room_made items c.self.inside.index c.make_room.new.self c.args.run.admitted c.prepared.result.now c.len-place.result
+    c.args.found same found at
     c.in_ok-number.ensures.kept c.make_room.ensures.uncounted c.self.invariant.2 c.self.invariant.3 in
     let number = next_number items c.self.inside.index.counts.counts c.args.run.admitted c.prepared.result.now c.in_ok-number.number same
     c.self.invariant.3 c.in_ok-number.ensures.number in
     let says = subst
-    (λ (n : ℕ). RunSays (record { event = c.args.run.admitted; run_id = decimal (n + 1); run_number = decimal c.in_ok-number.number }) c.in_ok-asked.asked)
+    (λ (n : ℕ). RunSays (record { event = c.args.run.admitted; run_id = decimal (n + 1); run_number = decimal c.in_ok-number.number })
+    c.in_ok-asked.asked)
     at c.in_ok-asked.ensures.says in
     let both =
     all_added items c.args.run c.self.inside.numbers.items c.self.inside.groups.items c.in_ok-number.number c.in_ok-asked.asked
@@ -57,14 +62,17 @@ invariant_of-self-2 c =
     let items = c.self.inside.runs.items in
     let same : c.prepared.result.now ≡ c.args.run.admitted = search rules in
     let at : c.len-place.result ≡ length items = search rules in
-    let found = c.requires.found ∙ ap (λ (runs : List RunState). position (is_delivered_as c.args.run.admitted.delivery) runs) (sym c.self.view_is) in
+    let found = c.requires.found ∙ ap (λ (runs : List RunState). position (is_delivered_as c.args.run.admitted.delivery) runs)
+    (sym c.self.view_is) in
     let room =
-    room_made items c.self.inside.index c.make_room.new.self c.args.run.admitted c.prepared.result.now c.len-place.result c.args.found same found at
+    room_made items c.self.inside.index c.make_room.new.self c.args.run.admitted c.prepared.result.now c.len-place.result
+    c.args.found same found at
     c.in_ok-number.ensures.kept c.make_room.ensures.uncounted c.self.invariant.2 c.self.invariant.3 in
     let number = next_number items c.self.inside.index.counts.counts c.args.run.admitted c.prepared.result.now c.in_ok-number.number same
     c.self.invariant.3 c.in_ok-number.ensures.number in
     let says = subst
-    (λ (n : ℕ). RunSays (record { event = c.args.run.admitted; run_id = decimal (n + 1); run_number = decimal c.in_ok-number.number }) c.in_ok-asked.asked)
+    (λ (n : ℕ). RunSays (record { event = c.args.run.admitted; run_id = decimal (n + 1); run_number = decimal c.in_ok-number.number })
+    c.in_ok-asked.asked)
     at c.in_ok-asked.ensures.says in
     let both =
     all_added items c.args.run c.self.inside.numbers.items c.self.inside.groups.items c.in_ok-number.number c.in_ok-asked.asked
@@ -79,7 +87,8 @@ invariant_of-self-2 c =
       both.0,
       both.1,
       subst (λ (runs : List RunState). FindsFirst (events runs) c.make_room.new.self.places.places) more
-          (subst (λ (es : List Admitted). FindsFirst es c.make_room.new.self.places.places) (sym (events_more items c.args.run)) room.finds_more),
+          (subst (λ (es : List Admitted). FindsFirst es c.make_room.new.self.places.places) (sym (events_more items c.args.run))
+          room.finds_more),
       subst (λ (runs : List RunState). AreCounted (events runs) c.add.new.self.counts) more
           (counted_more items c.args.run c.make_room.new.self.counts.counts c.add.new.self.counts room.counted
           (λ event. c.add.ensures.counted c.args.run.admitted event c.requires.workflow of_run)),

@@ -10,7 +10,8 @@ pub returns-in_err-run-clause-group : goal.returns-in_err-run-clause-group
 returns-in_err-run-clause-group c =
     let h = holder_in_words c.args.holder.now in
     let items = c.self.inside.runs.items in
-    let none = nothing_there items c.deref.result.now (run_of h) c.run.result c.run.ensures c.deref.ensures.value c.in_err-run.ensures.lookup.3 in
+    let none = nothing_there items c.deref.result.now (run_of h) c.run.result c.run.ensures c.deref.ensures.value
+    c.in_err-run.ensures.lookup.3 in
     let gone : c.from_residual.result ≡ None = search rules in
     rw gone (sym (no_group items h none) ∙ ap (λ runs. group_at runs h) c.self.view_is)
 
@@ -18,7 +19,8 @@ pub returns-in_err-run-clause-cancels : goal.returns-in_err-run-clause-cancels
 returns-in_err-run-clause-cancels c =
     let h = holder_in_words c.args.holder.now in
     let items = c.self.inside.runs.items in
-    let none = nothing_there items c.deref.result.now (run_of h) c.run.result c.run.ensures c.deref.ensures.value c.in_err-run.ensures.lookup.3 in
+    let none = nothing_there items c.deref.result.now (run_of h) c.run.result c.run.ensures c.deref.ensures.value
+    c.in_err-run.ensures.lookup.3 in
     let gone : c.from_residual.result ≡ None = search rules in
     rw gone (sym (no_flag items h none) ∙ ap (λ runs. cancels_in_progress runs h) c.self.view_is)
 
@@ -30,12 +32,14 @@ returns-in_err-asked-clause-group c =
     let x = c.in_ok-run.run'.now in
     let k = c.in_ok-kept.kept.now in
     let at =
-    read_there items c.deref.result.now (run_of h) c.run.result x c.run.ensures c.deref.ensures.value c.in_ok-run.ensures.lookup.3.0 c.in_ok-run.ensures.lookup.1 in
+    read_there items c.deref.result.now (run_of h) c.run.result x c.run.ensures c.deref.ensures.value c.in_ok-run.ensures.lookup.3.0
+    c.in_ok-run.ensures.lookup.1 in
     let has =
     read_there kept c.deref-2.result.now (run_of h) c.run-2.result k c.run-2.ensures c.deref-2.ensures.value c.in_ok-kept.ensures.lookup.3.0
     c.in_ok-kept.ensures.lookup.1 in
     let gone : c.from_residual-in_err-asked.result ≡ None = search rules in
-    rw gone (ap (group_by x) c.in_err-asked.ensures ∙ group_said items kept c.self.invariant.1 h x k at has ∙ ap (λ runs. group_at runs h) c.self.view_is)
+    rw gone (ap (group_by x) c.in_err-asked.ensures ∙ group_said items kept c.self.invariant.1 h x k at has
+    ∙ ap (λ runs. group_at runs h) c.self.view_is)
 
 pub returns-in_err-asked-clause-cancels : goal.returns-in_err-asked-clause-cancels
 returns-in_err-asked-clause-cancels c =
@@ -45,13 +49,15 @@ returns-in_err-asked-clause-cancels c =
     let x = c.in_ok-run.run'.now in
     let k = c.in_ok-kept.kept.now in
     let at =
-    read_there items c.deref.result.now (run_of h) c.run.result x c.run.ensures c.deref.ensures.value c.in_ok-run.ensures.lookup.3.0 c.in_ok-run.ensures.lookup.1 in
+    read_there items c.deref.result.now (run_of h) c.run.result x c.run.ensures c.deref.ensures.value c.in_ok-run.ensures.lookup.3.0
+    c.in_ok-run.ensures.lookup.1 in
     let has =
     read_there kept c.deref-2.result.now (run_of h) c.run-2.result k c.run-2.ensures c.deref-2.ensures.value c.in_ok-kept.ensures.lookup.3.0
     c.in_ok-kept.ensures.lookup.1 in
     let gone : c.from_residual-in_err-asked.result ≡ None = search rules in
     rw gone
-    (ap (flag_by x) c.in_err-asked.ensures ∙ flag_said items kept c.self.invariant.1 h x k at has ∙ ap (λ runs. cancels_in_progress runs h) c.self.view_is)
+    (ap (flag_by x) c.in_err-asked.ensures ∙ flag_said items kept c.self.invariant.1 h x k at has
+    ∙ ap (λ runs. cancels_in_progress runs h) c.self.view_is)
 
 pub returns-clause-group : goal.returns-clause-group
 returns-clause-group c =
@@ -61,11 +67,13 @@ returns-clause-group c =
     let x = c.in_ok-run.run'.now in
     let k = c.in_ok-kept.kept.now in
     let at =
-    read_there items c.deref.result.now (run_of h) c.run.result x c.run.ensures c.deref.ensures.value c.in_ok-run.ensures.lookup.3.0 c.in_ok-run.ensures.lookup.1 in
+    read_there items c.deref.result.now (run_of h) c.run.result x c.run.ensures c.deref.ensures.value c.in_ok-run.ensures.lookup.3.0
+    c.in_ok-run.ensures.lookup.1 in
     let has =
     read_there kept c.deref-2.result.now (run_of h) c.run-2.result k c.run-2.ensures c.deref-2.ensures.value c.in_ok-kept.ensures.lookup.3.0
     c.in_ok-kept.ensures.lookup.1 in
-    ap (group_by x) c.in_ok-asked.ensures ∙ group_said items kept c.self.invariant.1 h x k at has ∙ ap (λ runs. group_at runs h) c.self.view_is
+    ap (group_by x) c.in_ok-asked.ensures ∙ group_said items kept c.self.invariant.1 h x k at has
+    ∙ ap (λ runs. group_at runs h) c.self.view_is
 
 pub returns-clause-cancels : goal.returns-clause-cancels
 returns-clause-cancels c =
@@ -75,8 +83,10 @@ returns-clause-cancels c =
     let x = c.in_ok-run.run'.now in
     let k = c.in_ok-kept.kept.now in
     let at =
-    read_there items c.deref.result.now (run_of h) c.run.result x c.run.ensures c.deref.ensures.value c.in_ok-run.ensures.lookup.3.0 c.in_ok-run.ensures.lookup.1 in
+    read_there items c.deref.result.now (run_of h) c.run.result x c.run.ensures c.deref.ensures.value c.in_ok-run.ensures.lookup.3.0
+    c.in_ok-run.ensures.lookup.1 in
     let has =
     read_there kept c.deref-2.result.now (run_of h) c.run-2.result k c.run-2.ensures c.deref-2.ensures.value c.in_ok-kept.ensures.lookup.3.0
     c.in_ok-kept.ensures.lookup.1 in
-    ap (flag_by x) c.in_ok-asked.ensures ∙ flag_said items kept c.self.invariant.1 h x k at has ∙ ap (λ runs. cancels_in_progress runs h) c.self.view_is
+    ap (flag_by x) c.in_ok-asked.ensures ∙ flag_said items kept c.self.invariant.1 h x k at has
+    ∙ ap (λ runs. cancels_in_progress runs h) c.self.view_is

@@ -16,7 +16,8 @@ loop-r-preserved c =
     let parts = c.args.parts.now in
     let part = c.index-parts-r.result in
     let as_planned = IsAsPlanned (plan_of part.admitted.body) part.jobs in
-    let is = subst (λ (o : Option RunState). MatchOption o (as_planned → ⊥) (λ run. (run ≡ part) × as_planned)) c.in-Some.is c.in_ok-run.ensures.of in
+    let is = subst (λ (o : Option RunState). MatchOption o (as_planned → ⊥) (λ run. (run ≡ part) × as_planned)) c.in-Some.is
+    c.in_ok-run.ensures.of in
     let at = read_at parts c.loop-r.r part (omega arith) c.index-parts-r.is in
     let added = sym (given _ _ c.in_ok-add-in-Some.ensures.added) ∙ ap (λ (y : RunState). c.loop-r.runs ++ y ∷ []) is.0 in (
       added ∙ grown_same c.loop-r.runs parts c.loop-r.r part c.loop-r.invariant.0 at,

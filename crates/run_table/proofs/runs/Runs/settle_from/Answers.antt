@@ -58,7 +58,8 @@ pub loop-next-preserved : goal.loop-next-preserved
 loop-next-preserved c =
     let took = c.take_first_rule.ensures.took ∙ ap (λ o. if is_some o then Some c.take_first_rule.new.self else None) c.in-Some.is in
     let rest = subst (λ o. IfSome o (λ next. RestBefore c.take_first_rule.new.self next)) c.in-Some.is c.take_first_rule.ensures.rest in
-    taken_goes_on c.args.self.now c.loop-next.self c.take_first_rule.new.self c.loop-next.from c.in-Some.next c.loop-next.invariant took rest
+    taken_goes_on c.args.self.now c.loop-next.self c.take_first_rule.new.self c.loop-next.from c.in-Some.next
+    c.loop-next.invariant took rest
 
 pub returns : goal.returns
 returns c =

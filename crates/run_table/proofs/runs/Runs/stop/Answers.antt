@@ -10,8 +10,10 @@ use Rattle.run_table.proofs.runs.Runs.stop.Goals as goal
 
 pub invariant_of-self : goal.invariant_of-self
 invariant_of-self c =
-    still_kept c.self.inside.runs.items c.self.inside.numbers.items c.self.inside.groups.items c.self.inside.index c.args.r c.index_mut-run.result.now c.stop.new.self
-    (search rules) c.index_mut-run.ensures.value (ap (λ x. x.admitted) c.stop.ensures ∙ stopped_admitted c.index_mut-run.result.now) c.self.invariant
+    still_kept c.self.inside.runs.items c.self.inside.numbers.items c.self.inside.groups.items c.self.inside.index c.args.r
+    c.index_mut-run.result.now c.stop.new.self
+    (search rules) c.index_mut-run.ensures.value (ap (λ x. x.admitted) c.stop.ensures ∙ stopped_admitted c.index_mut-run.result.now)
+    c.self.invariant
 
 pub returns-then-r-len : goal.returns-then-r-len
 returns-then-r-len c =

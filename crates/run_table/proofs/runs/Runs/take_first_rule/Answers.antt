@@ -14,7 +14,8 @@ use Rattle.run_table.proofs.Optional.{from_map}
 use Rattle.run_table.proofs.SoundRuns.{runs_that_fit}
 use Rattle.run_table.proofs.runs.Runs.take_first_rule.Goals as goal
 
-rest_again : (runs new : List RunState) (place : Place) (freed : Bool) (again : JobPlace) → RunsAreSound runs → first_place runs ≡ Some place
+rest_again : (runs new : List RunState) (place : Place) (freed : Bool) (again : JobPlace) → RunsAreSound runs
+    → first_place runs ≡ Some place
     → IfSome (rule_at runs place) (λ next. new ≡ next.runs) → freed ≡ frees runs place → again ≡ look_again freed new place
     → RestBefore new again
 rest_again runs new place freed again sound first taken frees_is is =

@@ -11,16 +11,20 @@ pub returns-then-not-is_found : goal.returns-then-not-is_found
 returns-then-not-is_found c =
     let runs = c.args.runs.now in
     let fails : c.is_found.result ≡ false = search rules in
-    let at = subst (λ (xs : List RunState). c.index-all-r.result ≡ get_or xs c.loop-r.r c.index-all-r.result) c.as_slice-all.ensures.runs c.index-all-r.is in
+    let at = subst (λ (xs : List RunState). c.index-all-r.result ≡ get_or xs c.loop-r.r c.index-all-r.result) c.as_slice-all.ensures.runs
+    c.index-all-r.is in
     like false (found_differ runs) (differ_found runs)
-    (stopped_at (IsFoundAt runs) runs c.loop-r.r c.index-all-r.result c.is_found.result (omega (arith, ap length c.as_slice-all.ensures.runs)) at
+    (stopped_at (IsFoundAt runs) runs c.loop-r.r c.index-all-r.result c.is_found.result
+    (omega (arith, ap length c.as_slice-all.ensures.runs)) at
     c.is_found.ensures fails)
 
 pub loop-r-preserved : goal.loop-r-preserved
 loop-r-preserved c =
     let runs = c.args.runs.now in
-    let at = subst (λ (xs : List RunState). c.index-all-r.result ≡ get_or xs c.loop-r.r c.index-all-r.result) c.as_slice-all.ensures.runs c.index-all-r.is in
-    one_passed (IsFoundAt runs) runs c.loop-r.r c.index-all-r.result c.loop-r.invariant (omega (arith, ap length c.as_slice-all.ensures.runs)) at
+    let at = subst (λ (xs : List RunState). c.index-all-r.result ≡ get_or xs c.loop-r.r c.index-all-r.result) c.as_slice-all.ensures.runs
+    c.index-all-r.is in
+    one_passed (IsFoundAt runs) runs c.loop-r.r c.index-all-r.result c.loop-r.invariant
+    (omega (arith, ap length c.as_slice-all.ensures.runs)) at
     (c.is_found.ensures.0 (search rules))
 
 pub returns : goal.returns

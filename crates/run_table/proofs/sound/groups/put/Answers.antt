@@ -11,7 +11,8 @@ returns-in-Some-clause-put c =
     let is : c.in_ok-group.field-0 ≡ Some c.in-Some.group = search rules in
     let has : group_as c.args.runs.now c.args.standing h ≡ Some c.in-Some.group =
     ok_same (group_as c.args.runs.now c.args.standing h) c.in_ok-group.field-0 c.in_ok-group.ensures ∙ is in
-    group_put (group_as c.args.runs.now c.args.standing) h c.in-Some.group c.args.groups.now c.add.new.self c.add.result has c.add.ensures.new
+    group_put (group_as c.args.runs.now c.args.standing) h c.in-Some.group c.args.groups.now c.add.new.self c.add.result has
+    c.add.ensures.new
     c.add.ensures.added
 
 pub returns-in-None-clause-put : goal.returns-in-None-clause-put

@@ -19,5 +19,6 @@ loop-j-preserved c =
 pub returns-clause-put : goal.returns-clause-put
 returns-clause-put c =
     let runs = c.args.runs.now in
-    all_gathered (group_as runs c.args.standing) (IsALegOfRun c.args.r) job_of c.loop-j.j c.args.groups.now c.loop-j.groups c.loop-j.invariant
+    all_gathered (group_as runs c.args.standing) (IsALegOfRun c.args.r) job_of c.loop-j.j c.args.groups.now c.loop-j.groups
+    c.loop-j.invariant
     (λ h g is e. let lt = job_within runs c.args.standing c.args.r h g is e in omega (arith, c.job_count-j-end.ensures))

@@ -11,5 +11,6 @@ returns-then-is_none-clause-of c =
 pub returns-clause-of : goal.returns-clause-of
 returns-clause-of c =
     let some : is_none c.in_ok-groups_of.field-0 ≡ false = search rules in
-    taken_found c.args.runs.now c.groups_of-2.result (pending_apart c.args.runs.now c.in_ok-groups_of.field-0 c.in_ok-groups_of.ensures.of some)
+    taken_found c.args.runs.now c.groups_of-2.result
+    (pending_apart c.args.runs.now c.in_ok-groups_of.field-0 c.in_ok-groups_of.ensures.of some)
     c.groups_of-2.ensures.of

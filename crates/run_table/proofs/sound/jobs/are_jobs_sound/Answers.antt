@@ -12,7 +12,8 @@ pub returns-then-not-is_job_sound : goal.returns-then-not-is_job_sound
 returns-then-not-is_job_sound c =
     let sound = λ (k : ℕ) (x : JobState). JobIsSound c.args.leases.now c.args.runs.now c.args.r k x in
     let fails : c.is_job_sound.result ≡ false = search rules in
-    like false (each_mapped sound (λ (x : JobCells). x.state) c.args.jobs.now) (each_unmapped sound (λ (x : JobCells). x.state) c.args.jobs.now)
+    like false (each_mapped sound (λ (x : JobCells). x.state) c.args.jobs.now)
+    (each_unmapped sound (λ (x : JobCells). x.state) c.args.jobs.now)
     (stopped_at (λ (k : ℕ) (x : JobCells). sound k x.state) c.args.jobs.now c.loop-j.j c.index-jobs-j.result c.is_job_sound.result
     (omega arith) c.index-jobs-j.is c.is_job_sound.ensures fails)
 
@@ -24,5 +25,6 @@ loop-j-preserved c =
 pub returns : goal.returns
 returns c =
     let sound = λ (k : ℕ) (x : JobState). JobIsSound c.args.leases.now c.args.runs.now c.args.r k x in
-    like true (each_mapped sound (λ (x : JobCells). x.state) c.args.jobs.now) (each_unmapped sound (λ (x : JobCells). x.state) c.args.jobs.now)
+    like true (each_mapped sound (λ (x : JobCells). x.state) c.args.jobs.now)
+    (each_unmapped sound (λ (x : JobCells). x.state) c.args.jobs.now)
     (passed (λ (k : ℕ) (x : JobCells). sound k x.state) c.args.jobs.now c.loop-j.j c.loop-j.invariant (omega arith))

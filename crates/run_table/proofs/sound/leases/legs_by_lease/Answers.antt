@@ -10,14 +10,16 @@ use Rattle.run_table.proofs.OneAfterAnother.{all_found, none_added, read_at}
 use Rattle.run_table.proofs.sound.leases.legs_by_lease.Goals as goal
 
 pub loop-r-init : goal.loop-r-init
-loop-r-init c = none_added (λ (p : LegPlace). p.run) (λ p n. lease_of_leg c.as_slice-all.result.now p ≡ Some n) (get nat_cmp c.new-legs.result)
+loop-r-init c = none_added (λ (p : LegPlace). p.run) (λ p n. lease_of_leg c.as_slice-all.result.now p ≡ Some n)
+    (get nat_cmp c.new-legs.result)
 
 pub loop-r-preserved : goal.loop-r-preserved
 loop-r-preserved c =
     let all = c.as_slice-all.result.now in
     let x = c.index-all-r.result in
     let jobs = c.jobs.ensures in
-    let put = subst (λ (ys : List JobState). Adds (get nat_cmp c.loop-r.legs) (get nat_cmp c.put_jobs.new.legs) (HasInRun c.loop-r.r ys)) jobs
+    let put = subst (λ (ys : List JobState). Adds (get nat_cmp c.loop-r.legs) (get nat_cmp c.put_jobs.new.legs) (HasInRun c.loop-r.r ys))
+    jobs
     (search rules) in
     run_put c.loop-r.r all x (get nat_cmp c.new-legs.result) (get nat_cmp c.loop-r.legs) (get nat_cmp c.put_jobs.new.legs)
     (read_at all c.loop-r.r x (omega arith) c.index-all-r.is) c.loop-r.invariant put

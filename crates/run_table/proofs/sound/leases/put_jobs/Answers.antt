@@ -17,10 +17,13 @@ pub loop-j-preserved : goal.loop-j-preserved
 loop-j-preserved c =
     let jobs = c.args.jobs.now in
     let x = c.index-jobs-j.result in
-    let put : Adds (get nat_cmp c.loop-j.legs) (get nat_cmp c.put_legs.new.legs) (HasInJob c.args.r c.loop-j.j c.legs.result.now) = search rules in
-    job_put c.args.r c.loop-j.j (states jobs) x.state (get nat_cmp c.args.legs.now) (get nat_cmp c.loop-j.legs) (get nat_cmp c.put_legs.new.legs)
+    let put : Adds (get nat_cmp c.loop-j.legs) (get nat_cmp c.put_legs.new.legs) (HasInJob c.args.r c.loop-j.j c.legs.result.now) =
+    search rules in
+    job_put c.args.r c.loop-j.j (states jobs) x.state (get nat_cmp c.args.legs.now) (get nat_cmp c.loop-j.legs)
+    (get nat_cmp c.put_legs.new.legs)
     (cell_at jobs c.loop-j.j x (read_at jobs c.loop-j.j x (omega arith) c.index-jobs-j.is)) c.loop-j.invariant
-    (subst (λ (legs : List LegState). Adds (get nat_cmp c.loop-j.legs) (get nat_cmp c.put_legs.new.legs) (HasInJob c.args.r c.loop-j.j legs))
+    (subst (λ (legs : List LegState). Adds (get nat_cmp c.loop-j.legs) (get nat_cmp c.put_legs.new.legs)
+    (HasInJob c.args.r c.loop-j.j legs))
     c.legs.ensures put)
 
 pub returns-clause-put : goal.returns-clause-put

@@ -20,5 +20,6 @@ pub returns-clause-found : goal.returns-clause-found
 returns-clause-found c =
     let runners = c.args.runners.now in
     let empty : (n : ℕ) → get nat_cmp c.new-held.result n ≡ None = search rules in
-    let adds = runners_put c.loop-k.k runners (get nat_cmp c.new-held.result) (get nat_cmp c.loop-k.held) (omega arith) c.loop-k.invariant in
+    let adds = runners_put c.loop-k.k runners (get nat_cmp c.new-held.result) (get nat_cmp c.loop-k.held) (omega arith)
+    c.loop-k.invariant in
     all_found (get nat_cmp c.new-held.result) (get nat_cmp c.loop-k.held) (lease_of_runner runners) empty adds

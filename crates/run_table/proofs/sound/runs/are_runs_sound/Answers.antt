@@ -12,7 +12,8 @@ pub returns-then-not-is_run_sound : goal.returns-then-not-is_run_sound
 returns-then-not-is_run_sound c =
     let fails : c.is_run_sound.result ≡ false = search rules in
     subst (λ (xs : List RunState). Decides false (OfEach (RunIsSound c.args.leases.now c.args.runs.now) xs)) c.as_slice-all.ensures.runs
-    (stopped_at (RunIsSound c.args.leases.now c.args.runs.now) c.as_slice-all.result.now c.loop-r.r c.index-all-r.result c.is_run_sound.result
+    (stopped_at (RunIsSound c.args.leases.now c.args.runs.now) c.as_slice-all.result.now c.loop-r.r c.index-all-r.result
+    c.is_run_sound.result
     (omega arith) c.index-all-r.is c.is_run_sound.ensures fails)
 
 pub loop-r-preserved : goal.loop-r-preserved

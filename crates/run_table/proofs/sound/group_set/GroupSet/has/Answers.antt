@@ -19,7 +19,8 @@ returns-in-Some-clause-has c =
 pub returns-in-None-clause-has : goal.returns-in-None-clause-has
 returns-in-None-clause-has c =
     let g = c.args.group.now in
-    sym (not_there c.self.inside.groups.keys g (sym c.in-None.ensures.variant)) ∙ ap (λ (groups : List Group). has_group groups g) c.self.view_is
+    sym (not_there c.self.inside.groups.keys g (sym c.in-None.ensures.variant))
+    ∙ ap (λ (groups : List Group). has_group groups g) c.self.view_is
 
 pub returns-in-Some-clause-key : goal.returns-in-Some-clause-key
 returns-in-Some-clause-key c =

@@ -15,7 +15,8 @@ returns-then-not-branch-clause-rest c =
     let moves : c.in_ok-run_rests.field-0 ≡ false = search rules in
     runs_decided runs false
     (subst (λ (xs : List RunState). Decides false (OfEach (NoneAt (first_in_run runs)) xs)) c.as_slice-all.ensures.runs
-    (stopped_at (NoneAt (first_in_run runs)) c.as_slice-all.result.now c.loop-r.r c.index-all-r.result c.in_ok-run_rests.field-0 (omega arith)
+    (stopped_at (NoneAt (first_in_run runs)) c.as_slice-all.result.now c.loop-r.r c.index-all-r.result
+    c.in_ok-run_rests.field-0 (omega arith)
     c.index-all-r.is c.in_ok-run_rests.ensures.rests moves))
 
 pub loop-r-preserved : goal.loop-r-preserved
