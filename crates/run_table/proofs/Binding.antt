@@ -21,6 +21,7 @@ use Rattle.wf_reader.specs.Contexts.{ContextObjects, sent_value}
 use Rattle.wf_reader.specs.Event.{event_of}
 use Rattle.wf_reader.specs.declared.concurrency.Concurrency.{Concurrency}
 use Rattle.needs_graph.specs.Ancestors.{needs_at}
+use Rattle.run_plan.specs.Admitted.{Admitted}
 use Rattle.run_plan.specs.PlanOf.{plan_graph, plan_of}
 use Rattle.run_plan.specs.declared.planned.PlannedJob.{PlannedJob}
 use Rattle.run_plan.specs.declared.planned.PlannedLeg.{PlannedLeg}
@@ -150,6 +151,15 @@ leg_has_results run id number job j l results (context ∷ inner ∷ name ∷ []
     (and_parts (bytes_eq context (codes "needs")) (bytes_eq name (codes "result")) both).0)
 leg_has_results run id number job j l results (context ∷ inner ∷ name ∷ more ∷ names) = refl
 
+-- what holds of the paths of a run's own needs
+pub by_needs : (values : Values) (needs : RunState × ℕ) (event : Admitted) (j : ℕ) (later : Results → Values)
+    → needs.0.admitted ≡ event → needs.1 ≡ j
+    → ((results : Results) → HasResults values (need_of_job (plan_of event.body) j) results (later results))
+    → (results : Results) → HasResults values (need_of_job (plan_of needs.0.admitted.body) needs.1) results (later results)
+by_needs values needs event j later is place has results =
+    subst (λ (a : Admitted). HasResults values (need_of_job (plan_of a.body) needs.1) results (later results)) (sym is)
+    (subst (λ (i : ℕ). HasResults values (need_of_job (plan_of event.body) i) results (later results)) (sym place) (has results))
+
 -- ---- one more is bound
 
 pub one_more : {X : Type 0} (P : ℕ → X → Type 0) (xs : List X) (x : X) → ((k : ℕ) (y : X) → slice_get xs k ≡ Some y → P k y)
@@ -195,16 +205,3 @@ no_leg_says repository values job none l =
     let nothing : asked_of_leg job l ≡ None =
     ap (λ (o : Option Concurrency). option_and_then (λ _. o) (slice_get job.legs l)) none ∙ nothing_asked (slice_get job.legs l) in
     subst (λ (o : Option Concurrency). SaysSo repository (values l) o None) (sym nothing) tt
-
--- ---- the jobs of a run
-
-pub kept_says : (repository : List ℕ) (values : ℕ → PlannedJob → ℕ → Results → Values) (plan : List PlannedJob) (jobs : List (List Asked))
-    → length jobs ≡ length plan
-    → ((j : ℕ) (legs : List Asked) → slice_get jobs j ≡ Some legs → (job : PlannedJob) → slice_get plan j ≡ Some job → (l : ℕ)
-    → SaysSo repository (values j job l) (asked_of_leg job l) (slice_get legs l))
-    → (j l : ℕ) (job : PlannedJob) → slice_get plan j ≡ Some job
-    → SaysSo repository (values j job l) (asked_of_leg job l) (option_and_then (λ legs. slice_get legs l) (slice_get jobs j))
-kept_says repository values plan jobs same each j l job at =
-    let legs = as_long plan jobs j job same at in
-    subst (λ (o : Option (List Asked)). SaysSo repository (values j job l) (asked_of_leg job l) (option_and_then (λ ls. slice_get ls l) o))
-    (sym legs.1) (each j legs.0 legs.1 job at l)

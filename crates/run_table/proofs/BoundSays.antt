@@ -3,7 +3,7 @@ use Rattle.std.specs.Prelude.{◌≡◌, ℕ, zero, suc, ◌+◌, List, [], ◌�
 use Rattle.std.specs.Prelude.{option_and_then, slice_get, refl}
 use Rattle.std.specs.Fmt.{decimal}
 use Rattle.std.specs.Option.{option_map_or}
-use Rattle.std.proofs.Common.{arith, ap, sym, ◌∙◌}
+use Rattle.std.proofs.Common.{arith, ap, subst, sym, ◌∙◌}
 use Rattle.wf_expr.specs.Bound.{Results}
 use Rattle.wf_expr.specs.ContextValue.{Values}
 use Rattle.wf_reader.specs.Event.{event_of}
@@ -12,7 +12,8 @@ use Rattle.group_name.specs.Group.{Group}
 use Rattle.group_name.specs.BoundGroup.{group_at as bound_group_at}
 use Rattle.run_plan.specs.PlanOf.{plan_of}
 use Rattle.run_plan.specs.declared.planned.PlannedJob.{PlannedJob}
-use Rattle.run_table.specs.BoundGroups.{AreBound, RunSays, SaysSo, asked_of, facts_by, is_set_by, kept_for, results_by_place}
+use Rattle.run_table.specs.Asks.{AreBound, RunSays, asked_of}
+use Rattle.run_table.specs.BoundGroups.{SaysSo, facts_by, is_set_by, results_by_place}
 use Rattle.run_table.specs.GroupOf.{RunFacts, asked_of_leg, cancels_in_progress, group_at, leg_cancels, leg_group, named_group, run_cancels}
 use Rattle.run_table.specs.GroupOf.{run_context}
 use Rattle.run_table.specs.GroupOf.{run_facts_at, run_group}
@@ -24,8 +25,9 @@ use Rattle.run_table.specs.Places.{LegPlace, run_at}
 use Rattle.run_table.specs.RunNumber.{events, run_number}
 use Rattle.run_table.specs.TableState.{RunState}
 use Rattle.run_table.specs.Words.{is_set}
+use Rattle.run_table.specs.declared.asks.JobAsks.{JobAsks}
+use Rattle.run_table.specs.declared.asks.RunAsks.{RunAsks}
 use Rattle.run_table.specs.declared.groups.Asked.{Asked}
-use Rattle.run_table.specs.declared.groups.RunGroups.{RunGroups}
 
 -- ---- one `concurrency`
 
@@ -111,35 +113,41 @@ group_by x o = option_and_then (λ a. bound_group_at (results_by_place x) a.grou
 abbrev pub flag_by : RunState → Option Asked → Bool
 flag_by x o = option_map_or (λ a. is_set_by (results_by_place x) a.cancels) o false
 
-module _ (runs : List RunState) (kept : List RunGroups) (bound : AreBound runs kept) where
-  run_says : (r : ℕ) (x : RunState) (k : RunGroups) → run_at runs r ≡ Some x → slice_get kept r ≡ Some k → RunSays (facts_of_run runs r x) k
+module _ (runs : List RunState) (kept : List RunAsks) (bound : AreBound runs kept) where
+  pub run_says : (r : ℕ) (x : RunState) (k : RunAsks) → run_at runs r ≡ Some x → slice_get kept r ≡ Some k
+      → RunSays (facts_of_run runs r x) k
   run_says r x k at is = bound.each r (facts_of_run runs r x) k (run_told runs r x at) is
 
-  leg_says : (p : LegPlace) (x : RunState) (k : RunGroups) → run_at runs p.run ≡ Some x → slice_get kept p.run ≡ Some k
+  leg_says : (p : LegPlace) (x : RunState) (k : RunAsks) → run_at runs p.run ≡ Some x → slice_get kept p.run ≡ Some k
       → (o : Option PlannedJob) → slice_get (plan_of x.admitted.body) p.job ≡ o
-      → group_by x (kept_for k p.job p.leg) ≡ option_and_then leg_group (facts_at runs p)
-      × flag_by x (kept_for k p.job p.leg) ≡ option_map_or leg_cancels (facts_at runs p) false
+      → group_by x (asked_of k (Holder.a_leg p)) ≡ option_and_then leg_group (facts_at runs p)
+      × flag_by x (asked_of k (Holder.a_leg p)) ≡ option_map_or leg_cancels (facts_at runs p) false
   leg_says p x k at is None unplanned =
       let says = run_says p.run x k at is in
-      let none : kept_for k p.job p.leg ≡ None =
-      ap (option_and_then (λ legs. slice_get legs p.leg)) (as_short (plan_of x.admitted.body) k.jobs p.job says.as_many unplanned) in
+      let none : asked_of k (Holder.a_leg p) ≡ None =
+      ap (option_and_then (λ (job : JobAsks). slice_get job.groups p.leg))
+      (as_short (plan_of x.admitted.body) k.jobs p.job says.as_many unplanned) in
       let untold = job_untold runs p x at unplanned in (
         ap (group_by x) none ∙ sym (ap (option_and_then leg_group) untold),
         ap (flag_by x) none ∙ sym (ap (λ o. option_map_or leg_cancels o false) untold),
       )
   leg_says p x k at is (Some job) planned =
       let f = facts_of_run runs p.run x in
-      let says = (run_says p.run x k at is).legs p.job p.leg job planned in
+      let run = run_says p.run x k at is in
       let repo = (event_of f.event.body).repo in
       let values : Results → Values = λ results. context_of (facts_by f p.job job p.leg results) in
+      let asks = as_long (plan_of x.admitted.body) k.jobs p.job job run.as_many planned in
+      let says = subst
+      (λ (o : Option JobAsks). SaysSo repo values (asked_of_leg job p.leg) (option_and_then (λ (a : JobAsks). slice_get a.groups p.leg) o))
+      (sym asks.1) ((run.jobs p.job asks.0 asks.1 job planned).groups p.leg) in
       let told = leg_told runs p x job at planned in (
-        says_group repo values (asked_of_leg job p.leg) (kept_for k p.job p.leg) says (results_by_place x)
+        says_group repo values (asked_of_leg job p.leg) (asked_of k (Holder.a_leg p)) says (results_by_place x)
             ∙ sym (ap (option_and_then leg_group) told),
-        says_flag repo values (asked_of_leg job p.leg) (kept_for k p.job p.leg) says (results_by_place x)
+        says_flag repo values (asked_of_leg job p.leg) (asked_of k (Holder.a_leg p)) says (results_by_place x)
             ∙ sym (ap (λ o. option_map_or leg_cancels o false) told),
       )
 
-  pub group_said : (h : Holder) (x : RunState) (k : RunGroups) → run_at runs (run_of h) ≡ Some x → slice_get kept (run_of h) ≡ Some k
+  pub group_said : (h : Holder) (x : RunState) (k : RunAsks) → run_at runs (run_of h) ≡ Some x → slice_get kept (run_of h) ≡ Some k
       → group_by x (asked_of k h) ≡ group_at runs h
   unfolding group_at
   group_said (Holder.a_run r) x k at is =
@@ -149,7 +157,7 @@ module _ (runs : List RunState) (kept : List RunGroups) (bound : AreBound runs k
       ∙ sym (ap (option_and_then run_group) (run_told runs r x at))
   group_said (Holder.a_leg p) x k at is = (leg_says p x k at is (slice_get (plan_of x.admitted.body) p.job) refl).0
 
-  pub flag_said : (h : Holder) (x : RunState) (k : RunGroups) → run_at runs (run_of h) ≡ Some x → slice_get kept (run_of h) ≡ Some k
+  pub flag_said : (h : Holder) (x : RunState) (k : RunAsks) → run_at runs (run_of h) ≡ Some x → slice_get kept (run_of h) ≡ Some k
       → flag_by x (asked_of k h) ≡ cancels_in_progress runs h
   unfolding cancels_in_progress
   flag_said (Holder.a_run r) x k at is =

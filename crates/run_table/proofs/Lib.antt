@@ -55,6 +55,7 @@ pub mod JobsText
 pub mod JoinedLegs
 pub mod KeepsSound
 pub mod Kept
+pub mod KnownSays
 pub mod KeptBack
 pub mod KeptReplies
 pub mod LawSoFar

@@ -8,13 +8,13 @@ use Rattle.std.proofs.lemmas.Option.{slice_get_within}
 use Rattle.wf_value.specs.Gives.{Gives}
 use Rattle.wf_value.specs.declared.refusal.Refusal.{Refusal}
 use Rattle.run_plan.specs.Admitted.{Admitted}
-use Rattle.run_table.specs.BoundGroups.{AreBound, RunSays}
+use Rattle.run_table.specs.Asks.{AreBound, RunSays}
 use Rattle.run_table.specs.Counted.{AreCounted}
 use Rattle.run_table.specs.Delivered.{FindsFirst}
 use Rattle.run_table.specs.GroupOf.{RunFacts, run_facts_at}
 use Rattle.run_table.specs.RunNumber.{AreNumbered, events, numbers_after, run_number, same_workflow}
 use Rattle.run_table.specs.TableState.{RunState}
-use Rattle.run_table.specs.declared.groups.RunGroups.{RunGroups}
+use Rattle.run_table.specs.declared.asks.RunAsks.{RunAsks}
 use Rattle.run_table.specs.declared.runs.index.Index.{Index}
 use Rattle.run_table.proofs.Binding.{one_more as one_more_bound}
 use Rattle.run_table.proofs.BoundSays.{run_told}
@@ -25,7 +25,7 @@ use Rattle.run_table.proofs.RunNumbers.{events_kept, length_kept, number_at, one
 facts_same : (runs next : List RunState) (r : ℕ) → events next ≡ events runs → run_facts_at next r ≡ run_facts_at runs r
 facts_same runs next r same = run_facts_stay runs next r (λ s le. ap (λ es. slice_get es s) same)
 
-still_bound : (xs : List RunState) (kept : List RunGroups) (r : ℕ) (x y : RunState) → r < length xs → x ≡ get_or xs r x
+still_bound : (xs : List RunState) (kept : List RunAsks) (r : ℕ) (x y : RunState) → r < length xs → x ≡ get_or xs r x
     → y.admitted ≡ x.admitted → AreBound xs kept → AreBound (slice_set xs r y) kept
 still_bound xs kept r x y lt is same are = record {
   as_many = omega (arith, length_kept xs r y, are.as_many);
@@ -33,7 +33,7 @@ still_bound xs kept r x y lt is same are = record {
       are.each k run groups (sym (facts_same xs (slice_set xs r y) k (events_kept xs r x y lt is same)) ∙ told) is_kept);
 }
 
-pub still_kept : (xs : List RunState) (numbers : List ℕ) (kept : List RunGroups) (index : Index) (r : ℕ) (x y : RunState) → r < length xs
+pub still_kept : (xs : List RunState) (numbers : List ℕ) (kept : List RunAsks) (index : Index) (r : ℕ) (x y : RunState) → r < length xs
     → x ≡ get_or xs r x → y.admitted ≡ x.admitted
     → AreNumbered xs numbers × AreBound xs kept × FindsFirst (events xs) index.places.places × AreCounted (events xs) index.counts.counts
     → AreNumbered (slice_set xs r y) numbers × AreBound (slice_set xs r y) kept × FindsFirst (events (slice_set xs r y)) index.places.places
@@ -92,7 +92,7 @@ module _ (runs : List RunState) (run : RunState) (numbers : List ℕ) (n : ℕ) 
       (sym (number_at (runs ++ run ∷ []) (numbers ++ n ∷ []) (length runs) are ∙ ap (option_map (run_number all (length runs))) event)
       ∙ at_end numbers n (length runs) (sym many))
 
-  added_bound : (kept : List RunGroups) (asked : RunGroups) → AreBound runs kept
+  added_bound : (kept : List RunAsks) (asked : RunAsks) → AreBound runs kept
       → RunSays (record { event = run.admitted; run_id = decimal (length runs + 1); run_number = decimal n }) asked
       → AreBound (runs ++ run ∷ []) (kept ++ asked ∷ [])
   added_bound kept asked bound says =
@@ -115,9 +115,9 @@ module _ (runs : List RunState) (run : RunState) (numbers : List ℕ) (n : ℕ) 
       }
 
 -- a run that was added with its number and with what it asks, or none of these
-pub all_added : {X : Type 0} (runs : List RunState) (run : RunState) (numbers : List ℕ) (kept : List RunGroups) (number : ℕ)
-    (asked : RunGroups)
-    (new_runs : List RunState) (new_numbers : List ℕ) (new_kept : List RunGroups) (result : Result X Refusal) → length runs < 100000
+pub all_added : {X : Type 0} (runs : List RunState) (run : RunState) (numbers : List ℕ) (kept : List RunAsks) (number : ℕ)
+    (asked : RunAsks)
+    (new_runs : List RunState) (new_numbers : List ℕ) (new_kept : List RunAsks) (result : Result X Refusal) → length runs < 100000
     → AreNumbered runs numbers × AreBound runs kept → number ≡ count_by (λ other. same_workflow run.admitted other.admitted) runs + 1
     → RunSays (record { event = run.admitted; run_id = decimal (length runs + 1); run_number = decimal number }) asked
     → Gives (λ _. new_runs) result (Ok (runs ++ run ∷ [])) → OnOk result (new_numbers ≡ numbers ++ number ∷ [])

@@ -1,30 +1,27 @@
 -- What runs and legs ask of concurrency groups, bound when a run is admitted: by then all that their templates use is known, but for the
 -- results of the jobs that a leg's job needs. What was bound says, by any results, the group and the flag that the templates say. From
 -- then on groups are compared without memory (own).
-use Rattle.std.specs.Prelude.{◌≡◌, ℕ, ◌&&◌, List, [], ◌∷◌, length, filter_map, find, Bool, codes, Option, Some, None, option_map}
-use Rattle.std.specs.Prelude.{Result, Ok, true, option_and_then, slice_get, if◌then◌else◌}
+use Rattle.std.specs.Prelude.{◌≡◌, ℕ, ◌&&◌, List, [], ◌∷◌, filter_map, find, Bool, codes, Option, Some, None, option_map}
+use Rattle.std.specs.Prelude.{Result, Ok, true, slice_get, if◌then◌else◌}
 use Rattle.std.specs.List.{slice_index_or}
 use Rattle.std.specs.Str.{bytes_eq}
 use Rattle.wf_value.specs.Gives.{Gives}
 use Rattle.wf_value.specs.declared.refusal.Refusal.{Refusal}
 use Rattle.wf_expr.specs.Bound.{NeedOf, Results, bound_text}
 use Rattle.wf_expr.specs.ContextValue.{Values}
-use Rattle.wf_reader.specs.Event.{event_of}
 use Rattle.wf_reader.specs.declared.concurrency.Concurrency.{Concurrency}
 use Rattle.group_name.specs.BoundGroup.{group_at as bound_group_at}
 use Rattle.needs_graph.specs.Ancestors.{needs_at}
 use Rattle.run_plan.specs.PlanOf.{plan_graph, plan_of}
 use Rattle.run_plan.specs.declared.planned.PlannedJob.{PlannedJob}
-use Rattle.run_table.specs.GroupOf.{RunFacts, asked_of_leg, named_group, run_context, run_facts_at}
+use Rattle.run_table.specs.GroupOf.{RunFacts, named_group}
 use Rattle.run_table.specs.JobResults.{has_id, results_so_far}
-use Rattle.run_table.specs.LegContext.{LegFacts, context_of}
-use Rattle.run_table.specs.Moves.{Holder}
+use Rattle.run_table.specs.LegContext.{LegFacts}
 use Rattle.run_table.specs.TableState.{RunState}
 use Rattle.run_table.specs.Words.{is_set}
 use Rattle.run_table.specs.declared.groups.Asked.{Asked}
 use Rattle.run_table.specs.declared.groups.BoundFlag.{BoundFlag}
 use Rattle.run_table.specs.declared.groups.BoundFlag.TheVariants as bound
-use Rattle.run_table.specs.declared.groups.RunGroups.{RunGroups}
 
 -- the call errs by want of memory alone
 abbrev pub ErrsOnlyByMemory : {X : Type 0} → Result X Refusal → Type 0
@@ -66,7 +63,7 @@ SaysSo repository values None (Some kept) = ⊥
 SaysSo repository values (Some asked) None = ⊥
 SaysSo repository values (Some asked) (Some kept) = Says repository values asked kept
 
--- ---- a run and its legs
+-- ---- a leg by results
 
 -- what is told of a leg by these results of its run's jobs
 abbrev pub facts_by : RunFacts → ℕ → PlannedJob → ℕ → Results → LegFacts
@@ -81,30 +78,6 @@ facts_by run j job l results =
       needs = filter_map (λ k. option_map (λ (planned : PlannedJob). (planned.id, results k)) (slice_get plan k))
           (needs_at (plan_graph plan) j);
     }
-
--- what is kept for a leg
-abbrev pub kept_for : RunGroups → ℕ → ℕ → Option Asked
-kept_for kept j l = option_and_then (λ legs. slice_get legs l) (slice_get kept.jobs j)
-
--- what is kept for the run itself, or for one of its legs
-abbrev pub asked_of : RunGroups → Holder → Option Asked
-asked_of kept (Holder.a_run r) = kept.own
-asked_of kept (Holder.a_leg p) = kept_for kept p.job p.leg
-
-pub record RunSays (run : RunFacts) (kept : RunGroups) : Type 0 where
-  pub own : SaysSo (event_of run.event.body).repo (λ results. run_context run) (event_of run.event.body).workflow.concurrency kept.own
-  pub as_many : length kept.jobs ≡ length (plan_of run.event.body)
-  pub legs : (j l : ℕ) (job : PlannedJob) → slice_get (plan_of run.event.body) j ≡ Some job
-      → SaysSo (event_of run.event.body).repo (λ results. context_of (facts_by run j job l results)) (asked_of_leg job l)
-      (kept_for kept j l)
-
--- ---- all runs
-
--- each run of a table is kept with what it asks
-pub record AreBound (runs : List RunState) (kept : List RunGroups) : Type 0 where
-  pub as_many : length kept ≡ length runs
-  pub each : (r : ℕ) (run : RunFacts) (groups : RunGroups) → run_facts_at runs r ≡ Some run → slice_get kept r ≡ Some groups
-      → RunSays run groups
 
 -- the results of a run's jobs, by their places
 abbrev pub results_by_place : RunState → Results

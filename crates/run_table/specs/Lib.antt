@@ -1,4 +1,5 @@
 pub mod Arrivals
+pub mod Asks
 pub mod BoundGroups
 pub mod ByLease
 pub mod ByNumber
@@ -20,6 +21,7 @@ pub mod Groups
 pub mod Histories
 pub mod Holders
 pub mod JobResults
+pub mod KnownLabels
 pub mod LegContext
 pub mod LookAgain
 pub mod Moves

@@ -1,6 +1,7 @@
 //! The run table: one step for each command, and the settling that follows it.
 #![tactic(auto)]
 
+mod asks;
 mod content;
 mod direct_needs;
 mod first_place;
@@ -26,9 +27,11 @@ mod runners;
 mod runs;
 mod sound;
 mod table;
+mod told;
 mod turns;
 mod view;
 mod view_text;
+mod wanted;
 
 pub use job::Job;
 pub use leg::Leg;

@@ -3,7 +3,6 @@ ghost use Rattle.std.specs.Prelude.{option_map, option_copied, slice_get, Ok, �
 ghost use Rattle.std.specs.List.{position};
 ghost use Rattle.std.specs.Option.{option_map_or};
 ghost use Rattle.wf_value.specs.Gives.{Gives};
-ghost use Rattle.run_table.specs.Fitting.{is_served};
 ghost use Rattle.run_table.specs.LegContext.{facts_at};
 ghost use Rattle.run_table.specs.Places.{job_at, leg_at, plan_at};
 ghost use Rattle.run_table.specs.Counted.{IsOf};
@@ -18,11 +17,12 @@ mod ending;
 mod group_keys;
 mod groups;
 mod index;
+mod labels;
 mod of;
 mod places;
 mod settling;
 
-use crate::groups::RunGroups;
+use crate::asks::RunAsks;
 use crate::job::Job;
 use crate::leg::Leg;
 use crate::leg_view::LegView;
@@ -30,7 +30,7 @@ use crate::place::LegPlace;
 use crate::run::Run;
 use crate::runs::counts::{Workflow, workflow_of};
 use crate::runs::index::Index;
-use run_plan::{DeliveryId, Label, PlannedJob};
+use run_plan::{DeliveryId, PlannedJob};
 use std::alloc::Global;
 use std::marker::Model;
 use wf_value::{Chars, Combo, Refusal, TryCopy, copy_items};
@@ -44,14 +44,14 @@ pub struct Runs {
     runs: Vec<Run>,
     /// The number of each, among the runs of its workflow.
     numbers: Vec<usize>,
-    /// What each, and its legs, ask of concurrency groups.
-    groups: Vec<RunGroups>,
+    /// What each, and its legs, ask of concurrency groups and of runners.
+    asks: Vec<RunAsks>,
     index: Index,
 }
 
 impl Model for Runs {
     ghost use Rattle.std.specs.Prelude.{List};
-    ghost use Rattle.run_table.specs.BoundGroups.{AreBound};
+    ghost use Rattle.run_table.specs.Asks.{AreBound};
     ghost use Rattle.run_table.specs.Counted.{AreCounted};
     ghost use Rattle.run_table.specs.Delivered.{FindsFirst};
     ghost use Rattle.run_table.specs.RunNumber.{AreNumbered, events};
@@ -61,7 +61,7 @@ impl Model for Runs {
 
     ghost view = { λ r. r.runs.items };
 
-    ghost invariant = { λ r. AreNumbered r.runs.items r.numbers.items × AreBound r.runs.items r.groups.items
+    ghost invariant = { λ r. AreNumbered r.runs.items r.numbers.items × AreBound r.runs.items r.asks.items
         × FindsFirst (events r.runs.items) r.index.places.places × AreCounted (events r.runs.items) r.index.counts.counts };
 }
 
@@ -72,7 +72,7 @@ impl Runs {
         Runs {
             runs: Vec::new(alloc),
             numbers: Vec::new(alloc),
-            groups: Vec::new(alloc),
+            asks: Vec::new(alloc),
             index: Index::new(alloc),
         }
     }
@@ -150,17 +150,6 @@ impl Runs {
         })
     }
 
-    /// Whether the leg asks for no label that these lack. It takes no memory.
-    pub(crate) fn is_served(&self, labels: &[Label], place: LegPlace) -> bool
-        requires leg { place.leg < 2 ^ 63 }
-        ensures { result ≡ is_served labels.now self.now place }
-    {
-        match self.leg_view(place) {
-            Some(leg) => leg.is_served(labels),
-            None => false,
-        }
-    }
-
     /// Whether a failure of the leg is passed over. It takes no memory.
     fn passes_over(&self, place: LegPlace) -> bool
         requires leg { place.leg < 2 ^ 63 }
@@ -212,7 +201,7 @@ impl Runs {
         job.legs().get(place.leg)
     }
 
-    /// Adds a run at the end, with its number and with what it and its legs ask of groups. At an error it is not added.
+    /// Adds a run at the end, with its number and with what it and its legs ask. At an error it is not added.
     pub(crate) fn add(&mut self, alloc: Global, run: Run) -> Result<(), Refusal>
         requires { length self.old < 100000 }
         ensures added { Gives (λ _. self.new) result (Ok (self.old ++ run ∷ [])) }
@@ -241,16 +230,9 @@ impl Runs {
         let number = self
             .index
             .make_room(alloc, run.prepared(), &workflow, place, found)?;
-        let asked = RunGroups::bind(alloc, &run, place + 1, number)?;
+        let asked = RunAsks::bind(alloc, &run, place + 1, number)?;
         let numbers = &mut self.numbers;
-        push_all(
-            &mut self.runs,
-            numbers,
-            &mut self.groups,
-            run,
-            number,
-            asked,
-        )?;
+        push_all(&mut self.runs, numbers, &mut self.asks, run, number, asked)?;
         self.index.counts.add(workflow, number);
         Ok(())
     }
@@ -261,7 +243,7 @@ impl TryCopy for Runs {
         Ok(Runs {
             runs: copy_items(alloc, &self.runs)?,
             numbers: Vec::from_slice(alloc, self.numbers.as_slice())?,
-            groups: copy_items(alloc, &self.groups)?,
+            asks: copy_items(alloc, &self.asks)?,
             index: self.index.copy()?,
         })
     }
@@ -307,27 +289,27 @@ fn push_both(
     }
 }
 
-/// Adds a run with its number and what it asks of groups, or none of these.
+/// Adds a run with its number and what it asks, or none of these.
 fn push_all(
     runs: &mut Vec<Run>,
     numbers: &mut Vec<usize>,
-    groups: &mut Vec<RunGroups>,
+    asks: &mut Vec<RunAsks>,
     run: Run,
     number: usize,
-    asked: RunGroups,
+    asked: RunAsks,
 ) -> Result<(), Refusal>
     ensures run { Gives (λ _. runs.new.items) result (Ok (runs.old.items ++ run ∷ [])) }
     ensures number { OnOk result (numbers.new.items ≡ numbers.old.items ++ number ∷ []) }
-    ensures asked { OnOk result (groups.new.items ≡ groups.old.items ++ asked ∷ []) }
+    ensures asked { OnOk result (asks.new.items ≡ asks.old.items ++ asked ∷ []) }
     ensures same_runs { OnErr result (runs.new.items ≡ runs.old.items) }
     ensures same_numbers { OnErr result (numbers.new.items ≡ numbers.old.items) }
-    ensures same_groups { OnErr result (groups.new.items ≡ groups.old.items) }
+    ensures same_asks { OnErr result (asks.new.items ≡ asks.old.items) }
 {
-    groups.push(asked)?;
+    asks.push(asked)?;
     match push_both(runs, numbers, run, number) {
         Ok(()) => Ok(()),
         Err(refusal) => {
-            let _ = groups.pop();
+            let _ = asks.pop();
             Err(refusal)
         }
     }

@@ -97,7 +97,7 @@ fn labels_by_the_service(rt: HostRuntime) -> Result<(), Fail> {
 }
 
 /// Null, truth values, texts and whole numbers of the sender have values, lists and fractions none. What
-/// the service sets is the service's, and only that.
+/// the service sets is the service's, and only that. A label may be as long as a runner's, and there may be more than a runner has.
 #[test]
 fn labels_by_the_sender(rt: HostRuntime) -> Result<(), Fail> {
     let vars = "\"vars\":{\"n\":null,\"l\":[1],\"f\":1.5,\"b\":false,\"w\":7},";
@@ -134,6 +134,21 @@ fn labels_by_the_sender(rt: HostRuntime) -> Result<(), Fail> {
             "\"inputs\":{\"os\":{\"name\":\"Linux\"}},",
             "\"runs-on\":[\"x64\",\"${{ inputs.os.name }}\"]",
             "linux,X64",
+        ),
+        (
+            "\"vars\":{\"l\":\"n123456789n123456789n123456789n123456789n123456789n123456789n123\"},",
+            "\"runs-on\":\"${{ vars.l }}\"",
+            "n123456789n123456789n123456789n123456789n123456789n123456789n123",
+        ),
+        (
+            "\"vars\":{\"l\":\"x\"},",
+            "\"runs-on\":[\
+            \"${{ vars.l }}\",\"${{ vars.l }}\",\"${{ vars.l }}\",\"${{ vars.l }}\",\
+            \"${{ vars.l }}\",\"${{ vars.l }}\",\"${{ vars.l }}\",\"${{ vars.l }}\",\
+            \"${{ vars.l }}\",\"${{ vars.l }}\",\"${{ vars.l }}\",\"${{ vars.l }}\",\
+            \"${{ vars.l }}\",\"${{ vars.l }}\",\"${{ vars.l }}\",\"${{ vars.l }}\",\
+            \"${{ vars.l }}\"]",
+            "x",
         ),
     ];
     expect_fits(&rt, rt.alloc(), &rows)

@@ -7,7 +7,7 @@ ghost use Rattle.run_table.specs.Arrivals.{arrived, is_in_group_of_run};
 ghost use Rattle.run_table.specs.BoundGroups.{is_set_by, results_by_place};
 ghost use Rattle.run_table.specs.FirstOf.{placed};
 ghost use Rattle.run_table.specs.GroupOf.{cancels_in_progress, group_at};
-ghost use Rattle.run_table.specs.Groups.{HasOneBeside, holds, is_in, is_taken, may_start, waits};
+ghost use Rattle.run_table.specs.Groups.{HasOneBeside, holds, is_in, may_start, waits};
 ghost use Rattle.run_table.specs.Holders.{first_meant, holder_in_words, is_meant};
 ghost use Rattle.run_table.specs.Moves.{Holder as HolderOfGroup};
 ghost use Rattle.run_table.specs.Places.{job_at, leg_places, leg_places_of_job, leg_places_of_run, run_at, with_leg};
@@ -30,7 +30,7 @@ impl Runs {
             ≡ cancels_in_progress self.now (holder_in_words holder.now) }
     {
         let run = self.runs.get(holder.run())?;
-        let kept = self.groups.get(holder.run())?;
+        let kept = self.asks.get(holder.run())?;
         Some((kept.asked(holder)?, run))
     }
 

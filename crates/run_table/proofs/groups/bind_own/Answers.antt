@@ -5,7 +5,7 @@ use Rattle.wf_expr.specs.ContextValue.{Values}
 use Rattle.wf_reader.specs.Event.{event_of}
 use Rattle.wf_reader.specs.declared.concurrency.Concurrency.{Concurrency}
 use Rattle.run_table.specs.BoundGroups.{Says, SaysSo, no_need}
-use Rattle.run_table.specs.GroupOf.{RunFacts, run_context}
+use Rattle.run_table.specs.GroupOf.{run_context}
 use Rattle.run_table.proofs.groups.bind_own.Goals as goal
 
 pub returns-in_ok-bound-in-Some-clause-says : goal.returns-in_ok-bound-in-Some-clause-says
@@ -15,7 +15,7 @@ returns-in_ok-bound-in-Some-clause-says c =
     let bound = c.in_ok-bound-in-Some.bound in
     let values : Results → Values = λ results. run_context told in
     let admitted : c.prepared-prepared.result.now ≡ told.event =
-    c.prepared-prepared.ensures ∙ ap (λ (t : RunFacts). t.event) c.told.view_is in
+    c.prepared-prepared.ensures in
     let repository = c.as_str-repository.ensures ∙ c.repo.ensures ∙ ap (λ a. (event_of a.body).repo) admitted in
     let asks : Some c.in-Some.asked.now ≡ event.workflow.concurrency =
     c.in-Some.ensures ∙ ap (λ a. (event_of a.body).workflow.concurrency) admitted in
@@ -29,6 +29,6 @@ returns-in-None-clause-says c =
     let told = c.args.told.now in
     let event = event_of told.event.body in
     let admitted : c.prepared-prepared.result.now ≡ told.event =
-    c.prepared-prepared.ensures ∙ ap (λ (t : RunFacts). t.event) c.told.view_is in
+    c.prepared-prepared.ensures in
     let asks : None ≡ event.workflow.concurrency = c.in-None.ensures ∙ ap (λ a. (event_of a.body).workflow.concurrency) admitted in
     subst (λ (o : Option Concurrency). SaysSo event.repo (λ results. run_context told) o None) asks tt

@@ -3,7 +3,7 @@ use Rattle.std.specs.Prelude.{length}
 use Rattle.std.specs.Fmt.{decimal}
 use Rattle.std.specs.List.{position}
 use Rattle.run_plan.specs.Admitted.{Admitted}
-use Rattle.run_table.specs.BoundGroups.{RunSays}
+use Rattle.run_table.specs.Asks.{RunSays}
 use Rattle.run_table.specs.Counted.{AreCounted, count_of}
 use Rattle.run_table.specs.Delivered.{FindsFirst}
 use Rattle.run_table.specs.RunNumber.{events}
@@ -45,11 +45,11 @@ invariant_of-self-in_err-push_all c =
     c.in_ok-asked.asked)
     at c.in_ok-asked.ensures.says in
     let both =
-    all_added items c.args.run c.self.inside.numbers.items c.self.inside.groups.items c.in_ok-number.number c.in_ok-asked.asked
-    c.push_all.new.runs.items c.push_all.new.numbers.items c.push_all.new.groups.items c.push_all.result
+    all_added items c.args.run c.self.inside.numbers.items c.self.inside.asks.items c.in_ok-number.number c.in_ok-asked.asked
+    c.push_all.new.runs.items c.push_all.new.numbers.items c.push_all.new.asks.items c.push_all.result
     (subst (λ (runs : List RunState). length runs < 100000) (sym c.self.view_is) c.requires.room) (c.self.invariant.0, c.self.invariant.1)
     number says c.push_all.ensures.run c.push_all.ensures.number c.push_all.ensures.asked c.push_all.ensures.same_runs
-    c.push_all.ensures.same_numbers c.push_all.ensures.same_groups in
+    c.push_all.ensures.same_numbers c.push_all.ensures.same_asks in
     let still : c.push_all.new.runs.items ≡ items = c.in_err-push_all.ensures.same_runs in (
       both.0,
       both.1,
@@ -75,11 +75,11 @@ invariant_of-self-2 c =
     c.in_ok-asked.asked)
     at c.in_ok-asked.ensures.says in
     let both =
-    all_added items c.args.run c.self.inside.numbers.items c.self.inside.groups.items c.in_ok-number.number c.in_ok-asked.asked
-    c.push_all.new.runs.items c.push_all.new.numbers.items c.push_all.new.groups.items c.push_all.result
+    all_added items c.args.run c.self.inside.numbers.items c.self.inside.asks.items c.in_ok-number.number c.in_ok-asked.asked
+    c.push_all.new.runs.items c.push_all.new.numbers.items c.push_all.new.asks.items c.push_all.result
     (subst (λ (runs : List RunState). length runs < 100000) (sym c.self.view_is) c.requires.room) (c.self.invariant.0, c.self.invariant.1)
     number says c.push_all.ensures.run c.push_all.ensures.number c.push_all.ensures.asked c.push_all.ensures.same_runs
-    c.push_all.ensures.same_numbers c.push_all.ensures.same_groups in
+    c.push_all.ensures.same_numbers c.push_all.ensures.same_asks in
     let more = given _ _ c.in_ok-push_all.ensures.run in
     let of_run : c.in_ok-number.number ≡ count_of c.make_room.new.self.counts.counts c.args.run.admitted + 1 =
     c.in_ok-number.ensures.number ∙ ap (λ (e : Admitted). count_of c.self.inside.index.counts.counts e + 1) same

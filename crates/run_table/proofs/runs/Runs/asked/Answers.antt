@@ -28,7 +28,7 @@ pub returns-in_err-asked-clause-group : goal.returns-in_err-asked-clause-group
 returns-in_err-asked-clause-group c =
     let h = holder_in_words c.args.holder.now in
     let items = c.self.inside.runs.items in
-    let kept = c.self.inside.groups.items in
+    let kept = c.self.inside.asks.items in
     let x = c.in_ok-run.run'.now in
     let k = c.in_ok-kept.kept.now in
     let at =
@@ -45,7 +45,7 @@ pub returns-in_err-asked-clause-cancels : goal.returns-in_err-asked-clause-cance
 returns-in_err-asked-clause-cancels c =
     let h = holder_in_words c.args.holder.now in
     let items = c.self.inside.runs.items in
-    let kept = c.self.inside.groups.items in
+    let kept = c.self.inside.asks.items in
     let x = c.in_ok-run.run'.now in
     let k = c.in_ok-kept.kept.now in
     let at =
@@ -63,7 +63,7 @@ pub returns-clause-group : goal.returns-clause-group
 returns-clause-group c =
     let h = holder_in_words c.args.holder.now in
     let items = c.self.inside.runs.items in
-    let kept = c.self.inside.groups.items in
+    let kept = c.self.inside.asks.items in
     let x = c.in_ok-run.run'.now in
     let k = c.in_ok-kept.kept.now in
     let at =
@@ -79,7 +79,7 @@ pub returns-clause-cancels : goal.returns-clause-cancels
 returns-clause-cancels c =
     let h = holder_in_words c.args.holder.now in
     let items = c.self.inside.runs.items in
-    let kept = c.self.inside.groups.items in
+    let kept = c.self.inside.asks.items in
     let x = c.in_ok-run.run'.now in
     let k = c.in_ok-kept.kept.now in
     let at =

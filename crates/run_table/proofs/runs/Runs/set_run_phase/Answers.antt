@@ -9,7 +9,7 @@ use Rattle.run_table.proofs.runs.Runs.set_run_phase.Goals as goal
 
 pub invariant_of-self : goal.invariant_of-self
 invariant_of-self c =
-    still_kept c.self.inside.runs.items c.self.inside.numbers.items c.self.inside.groups.items c.self.inside.index c.args.r
+    still_kept c.self.inside.runs.items c.self.inside.numbers.items c.self.inside.asks.items c.self.inside.index c.args.r
     c.index_mut-run.result.now c.set_phase.new.self
     (search rules) c.index_mut-run.ensures.value (ap (λ x. x.admitted) c.set_phase.ensures) c.self.invariant
 

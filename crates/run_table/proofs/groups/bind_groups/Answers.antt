@@ -6,7 +6,7 @@ use Rattle.run_table.specs.GroupOf.{asked_of_leg}
 use Rattle.run_table.specs.LegContext.{context_of}
 use Rattle.run_table.specs.declared.groups.Asked.{Asked}
 use Rattle.run_table.proofs.Binding.{legs_say}
-use Rattle.run_table.proofs.groups.bind_legs.Goals as goal
+use Rattle.run_table.proofs.groups.bind_groups.Goals as goal
 
 pub returns-in_ok-legs-in-Some-clause-says : goal.returns-in_ok-legs-in-Some-clause-says
 returns-in_ok-legs-in-Some-clause-says c = λ l.

@@ -1,8 +1,8 @@
 use Rattle.std.proofs.Common.{subst, List, ℕ}
 use Rattle.std.specs.Prelude.{IfOk}
 use Rattle.std.specs.Fmt.{decimal}
-use Rattle.run_table.specs.BoundGroups.{RunSays}
-use Rattle.run_table.proofs.groups.RunGroups.bind.Goals as goal
+use Rattle.run_table.specs.Asks.{RunSays}
+use Rattle.run_table.proofs.asks.RunAsks.bind.Goals as goal
 
 pub returns-clause-says : goal.returns-clause-says
 returns-clause-says c =
