@@ -7,7 +7,7 @@ top=$(cd "$here/../.." && pwd)
 work=$(mktemp -d)
 trap 'rm -rf "$work"' EXIT
 mkdir "$work/crates"
-below='wf_value wf_expr wf_reader matrix_expand needs_graph run_plan run_table acts_cli'
+below=$(sed -n 's/^\([a-z_]*\):.*/\1/p' "$top/crates.txt" | grep -vx -e acts -e acts_tests)
 for crate in $below; do cp -r "$top/crates/$crate" "$work/crates/"; done
 mkdir -p "$work/crates/check_bench/src"
 cp "$here/main.rt.txt" "$work/crates/check_bench/src/main.rt"

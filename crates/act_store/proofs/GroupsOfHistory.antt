@@ -4,7 +4,7 @@ use Rattle.group_name.specs.Group.{Group}
 use Rattle.run_plan.specs.declared.command.Command.{Command}
 use Rattle.run_table.specs.GroupHistories.{all_moves, asks_for_cancelling}
 use Rattle.run_table.specs.GroupLaw.{KeepsLaw}
-use Rattle.run_table.specs.Groups.{pending_in, running_in}
+use Rattle.workflow_runs.specs.Groups.{pending_in, running_in}
 use Rattle.run_table.specs.Histories.{after}
 use Rattle.run_table.specs.Sound.{IsSound}
 use Rattle.run_table.specs.TableState.{TableState}

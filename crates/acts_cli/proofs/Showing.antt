@@ -7,9 +7,10 @@ use Rattle.std.specs.Prelude.{option_map}
 use Rattle.std.proofs.lemmas.Option.{slice_get_cases}
 use Rattle.wf_value.specs.Gives.{no_memory}
 use Rattle.wf_value.specs.declared.refusal.Refusal.{Refusal}
-use Rattle.run_table.specs.RunNumber.{events, run_number}
+use Rattle.workflow_runs.specs.RunNumber.{events, run_number}
 use Rattle.run_table.specs.Step.{seen}
-use Rattle.run_table.specs.TableState.{TableState, RunState}
+use Rattle.run_table.specs.TableState.{TableState}
+use Rattle.workflow_runs.specs.RunState.{RunState}
 use Rattle.run_table.specs.ViewText.{Seen}
 use Rattle.act_store.specs.Entries.{table_after}
 use Rattle.act_store.specs.Images.{StandsFor}

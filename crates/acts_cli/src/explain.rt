@@ -13,8 +13,8 @@ pub struct Explanation {
     remedy: &'static str,
 }
 
-/// The refusals that can be met, in order. docs/FORMATS.md repeats them.
-static EXPLANATIONS: [Explanation; 34] = [
+/// What a workflow or its event is refused for.
+static OF_WORKFLOWS: [Explanation; 17] = [
     Explanation {
         number: "10",
         meaning: "a body, or a workflow, is not JSON, or not UTF-8",
@@ -129,6 +129,10 @@ static EXPLANATIONS: [Explanation; 34] = [
         remedy: "use success(), failure(), always(), cancelled(), !cancelled(), true or false, or let a \
             step decide",
     },
+];
+
+/// What the run table refuses a command for.
+static OF_COMMANDS: [Explanation; 8] = [
     Explanation {
         number: "40",
         meaning: "there is no run with this id",
@@ -179,6 +183,10 @@ static EXPLANATIONS: [Explanation; 34] = [
         input: "the admit of a run past 100,000",
         remedy: "begin again with an empty table",
     },
+];
+
+/// What memory and a store's file fail with.
+static OF_STORES: [Explanation; 6] = [
     Explanation {
         number: "50",
         meaning: "memory was refused, and what was asked was not done",
@@ -216,6 +224,10 @@ static EXPLANATIONS: [Explanation; 34] = [
         input: "acts init FILE 4096, a second time",
         remedy: "name another file, or move this one away",
     },
+];
+
+/// What the program's input and output are refused for.
+static OF_INPUT: [Explanation; 3] = [
     Explanation {
         number: "61",
         meaning: "an input or an output failed",
@@ -252,22 +264,58 @@ impl fmt::Display for Explanation {
     }
 }
 
-fn explanations() -> &'static [Explanation] {
-    &EXPLANATIONS
+fn of_workflows() -> &'static [Explanation] {
+    &OF_WORKFLOWS
+}
+
+fn of_commands() -> &'static [Explanation] {
+    &OF_COMMANDS
+}
+
+fn of_stores() -> &'static [Explanation] {
+    &OF_STORES
+}
+
+fn of_input() -> &'static [Explanation] {
+    &OF_INPUT
+}
+
+/// The refusals that can be met, in the order of their numbers. docs/FORMATS.md repeats them.
+fn explanations() -> [&'static [Explanation]; 4] {
+    [of_workflows(), of_commands(), of_stores(), of_input()]
+}
+
+fn push_numbers(
+    numbers: &mut Vec<&'static str>,
+    explanations: &'static [Explanation],
+) -> Result<(), AllocError> {
+    for explanation in explanations {
+        numbers.push(explanation.number)?;
+    }
+    Ok(())
 }
 
 /// The numbers that are explained.
 pub fn numbers(alloc: Global) -> Result<Vec<&'static str>, AllocError> {
     let mut numbers = Vec::new(alloc);
-    for explanation in explanations() {
-        numbers.push(explanation.number)?;
+    for part in explanations() {
+        push_numbers(&mut numbers, part)?;
     }
     Ok(numbers)
 }
 
-/// What is said of the refusal with this number, or `None` where it is not explained.
-pub fn explanation_of(number: &str) -> Option<&'static Explanation> {
-    explanations()
+fn found_in(explanations: &'static [Explanation], number: &str) -> Option<&'static Explanation> {
+    explanations
         .iter()
         .find(|explanation| explanation.number == number)
+}
+
+/// What is said of the refusal with this number, or `None` where it is not explained.
+pub fn explanation_of(number: &str) -> Option<&'static Explanation> {
+    for part in explanations() {
+        if let Some(explanation) = found_in(part, number) {
+            return Some(explanation);
+        }
+    }
+    None
 }

@@ -13,22 +13,24 @@ use Rattle.run_plan.specs.Admitted.{Admitted}
 use Rattle.run_plan.specs.PlanOf.{plan_of}
 use Rattle.run_plan.specs.declared.planned.PlannedJob.{PlannedJob}
 use Rattle.run_plan.specs.declared.reply.Reply.TheVariants as reply
-use Rattle.run_table.specs.Places.{LegPlace, plan_at, run_at}
-use Rattle.run_table.specs.Rules.{result_at}
-use Rattle.run_table.specs.Parallel.{legs_at_work}
+use Rattle.workflow_runs.specs.Places.{LegPlace, plan_at, run_at}
+use Rattle.workflow_runs.specs.Rules.{result_at}
+use Rattle.workflow_runs.specs.Parallel.{legs_at_work}
 use Rattle.run_table.specs.Sound.{DeliveriesDiffer, ParallelIsBounded}
-use Rattle.run_table.specs.Step.{is_delivered_as, admission_answer, blocked_job, new_run, refused}
-use Rattle.run_table.specs.TableState.{LegState, JobState, RunState, TableState}
-use Rattle.run_table.specs.Words.{planned_legs}
-use Rattle.run_table.proofs.Found.{none_found, found_nowhere, each_at, at_the_end, before_the_end}
+use Rattle.run_table.specs.Step.{admission_answer, refused}
+use Rattle.workflow_runs.specs.NewRun.{is_delivered_as, blocked_job, new_run}
+use Rattle.run_table.specs.TableState.{TableState}
+use Rattle.workflow_runs.specs.RunState.{LegState, JobState, RunState}
+use Rattle.workflow_runs.specs.Words.{planned_legs}
+use Rattle.workflow_runs.proofs.Found.{none_found, found_nowhere, each_at, at_the_end, before_the_end}
 use Rattle.run_table.proofs.Kept.{IsKept, kept_still_had}
-use Rattle.run_table.proofs.LeaseReads.{leases_same, none_is_not_some}
-use Rattle.run_table.proofs.LegReads.{work_of, had_at, had_in, works_at}
-use Rattle.run_table.proofs.NeedsSettled.{result_in}
-use Rattle.run_table.proofs.Optional.{from_map}
-use Rattle.run_table.proofs.RunFits.{JobFits, RunFits, RunsFit}
+use Rattle.workflow_runs.proofs.LeaseReads.{leases_same, none_is_not_some}
+use Rattle.workflow_runs.proofs.LegReads.{work_of, had_at, had_in, works_at}
+use Rattle.workflow_runs.proofs.NeedsSettled.{result_in}
+use Rattle.workflow_runs.proofs.Optional.{from_map}
+use Rattle.workflow_runs.proofs.RunFits.{JobFits, RunFits, RunsFit}
 use Rattle.run_table.proofs.RunnerPut.{holds_at}
-use Rattle.run_table.proofs.Settles.{fits_beside}
+use Rattle.workflow_runs.proofs.Settles.{fits_beside}
 
 -- ---- the new run by itself
 

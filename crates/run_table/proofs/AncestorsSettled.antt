@@ -8,7 +8,7 @@ use Rattle.std.proofs.lemmas.Bool.{and_parts, eqb-true}
 use Rattle.wf_value.specs.declared.outcome.JobResult.{JobResult}
 use Rattle.needs_graph.specs.Ancestors.{ancestors_of, is_ancestor, needs_at, walk_ends}
 use Rattle.needs_graph.specs.Conditions.{results_at}
-use Rattle.run_table.specs.Words.{all_have_results}
+use Rattle.workflow_runs.specs.Words.{all_have_results}
 
 abbrev has_result : List (Option JobResult) → ℕ → Bool
 has_result results j = is_some (slice_index_or results j None)

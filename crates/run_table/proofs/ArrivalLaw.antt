@@ -9,17 +9,16 @@ use Rattle.std.proofs.lemmas.List.{append-nil}
 use Rattle.std.proofs.lemmas.List.Elements.{filter_map-append}
 use Rattle.wf_value.specs.declared.outcome.Outcome.TheVariants.{Cancelled}
 use Rattle.group_name.specs.Group.{Group}
-use Rattle.run_table.specs.Arrivals.{arrived, displaced, others_pending, room_made, stopped_where_asked}
+use Rattle.workflow_runs.specs.Arrivals.{arrived, displaced, others_pending, room_made, stopped_where_asked}
 use Rattle.run_table.specs.GroupLaw.{BeginsWith, KeepsLaw, cancelled_end}
-use Rattle.run_table.specs.GroupOf.{cancels_in_progress, group_at}
-use Rattle.run_table.specs.GroupWords.{arrival_of, has_arrived, has_started, is_pending, is_running, latest, next_displaced}
-use Rattle.run_table.specs.GroupWords.{same_holder, was_stopped}
-use Rattle.run_table.specs.Groups.{HasOneBeside, holds, is_in, is_pending_in, is_running_in, running_in}
-use Rattle.run_table.specs.Groups.{same_group, waits}
-use Rattle.run_table.specs.Moves.{Holder, Move, Moved, at_each, without_moves}
-use Rattle.run_table.specs.StopMoves.{displace, stop_holder}
-use Rattle.run_table.specs.TableState.{RunState}
-use Rattle.run_table.proofs.ArrivalKeeps.{displaced_one_each, nobody_else, one_or_another}
+use Rattle.workflow_runs.specs.GroupOf.{cancels_in_progress, group_at}
+use Rattle.workflow_runs.specs.GroupWords.{arrival_of, has_arrived, has_started, is_pending, is_running, latest, next_displaced}
+use Rattle.workflow_runs.specs.GroupWords.{same_holder, was_stopped}
+use Rattle.workflow_runs.specs.Groups.{HasOneBeside, holds, is_in, is_pending_in, is_running_in, running_in, same_group, waits}
+use Rattle.workflow_runs.specs.Moves.{Holder, Move, Moved, at_each, without_moves}
+use Rattle.workflow_runs.specs.StopMoves.{displace, stop_holder}
+use Rattle.workflow_runs.specs.RunState.{RunState}
+use Rattle.workflow_runs.proofs.ArrivalKeeps.{displaced_one_each, nobody_else, one_or_another}
 use Rattle.run_table.proofs.ArrivalTold.{displace_tells, each_tells, stop_begins, tells_nothing, tells_then}
 use Rattle.run_table.proofs.ChangesTold.{only_one, stop_tells}
 use Rattle.run_table.proofs.GroupFollows.{displaced_waits, next_shown}
@@ -27,18 +26,16 @@ use Rattle.run_table.proofs.GroupLawWalk.{Lawful, law_goes_on}
 use Rattle.run_table.proofs.GroupSaid.{arrived_on, latest_on, own_holder}
 use Rattle.run_table.proofs.GroupTruths.{not_both, not_yes, or_false}
 use Rattle.run_table.proofs.HolderStatus.{Fits, Status, fits_pending, fits_running, fits_stopped, held_is, holds_as, is_held}
-use Rattle.run_table.proofs.HolderStatus.{is_waiting, running_by, status}
-use Rattle.run_table.proofs.HolderStatus.{waiting_is, waits_as}
-use Rattle.run_table.proofs.HoldersFade.{each_fades, holder_stop_fades}
+use Rattle.run_table.proofs.HolderStatus.{is_waiting, running_by, status, waiting_is, waits_as}
+use Rattle.workflow_runs.proofs.HoldersFade.{each_fades, holder_stop_fades}
 use Rattle.run_table.proofs.HoldersOnce.{first_kept, one_holder_kept, some_kept}
 use Rattle.run_table.proofs.LawSoFar.{IsQuiet, LawSoFar, each_on, goes_on_then, nobody_arrives, others_on, quiet_goes_on}
-use Rattle.run_table.proofs.LawSoFar.{started_before}
-use Rattle.run_table.proofs.LawSoFar.{stops_are_quiet}
+use Rattle.run_table.proofs.LawSoFar.{started_before, stops_are_quiet}
 use Rattle.run_table.proofs.ListWalk.{Walk}
-use Rattle.run_table.proofs.OneEach.{Comes, Fades, IsOneOf, both, fades_not, group_is, one_that_holds, one_that_waits}
+use Rattle.workflow_runs.proofs.OneEach.{Comes, Fades, IsOneOf, both, fades_not, group_is, one_that_holds, one_that_waits}
 use Rattle.run_table.proofs.OnlyStops.{OnlyStops, holder_stops, no_stops, stops_on}
 use Rattle.run_table.proofs.OwnMoves.{of_group, of_group_on, own, runs_by_own, waits_by_own}
-use Rattle.run_table.proofs.RunFits.{RunsFit}
+use Rattle.workflow_runs.proofs.RunFits.{RunsFit}
 use Rattle.run_table.proofs.StopsTold.{Tells}
 use Rattle.run_table.proofs.Unbegun.{AllStill, Unbegun, each_all_still, still_of_all, stop_all_still, waiting_unbegun}
 

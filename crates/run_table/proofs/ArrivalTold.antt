@@ -4,25 +4,24 @@ use Rattle.std.specs.Prelude.{option_map, if◌then◌else◌, slice_get, refl}
 use Rattle.std.specs.Option.{option_map_or}
 use Rattle.std.proofs.Common.{ap, inl, inr, sym, ◌∙◌, subst}
 use Rattle.wf_value.specs.declared.outcome.Outcome.TheVariants.{Cancelled}
-use Rattle.run_table.specs.FirstOf.{changed_at}
+use Rattle.workflow_runs.specs.FirstOf.{changed_at}
 use Rattle.run_table.specs.GroupLaw.{BeginsWith}
-use Rattle.run_table.specs.Moves.{Holder, Move, Moved, and_then, at_each, without_moves}
-use Rattle.run_table.specs.Places.{LegPlace, leg_at, run_at, with_leg}
-use Rattle.run_table.specs.StopMoves.{displace, jobs_stop_moves, leg_stop_moves, run_stop_moves_in, stop_holder, told_moves}
-use Rattle.run_table.specs.Stops.{stopped, stopped_in, stopped_run}
-use Rattle.run_table.specs.TableState.{LegState, RunState}
-use Rattle.run_table.specs.declared.phases.LegPhase.{LegPhase}
-use Rattle.run_table.specs.declared.phases.LegPhase.TheVariants as leg
-use Rattle.run_table.specs.declared.phases.RunPhase.{RunPhase}
-use Rattle.run_table.specs.declared.phases.RunPhase.TheVariants as run
-use Rattle.run_table.proofs.ArrivalKeeps.{one_or_another}
-use Rattle.run_table.proofs.Changed.{at_changed}
+use Rattle.workflow_runs.specs.Moves.{Holder, Move, Moved, and_then, at_each, without_moves}
+use Rattle.workflow_runs.specs.Places.{LegPlace, leg_at, run_at, with_leg}
+use Rattle.workflow_runs.specs.StopMoves.{displace, jobs_stop_moves, leg_stop_moves, run_stop_moves_in, stop_holder, told_moves}
+use Rattle.workflow_runs.specs.Stops.{stopped, stopped_in, stopped_run}
+use Rattle.workflow_runs.specs.RunState.{LegState, RunState}
+use Rattle.workflow_runs.specs.declared.phases.LegPhase.{LegPhase}
+use Rattle.workflow_runs.specs.declared.phases.LegPhase.TheVariants as leg
+use Rattle.workflow_runs.specs.declared.phases.RunPhase.{RunPhase}
+use Rattle.workflow_runs.specs.declared.phases.RunPhase.TheVariants as run
+use Rattle.workflow_runs.proofs.ArrivalKeeps.{one_or_another}
+use Rattle.workflow_runs.proofs.Changed.{at_changed}
 use Rattle.run_table.proofs.ChangesTold.{only_one, stop_tells}
 use Rattle.run_table.proofs.GroupSaid.{own_holder}
 use Rattle.run_table.proofs.HolderStatus.{Goes, Status, ends_at_once, goes_not, goes_on, goes_over, leg_status, run_status, status}
-use Rattle.run_table.proofs.HolderStatus.{status_by}
-use Rattle.run_table.proofs.HolderStatus.{status_by_run, status_in_job, status_in_run, status_of_leg, status_of_run}
-use Rattle.run_table.proofs.JobKeeps.{with_job_of, with_leg_of}
+use Rattle.run_table.proofs.HolderStatus.{status_by, status_by_run, status_in_job, status_in_run, status_of_leg, status_of_run}
+use Rattle.workflow_runs.proofs.JobKeeps.{with_job_of, with_leg_of}
 use Rattle.run_table.proofs.OwnMoves.{own, own_on}
 use Rattle.run_table.proofs.StopsTold.{Tells, goes_by}
 

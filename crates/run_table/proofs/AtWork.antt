@@ -5,15 +5,16 @@ use Rattle.std.specs.Option.{option_map_or}
 use Rattle.std.proofs.Common.{arith, ap, sym, ◌∙◌, cond}
 use Rattle.std.proofs.lemmas.List.Sums.{sum_by-cons}
 use Rattle.run_plan.specs.declared.planned.PlannedJob.{PlannedJob}
-use Rattle.run_table.specs.Parallel.{is_at_work, legs_at_work, most_at_work}
-use Rattle.run_table.specs.Places.{LegPlace, job_at}
-use Rattle.run_table.specs.Sound.{LeaseFits, ParallelIsBounded}
-use Rattle.run_table.specs.TableState.{LegState, JobState, RunState}
-use Rattle.run_table.specs.declared.phases.LegPhase.{LegPhase}
-use Rattle.run_table.specs.declared.phases.LegPhase.TheVariants as leg
-use Rattle.run_table.proofs.LegReads.{work_of, works_at, works_is}
-use Rattle.run_table.proofs.RunFits.{RunsFit, admitted_at, leases_fit, leg_in_job, plan_at_same}
-use Rattle.run_table.proofs.Settles.{Settles}
+use Rattle.workflow_runs.specs.Parallel.{is_at_work, legs_at_work, most_at_work}
+use Rattle.workflow_runs.specs.Places.{LegPlace, job_at}
+use Rattle.run_table.specs.Sound.{ParallelIsBounded}
+use Rattle.workflow_runs.specs.SoundRuns.{LeaseFits}
+use Rattle.workflow_runs.specs.RunState.{LegState, JobState, RunState}
+use Rattle.workflow_runs.specs.declared.phases.LegPhase.{LegPhase}
+use Rattle.workflow_runs.specs.declared.phases.LegPhase.TheVariants as leg
+use Rattle.workflow_runs.proofs.LegReads.{work_of, works_at, works_is}
+use Rattle.workflow_runs.proofs.RunFits.{RunsFit, admitted_at, leases_fit, leg_in_job, plan_at_same}
+use Rattle.workflow_runs.proofs.Settles.{Settles}
 
 abbrev pub at_work : LegState → Bool
 at_work l = is_at_work l.phase

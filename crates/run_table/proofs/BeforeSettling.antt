@@ -3,28 +3,41 @@ use Rattle.std.specs.Prelude.{◌≡◌, ℕ, List, [], ◌∷◌, ◌++◌, tru
 use Rattle.std.proofs.Common.{ap, sym, ◌∙◌, subst}
 use Rattle.run_plan.specs.Admitted.{Admitted}
 use Rattle.run_plan.specs.declared.command.Done.{Done as Reported}
-use Rattle.run_table.specs.Arrivals.{arrived}
-use Rattle.run_table.specs.Fitting.{first_fit}
-use Rattle.run_table.specs.Groups.{HasOneBeside, HasOneEach, waits}
-use Rattle.run_table.specs.Moves.{Holder}
-use Rattle.run_table.specs.Places.{LegPlace, with_leg, with_run}
-use Rattle.run_table.specs.Sound.{IsSound, RunsAreSound}
-use Rattle.run_table.specs.StateWords.{has_ended}
-use Rattle.run_table.specs.Step.{entered, leased_leg, new_run, report_answer, with_ended}
-use Rattle.run_table.specs.Stops.{outcome_of_loss, stopped_run}
-use Rattle.run_table.specs.TableState.{RunState, RunnerState, TableState}
+use Rattle.workflow_runs.specs.Arrivals.{arrived}
+use Rattle.workflow_runs.specs.Fitting.{first_fit}
+use Rattle.workflow_runs.specs.Groups.{HasOneBeside, HasOneEach, waits}
+use Rattle.workflow_runs.specs.Moves.{Holder}
+use Rattle.workflow_runs.specs.Places.{LegPlace, with_leg, with_run}
+use Rattle.run_table.specs.Sound.{IsSound}
+use Rattle.workflow_runs.specs.SoundRuns.{RunsAreSound}
+use Rattle.workflow_runs.specs.StateWords.{has_ended}
+use Rattle.run_table.specs.Step.{entered, report_answer}
+use Rattle.workflow_runs.specs.StopMoves.{with_ended}
+use Rattle.workflow_runs.specs.NewRun.{leased_leg, new_run}
+use Rattle.workflow_runs.specs.Stops.{outcome_of_loss, stopped_run}
+use Rattle.run_table.specs.TableState.{RunnerState, TableState}
+use Rattle.workflow_runs.specs.RunState.{RunState}
 use Rattle.run_table.specs.Turns.{runner_named}
-use Rattle.run_table.specs.declared.phases.LegPhase.{LegPhase}
+use Rattle.workflow_runs.specs.declared.phases.LegPhase.{LegPhase}
 use Rattle.run_table.proofs.AdmitKeeps.{all_fit}
 use Rattle.run_table.proofs.ClaimKeeps.{fitting_leg}
 use Rattle.run_table.proofs.CommandsOneEach.{ended_one_each, leased_one_each, stopped_one_each}
 use Rattle.run_table.proofs.Entered.{beside_new_run, entered_one_each, entered_settles, new_run_waits}
-use Rattle.run_table.proofs.HoldersKeep.{run_stop_settles}
-use Rattle.run_table.proofs.JobKeeps.{leg_in, leg_stays}
+use Rattle.workflow_runs.proofs.HoldersKeep.{run_stop_settles}
+use Rattle.workflow_runs.proofs.JobKeeps.{leg_in, leg_stays}
 use Rattle.run_table.proofs.Kept.{kept_from_sound}
 use Rattle.run_table.proofs.ReportKeeps.{loss_stays, report_stays}
-use Rattle.run_table.proofs.RunFits.{RunsFit}
-use Rattle.run_table.proofs.SoundRuns.{sound_runs}
+use Rattle.workflow_runs.proofs.RunFits.{RunsFit}
+use Rattle.workflow_runs.proofs.SoundRuns.{sound_runs}
+
+pub runs_of_table : (t : TableState) → IsSound t → RunsAreSound t.runs
+runs_of_table t s = record {
+  jobs_are_the_plans = s.jobs_are_the_plans;
+  run_phases_fit = s.run_phases_fit;
+  jobs_fit = s.jobs_fit;
+  needs_settled_first = s.needs_settled_first;
+  leases_fit = s.leases_fit;
+}
 
 -- the runs fit, and no group has two holders of a kind
 pub record MaySettle (runs : List RunState) : Type 0 where

@@ -7,14 +7,16 @@ use Rattle.run_plan.specs.declared.command.Claim.{Claim as Claimed}
 use Rattle.run_plan.specs.declared.command.Command.TheVariants as command
 use Rattle.run_plan.specs.declared.reply.Reply.TheVariants as reply
 use Rattle.run_plan.specs.declared.last_command.ClaimReply.TheVariants as given
-use Rattle.run_table.specs.Step.{step, empty, blocked_job, claiming_runner, refused}
-use Rattle.run_table.specs.Stops.{outcome_of_loss, stopped_run, stopped_where}
-use Rattle.run_table.specs.TableState.{LegState, JobState, RunState, RunnerState, TableState}
-use Rattle.run_table.specs.declared.phases.LegPhase.{LegPhase}
-use Rattle.run_table.specs.declared.phases.LegPhase.TheVariants as leg
-use Rattle.run_table.specs.declared.phases.JobPhase.TheVariants as job
-use Rattle.run_table.specs.declared.phases.RunPhase.{RunPhase}
-use Rattle.run_table.specs.declared.phases.RunPhase.TheVariants as run
+use Rattle.run_table.specs.Step.{step, empty, claiming_runner, refused}
+use Rattle.workflow_runs.specs.NewRun.{blocked_job}
+use Rattle.workflow_runs.specs.Stops.{outcome_of_loss, stopped_run, stopped_where}
+use Rattle.run_table.specs.TableState.{RunnerState, TableState}
+use Rattle.workflow_runs.specs.RunState.{LegState, JobState, RunState}
+use Rattle.workflow_runs.specs.declared.phases.LegPhase.{LegPhase}
+use Rattle.workflow_runs.specs.declared.phases.LegPhase.TheVariants as leg
+use Rattle.workflow_runs.specs.declared.phases.JobPhase.TheVariants as job
+use Rattle.workflow_runs.specs.declared.phases.RunPhase.{RunPhase}
+use Rattle.workflow_runs.specs.declared.phases.RunPhase.TheVariants as run
 
 abbrev run_of : RunPhase → Bool → List JobState → RunState
 run_of phase stopping jobs =

@@ -5,19 +5,18 @@ use Rattle.std.specs.Prelude.{option_map, option_and_then, slice_get, if◌then�
 use Rattle.std.specs.Option.{option_map_or}
 use Rattle.std.proofs.Common.{ap, inl, inr, sym, ◌∙◌, subst}
 use Rattle.std.proofs.lemmas.Bool.{cases_eq}
-use Rattle.run_table.specs.GroupWords.{holder_of, same_holder}
-use Rattle.run_table.specs.Moves.{Holder, Move}
-use Rattle.run_table.specs.Places.{LegPlace, job_at, leg_at, leg_place, run_at, with_job, with_leg, with_run}
-use Rattle.run_table.specs.StateWords.{new_leg}
-use Rattle.run_table.specs.StopMoves.{leg_stop_moves, legs_stop_moves, stop_holder}
-use Rattle.run_table.specs.Stops.{stopped, with_stopped_legs}
-use Rattle.run_table.specs.TableState.{LegState, JobState, RunState}
-use Rattle.run_table.proofs.ArrivalKeeps.{one_or_another}
-use Rattle.run_table.proofs.Changed.{at_another, at_changed}
-use Rattle.run_table.proofs.HolderStatus.{Goes, Status, goes_not, status, status_by, status_in_job, status_in_run}
-use Rattle.run_table.proofs.HolderStatus.{status_of_leg}
+use Rattle.workflow_runs.specs.GroupWords.{holder_of, same_holder}
+use Rattle.workflow_runs.specs.Moves.{Holder, Move}
+use Rattle.workflow_runs.specs.Places.{LegPlace, job_at, leg_at, leg_place, run_at, with_job, with_leg, with_run}
+use Rattle.workflow_runs.specs.StateWords.{new_leg}
+use Rattle.workflow_runs.specs.StopMoves.{leg_stop_moves, legs_stop_moves, stop_holder}
+use Rattle.workflow_runs.specs.Stops.{stopped, with_stopped_legs}
+use Rattle.workflow_runs.specs.RunState.{LegState, JobState, RunState}
+use Rattle.workflow_runs.proofs.ArrivalKeeps.{one_or_another}
+use Rattle.workflow_runs.proofs.Changed.{at_another, at_changed}
+use Rattle.run_table.proofs.HolderStatus.{Goes, Status, goes_not, status, status_by, status_in_job, status_in_run, status_of_leg}
 use Rattle.run_table.proofs.HolderStatus.{status_by_run, status_of_run, through}
-use Rattle.run_table.proofs.JobKeeps.{with_job_of, with_leg_of}
+use Rattle.workflow_runs.proofs.JobKeeps.{with_job_of, with_leg_of}
 use Rattle.run_table.proofs.OwnMoves.{own}
 use Rattle.run_table.proofs.StopsTold.{Tells, goes_by, goes_same, legs_go, not_own_leg_stop, not_own_legs}
 use Rattle.run_table.proofs.StopsTold.{own_phase_goes, run_stop_goes}

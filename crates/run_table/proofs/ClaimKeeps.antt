@@ -7,28 +7,31 @@ use Rattle.std.proofs.lemmas.Bool.{cases_eq, and_parts, leb-false, ltb-true}
 use Rattle.wf_value.specs.declared.code.Code.TheVariants.{HasLease, LastCounter}
 use Rattle.run_plan.specs.declared.command.Claim.{Claim as Claimed}
 use Rattle.run_plan.specs.declared.reply.Reply.{Reply}
-use Rattle.run_table.specs.FirstOf.{changed_at}
-use Rattle.run_table.specs.Fitting.{is_ready, is_served, may_run_too, fits, first_fit}
-use Rattle.run_table.specs.Parallel.{has_room, legs_at_work, most_at_work}
-use Rattle.run_table.specs.Places.{LegPlace, job_at, leg_at, leg_places, with_leg}
-use Rattle.run_table.specs.Rules.{has_ended}
+use Rattle.workflow_runs.specs.FirstOf.{changed_at}
+use Rattle.workflow_runs.specs.Fitting.{is_ready, is_served, may_run_too, fits, first_fit}
+use Rattle.workflow_runs.specs.Parallel.{has_room, legs_at_work, most_at_work}
+use Rattle.workflow_runs.specs.Places.{LegPlace, job_at, leg_at, leg_places, with_leg}
+use Rattle.workflow_runs.specs.Rules.{has_ended}
 use Rattle.run_plan.specs.LastCommand.{is_last_claim}
-use Rattle.run_table.specs.Sound.{LeaseFits, IsLastOf, ParallelIsBounded}
-use Rattle.run_table.specs.Step.{last_number, refused, has_no_lease_left, claim_answer, claiming_runner, leased_leg, lease_at}
-use Rattle.run_table.specs.TableState.{LegState, JobState, RunState, RunnerState, TableState}
+use Rattle.run_table.specs.Sound.{IsLastOf, ParallelIsBounded}
+use Rattle.workflow_runs.specs.SoundRuns.{LeaseFits}
+use Rattle.run_table.specs.Step.{last_number, refused, has_no_lease_left, claim_answer, claiming_runner, lease_at}
+use Rattle.workflow_runs.specs.NewRun.{leased_leg}
+use Rattle.run_table.specs.TableState.{RunnerState, TableState}
+use Rattle.workflow_runs.specs.RunState.{LegState, JobState, RunState}
 use Rattle.run_table.specs.Turns.{runner_named, answer_of_turn, with_runner, holds_lease}
 use Rattle.run_plan.specs.declared.last_command.ClaimReply.TheVariants as given
-use Rattle.run_table.specs.declared.phases.LegPhase.{LegPhase}
-use Rattle.run_table.specs.declared.phases.LegPhase.TheVariants as leg
+use Rattle.workflow_runs.specs.declared.phases.LegPhase.{LegPhase}
+use Rattle.workflow_runs.specs.declared.phases.LegPhase.TheVariants as leg
 use Rattle.run_table.proofs.AdmitKeeps.{nothing_in_or}
-use Rattle.run_table.proofs.Found.{find_passes}
+use Rattle.workflow_runs.proofs.Found.{find_passes}
 use Rattle.run_table.proofs.AtWork.{at_work, one_at_work, at_most_one, fewer_in_job, most_same}
-use Rattle.run_table.proofs.JobKeeps.{leg_in, leg_stays, leg_now, leg_elsewhere, job_is_now, with_leg_of}
-use Rattle.run_table.proofs.Lowered.{sum_of_changed}
+use Rattle.workflow_runs.proofs.JobKeeps.{leg_in, leg_stays, leg_now, leg_elsewhere, job_is_now, with_leg_of}
+use Rattle.workflow_runs.proofs.Lowered.{sum_of_changed}
 use Rattle.run_table.proofs.Kept.{IsKept, KeptIsHad, kept_still_had, told_the_same, deliveries_still_differ}
-use Rattle.run_table.proofs.LeaseReads.{ChangesAt, names_same, place_or_another, lease_given, leases_same, none_is_not_some}
-use Rattle.run_table.proofs.LegReads.{work_of, had_at, works_at, had_is, works_is, had_from_leg, works_from_leg}
-use Rattle.run_table.proofs.RunFits.{RunsFit, admitted_at, plan_at_same, leases_fit}
+use Rattle.workflow_runs.proofs.LeaseReads.{ChangesAt, names_same, place_or_another, lease_given, leases_same, none_is_not_some}
+use Rattle.workflow_runs.proofs.LegReads.{work_of, had_at, works_at, had_is, works_is, had_from_leg, works_from_leg}
+use Rattle.workflow_runs.proofs.RunFits.{RunsFit, admitted_at, plan_at_same, leases_fit}
 use Rattle.run_table.proofs.RunnerOrder.{names_still_rise}
 use Rattle.run_table.proofs.RunnerPut.{each_put, holds_at, holds_changes}
 

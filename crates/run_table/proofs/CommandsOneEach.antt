@@ -3,24 +3,25 @@ use Rattle.std.specs.Prelude.{◌≡◌, ℕ, List, true, false, Some, None, if�
 use Rattle.std.specs.Option.{option_map_or}
 use Rattle.std.proofs.Common.{ap, inl, inr, ◌∙◌}
 use Rattle.wf_value.specs.declared.outcome.Outcome.{Outcome}
-use Rattle.run_table.specs.Fitting.{first_fit, place_of_lease}
-use Rattle.run_table.specs.Groups.{HasOneEach, holds, leg_holds}
-use Rattle.run_table.specs.Moves.{Holder}
-use Rattle.run_table.specs.Places.{LegPlace, with_job, with_leg, with_run}
-use Rattle.run_table.specs.StateWords.{has_ended, leg_in_phase}
-use Rattle.run_table.specs.Step.{leased_leg, with_ended}
-use Rattle.run_table.specs.Stops.{after_end, stopped_run, stops_others, with_stopped_legs}
-use Rattle.run_table.specs.TableState.{RunState}
-use Rattle.run_table.specs.declared.phases.LegPhase.{LegPhase}
-use Rattle.run_table.specs.declared.phases.LegPhase.TheVariants as leg
+use Rattle.workflow_runs.specs.Fitting.{first_fit, place_of_lease}
+use Rattle.workflow_runs.specs.Groups.{HasOneEach, holds, leg_holds}
+use Rattle.workflow_runs.specs.Moves.{Holder}
+use Rattle.workflow_runs.specs.Places.{LegPlace, with_job, with_leg, with_run}
+use Rattle.workflow_runs.specs.StateWords.{has_ended, leg_in_phase}
+use Rattle.workflow_runs.specs.StopMoves.{with_ended}
+use Rattle.workflow_runs.specs.NewRun.{leased_leg}
+use Rattle.workflow_runs.specs.Stops.{after_end, stopped_run, stops_others, with_stopped_legs}
+use Rattle.workflow_runs.specs.RunState.{RunState}
+use Rattle.workflow_runs.specs.declared.phases.LegPhase.{LegPhase}
+use Rattle.workflow_runs.specs.declared.phases.LegPhase.TheVariants as leg
 use Rattle.run_table.proofs.ClaimKeeps.{fitting_leg}
-use Rattle.run_table.proofs.HoldersFade.{leg_fades, leg_passes, legs_stop_fades, passes, run_stop_fades, waits_before_leg}
-use Rattle.run_table.proofs.HoldersKeep.{run_stop_settles}
-use Rattle.run_table.proofs.JobKeeps.{leg_in, leg_stays}
-use Rattle.run_table.proofs.OneEach.{Fades, fades_not, fades_on, fading_keeps, groups_stay}
-use Rattle.run_table.proofs.OneEachRules.{set_holds}
-use Rattle.run_table.proofs.RunFits.{RunsFit}
-use Rattle.run_table.proofs.Settles.{StayFit}
+use Rattle.workflow_runs.proofs.HoldersFade.{leg_fades, leg_passes, legs_stop_fades, passes, run_stop_fades, waits_before_leg}
+use Rattle.workflow_runs.proofs.HoldersKeep.{run_stop_settles}
+use Rattle.workflow_runs.proofs.JobKeeps.{leg_in, leg_stays}
+use Rattle.workflow_runs.proofs.OneEach.{Fades, fades_not, fades_on, fading_keeps, groups_stay}
+use Rattle.workflow_runs.proofs.OneEachRules.{set_holds}
+use Rattle.workflow_runs.proofs.RunFits.{RunsFit}
+use Rattle.workflow_runs.proofs.Settles.{StayFit}
 
 bad : false ≡ true → ⊥
 bad e = cc

@@ -13,19 +13,18 @@ use Rattle.needs_graph.specs.Conditions.{condition_value, results_at}
 use Rattle.run_plan.specs.Admitted.{Admitted}
 use Rattle.run_plan.specs.PlanOf.{plan_of}
 use Rattle.run_plan.specs.declared.planned.PlannedJob.{PlannedJob}
-use Rattle.run_table.specs.FirstOf.{changed_at}
-use Rattle.run_table.specs.Places.{LegPlace, run_at, job_at, plan_at, with_job, with_leg}
-use Rattle.run_table.specs.TableState.{LegState, JobState, RunState}
-use Rattle.run_table.specs.Words.{ancestor_results, condition_of, job_results, needs_graph_at, needs_have_settled}
-use Rattle.run_table.specs.Words.{settled_result}
-use Rattle.run_table.specs.declared.phases.JobPhase.{JobPhase}
-use Rattle.run_table.specs.declared.phases.JobPhase.TheVariants as job
+use Rattle.workflow_runs.specs.FirstOf.{changed_at}
+use Rattle.workflow_runs.specs.Places.{LegPlace, run_at, job_at, plan_at, with_job, with_leg}
+use Rattle.workflow_runs.specs.RunState.{LegState, JobState, RunState}
+use Rattle.workflow_runs.specs.Words.{ancestor_results, condition_of, job_results, needs_graph_at, needs_have_settled, settled_result}
+use Rattle.workflow_runs.specs.declared.phases.JobPhase.{JobPhase}
+use Rattle.workflow_runs.specs.declared.phases.JobPhase.TheVariants as job
 use Rattle.run_table.proofs.AncestorsSettled.{NeedsBefore, ancestors_settled, results_stay}
-use Rattle.run_table.proofs.Changed.{holds_of_each}
-use Rattle.run_table.proofs.JobKeeps.{JobIn, job_in, with_job_of}
-use Rattle.run_table.proofs.NeedsSettled.{KeepsResults, graph_same, needs_stay_settled, result_in, result_of_job}
-use Rattle.run_table.proofs.Optional.{from_and_then, and_then-option_map}
-use Rattle.run_table.proofs.RunFits.{admitted_at, job_in_run}
+use Rattle.workflow_runs.proofs.Changed.{holds_of_each}
+use Rattle.workflow_runs.proofs.JobKeeps.{JobIn, job_in, with_job_of}
+use Rattle.workflow_runs.proofs.NeedsSettled.{KeepsResults, graph_same, needs_stay_settled, result_in, result_of_job}
+use Rattle.workflow_runs.proofs.Optional.{from_and_then, and_then-option_map}
+use Rattle.workflow_runs.proofs.RunFits.{admitted_at, job_in_run}
 
 -- what holds of a job, once it is no longer blocked
 abbrev pub JobDecided : List RunState → ℕ → ℕ → JobPhase → Type 0

@@ -16,22 +16,22 @@ use Rattle.run_plan.specs.declared.command.Command.{Command}
 use Rattle.run_plan.specs.declared.command.Command.TheVariants as command
 use Rattle.run_plan.specs.declared.reply.Reply.{Reply}
 use Rattle.run_plan.specs.declared.reply.Reply.TheVariants as reply
-use Rattle.run_table.specs.Fitting.{first_fit}
+use Rattle.workflow_runs.specs.Fitting.{first_fit}
 use Rattle.run_table.specs.Histories.{after}
-use Rattle.run_table.specs.Moves.{Holder, Step}
-use Rattle.run_table.specs.Places.{with_leg}
-use Rattle.run_table.specs.RunNumber.{events}
-use Rattle.run_table.specs.Settling.{settled}
-use Rattle.run_table.specs.Step.{admission_answer, admitting, cancel_answer, cancelling, claim_answer, claiming, entered, is_delivered_as}
-use Rattle.run_table.specs.Step.{leased_leg}
-use Rattle.run_table.specs.Step.{leasing, losing, lost, new_run, refused, released, report_answer, reporting, serving_nothing, step}
+use Rattle.workflow_runs.specs.Moves.{Holder}
+use Rattle.run_table.specs.TableState.{Step, TableState}
+use Rattle.workflow_runs.specs.Places.{with_leg}
+use Rattle.workflow_runs.specs.RunNumber.{events}
+use Rattle.workflow_runs.specs.Settling.{settled}
+use Rattle.run_table.specs.Step.{admission_answer, admitting, cancel_answer, cancelling, claim_answer, claiming, entered}
+use Rattle.workflow_runs.specs.NewRun.{is_delivered_as, leased_leg, new_run}
+use Rattle.run_table.specs.Step.{leasing, losing, lost, refused, released, report_answer, reporting, serving_nothing, step}
 use Rattle.run_table.specs.Step.{stepped, unchanged}
-use Rattle.run_table.specs.Step.{with_ended}
-use Rattle.run_table.specs.StopMoves.{stop_holder}
-use Rattle.run_table.specs.Stops.{outcome_of_loss}
-use Rattle.run_table.specs.TableState.{LegState, RunState, TableState}
+use Rattle.workflow_runs.specs.StopMoves.{with_ended, stop_holder}
+use Rattle.workflow_runs.specs.Stops.{outcome_of_loss}
+use Rattle.workflow_runs.specs.RunState.{LegState, RunState}
 use Rattle.run_table.specs.Turns.{runner_named}
-use Rattle.run_table.proofs.Optional.{if_some}
+use Rattle.workflow_runs.proofs.Optional.{if_some}
 use Rattle.run_table.proofs.EventsStay.{arrived_events, ended_events, leg_events, settled_events, stop_events}
 
 -- ---- steps

@@ -7,11 +7,11 @@ use Rattle.std.proofs.lemmas.Bool.{true≢false}
 use Rattle.std.proofs.lemmas.Bool.Decides.{Decides-eqb, Decides-like}
 use Rattle.std.proofs.lemmas.Slice.Eq.{bytes_eq-Decides}
 use Rattle.run_table.specs.Sound.{DeliveriesDiffer}
-use Rattle.run_table.specs.Step.{is_delivered_as}
-use Rattle.run_table.specs.TableState.{RunState}
-use Rattle.run_table.proofs.Found.{each_at, found_nowhere, none_found}
-use Rattle.run_table.proofs.Indexed.{first_one}
-use Rattle.run_table.proofs.OneAfterAnother.{OfEach, no}
+use Rattle.workflow_runs.specs.NewRun.{is_delivered_as}
+use Rattle.workflow_runs.specs.RunState.{RunState}
+use Rattle.workflow_runs.proofs.Found.{each_at, found_nowhere, none_found}
+use Rattle.workflow_runs.proofs.Indexed.{first_one}
+use Rattle.workflow_runs.proofs.OneAfterAnother.{OfEach, no}
 
 -- ---- one look-up
 

@@ -7,28 +7,30 @@ use Rattle.std.proofs.lemmas.Option.{slice_get-map, slice_get_within}
 use Rattle.run_plan.specs.Admitted.{Admitted}
 use Rattle.run_plan.specs.PlanOf.{plan_of}
 use Rattle.run_plan.specs.declared.planned.PlannedJob.{PlannedJob}
-use Rattle.run_table.specs.Arrivals.{arrived}
-use Rattle.run_table.specs.Groups.{HasOneBeside, HasOneEach, holds, leg_holds, leg_waits, run_waits, waits}
-use Rattle.run_table.specs.Moves.{Holder}
-use Rattle.run_table.specs.Places.{LegPlace, leg_at}
-use Rattle.run_table.specs.RunNumber.{events}
-use Rattle.run_table.specs.StateWords.{is_live}
-use Rattle.run_table.specs.Step.{admission_answer, blocked_job, entered, new_run}
-use Rattle.run_table.specs.TableState.{RunState, TableState}
-use Rattle.run_table.specs.declared.phases.LegPhase.{LegPhase}
+use Rattle.workflow_runs.specs.Arrivals.{arrived}
+use Rattle.workflow_runs.specs.Groups.{HasOneBeside, HasOneEach, holds, leg_holds, leg_waits, run_waits, waits}
+use Rattle.workflow_runs.specs.Moves.{Holder}
+use Rattle.workflow_runs.specs.Places.{LegPlace, leg_at}
+use Rattle.workflow_runs.specs.RunNumber.{events}
+use Rattle.workflow_runs.specs.StateWords.{is_live}
+use Rattle.run_table.specs.Step.{admission_answer, entered}
+use Rattle.workflow_runs.specs.NewRun.{blocked_job, new_run}
+use Rattle.run_table.specs.TableState.{TableState}
+use Rattle.workflow_runs.specs.RunState.{RunState}
+use Rattle.workflow_runs.specs.declared.phases.LegPhase.{LegPhase}
 use Rattle.run_table.proofs.AdmitKeeps.{admit_keeps, all_fit}
-use Rattle.run_table.proofs.ArrivalKeeps.{arrival_one_each}
-use Rattle.run_table.proofs.Found.{at_the_end, before_the_end}
-use Rattle.run_table.proofs.GroupStays.{leg_group_same, leg_needs_settled, run_group_stays}
-use Rattle.run_table.proofs.HoldersFade.{by_run, job_passes, leg_passes, passes, run_passes}
-use Rattle.run_table.proofs.HoldersKeep.{arrival_settles}
-use Rattle.run_table.proofs.JobKeeps.{leg_in}
+use Rattle.workflow_runs.proofs.ArrivalKeeps.{arrival_one_each}
+use Rattle.workflow_runs.proofs.Found.{at_the_end, before_the_end}
+use Rattle.workflow_runs.proofs.GroupStays.{leg_group_same, leg_needs_settled, run_group_stays}
+use Rattle.workflow_runs.proofs.HoldersFade.{by_run, job_passes, leg_passes, passes, run_passes}
+use Rattle.workflow_runs.proofs.HoldersKeep.{arrival_settles}
+use Rattle.workflow_runs.proofs.JobKeeps.{leg_in}
 use Rattle.run_table.proofs.Kept.{IsKept, kept_settles}
-use Rattle.run_table.proofs.LegFacts.{SameUpTo, facts_stay}
-use Rattle.run_table.proofs.NeedsSettled.{result_in}
-use Rattle.run_table.proofs.OneEach.{Comes, GroupsStay, newcomer_besides}
-use Rattle.run_table.proofs.RunFits.{RunsFit}
-use Rattle.run_table.proofs.Settles.{Settles, same_events}
+use Rattle.workflow_runs.proofs.LegFacts.{SameUpTo, facts_stay}
+use Rattle.workflow_runs.proofs.NeedsSettled.{result_in}
+use Rattle.workflow_runs.proofs.OneEach.{Comes, GroupsStay, newcomer_besides}
+use Rattle.workflow_runs.proofs.RunFits.{RunsFit}
+use Rattle.workflow_runs.proofs.Settles.{Settles, same_events}
 
 -- ---- who waits and who holds
 

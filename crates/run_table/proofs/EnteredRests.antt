@@ -5,28 +5,29 @@ use Rattle.std.proofs.Common.{arith, ap, sym, subst, ◌∙◌}
 use Rattle.std.proofs.lemmas.Option.{slice_get_within}
 use Rattle.run_plan.specs.Admitted.{Admitted}
 use Rattle.group_name.specs.Group.{Group}
-use Rattle.run_table.specs.Arrivals.{arrived, room_made}
-use Rattle.run_table.specs.GroupOf.{cancels_in_progress, group_at}
-use Rattle.run_table.specs.Groups.{leg_holds}
-use Rattle.run_table.specs.LookAgain.{NoneBefore, RestBefore, look_first}
-use Rattle.run_table.specs.Moves.{Holder, without_moves}
-use Rattle.run_table.specs.Settling.{first_place}
+use Rattle.workflow_runs.specs.Arrivals.{arrived, room_made}
+use Rattle.workflow_runs.specs.GroupOf.{cancels_in_progress, group_at}
+use Rattle.workflow_runs.specs.Groups.{leg_holds}
+use Rattle.workflow_runs.specs.LookAgain.{NoneBefore, RestBefore, look_first}
+use Rattle.workflow_runs.specs.Moves.{Holder, without_moves}
+use Rattle.workflow_runs.specs.Settling.{first_place}
 use Rattle.run_table.specs.Sound.{IsSound}
-use Rattle.run_table.specs.StateWords.{is_live}
-use Rattle.run_table.specs.Step.{new_run}
-use Rattle.run_table.specs.TableState.{RunState, TableState}
-use Rattle.run_table.specs.WithinRun.{first_in_run}
-use Rattle.run_table.specs.declared.place.JobPlace.{JobPlace}
+use Rattle.workflow_runs.specs.StateWords.{is_live}
+use Rattle.workflow_runs.specs.NewRun.{new_run}
+use Rattle.run_table.specs.TableState.{TableState}
+use Rattle.workflow_runs.specs.RunState.{RunState}
+use Rattle.workflow_runs.specs.WithinRun.{first_in_run}
+use Rattle.workflow_runs.specs.declared.place.JobPlace.{JobPlace}
 use Rattle.run_table.proofs.Entered.{groups_before}
-use Rattle.run_table.proofs.Found.{before_the_end}
-use Rattle.run_table.proofs.HoldersFade.{by_run, passes, run_passes}
-use Rattle.run_table.proofs.JobKeeps.{leg_in}
+use Rattle.workflow_runs.proofs.Found.{before_the_end}
+use Rattle.workflow_runs.proofs.HoldersFade.{by_run, passes, run_passes}
+use Rattle.workflow_runs.proofs.JobKeeps.{leg_in}
 use Rattle.run_table.proofs.Kept.{kept_from_sound}
-use Rattle.run_table.proofs.KeptBack.{StillHold, kept_back}
-use Rattle.run_table.proofs.LookedAgain.{rest_before_all, runs_rest}
-use Rattle.run_table.proofs.OneEach.{one_that_holds}
+use Rattle.workflow_runs.proofs.KeptBack.{StillHold, kept_back}
+use Rattle.workflow_runs.proofs.LookedAgain.{rest_before_all, runs_rest}
+use Rattle.workflow_runs.proofs.OneEach.{one_that_holds}
 use Rattle.run_table.proofs.RestTested.{asked_none, each_none}
-use Rattle.run_table.proofs.Walks.{first_place_by_run}
+use Rattle.workflow_runs.proofs.Walks.{first_place_by_run}
 
 past : (n m : ℕ) → n < m → n ≡ m → ⊥
 past n m lt is = absurd (omega (arith, lt, is))

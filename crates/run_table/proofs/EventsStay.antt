@@ -7,30 +7,29 @@ use Rattle.std.specs.Option.{option_map_or}
 use Rattle.wf_value.specs.declared.outcome.Outcome.{Outcome}
 use Rattle.wf_value.specs.declared.outcome.Outcome.TheVariants as outcome
 use Rattle.run_plan.specs.Admitted.{Admitted}
-use Rattle.run_table.specs.Arrivals.{arrived, displaced, is_in_group_of_run, others_pending, room_made, started, stopped_where_asked}
-use Rattle.run_table.specs.FirstOf.{changed_at}
-use Rattle.run_table.specs.Fitting.{place_of_lease}
-use Rattle.run_table.specs.GroupOf.{cancels_in_progress, group_at}
-use Rattle.run_table.specs.Groups.{may_start, running_in}
-use Rattle.run_table.specs.Moves.{Holder, Moved, and_then, at_each, without_moves}
-use Rattle.run_table.specs.Places.{LegPlace, job_at, leg_at, run_at, with_job, with_leg, with_run}
-use Rattle.run_table.specs.RunNumber.{events}
-use Rattle.run_table.specs.Rules.{closing_rule, decided, is_blocked, is_done, is_settled, leg_in_phase, leg_rule, leg_rule_in}
-use Rattle.run_table.specs.Rules.{newcomer_rule, opening_rule, result_at, rule_at, run_in_phase, settled_as, whole_rule, whole_rule_in}
-use Rattle.run_table.specs.Rules.{with_leg_in}
-use Rattle.run_table.specs.Settling.{first_place, first_rule, left, settled, settled_within}
-use Rattle.run_table.specs.Step.{with_ended}
-use Rattle.run_table.specs.StopMoves.{displace, stop_holder}
-use Rattle.run_table.specs.Stops.{after_end, stopped, stopped_in, stopped_run, stops_others, told_to_stop, with_stopped_legs}
-use Rattle.run_table.specs.TableState.{JobState, LegState, RunState}
-use Rattle.run_table.specs.Words.{needs_have_settled}
-use Rattle.run_table.specs.declared.phases.LegPhase.{LegPhase}
-use Rattle.run_table.specs.declared.phases.LegPhase.TheVariants as leg
-use Rattle.run_table.specs.declared.phases.RunPhase.{RunPhase}
-use Rattle.run_table.specs.declared.phases.RunPhase.TheVariants as run
-use Rattle.run_table.specs.declared.place.Place.{Place}
-use Rattle.run_table.specs.declared.place.Place.TheVariants.{AtLeg, Closing, Opening, Whole}
-use Rattle.run_table.proofs.Optional.{from_and_then, if_some}
+use Rattle.workflow_runs.specs.Arrivals.{arrived, displaced, is_in_group_of_run, others_pending, room_made, started, stopped_where_asked}
+use Rattle.workflow_runs.specs.FirstOf.{changed_at}
+use Rattle.workflow_runs.specs.Fitting.{place_of_lease}
+use Rattle.workflow_runs.specs.GroupOf.{cancels_in_progress, group_at}
+use Rattle.workflow_runs.specs.Groups.{may_start, running_in}
+use Rattle.workflow_runs.specs.Moves.{Holder, Moved, and_then, at_each, without_moves}
+use Rattle.workflow_runs.specs.Places.{LegPlace, job_at, leg_at, run_at, with_job, with_leg, with_run}
+use Rattle.workflow_runs.specs.RunNumber.{events}
+use Rattle.workflow_runs.specs.Rules.{closing_rule, decided, is_blocked, is_done, is_settled, leg_in_phase, leg_rule, leg_rule_in}
+use Rattle.workflow_runs.specs.Rules.{newcomer_rule, opening_rule, result_at, rule_at, run_in_phase, settled_as, whole_rule, whole_rule_in}
+use Rattle.workflow_runs.specs.Rules.{with_leg_in}
+use Rattle.workflow_runs.specs.Settling.{first_place, first_rule, left, settled, settled_within}
+use Rattle.workflow_runs.specs.StopMoves.{with_ended, displace, stop_holder}
+use Rattle.workflow_runs.specs.Stops.{after_end, stopped, stopped_in, stopped_run, stops_others, told_to_stop, with_stopped_legs}
+use Rattle.workflow_runs.specs.RunState.{JobState, LegState, RunState}
+use Rattle.workflow_runs.specs.Words.{needs_have_settled}
+use Rattle.workflow_runs.specs.declared.phases.LegPhase.{LegPhase}
+use Rattle.workflow_runs.specs.declared.phases.LegPhase.TheVariants as leg
+use Rattle.workflow_runs.specs.declared.phases.RunPhase.{RunPhase}
+use Rattle.workflow_runs.specs.declared.phases.RunPhase.TheVariants as run
+use Rattle.workflow_runs.specs.declared.place.Place.{Place}
+use Rattle.workflow_runs.specs.declared.place.Place.TheVariants.{AtLeg, Closing, Opening, Whole}
+use Rattle.workflow_runs.proofs.Optional.{from_and_then, if_some}
 
 -- ---- a change of one run that keeps its event
 

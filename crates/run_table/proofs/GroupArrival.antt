@@ -5,11 +5,12 @@ use Rattle.std.proofs.Common.{◌≡◌, List, [], ◌∷◌, ◌++◌, Bool, tr
 use Rattle.std.proofs.Common.{refl, ap, ap₂, sym, subst, ◌∙◌}
 use Rattle.std.proofs.lemmas.List.{append-nil}
 use Rattle.wf_value.specs.declared.outcome.Outcome.TheVariants.{Cancelled}
-use Rattle.run_table.specs.GroupChanges.{Change, GroupState, Matches, changed, is_new, moves_of, stopped_at_arrival}
+use Rattle.run_table.specs.GroupChanges.{Change, Matches, changed, is_new, moves_of, stopped_at_arrival}
+use Rattle.workflow_runs.specs.GroupState.{GroupState}
 use Rattle.run_table.specs.GroupLaw.{BeginsWith, cancelled_end}
-use Rattle.run_table.specs.GroupWords.{arrival_of, end_of, start_of, stop_of, has_arrived, has_ended, has_started, was_stopped}
-use Rattle.run_table.specs.GroupWords.{holder_of, is_pending, is_running, is_the, latest, next_displaced, same_holder}
-use Rattle.run_table.specs.Moves.{Holder, Move}
+use Rattle.workflow_runs.specs.GroupWords.{arrival_of, end_of, start_of, stop_of, has_arrived, has_ended, has_started, was_stopped}
+use Rattle.workflow_runs.specs.GroupWords.{holder_of, is_pending, is_running, is_the, latest, next_displaced, same_holder}
+use Rattle.workflow_runs.specs.Moves.{Holder, Move}
 use Rattle.run_table.proofs.GroupLawWalk.{Lawful}
 use Rattle.run_table.proofs.GroupSaid.{latest_on, one_holder, pending_on, running_on, some_one, stopped_on, own_holder, the_one, the_same}
 use Rattle.run_table.proofs.GroupTruths.{not_yes, or_false, or_neither, pending_after_arrival, running_after_arrival}

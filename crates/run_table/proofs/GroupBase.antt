@@ -4,11 +4,11 @@ use Rattle.std.specs.Prelude.{cond, map, option_to_list}
 use Rattle.std.proofs.lemmas.List.{append-nil}
 use Rattle.std.proofs.Common.{◌≡◌, List, [], ◌∷◌, ◌++◌, Bool, true, false, ◌&&◌, ◌||◌, not, Option, Some, None}
 use Rattle.std.proofs.Common.{refl, ap, ap₂, sym, subst, ◌∙◌}
-use Rattle.run_table.specs.GroupChanges.{Change, GroupState, Matches, base_moves, beyond_base, changed, is_new, moves_of}
-use Rattle.run_table.specs.GroupChanges.{running_moves}
+use Rattle.run_table.specs.GroupChanges.{Change, Matches, base_moves, beyond_base, changed, is_new, moves_of, running_moves}
+use Rattle.workflow_runs.specs.GroupState.{GroupState}
 use Rattle.run_table.specs.GroupLaw.{KeepsLaw, cancelled_end}
-use Rattle.run_table.specs.GroupWords.{has_arrived, is_the, same_holder}
-use Rattle.run_table.specs.Moves.{Holder, Move}
+use Rattle.workflow_runs.specs.GroupWords.{has_arrived, is_the, same_holder}
+use Rattle.workflow_runs.specs.Moves.{Holder, Move}
 use Rattle.run_table.proofs.GroupChangeKeeps.{change_keeps_law, change_matches}
 use Rattle.run_table.proofs.GroupLawWalk.{Lawful, walk_is_law}
 use Rattle.run_table.proofs.GroupSaid.{arrived_on, none_is_not, one_holder, own_holder, the_same}

@@ -4,12 +4,11 @@ use Rattle.std.proofs.Common.{refl, ap, ap₂, sym, subst, ◌∙◌, append_ass
 use Rattle.std.proofs.lemmas.List.{append-nil}
 use Rattle.wf_value.specs.declared.outcome.Outcome.{Outcome}
 use Rattle.wf_value.specs.declared.outcome.Outcome.TheVariants.{Cancelled}
-use Rattle.run_table.specs.GroupChanges.{Change, GroupState, Matches, MayAllBe, MayBe, after_all, changed, moves_of}
-use Rattle.run_table.specs.GroupChanges.{moves_of_all}
+use Rattle.run_table.specs.GroupChanges.{Change, Matches, MayAllBe, MayBe, after_all, changed, moves_of, moves_of_all}
+use Rattle.workflow_runs.specs.GroupState.{GroupState}
 use Rattle.run_table.specs.GroupLaw.{KeepsLaw}
-use Rattle.run_table.specs.GroupWords.{has_arrived, has_ended, has_started, was_stopped}
-use Rattle.run_table.specs.GroupWords.{is_pending, is_running, is_the, same_holder}
-use Rattle.run_table.specs.Moves.{Holder, Move}
+use Rattle.workflow_runs.specs.GroupWords.{has_arrived, has_ended, has_started, was_stopped, is_pending, is_running, is_the, same_holder}
+use Rattle.workflow_runs.specs.Moves.{Holder, Move}
 use Rattle.run_table.proofs.GroupArrival.{arrival_matches, arrival_walks}
 use Rattle.run_table.proofs.GroupLawWalk.{Lawful, law_goes_on}
 use Rattle.run_table.proofs.GroupSaid.{latest_on, none_is_not, own_holder, pending_on, running_on, runs_started, stopped_on}

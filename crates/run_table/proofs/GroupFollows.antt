@@ -6,13 +6,12 @@ use Rattle.std.proofs.Common.{refl, ap, ap₂, sym, subst, ◌∙◌, append_ass
 use Rattle.wf_value.specs.declared.outcome.Outcome.{Outcome}
 use Rattle.wf_value.specs.declared.outcome.Outcome.TheVariants.{Cancelled}
 use Rattle.run_table.specs.GroupLaw.{BeginsWith, KeepsLaw}
-use Rattle.run_table.specs.GroupWords.{arrival_of, end_of, has_arrived, has_ended, has_started, was_stopped}
-use Rattle.run_table.specs.GroupWords.{is_pending, is_running, is_the, latest, next_displaced, same_holder}
-use Rattle.run_table.specs.Moves.{Holder, Move}
+use Rattle.workflow_runs.specs.GroupWords.{arrival_of, end_of, has_arrived, has_ended, has_started, was_stopped}
+use Rattle.workflow_runs.specs.GroupWords.{is_pending, is_running, is_the, latest, next_displaced, same_holder}
+use Rattle.workflow_runs.specs.Moves.{Holder, Move}
 use Rattle.run_table.proofs.GroupSaid.{none_is_not, some_one}
 use Rattle.run_table.proofs.GroupSaid.{arrived_on, ended_on, latest_on, one_holder, own_holder, started_on, runs_started, waits_unstarted}
-use Rattle.run_table.proofs.GroupTruths.{no_is_yes}
-use Rattle.run_table.proofs.GroupTruths.{and_parts, not_both, not_yes, or_second, or_true, or_neither}
+use Rattle.run_table.proofs.GroupTruths.{no_is_yes, and_parts, not_both, not_yes, or_second, or_true, or_neither}
 
 -- ---- where a move is
 

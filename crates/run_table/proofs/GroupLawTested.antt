@@ -9,9 +9,9 @@ use Rattle.wf_value.specs.declared.outcome.Outcome.TheVariants.{Success, Failure
 use Rattle.run_table.specs.GroupLaw.{BeginsWith, IsJustDisplaced, KeepsLaw, cancelled_end}
 use Rattle.run_table.specs.GroupLawTest.{allows, allows_all, begins_with_end, begins_with_stop, displaced_last, ends_displaced}
 use Rattle.run_table.specs.GroupLawTest.{is_cancelled, keeps_law, stops_behind}
-use Rattle.run_table.specs.GroupWords.{has_ended, has_started, holder_of, is_running, is_the, latest, next_displaced}
-use Rattle.run_table.specs.GroupWords.{same_holder, was_stopped}
-use Rattle.run_table.specs.Moves.{Holder, Move}
+use Rattle.workflow_runs.specs.GroupWords.{has_ended, has_started, holder_of, is_running, is_the, latest, next_displaced}
+use Rattle.workflow_runs.specs.GroupWords.{same_holder, was_stopped}
+use Rattle.workflow_runs.specs.Moves.{Holder, Move}
 use Rattle.run_table.proofs.GroupLawWalk.{Lawful, law_walks, walk_is_law}
 use Rattle.run_table.proofs.GroupSaid.{one_holder, own_holder, runs_started, the_one, the_same}
 use Rattle.run_table.proofs.GroupTruths.{and_parts, not_yes, or_second}

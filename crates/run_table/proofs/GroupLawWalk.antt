@@ -2,8 +2,8 @@
 use Rattle.std.proofs.Common.{◌≡◌, List, [], ◌∷◌, ◌++◌, Bool, true, false, Some, ap, ◌∙◌, append_assoc}
 use Rattle.wf_value.specs.declared.outcome.Outcome.TheVariants.{Cancelled}
 use Rattle.run_table.specs.GroupLaw.{BeginsWith, IsJustDisplaced, KeepsLaw, cancelled_end}
-use Rattle.run_table.specs.GroupWords.{has_ended, has_started, is_running, latest, next_displaced, was_stopped}
-use Rattle.run_table.specs.Moves.{Holder, Move}
+use Rattle.workflow_runs.specs.GroupWords.{has_ended, has_started, is_running, latest, next_displaced, was_stopped}
+use Rattle.workflow_runs.specs.Moves.{Holder, Move}
 use Rattle.run_table.proofs.ListWalk.{AtEach, Walk, each_of, walk_of, walk_on}
 
 -- what the law says of one move

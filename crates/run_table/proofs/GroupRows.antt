@@ -1,9 +1,10 @@
 -- The law played through by computation: pictures of the documentation, and lists that break each rule.
 use Rattle.std.specs.Prelude.{◌≡◌, [], ◌∷◌, ◌++◌, Bool, true, false, Some, refl}
 use Rattle.wf_value.specs.declared.outcome.Outcome.TheVariants.{Success, Failure, Cancelled}
-use Rattle.run_table.specs.GroupChanges.{GroupState, base_moves, beyond_base}
+use Rattle.run_table.specs.GroupChanges.{base_moves, beyond_base}
+use Rattle.workflow_runs.specs.GroupState.{GroupState}
 use Rattle.run_table.specs.GroupLawTest.{keeps_law}
-use Rattle.run_table.specs.Moves.{Holder, Move}
+use Rattle.workflow_runs.specs.Moves.{Holder, Move}
 
 abbrev run1 : Holder
 run1 = Holder.a_run 0

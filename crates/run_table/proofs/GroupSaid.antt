@@ -6,10 +6,10 @@ use Rattle.std.proofs.Common.{refl, ap, ap₂, sym, ◌∙◌}
 use Rattle.std.proofs.lemmas.Bool.{eq-eqb, eqb-true}
 use Rattle.std.proofs.lemmas.List.Elements.{filter_map-append}
 use Rattle.std.proofs.lemmas.List.Folds.{list_any-append}
-use Rattle.run_table.specs.GroupWords.{arrival_of, end_of, start_of, stop_of, has_arrived, has_ended, has_started, was_stopped}
-use Rattle.run_table.specs.GroupWords.{is_pending, is_running, is_the, latest, same_holder, same_place}
-use Rattle.run_table.specs.Moves.{Holder, Move}
-use Rattle.run_table.specs.Places.{LegPlace}
+use Rattle.workflow_runs.specs.GroupWords.{arrival_of, end_of, start_of, stop_of, has_arrived, has_ended, has_started, was_stopped}
+use Rattle.workflow_runs.specs.GroupWords.{is_pending, is_running, is_the, latest, same_holder, same_place}
+use Rattle.workflow_runs.specs.Moves.{Holder, Move}
+use Rattle.workflow_runs.specs.Places.{LegPlace}
 use Rattle.run_table.proofs.GroupTruths.{and_parts}
 
 -- ---- the same holder

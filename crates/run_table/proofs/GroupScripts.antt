@@ -9,7 +9,7 @@ use Rattle.run_plan.specs.declared.command.Command.TheVariants as command
 use Rattle.run_table.specs.GroupHistories.{all_moves, asks_for_cancelling, group_moves}
 use Rattle.run_table.specs.GroupLawTest.{keeps_law}
 use Rattle.run_table.specs.Histories.{replies}
-use Rattle.run_table.specs.Moves.{Holder, Move}
+use Rattle.workflow_runs.specs.Moves.{Holder, Move}
 use Rattle.run_table.specs.Step.{empty}
 use Rattle.run_table.proofs.OnTables.{on_tables}
 

@@ -17,8 +17,8 @@ use Rattle.std.proofs.lemmas.Slice.Eq.{bytes_eq-Decides}
 use Rattle.group_name.specs.Group.{Group}
 use Rattle.group_name.specs.Order.{group_cmp, group_eq, name_bytes, repository_bytes}
 use Rattle.run_table.specs.GroupSets.{has_group}
-use Rattle.run_table.specs.Groups.{same_group}
-use Rattle.run_table.proofs.OneEach.{both, same_is_one}
+use Rattle.workflow_runs.specs.Groups.{same_group}
+use Rattle.workflow_runs.proofs.OneEach.{both, same_is_one}
 
 -- ---- one test or another
 

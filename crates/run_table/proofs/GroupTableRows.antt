@@ -3,13 +3,13 @@ use Rattle.std.specs.Prelude.{◌≡◌, ℕ, List, [], ◌∷◌, ◌++◌, cod
 use Rattle.wf_value.specs.declared.outcome.Outcome.TheVariants as outcome
 use Rattle.group_name.specs.Group.{Group}
 use Rattle.run_table.specs.GroupChanges.{base_moves}
-use Rattle.run_table.specs.Groups.{group_state, holders_in, pending_in, running_in}
-use Rattle.run_table.specs.Moves.{Holder, Move}
-use Rattle.run_table.specs.TableState.{JobState, RunState}
-use Rattle.run_table.specs.declared.phases.LegPhase.TheVariants as leg
-use Rattle.run_table.specs.declared.phases.JobPhase.TheVariants as job
-use Rattle.run_table.specs.declared.phases.RunPhase.{RunPhase}
-use Rattle.run_table.specs.declared.phases.RunPhase.TheVariants as run
+use Rattle.workflow_runs.specs.Groups.{group_state, holders_in, pending_in, running_in}
+use Rattle.workflow_runs.specs.Moves.{Holder, Move}
+use Rattle.workflow_runs.specs.RunState.{JobState, RunState}
+use Rattle.workflow_runs.specs.declared.phases.LegPhase.TheVariants as leg
+use Rattle.workflow_runs.specs.declared.phases.JobPhase.TheVariants as job
+use Rattle.workflow_runs.specs.declared.phases.RunPhase.{RunPhase}
+use Rattle.workflow_runs.specs.declared.phases.RunPhase.TheVariants as run
 use Rattle.run_table.proofs.OnTables.{on_tables}
 
 abbrev run_of : List ℕ → RunPhase → List JobState → RunState

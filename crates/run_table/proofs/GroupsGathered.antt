@@ -6,10 +6,10 @@ use Rattle.std.proofs.lemmas.Bool.{cases_eq, true≢false}
 use Rattle.wf_value.specs.declared.refusal.Refusal.{Refusal}
 use Rattle.group_name.specs.Group.{Group}
 use Rattle.run_table.specs.GroupSets.{AddsEach, AreGroupsOf, Clash, DifferInGroup, Gathered, HasOneOf, IsALeg, IsARun, has_group}
-use Rattle.run_table.specs.Groups.{same_group}
-use Rattle.run_table.specs.Moves.{Holder}
+use Rattle.workflow_runs.specs.Groups.{same_group}
+use Rattle.workflow_runs.specs.Moves.{Holder}
 use Rattle.run_table.proofs.GroupSetReads.{either_true, own_group}
-use Rattle.run_table.proofs.OneEach.{same_is_one}
+use Rattle.workflow_runs.proofs.OneEach.{same_is_one}
 
 -- those of them that are passed
 abbrev pub SoFar : (Holder → Type 0) → (Holder → ℕ) → ℕ → Holder → Type 0

@@ -7,22 +7,22 @@ use Rattle.std.proofs.lemmas.Bool.{cases_eq}
 use Rattle.std.proofs.lemmas.Option.{slice_get-map, slice_get_past, slice_get_within}
 use Rattle.group_name.specs.Group.{Group}
 use Rattle.run_plan.specs.Admitted.{Admitted}
-use Rattle.run_table.specs.GroupOf.{cancels_in_progress, group_at, leg_cancels, run_cancels, run_facts_at}
-use Rattle.run_table.specs.LegContext.{facts_at}
-use Rattle.run_table.specs.Groups.{is_in, same_group}
-use Rattle.run_table.specs.Moves.{Holder}
-use Rattle.run_table.specs.Places.{LegPlace, leg_at, run_at}
-use Rattle.run_table.specs.RunNumber.{events}
-use Rattle.run_table.specs.Step.{new_run}
-use Rattle.run_table.specs.TableState.{LegState, RunState}
-use Rattle.run_table.proofs.Found.{before_the_end}
-use Rattle.run_table.proofs.GroupStays.{leg_group_same, leg_needs_settled, run_facts_stay, run_group_stays}
-use Rattle.run_table.proofs.JobKeeps.{leg_in}
-use Rattle.run_table.proofs.LegFacts.{SameUpTo, facts_stay}
-use Rattle.run_table.proofs.NeedsSettled.{KeepsResults, result_in, result_so_far}
-use Rattle.run_table.proofs.OneEach.{IsOneOf}
-use Rattle.run_table.proofs.RunFits.{RunsFit, admitted_at}
-use Rattle.run_table.proofs.Settles.{StayFit}
+use Rattle.workflow_runs.specs.GroupOf.{cancels_in_progress, group_at, leg_cancels, run_cancels, run_facts_at}
+use Rattle.workflow_runs.specs.LegContext.{facts_at}
+use Rattle.workflow_runs.specs.Groups.{is_in, same_group}
+use Rattle.workflow_runs.specs.Moves.{Holder}
+use Rattle.workflow_runs.specs.Places.{LegPlace, leg_at, run_at}
+use Rattle.workflow_runs.specs.RunNumber.{events}
+use Rattle.workflow_runs.specs.NewRun.{new_run}
+use Rattle.workflow_runs.specs.RunState.{LegState, RunState}
+use Rattle.workflow_runs.proofs.Found.{before_the_end}
+use Rattle.workflow_runs.proofs.GroupStays.{leg_group_same, leg_needs_settled, run_facts_stay, run_group_stays}
+use Rattle.workflow_runs.proofs.JobKeeps.{leg_in}
+use Rattle.workflow_runs.proofs.LegFacts.{SameUpTo, facts_stay}
+use Rattle.workflow_runs.proofs.NeedsSettled.{KeepsResults, result_in, result_so_far}
+use Rattle.workflow_runs.proofs.OneEach.{IsOneOf}
+use Rattle.workflow_runs.proofs.RunFits.{RunsFit, admitted_at}
+use Rattle.workflow_runs.proofs.Settles.{StayFit}
 
 -- runs of before stand where they stood, with the same events, and settled jobs keep their results
 pub record Grows (runs later : List RunState) : Type 0 where

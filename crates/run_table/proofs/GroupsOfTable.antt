@@ -10,21 +10,21 @@ use Rattle.std.proofs.lemmas.Bool.{and_parts}
 use Rattle.std.proofs.lemmas.Option.{slice_get_within}
 use Rattle.wf_value.specs.declared.refusal.Refusal.{Refusal}
 use Rattle.group_name.specs.Group.{Group}
-use Rattle.run_table.specs.GroupOf.{group_at}
+use Rattle.workflow_runs.specs.GroupOf.{group_at}
 use Rattle.run_table.specs.GroupSets.{AreGroupsOf, AreTaken, DifferInGroup, IsALeg, IsALegOfJob, IsALegOfRun, IsARun, group_as, has_group}
 use Rattle.run_table.specs.GroupSets.{stands}
-use Rattle.run_table.specs.Groups.{HasOneEach, all_holders, holds, is_in, is_pending_in, is_running_in, is_taken, same_group, waits}
-use Rattle.run_table.specs.Holders.{run_of}
-use Rattle.run_table.specs.Moves.{Holder}
-use Rattle.run_table.specs.Places.{job_at, leg_place, run_at}
-use Rattle.run_table.specs.TableState.{JobState, RunState}
+use Rattle.workflow_runs.specs.Groups.{HasOneEach, all_holders, holds, is_in, is_pending_in, is_running_in, is_taken, same_group, waits}
+use Rattle.workflow_runs.specs.Holders.{run_of}
+use Rattle.workflow_runs.specs.Moves.{Holder}
+use Rattle.workflow_runs.specs.Places.{job_at, leg_place, run_at}
+use Rattle.workflow_runs.specs.RunState.{JobState, RunState}
 use Rattle.run_table.specs.declared.sound.groups.Standing.{Standing}
 use Rattle.run_table.specs.declared.sound.groups.Standing.TheVariants.{Pending, Running}
 use Rattle.run_table.proofs.GroupSetReads.{own_group}
-use Rattle.run_table.proofs.JobKeeps.{leg_in}
-use Rattle.run_table.proofs.LeaseReads.{same_place}
-use Rattle.run_table.proofs.RunFits.{job_in_run}
-use Rattle.run_table.proofs.OneEach.{IsOneOf, both, group_is, not_taken, one_that_holds, one_that_waits}
+use Rattle.workflow_runs.proofs.JobKeeps.{leg_in}
+use Rattle.workflow_runs.proofs.LeaseReads.{same_place}
+use Rattle.workflow_runs.proofs.RunFits.{job_in_run}
+use Rattle.workflow_runs.proofs.OneEach.{IsOneOf, both, group_is, not_taken, one_that_holds, one_that_waits}
 
 -- the place of its job, and its own
 abbrev pub job_of : Holder → ℕ

@@ -12,27 +12,28 @@ use Rattle.run_plan.specs.declared.command.Command.{Command}
 use Rattle.run_table.specs.GroupChanges.{base_moves, beyond_base, running_moves}
 use Rattle.run_table.specs.GroupHistories.{all_moves, asks_for_cancelling, group_moves, moves_in}
 use Rattle.run_table.specs.GroupLaw.{KeepsLaw}
-use Rattle.run_table.specs.GroupOf.{cancels_in_progress}
-use Rattle.run_table.specs.GroupWords.{has_arrived, has_started, holder_of, is_pending, is_running, is_the, same_holder}
-use Rattle.run_table.specs.Groups.{HasOneEach, all_holders, group_state, holds, is_in, is_pending_in, is_running_in, is_told_to_stop, waits}
+use Rattle.workflow_runs.specs.GroupOf.{cancels_in_progress}
+use Rattle.workflow_runs.specs.GroupWords.{has_arrived, has_started, holder_of, is_pending, is_running, is_the, same_holder}
+use Rattle.workflow_runs.specs.Groups.{HasOneEach, all_holders, group_state, holds, is_in, is_pending_in, is_running_in}
+use Rattle.workflow_runs.specs.Groups.{is_told_to_stop, waits}
 use Rattle.run_table.specs.Histories.{after}
-use Rattle.run_table.specs.Moves.{Holder, Move}
-use Rattle.run_table.specs.Places.{leg_at, run_at}
+use Rattle.workflow_runs.specs.Moves.{Holder, Move}
+use Rattle.workflow_runs.specs.Places.{leg_at, run_at}
 use Rattle.run_table.specs.Sound.{IsSound}
 use Rattle.run_table.specs.Step.{stepped}
-use Rattle.run_table.specs.TableState.{LegState, RunState, TableState}
-use Rattle.run_table.proofs.Found.{find_passes, none_found}
+use Rattle.run_table.specs.TableState.{TableState}
+use Rattle.workflow_runs.specs.RunState.{LegState, RunState}
+use Rattle.workflow_runs.proofs.Found.{find_passes, none_found}
 use Rattle.run_table.proofs.GroupBase.{base_keeps_law, base_matches}
 use Rattle.run_table.proofs.GroupSaid.{one_holder, runs_started, the_one, the_same}
 use Rattle.run_table.proofs.GroupsKept.{Grows, grows_not, grows_on, is_in_kept}
 use Rattle.run_table.proofs.HolderStatus.{Fits, Status, fits_running, holds_as, is_held, is_waiting, status, status_by, status_of_leg}
-use Rattle.run_table.proofs.HolderStatus.{status_of_run}
-use Rattle.run_table.proofs.HolderStatus.{told_as, waits_as}
+use Rattle.run_table.proofs.HolderStatus.{status_of_run, told_as, waits_as}
 use Rattle.run_table.proofs.Kept.{kept_from_sound}
 use Rattle.run_table.proofs.LawSoFar.{LawSoFar}
-use Rattle.run_table.proofs.OneEach.{IsOneOf, both, each_holder, one_that_holds, one_that_waits}
+use Rattle.workflow_runs.proofs.OneEach.{IsOneOf, both, each_holder, one_that_holds, one_that_waits}
 use Rattle.run_table.proofs.OwnMoves.{arrived_by_own, own, own_on}
-use Rattle.run_table.proofs.RunFits.{RunsFit}
+use Rattle.workflow_runs.proofs.RunFits.{RunsFit}
 use Rattle.run_table.proofs.StepKeeps.{stepped_is_sound}
 use Rattle.run_table.proofs.StepsLaw.{step_says}
 use Rattle.run_table.proofs.Unbegun.{waiting_unbegun}

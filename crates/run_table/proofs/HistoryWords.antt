@@ -7,28 +7,29 @@ use Rattle.wf_value.specs.declared.outcome.Outcome.{Outcome}
 use Rattle.group_name.specs.Group.{Group}
 use Rattle.run_plan.specs.declared.command.Command.{Command}
 use Rattle.run_table.specs.GroupHistories.{IsOf, NeverBegan, all_moves, asks_for_cancelling}
-use Rattle.run_table.specs.GroupWords.{has_arrived, has_ended, has_started, next_displaced, was_stopped}
-use Rattle.run_table.specs.Groups.{is_in, pending_in, running_in}
+use Rattle.workflow_runs.specs.GroupWords.{has_arrived, has_ended, has_started, next_displaced, was_stopped}
+use Rattle.workflow_runs.specs.Groups.{is_in, pending_in, running_in}
 use Rattle.run_table.specs.Histories.{after}
-use Rattle.run_table.specs.Moves.{Holder, Move}
-use Rattle.run_table.specs.Places.{LegPlace, leg_at, run_at}
+use Rattle.workflow_runs.specs.Moves.{Holder, Move}
+use Rattle.workflow_runs.specs.Places.{LegPlace, leg_at, run_at}
 use Rattle.run_table.specs.Sound.{IsSound}
-use Rattle.run_table.specs.TableState.{LegState, RunState, TableState}
-use Rattle.run_table.specs.declared.phases.LegPhase.{LegPhase}
-use Rattle.run_table.specs.declared.phases.LegPhase.TheVariants as leg
-use Rattle.run_table.specs.declared.phases.RunPhase.{RunPhase}
-use Rattle.run_table.specs.declared.phases.RunPhase.TheVariants as run
+use Rattle.run_table.specs.TableState.{TableState}
+use Rattle.workflow_runs.specs.RunState.{LegState, RunState}
+use Rattle.workflow_runs.specs.declared.phases.LegPhase.{LegPhase}
+use Rattle.workflow_runs.specs.declared.phases.LegPhase.TheVariants as leg
+use Rattle.workflow_runs.specs.declared.phases.RunPhase.{RunPhase}
+use Rattle.workflow_runs.specs.declared.phases.RunPhase.TheVariants as run
 use Rattle.run_table.proofs.GroupFollows.{displaced_by_a_later_one, displaced_never_starts, displaced_waits, first_has_ended}
 use Rattle.run_table.proofs.GroupSaid.{arrived_on, ended_on, own_holder}
 use Rattle.run_table.proofs.GroupTruths.{or_true}
 use Rattle.run_table.proofs.HistoryLaw.{all_so_far, group_keeps_law}
 use Rattle.run_table.proofs.HolderStatus.{Fits, Status, leg_status, run_status, status, status_by, status_of_leg, status_of_run}
 use Rattle.run_table.proofs.HoldersOnce.{one_pending, one_running}
-use Rattle.run_table.proofs.JobKeeps.{leg_in}
+use Rattle.workflow_runs.proofs.JobKeeps.{leg_in}
 use Rattle.run_table.proofs.LawSoFar.{LawSoFar}
-use Rattle.run_table.proofs.LeaseReads.{none_is_not_some}
+use Rattle.workflow_runs.proofs.LeaseReads.{none_is_not_some}
 use Rattle.run_table.proofs.LeasesStay.{after_both, after_had}
-use Rattle.run_table.proofs.LegReads.{had_at, had_from_leg, leg_from_had}
+use Rattle.workflow_runs.proofs.LegReads.{had_at, had_from_leg, leg_from_had}
 use Rattle.run_table.proofs.OwnMoves.{arrived_by_own, ended_by_own, own}
 use Rattle.run_table.proofs.ReachedTables.{after_is_sound}
 use Rattle.run_table.proofs.Unbegun.{Unbegun}

@@ -5,17 +5,17 @@ use Rattle.std.specs.Option.{option_map_or}
 use Rattle.std.proofs.Common.{ap, sym, ◌∙◌, append_assoc, subst}
 use Rattle.std.proofs.lemmas.List.{append-nil}
 use Rattle.wf_value.specs.declared.outcome.Outcome.{Outcome}
-use Rattle.run_table.specs.Fitting.{is_stopping_leg}
-use Rattle.run_table.specs.GroupWords.{has_arrived, has_ended, has_started, is_pending, is_running, was_stopped}
-use Rattle.run_table.specs.Groups.{holds, is_told_to_stop, leg_holds, leg_waits, run_waits, waits}
-use Rattle.run_table.specs.Moves.{Holder, Move}
-use Rattle.run_table.specs.Places.{LegPlace, job_at, leg_at, run_at}
-use Rattle.run_table.specs.StateWords.{is_live}
-use Rattle.run_table.specs.TableState.{LegState, JobState, RunState}
-use Rattle.run_table.specs.declared.phases.LegPhase.{LegPhase}
-use Rattle.run_table.specs.declared.phases.LegPhase.TheVariants as leg
-use Rattle.run_table.specs.declared.phases.RunPhase.{RunPhase}
-use Rattle.run_table.specs.declared.phases.RunPhase.TheVariants as run
+use Rattle.workflow_runs.specs.Fitting.{is_stopping_leg}
+use Rattle.workflow_runs.specs.GroupWords.{has_arrived, has_ended, has_started, is_pending, is_running, was_stopped}
+use Rattle.workflow_runs.specs.Groups.{holds, is_told_to_stop, leg_holds, leg_waits, run_waits, waits}
+use Rattle.workflow_runs.specs.Moves.{Holder, Move}
+use Rattle.workflow_runs.specs.Places.{LegPlace, job_at, leg_at, run_at}
+use Rattle.workflow_runs.specs.StateWords.{is_live}
+use Rattle.workflow_runs.specs.RunState.{LegState, JobState, RunState}
+use Rattle.workflow_runs.specs.declared.phases.LegPhase.{LegPhase}
+use Rattle.workflow_runs.specs.declared.phases.LegPhase.TheVariants as leg
+use Rattle.workflow_runs.specs.declared.phases.RunPhase.{RunPhase}
+use Rattle.workflow_runs.specs.declared.phases.RunPhase.TheVariants as run
 use Rattle.run_table.proofs.GroupSaid.{ended_on, own_holder}
 use Rattle.run_table.proofs.GroupTruths.{and_false, or_true}
 use Rattle.run_table.proofs.OwnMoves.{ended_by_own, own, runs_by_own, stopped_by_own, waits_by_own}

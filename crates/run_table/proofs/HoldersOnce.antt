@@ -8,13 +8,13 @@ use Rattle.std.proofs.lemmas.Bool.{and_parts, true≢false}
 use Rattle.std.proofs.lemmas.List.Concat.{flat_map_single}
 use Rattle.std.proofs.lemmas.List.Elements.{filter-append}
 use Rattle.group_name.specs.Group.{Group}
-use Rattle.run_table.specs.FirstOf.{placed}
-use Rattle.run_table.specs.Groups.{HasOneEach, all_holders, holds, is_in, is_pending_in, is_running_in, pending_in, running_in, waits}
-use Rattle.run_table.specs.Moves.{Holder}
-use Rattle.run_table.specs.Places.{LegPlace, leg_at, leg_place, leg_places, leg_places_of_job, leg_places_of_run}
-use Rattle.run_table.specs.TableState.{LegState, JobState, RunState}
-use Rattle.run_table.proofs.JobKeeps.{leg_in}
-use Rattle.run_table.proofs.OneEach.{IsOneOf, each_holder, one_that_holds, one_that_waits}
+use Rattle.workflow_runs.specs.FirstOf.{placed}
+use Rattle.workflow_runs.specs.Groups.{HasOneEach, all_holders, holds, is_in, is_pending_in, is_running_in, pending_in, running_in, waits}
+use Rattle.workflow_runs.specs.Moves.{Holder}
+use Rattle.workflow_runs.specs.Places.{LegPlace, leg_at, leg_place, leg_places, leg_places_of_job, leg_places_of_run}
+use Rattle.workflow_runs.specs.RunState.{LegState, JobState, RunState}
+use Rattle.workflow_runs.proofs.JobKeeps.{leg_in}
+use Rattle.workflow_runs.proofs.OneEach.{IsOneOf, each_holder, one_that_holds, one_that_waits}
 use Rattle.run_table.proofs.PlacedOne.{filter_flat_map, filter_of_map, filter_to_none, none_of_all, one_of_placed}
 
 -- ---- what one alone passes

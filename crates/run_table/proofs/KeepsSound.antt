@@ -8,7 +8,7 @@ use Rattle.run_plan.specs.declared.reply.Reply.{Reply}
 use Rattle.run_table.specs.Sound.{IsSound}
 use Rattle.run_table.specs.Step.{step}
 use Rattle.run_table.specs.TableState.{TableState}
-use Rattle.run_table.proofs.Doors.{given}
+use Rattle.workflow_runs.proofs.Doors.{given}
 use Rattle.run_table.proofs.StepKeeps.{step_keeps}
 
 pub stays_sound : (old new : TableState) (c : Command) (r : Result Reply Refusal)

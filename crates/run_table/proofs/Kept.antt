@@ -3,32 +3,31 @@ use Rattle.std.specs.Prelude.{◌≡◌, ℕ, ◌+◌, ◌≤◌, List, [], leng
 use Rattle.std.specs.Prelude.{if◌then◌else◌, refl}
 use Rattle.std.specs.Option.{option_map_or}
 use Rattle.std.proofs.Common.{ap, sym, ◌∙◌, subst}
-use Rattle.run_table.specs.Groups.{HasOneEach}
+use Rattle.workflow_runs.specs.Groups.{HasOneEach}
 use Rattle.run_plan.specs.declared.planned.PlannedJob.{PlannedJob}
-use Rattle.run_table.specs.Places.{LegPlace, run_at, leg_at, plan_at}
-use Rattle.run_table.specs.Settling.{first_place, settled}
+use Rattle.workflow_runs.specs.Places.{LegPlace, run_at, leg_at, plan_at}
+use Rattle.workflow_runs.specs.Settling.{first_place, settled}
 use Rattle.run_table.specs.Sound.{DeliveriesDiffer, LeasesAreGiven, LeasesDiffer, IsHeld, IsAtWork, WorkIsHeld}
-use Rattle.run_table.specs.Parallel.{is_at_work}
-use Rattle.run_table.specs.Sound.{HeldIsAtWork, HeldOnce, LastsAreOwn, KeptIsALegs, IsSound}
-use Rattle.run_table.specs.Sound.{ParallelIsBounded}
+use Rattle.workflow_runs.specs.Parallel.{is_at_work}
+use Rattle.run_table.specs.Sound.{HeldIsAtWork, HeldOnce, LastsAreOwn, KeptIsALegs, IsSound, ParallelIsBounded}
 use Rattle.run_table.specs.Step.{last_number, lease_at}
-use Rattle.run_table.specs.TableState.{LegState, RunState, RunnerState, TableState}
+use Rattle.run_table.specs.TableState.{RunnerState, TableState}
+use Rattle.workflow_runs.specs.RunState.{LegState, RunState}
 use Rattle.run_table.specs.Turns.{names_rise, runner_named}
 use Rattle.run_plan.specs.declared.last_command.LastCommand.{LastCommand}
 use Rattle.run_plan.specs.declared.last_command.LastCommand.TheVariants as last
 use Rattle.run_plan.specs.declared.last_command.ClaimReply.TheVariants as given
 use Rattle.run_table.proofs.AtWork.{settling_bounded}
-use Rattle.run_table.proofs.LeaseReads.{LeasesAgree, leases_same}
-use Rattle.run_table.proofs.LegReads.{had_at, works_at, had_from_leg, works_from_leg, leg_from_had, leg_from_works, work_parts}
-use Rattle.run_table.proofs.OneEachRules.{settled_one_each}
-use Rattle.run_table.proofs.Optional.{from_and_then, from_map}
-use Rattle.run_table.proofs.Rests.{settled_has_no_place}
-use Rattle.run_table.proofs.RunFits.{RunsFit, admitted_at, plan_at_same, runs_fit, jobs_are_the_plans, run_phases_fit, jobs_fit}
-use Rattle.run_table.proofs.RunFits.{needs_come_first}
-use Rattle.run_table.proofs.RunFits.{leases_fit}
+use Rattle.workflow_runs.proofs.LeaseReads.{LeasesAgree, leases_same}
+use Rattle.workflow_runs.proofs.LegReads.{had_at, works_at, had_from_leg, works_from_leg, leg_from_had, leg_from_works, work_parts}
+use Rattle.workflow_runs.proofs.OneEachRules.{settled_one_each}
+use Rattle.workflow_runs.proofs.Optional.{from_and_then, from_map}
+use Rattle.workflow_runs.proofs.Rests.{settled_has_no_place}
+use Rattle.workflow_runs.proofs.RunFits.{RunsFit, admitted_at, plan_at_same, runs_fit, jobs_are_the_plans, run_phases_fit, jobs_fit}
+use Rattle.workflow_runs.proofs.RunFits.{needs_come_first, leases_fit}
 use Rattle.run_table.proofs.RunnerPut.{apart, found_by_name, has_the_name, holds_at, stood}
-use Rattle.run_table.proofs.Settles.{Settles}
-use Rattle.run_table.proofs.SettlingKeeps.{settling_settles}
+use Rattle.workflow_runs.proofs.Settles.{Settles}
+use Rattle.workflow_runs.proofs.SettlingKeeps.{settling_settles}
 
 -- a kept lease is one that some leg had, and tells of that leg
 abbrev pub KeptIsHad : List RunState → LastCommand → Type 0

@@ -21,15 +21,13 @@ use Rattle.run_plan.specs.declared.last_command.ClaimReply.TheVariants as given
 use Rattle.run_plan.specs.declared.last_command.LastCommand.{LastCommand}
 use Rattle.run_plan.specs.declared.reply.Reply.{Reply}
 use Rattle.run_plan.specs.declared.reply.Reply.TheVariants as reply
-use Rattle.run_table.specs.Fitting.{first_fit}
+use Rattle.workflow_runs.specs.Fitting.{first_fit}
 use Rattle.run_table.specs.Histories.{after}
-use Rattle.run_table.specs.Moves.{Step}
+use Rattle.run_table.specs.TableState.{Step, RunnerState, TableState}
 use Rattle.run_table.specs.Step.{admission_answer, admitting, cancel_answer, cancelling, claim_answer, claiming, claiming_runner}
 use Rattle.run_table.specs.Step.{has_no_lease_left}
 use Rattle.run_table.specs.Step.{lease_answer, lease_at, leasing, losing, lost, refused, released, report_answer, reporting}
-use Rattle.run_table.specs.Step.{reporting_runner}
-use Rattle.run_table.specs.Step.{outcome, serving_nothing, step, stepped, unchanged}
-use Rattle.run_table.specs.TableState.{RunnerState, TableState}
+use Rattle.run_table.specs.Step.{reporting_runner, outcome, serving_nothing, step, stepped, unchanged}
 use Rattle.run_table.specs.Turns.{answer_of_turn, holds_lease, holds_this, is_repeated, number_of, runner_named, turn_answer, with_runner}
 use Rattle.run_table.proofs.RunnerPut.{found_new, found_other, has_the_name}
 use Rattle.run_table.specs.ExactlyOnce.{HasTurn, HaveNoLaterTurn, IsRefused}

@@ -7,21 +7,19 @@ use Rattle.std.proofs.lemmas.List.{append-nil}
 use Rattle.wf_value.specs.declared.outcome.Outcome.{Outcome}
 use Rattle.group_name.specs.Group.{Group}
 use Rattle.run_table.specs.GroupLaw.{KeepsLaw}
-use Rattle.run_table.specs.GroupWords.{arrival_of, has_arrived, has_ended, has_started, is_running, latest}
-use Rattle.run_table.specs.Groups.{holds, is_in, may_start, waits}
-use Rattle.run_table.specs.Moves.{Holder, Move, Moved, and_then, without_moves}
-use Rattle.run_table.specs.StopMoves.{stop_holder}
-use Rattle.run_table.specs.TableState.{RunState}
+use Rattle.workflow_runs.specs.GroupWords.{arrival_of, has_arrived, has_ended, has_started, is_running, latest}
+use Rattle.workflow_runs.specs.Groups.{holds, is_in, may_start, waits}
+use Rattle.workflow_runs.specs.Moves.{Holder, Move, Moved, and_then, without_moves}
+use Rattle.workflow_runs.specs.StopMoves.{stop_holder}
+use Rattle.workflow_runs.specs.RunState.{RunState}
 use Rattle.run_table.proofs.ChangesTold.{stop_tells}
 use Rattle.run_table.proofs.GroupLawWalk.{Lawful, law_goes_on}
 use Rattle.run_table.proofs.GroupSaid.{arrived_on, latest_on, runs_started, started_on}
 use Rattle.run_table.proofs.GroupTruths.{not_both, or_false, or_neither}
-use Rattle.run_table.proofs.HolderStatus.{Fits, Status, fits_running, fits_unended, holds_as, status}
-use Rattle.run_table.proofs.HolderStatus.{waiting_is}
-use Rattle.run_table.proofs.HolderStatus.{waits_as}
-use Rattle.run_table.proofs.HoldersFade.{holder_stop_fades}
+use Rattle.run_table.proofs.HolderStatus.{Fits, Status, fits_running, fits_unended, holds_as, status, waiting_is, waits_as}
+use Rattle.workflow_runs.proofs.HoldersFade.{holder_stop_fades}
 use Rattle.run_table.proofs.ListWalk.{Walk}
-use Rattle.run_table.proofs.OneEach.{IsOneOf, both, free_to_start, one_that_holds, one_that_waits}
+use Rattle.workflow_runs.proofs.OneEach.{IsOneOf, both, free_to_start, one_that_holds, one_that_waits}
 use Rattle.run_table.proofs.OnlyStops.{OnlyStops, holder_stops}
 use Rattle.run_table.proofs.OwnMoves.{of_group, of_group_on, own, own_of_another, own_of_group, own_on, runs_by_own}
 use Rattle.run_table.proofs.StopsTold.{Tells}

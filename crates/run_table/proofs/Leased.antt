@@ -6,10 +6,12 @@ use Rattle.run_plan.specs.declared.last_command.ClaimReply.TheVariants as given
 use Rattle.run_plan.specs.declared.reply.Lease.{Lease as Leased}
 use Rattle.run_plan.specs.declared.reply.Reply.{Reply}
 use Rattle.run_plan.specs.declared.reply.Reply.TheVariants as reply
-use Rattle.run_table.specs.Places.{LegPlace, with_leg}
-use Rattle.run_table.specs.Settling.{settled}
-use Rattle.run_table.specs.Step.{claiming_runner, lease_at, leased_leg, leasing, outcome}
-use Rattle.run_table.specs.TableState.{RunState, RunnerState, TableState}
+use Rattle.workflow_runs.specs.Places.{LegPlace, with_leg}
+use Rattle.workflow_runs.specs.Settling.{settled}
+use Rattle.run_table.specs.Step.{claiming_runner, lease_at, leasing, outcome}
+use Rattle.workflow_runs.specs.NewRun.{leased_leg}
+use Rattle.run_table.specs.TableState.{RunnerState, TableState}
+use Rattle.workflow_runs.specs.RunState.{RunState}
 use Rattle.run_table.specs.Turns.{with_runner}
 
 abbrev made : ℕ → List RunState → List RunnerState → Leased → TableState × Reply

@@ -5,12 +5,13 @@ use Rattle.std.proofs.lemmas.Option.{slice_get_within, slice_get-map}
 use Rattle.std.proofs.lemmas.List.{length-map}
 use Rattle.run_table.specs.ByLease.{HasInJob, HasInRun, lease_in_job, lease_in_run, lease_of_leg, lease_of_runner}
 use Rattle.run_table.specs.ByNumber.{Adds}
-use Rattle.run_table.specs.Cells.{JobCells, states}
-use Rattle.run_table.specs.Places.{LegPlace, leg_place, run_at}
-use Rattle.run_table.specs.TableState.{LegState, JobState, RunState, RunnerState}
-use Rattle.run_table.proofs.LeaseReads.{same_place}
-use Rattle.run_table.proofs.OneAfterAnother.{adds_next, all_added}
-use Rattle.run_table.proofs.Optional.{from_and_then}
+use Rattle.workflow_runs.specs.Cells.{JobCells, states}
+use Rattle.workflow_runs.specs.Places.{LegPlace, leg_place, run_at}
+use Rattle.run_table.specs.TableState.{RunnerState}
+use Rattle.workflow_runs.specs.RunState.{LegState, JobState, RunState}
+use Rattle.workflow_runs.proofs.LeaseReads.{same_place}
+use Rattle.run_table.proofs.ByNumberRead.{adds_next, all_added}
+use Rattle.workflow_runs.proofs.Optional.{from_and_then}
 
 -- what was put in so far, by the place of the leg, of its job or of its run
 abbrev pub SoFarInJob : ℕ → ℕ → List LegState → ℕ → LegPlace → ℕ → Type 0

@@ -7,30 +7,31 @@ use Rattle.run_plan.specs.declared.command.Command.{Command}
 use Rattle.run_plan.specs.declared.command.Command.TheVariants as command
 use Rattle.run_plan.specs.declared.reply.Reply.{Reply}
 use Rattle.wf_value.specs.declared.code.Code.TheVariants.{LeaseNotHeld, NoRunner}
-use Rattle.run_table.specs.Fitting.{first_fit}
+use Rattle.workflow_runs.specs.Fitting.{first_fit}
 use Rattle.run_table.specs.Histories.{after}
-use Rattle.run_table.specs.Moves.{Step}
-use Rattle.run_table.specs.Places.{LegPlace, with_leg, with_run}
-use Rattle.run_table.specs.Settling.{settled}
+use Rattle.run_table.specs.TableState.{Step, TableState}
+use Rattle.workflow_runs.specs.Places.{LegPlace, with_leg, with_run}
+use Rattle.workflow_runs.specs.Settling.{settled}
 use Rattle.run_table.specs.Sound.{IsSound}
-use Rattle.run_table.specs.Step.{admission_answer, admitting, cancel_answer, cancelling, claim_answer, claimed}
-use Rattle.run_table.specs.Step.{claiming, entered}
-use Rattle.run_table.specs.Step.{leased_leg, leasing, losing, lost, refused, released, report_answer, reporting, serving_nothing}
-use Rattle.run_table.specs.Step.{stepped, unchanged, with_ended}
-use Rattle.run_table.specs.Stops.{outcome_of_loss, stopped_run}
-use Rattle.run_table.specs.TableState.{LegState, RunState, TableState}
+use Rattle.run_table.specs.Step.{admission_answer, admitting, cancel_answer, cancelling, claim_answer, claimed, claiming, entered}
+use Rattle.run_table.specs.Step.{leasing, losing, lost, refused, released, report_answer, reporting, serving_nothing}
+use Rattle.workflow_runs.specs.NewRun.{leased_leg}
+use Rattle.run_table.specs.Step.{stepped, unchanged}
+use Rattle.workflow_runs.specs.StopMoves.{with_ended}
+use Rattle.workflow_runs.specs.Stops.{outcome_of_loss, stopped_run}
+use Rattle.workflow_runs.specs.RunState.{LegState, RunState}
 use Rattle.run_table.specs.Turns.{runner_named}
 use Rattle.run_table.proofs.AdmitKeeps.{same_reads}
 use Rattle.run_table.proofs.ClaimKeeps.{fitting_leg, had_changes, leasing_keeps, ready_has_no_lease}
 use Rattle.run_table.proofs.Entered.{entered_keeps, entered_settles}
-use Rattle.run_table.proofs.HoldersKeep.{run_stop_settles}
+use Rattle.workflow_runs.proofs.HoldersKeep.{run_stop_settles}
 use Rattle.run_table.proofs.Kept.{kept_from_sound}
-use Rattle.run_table.proofs.LeaseReads.{none_is_not_some, place_or_another}
-use Rattle.run_table.proofs.LegReads.{had_at, had_from_leg}
+use Rattle.workflow_runs.proofs.LeaseReads.{none_is_not_some, place_or_another}
+use Rattle.workflow_runs.proofs.LegReads.{had_at, had_from_leg}
 use Rattle.run_table.proofs.ReachedTables.{with_ended_keeps_leases}
 use Rattle.run_table.proofs.ReportKeeps.{loss_keeps, report_keeps}
-use Rattle.run_table.proofs.RunFits.{RunsFit, leases_fit}
-use Rattle.run_table.proofs.SettlingKeeps.{settling_settles}
+use Rattle.workflow_runs.proofs.RunFits.{RunsFit, leases_fit}
+use Rattle.workflow_runs.proofs.SettlingKeeps.{settling_settles}
 use Rattle.run_table.proofs.StepKeeps.{stepped_is_sound}
 
 abbrev pub HadStays : List RunState → List RunState → Type 0

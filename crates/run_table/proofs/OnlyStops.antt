@@ -5,19 +5,19 @@ use Rattle.std.specs.Option.{option_map_or}
 use Rattle.std.proofs.Common.{ap, ap₂, sym, ◌∙◌, subst}
 use Rattle.std.proofs.lemmas.List.Elements.{filter_map-append}
 use Rattle.wf_value.specs.declared.outcome.Outcome.TheVariants.{Cancelled}
-use Rattle.run_table.specs.FirstOf.{placed}
-use Rattle.run_table.specs.GroupWords.{arrival_of, was_stopped}
-use Rattle.run_table.specs.Moves.{Holder, Move}
-use Rattle.run_table.specs.Places.{LegPlace, job_at, leg_at, leg_place, run_at}
-use Rattle.run_table.specs.RunConditions.{may_run_in}
-use Rattle.run_table.specs.StateWords.{is_open}
-use Rattle.run_table.specs.StopMoves.{jobs_stop_moves, leg_stop_moves, legs_stop_moves, run_stop_moves_in, stop_holder, told_moves}
-use Rattle.run_table.specs.StopMoves.{where_stop_moves}
-use Rattle.run_table.specs.TableState.{LegState, JobState, RunState}
-use Rattle.run_table.specs.declared.phases.LegPhase.{LegPhase}
-use Rattle.run_table.specs.declared.phases.LegPhase.TheVariants as leg
-use Rattle.run_table.specs.declared.phases.RunPhase.{RunPhase}
-use Rattle.run_table.specs.declared.phases.RunPhase.TheVariants as run
+use Rattle.workflow_runs.specs.FirstOf.{placed}
+use Rattle.workflow_runs.specs.GroupWords.{arrival_of, was_stopped}
+use Rattle.workflow_runs.specs.Moves.{Holder, Move}
+use Rattle.workflow_runs.specs.Places.{LegPlace, job_at, leg_at, leg_place, run_at}
+use Rattle.workflow_runs.specs.RunConditions.{may_run_in}
+use Rattle.workflow_runs.specs.StateWords.{is_open}
+use Rattle.workflow_runs.specs.StopMoves.{jobs_stop_moves, leg_stop_moves, legs_stop_moves, run_stop_moves_in, stop_holder, told_moves}
+use Rattle.workflow_runs.specs.StopMoves.{where_stop_moves}
+use Rattle.workflow_runs.specs.RunState.{LegState, JobState, RunState}
+use Rattle.workflow_runs.specs.declared.phases.LegPhase.{LegPhase}
+use Rattle.workflow_runs.specs.declared.phases.LegPhase.TheVariants as leg
+use Rattle.workflow_runs.specs.declared.phases.RunPhase.{RunPhase}
+use Rattle.workflow_runs.specs.declared.phases.RunPhase.TheVariants as run
 use Rattle.run_table.proofs.GroupLawWalk.{Lawful, still_lawful}
 use Rattle.run_table.proofs.GroupSaid.{own_holder, stopped_on}
 use Rattle.run_table.proofs.GroupTruths.{not_both, or_true}

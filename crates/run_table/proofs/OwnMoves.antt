@@ -2,9 +2,9 @@
 use Rattle.std.specs.Prelude.{◌≡◌, List, [], ◌++◌, ◌&&◌, filter, not, Bool, true, false}
 use Rattle.std.proofs.Common.{ap, ap₂, sym, ◌∙◌}
 use Rattle.std.proofs.lemmas.List.Elements.{filter-append}
-use Rattle.run_table.specs.GroupWords.{arrival_of, end_of, start_of, stop_of, has_arrived, has_ended, has_started, was_stopped}
-use Rattle.run_table.specs.GroupWords.{holder_of, is_pending, is_running, is_the, same_holder}
-use Rattle.run_table.specs.Moves.{Holder, Move}
+use Rattle.workflow_runs.specs.GroupWords.{arrival_of, end_of, start_of, stop_of, has_arrived, has_ended, has_started, was_stopped}
+use Rattle.workflow_runs.specs.GroupWords.{holder_of, is_pending, is_running, is_the, same_holder}
+use Rattle.workflow_runs.specs.Moves.{Holder, Move}
 use Rattle.run_table.proofs.GroupSaid.{one_holder}
 use Rattle.run_table.proofs.PlacedOne.{any_filtered, filter_apart, filter_twice}
 

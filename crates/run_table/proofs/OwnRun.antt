@@ -2,25 +2,25 @@
 use Rattle.std.specs.Prelude.{◌≡◌, ℕ, ◌&&◌, List, Some, slice_get, refl}
 use Rattle.std.specs.List.{list_all}
 use Rattle.std.proofs.Common.{ap, sym, ◌∙◌}
-use Rattle.run_table.specs.FirstOf.{changed_at}
-use Rattle.run_table.specs.Arrivals.{started}
-use Rattle.run_table.specs.Groups.{may_start}
-use Rattle.run_table.specs.Moves.{Holder, Moved, without_moves}
-use Rattle.run_table.specs.Places.{LegPlace, run_at, job_at, leg_at, with_run, with_job}
-use Rattle.run_table.specs.Rules.{opening_rule, leg_rule, leg_rule_in, closing_rule, whole_rule, whole_rule_in, rule_at, run_of_place}
-use Rattle.run_table.specs.Rules.{IsNoArrival, decided, result_at, with_leg_in}
-use Rattle.run_table.specs.StateWords.{is_blocked, is_done, is_settled, leg_in_phase, run_in_phase, settled_as}
-use Rattle.run_table.specs.TableState.{LegState, RunState}
-use Rattle.run_table.specs.Words.{needs_have_settled}
-use Rattle.run_table.specs.declared.phases.LegPhase.{LegPhase}
-use Rattle.run_table.specs.declared.phases.LegPhase.TheVariants as leg
-use Rattle.run_table.specs.declared.phases.RunPhase.{RunPhase}
-use Rattle.run_table.specs.declared.phases.RunPhase.TheVariants as run
-use Rattle.run_table.specs.declared.place.Place.{Place}
-use Rattle.run_table.specs.declared.place.Place.TheVariants.{Opening, AtLeg, Closing, Whole}
-use Rattle.run_table.proofs.Changed.{at_another}
-use Rattle.run_table.proofs.Optional.{from_and_then, if_some}
-use Rattle.run_table.proofs.RuleKeeps.{run_ended}
+use Rattle.workflow_runs.specs.FirstOf.{changed_at}
+use Rattle.workflow_runs.specs.Arrivals.{started}
+use Rattle.workflow_runs.specs.Groups.{may_start}
+use Rattle.workflow_runs.specs.Moves.{Holder, Moved, without_moves}
+use Rattle.workflow_runs.specs.Places.{LegPlace, run_at, job_at, leg_at, with_run, with_job}
+use Rattle.workflow_runs.specs.Rules.{opening_rule, leg_rule, leg_rule_in, closing_rule, whole_rule, whole_rule_in, rule_at, run_of_place}
+use Rattle.workflow_runs.specs.Rules.{IsNoArrival, decided, result_at, with_leg_in}
+use Rattle.workflow_runs.specs.StateWords.{is_blocked, is_done, is_settled, leg_in_phase, run_in_phase, settled_as}
+use Rattle.workflow_runs.specs.RunState.{LegState, RunState}
+use Rattle.workflow_runs.specs.Words.{needs_have_settled}
+use Rattle.workflow_runs.specs.declared.phases.LegPhase.{LegPhase}
+use Rattle.workflow_runs.specs.declared.phases.LegPhase.TheVariants as leg
+use Rattle.workflow_runs.specs.declared.phases.RunPhase.{RunPhase}
+use Rattle.workflow_runs.specs.declared.phases.RunPhase.TheVariants as run
+use Rattle.workflow_runs.specs.declared.place.Place.{Place}
+use Rattle.workflow_runs.specs.declared.place.Place.TheVariants.{Opening, AtLeg, Closing, Whole}
+use Rattle.workflow_runs.proofs.Changed.{at_another}
+use Rattle.workflow_runs.proofs.Optional.{from_and_then, if_some}
+use Rattle.workflow_runs.proofs.RuleKeeps.{run_ended}
 
 -- where one run was changed, another is as it was
 elsewhere : (runs next : List RunState) (i : ℕ) (f : RunState → RunState) (r : ℕ) → changed_at i f runs ≡ next → (r ≡ i → ⊥)

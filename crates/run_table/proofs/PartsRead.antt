@@ -1,39 +1,26 @@
--- The jobs, runs and runners that are made of their parts.
-use Rattle.std.specs.Prelude.{◌≡◌, ℕ, ◌<◌, ◌≤◌, List, length, Option, Some, None, option_map, slice_get, refl}
+-- The runners that are made of their parts.
+use Rattle.std.specs.Prelude.{◌≡◌, ℕ, ◌<◌, ◌≤◌, List, length, Option, Some, None, slice_get, refl}
 use Rattle.std.proofs.Common.{arith, ap, sym, subst, ◌∙◌}
 use Rattle.std.proofs.lemmas.Option.{slice_get-map, slice_get_within}
 use Rattle.run_plan.specs.declared.last_command.ClaimReply.{ClaimReply}
 use Rattle.run_plan.specs.declared.last_command.ClaimReply.TheVariants as replied
 use Rattle.run_plan.specs.declared.last_command.LastCommand.{LastCommand}
 use Rattle.run_plan.specs.declared.last_command.LastCommand.TheVariants as last
-use Rattle.run_plan.specs.declared.planned.PlannedJob.{PlannedJob}
 use Rattle.run_plan.specs.declared.reply.Lease.{Lease}
 use Rattle.run_table.specs.ByLease.{lease_in_run, lease_of_leg}
-use Rattle.run_table.specs.Cells.{legs_planned}
-use Rattle.run_table.specs.Places.{LegPlace, run_at}
+use Rattle.workflow_runs.specs.Places.{LegPlace, run_at}
 use Rattle.run_table.specs.Sound.{KeptIsALegs}
 use Rattle.run_table.specs.Step.{lease_at}
 use Rattle.run_table.specs.Stored.{StoredRunner, stored_last, stored_runner}
-use Rattle.run_table.specs.TableOf.{AreRunnersAs, HasItsRoom, HasRoom, IsLastAs, IsReplyAs, IsRunnerAs}
-use Rattle.run_table.specs.TableState.{JobState, RunState, RunnerState}
+use Rattle.run_table.specs.TableOf.{AreRunnersAs, IsLastAs, IsReplyAs, IsRunnerAs}
+use Rattle.run_table.specs.TableState.{RunnerState}
+use Rattle.workflow_runs.specs.RunState.{RunState}
 use Rattle.run_table.specs.declared.parts.LastParts.TheVariants as stored
-use Rattle.run_table.proofs.LegReads.{had_from_leg, leg_from_had}
-use Rattle.run_table.proofs.Optional.{from_and_then, from_map}
+use Rattle.workflow_runs.proofs.LegReads.{had_from_leg, leg_from_had}
+use Rattle.workflow_runs.proofs.Optional.{from_and_then, from_map}
 
 some_same : {X : Type 0} (x y : X) → Some x ≡ Some y → x ≡ y
 some_same x y e = cc
-
--- ---- jobs
-
-pub room_here : (plan : List PlannedJob) (j : ℕ) (planned : PlannedJob) (x : JobState) → slice_get plan j ≡ Some planned
-    → HasRoom (length planned.legs) x.legs → HasItsRoom plan j x
-room_here plan j planned x at room other is =
-    subst (λ (k : PlannedJob). HasRoom (length k.legs) x.legs) (some_same planned other (sym at ∙ is)) room
-
-pub planned_here : (plan : List PlannedJob) (j : ℕ) (planned : PlannedJob) → slice_get plan j ≡ Some planned
-    → slice_get (legs_planned plan) j ≡ Some (length planned.legs)
-planned_here plan j planned at =
-    slice_get-map (λ (k : PlannedJob). length k.legs) plan j ∙ ap (option_map (λ (k : PlannedJob). length k.legs)) at
 
 -- ---- replies
 

@@ -3,15 +3,15 @@ use Rattle.std.specs.Prelude.{◌≡◌, ℕ, List, Bool, true, false, Some, sli
 use Rattle.std.specs.Bool.{Decides}
 use Rattle.std.specs.List.{list_all}
 use Rattle.std.proofs.Common.{ap, sym, subst, ◌∙◌}
-use Rattle.run_table.specs.Sound.{PhaseFits}
-use Rattle.run_table.specs.StateWords.{is_blocked, is_settled}
-use Rattle.run_table.specs.TableState.{JobState}
-use Rattle.run_table.specs.declared.phases.JobPhase.{JobPhase}
-use Rattle.run_table.specs.declared.phases.JobPhase.TheVariants as job
-use Rattle.run_table.specs.declared.phases.RunPhase.{RunPhase}
-use Rattle.run_table.specs.declared.phases.RunPhase.TheVariants as run
-use Rattle.run_table.proofs.OneAfterAnother.{all_pass}
-use Rattle.run_table.proofs.Optional.{each_passes}
+use Rattle.workflow_runs.specs.SoundRuns.{PhaseFits}
+use Rattle.workflow_runs.specs.StateWords.{is_blocked, is_settled}
+use Rattle.workflow_runs.specs.RunState.{JobState}
+use Rattle.workflow_runs.specs.declared.phases.JobPhase.{JobPhase}
+use Rattle.workflow_runs.specs.declared.phases.JobPhase.TheVariants as job
+use Rattle.workflow_runs.specs.declared.phases.RunPhase.{RunPhase}
+use Rattle.workflow_runs.specs.declared.phases.RunPhase.TheVariants as run
+use Rattle.workflow_runs.proofs.OneAfterAnother.{all_pass}
+use Rattle.workflow_runs.proofs.Optional.{each_passes}
 
 blocked : (phase : JobPhase) → is_blocked phase ≡ true → phase ≡ job.Blocked
 blocked job.Blocked e = refl

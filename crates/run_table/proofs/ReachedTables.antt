@@ -16,36 +16,37 @@ use Rattle.run_plan.specs.declared.last_command.ClaimReply.TheVariants as given
 use Rattle.run_plan.specs.declared.planned.PlannedJob.{PlannedJob}
 use Rattle.run_plan.specs.declared.reply.Reply.{Reply}
 use Rattle.run_plan.specs.declared.reply.Reply.TheVariants as reply
-use Rattle.run_table.specs.FirstOf.{changed_at}
-use Rattle.run_table.specs.Fitting.{first_fit, place_of_lease}
+use Rattle.workflow_runs.specs.FirstOf.{changed_at}
+use Rattle.workflow_runs.specs.Fitting.{first_fit, place_of_lease}
 use Rattle.run_table.specs.Histories.{WasAnswered, after, replies}
-use Rattle.run_table.specs.Moves.{Holder, Move, Step}
-use Rattle.run_table.specs.Places.{LegPlace, leg_at, with_job, with_leg, with_run}
-use Rattle.run_table.specs.Rules.{leg_in_phase}
+use Rattle.workflow_runs.specs.Moves.{Holder, Move}
+use Rattle.run_table.specs.TableState.{Step, TableState}
+use Rattle.workflow_runs.specs.Places.{LegPlace, leg_at, with_job, with_leg, with_run}
+use Rattle.workflow_runs.specs.Rules.{leg_in_phase}
 use Rattle.run_table.specs.Sound.{IsSound}
-use Rattle.run_table.specs.Step.{empty, at_rest_after, entered, lease_end_moves, unchanged, admission_answer, new_run, admitting, admitted}
+use Rattle.run_table.specs.Step.{empty, at_rest_after, entered, unchanged, admission_answer, admitting, admitted}
+use Rattle.workflow_runs.specs.StopMoves.{lease_end_moves, with_ended, stop_holder}
+use Rattle.workflow_runs.specs.NewRun.{new_run, leased_leg}
 use Rattle.run_table.specs.Step.{claim_answer, claiming_runner}
-use Rattle.run_table.specs.Step.{leased_leg, lease_at, leasing, serving_nothing, claiming, report_answer, reporting_runner}
-use Rattle.run_table.specs.Step.{with_ended, reporting, reported, stepped}
-use Rattle.run_table.specs.Step.{cancel_answer, cancelling, cancelled, losing, lost, refused, released}
-use Rattle.run_table.specs.StopMoves.{stop_holder}
-use Rattle.run_table.specs.Stops.{after_end, outcome_of_loss, stopped_run, stops_others, with_stopped_legs}
-use Rattle.run_table.specs.TableState.{LegState, JobState, RunState, TableState}
+use Rattle.run_table.specs.Step.{lease_at, leasing, serving_nothing, claiming, report_answer, reporting_runner}
+use Rattle.run_table.specs.Step.{reporting, reported, stepped, cancel_answer, cancelling, cancelled, losing, lost, refused, released}
+use Rattle.workflow_runs.specs.Stops.{after_end, outcome_of_loss, stopped_run, stops_others, with_stopped_legs}
+use Rattle.workflow_runs.specs.RunState.{LegState, JobState, RunState}
 use Rattle.run_table.specs.Turns.{runner_named, with_runner}
-use Rattle.run_table.specs.declared.phases.LegPhase.TheVariants as leg
+use Rattle.workflow_runs.specs.declared.phases.LegPhase.TheVariants as leg
 use Rattle.run_table.proofs.AdmitKeeps.{same_reads}
 use Rattle.run_table.proofs.ClaimKeeps.{fitting_leg, had_changes, leasing_keeps, serving_keeps}
 use Rattle.run_table.proofs.Entered.{entered_keeps, entered_settles}
-use Rattle.run_table.proofs.Found.{before_the_end}
+use Rattle.workflow_runs.proofs.Found.{before_the_end}
 use Rattle.run_table.proofs.Kept.{IsKept, kept_from_sound, kept_settles}
-use Rattle.run_table.proofs.JobKeeps.{leg_in}
-use Rattle.run_table.proofs.LeaseReads.{none_is_not_some, place_or_another}
-use Rattle.run_table.proofs.LegReads.{had_at, had_in, had_in_job, had_from_leg}
+use Rattle.workflow_runs.proofs.JobKeeps.{leg_in}
+use Rattle.workflow_runs.proofs.LeaseReads.{none_is_not_some, place_or_another}
+use Rattle.workflow_runs.proofs.LegReads.{had_at, had_in, had_in_job, had_from_leg}
 use Rattle.run_table.proofs.ReportKeeps.{loss_keeps, report_keeps}
-use Rattle.run_table.proofs.RunFits.{admitted_at, plan_at_same}
-use Rattle.run_table.proofs.SettlingKeeps.{settling_settles}
+use Rattle.workflow_runs.proofs.RunFits.{admitted_at, plan_at_same}
+use Rattle.workflow_runs.proofs.SettlingKeeps.{settling_settles}
 use Rattle.run_table.proofs.StepKeeps.{empty_is_sound, run_to_cancel, stepped_is_sound}
-use Rattle.run_table.proofs.StopKeeps.{same_reads as stopped_reads, stopped_run_settles}
+use Rattle.workflow_runs.proofs.StopKeeps.{same_reads as stopped_reads, stopped_run_settles}
 
 pub after_is_sound : (t : TableState) (commands : List Command) → IsSound t → IsSound (after t commands)
 after_is_sound t [] sound = sound

@@ -10,32 +10,35 @@ use Rattle.wf_value.specs.declared.outcome.Outcome.{Outcome}
 use Rattle.wf_value.specs.declared.outcome.Outcome.TheVariants as outcome
 use Rattle.run_plan.specs.declared.command.Done.{Done as Reported}
 use Rattle.run_plan.specs.declared.reply.Reply.{Reply}
-use Rattle.run_table.specs.Fitting.{has_lease, place_of_lease}
-use Rattle.run_table.specs.Places.{LegPlace, leg_at, leg_places, with_job, with_leg}
-use Rattle.run_table.specs.Rules.{leg_in_phase, outcome_of}
+use Rattle.workflow_runs.specs.Fitting.{has_lease, place_of_lease}
+use Rattle.workflow_runs.specs.Places.{LegPlace, leg_at, leg_places, with_job, with_leg}
+use Rattle.workflow_runs.specs.Rules.{leg_in_phase, outcome_of}
 use Rattle.run_plan.specs.LastCommand.{is_last_report}
-use Rattle.run_table.specs.Sound.{LeaseFits, IsLastOf}
-use Rattle.run_table.specs.Parallel.{is_at_work}
-use Rattle.run_table.specs.Step.{refused, released, report_answer, reporting_runner, with_ended}
-use Rattle.run_table.specs.Stops.{after_end, outcome_of_loss, stops_others, with_stopped_legs}
-use Rattle.run_table.specs.TableState.{LegState, RunnerState, TableState}
+use Rattle.run_table.specs.Sound.{IsLastOf}
+use Rattle.workflow_runs.specs.SoundRuns.{LeaseFits}
+use Rattle.workflow_runs.specs.Parallel.{is_at_work}
+use Rattle.run_table.specs.Step.{refused, released, report_answer, reporting_runner}
+use Rattle.workflow_runs.specs.StopMoves.{with_ended}
+use Rattle.workflow_runs.specs.Stops.{after_end, outcome_of_loss, stops_others, with_stopped_legs}
+use Rattle.run_table.specs.TableState.{RunnerState, TableState}
+use Rattle.workflow_runs.specs.RunState.{LegState}
 use Rattle.run_table.specs.Turns.{is_named, runner_named, answer_of_turn, with_runner, holds_this}
-use Rattle.run_table.specs.declared.phases.LegPhase.{LegPhase}
-use Rattle.run_table.specs.declared.phases.LegPhase.TheVariants as leg
+use Rattle.workflow_runs.specs.declared.phases.LegPhase.{LegPhase}
+use Rattle.workflow_runs.specs.declared.phases.LegPhase.TheVariants as leg
 use Rattle.run_table.proofs.AdmitKeeps.{nothing_in_or}
 use Rattle.run_table.proofs.AtWork.{fewer_at_work}
 use Rattle.run_table.proofs.ClaimKeeps.{had_changes, works_changes}
-use Rattle.run_table.proofs.Found.{find_passes, none_found}
-use Rattle.run_table.proofs.HolderPlaces.{each_leg_place}
-use Rattle.run_table.proofs.JobKeeps.{leg_in, leg_stays, job_is_now, job_is_open, with_leg_of}
+use Rattle.workflow_runs.proofs.Found.{find_passes, none_found}
+use Rattle.workflow_runs.proofs.HolderPlaces.{each_leg_place}
+use Rattle.workflow_runs.proofs.JobKeeps.{leg_in, leg_stays, job_is_now, job_is_open, with_leg_of}
 use Rattle.run_table.proofs.Kept.{IsKept, KeptIsHad, StillHad, kept_settles, kept_still_had, deliveries_still_differ}
-use Rattle.run_table.proofs.LeaseReads.{ChangesAt, place_or_another, lease_ended, leases_same, none_is_not_some}
-use Rattle.run_table.proofs.LegReads.{had_at, works_at, had_is, had_from_leg, works_from_leg, leg_from_had, work_parts}
-use Rattle.run_table.proofs.Settles.{StayFit, stay_on}
-use Rattle.run_table.proofs.RunFits.{plan_at_same}
+use Rattle.workflow_runs.proofs.LeaseReads.{ChangesAt, place_or_another, lease_ended, leases_same, none_is_not_some}
+use Rattle.workflow_runs.proofs.LegReads.{had_at, works_at, had_is, had_from_leg, works_from_leg, leg_from_had, work_parts}
+use Rattle.workflow_runs.proofs.Settles.{StayFit, stay_on}
+use Rattle.workflow_runs.proofs.RunFits.{plan_at_same}
 use Rattle.run_table.proofs.RunnerOrder.{names_still_rise}
 use Rattle.run_table.proofs.RunnerPut.{each_put, holds_at, holds_changes, stood}
-use Rattle.run_table.proofs.StopKeeps.{stop_settles}
+use Rattle.workflow_runs.proofs.StopKeeps.{stop_settles}
 
 -- ---- the leg of a lease
 

@@ -6,21 +6,21 @@ use Rattle.std.specs.List.{enumerate_from}
 use Rattle.std.specs.Option.{option_map_or, option_or}
 use Rattle.std.proofs.Common.{arith, ap, sym, ◌∙◌}
 use Rattle.group_name.specs.Group.{Group}
-use Rattle.run_table.specs.FirstOf.{first_some, placed}
-use Rattle.run_table.specs.GroupOf.{group_at}
+use Rattle.workflow_runs.specs.FirstOf.{first_some, placed}
+use Rattle.workflow_runs.specs.GroupOf.{group_at}
 use Rattle.run_table.specs.GroupSets.{AreTaken, has_group}
-use Rattle.run_table.specs.Groups.{is_taken, may_start}
-use Rattle.run_table.specs.Moves.{Holder}
-use Rattle.run_table.specs.Settling.{first_place}
-use Rattle.run_table.specs.StateWords.{is_blocked, is_done, is_live}
-use Rattle.run_table.specs.TableState.{LegState, JobState, RunState}
-use Rattle.run_table.specs.WithinRun.{first_in_job, first_in_jobs, first_in_run, first_of_legs, first_of_open, goes_on, leg_place}
-use Rattle.run_table.specs.WithinRun.{needs_settled_in, whole_goes_on_in}
-use Rattle.run_table.specs.declared.place.Place.{Place}
-use Rattle.run_table.specs.declared.place.Place.TheVariants.{AtLeg, Closing, Opening, Whole}
-use Rattle.run_table.proofs.Firsts.{none_found}
-use Rattle.run_table.proofs.OneAfterAnother.{OfEach, like, no}
-use Rattle.run_table.proofs.Walks.{first_place_by_run}
+use Rattle.workflow_runs.specs.Groups.{is_taken, may_start}
+use Rattle.workflow_runs.specs.Moves.{Holder}
+use Rattle.workflow_runs.specs.Settling.{first_place}
+use Rattle.workflow_runs.specs.StateWords.{is_blocked, is_done, is_live}
+use Rattle.workflow_runs.specs.RunState.{LegState, JobState, RunState}
+use Rattle.workflow_runs.specs.WithinRun.{first_in_job, first_in_jobs, first_in_run, first_of_legs, first_of_open, goes_on, leg_place}
+use Rattle.workflow_runs.specs.WithinRun.{needs_settled_in, whole_goes_on_in}
+use Rattle.workflow_runs.specs.declared.place.Place.{Place}
+use Rattle.workflow_runs.specs.declared.place.Place.TheVariants.{AtLeg, Closing, Opening, Whole}
+use Rattle.workflow_runs.proofs.Firsts.{none_found}
+use Rattle.workflow_runs.proofs.OneAfterAnother.{OfEach, like, no}
+use Rattle.workflow_runs.proofs.Walks.{first_place_by_run}
 
 -- ---- a group that is taken keeps back
 

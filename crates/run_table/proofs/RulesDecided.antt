@@ -9,39 +9,39 @@ use Rattle.wf_value.specs.declared.outcome.Outcome.TheVariants as outcome
 use Rattle.needs_graph.specs.Conditions.{condition_value}
 use Rattle.needs_graph.specs.Results.{fails_job, was_cancelled}
 use Rattle.group_name.specs.Group.{Group}
-use Rattle.run_table.specs.Arrivals.{arrived, displaced, is_in_group_of_run, others_pending, room_made, started, stopped_where_asked}
-use Rattle.run_table.specs.GroupOf.{cancels_in_progress, group_at}
-use Rattle.run_table.specs.Groups.{may_start, running_in}
-use Rattle.run_table.specs.Moves.{Holder, Moved, at_each, without_moves}
-use Rattle.run_table.specs.Places.{LegPlace, run_at, job_at, leg_at, with_run, with_job}
-use Rattle.run_table.specs.Rules.{rule_at, opening_rule, leg_rule, leg_rule_in, closing_rule, whole_rule, whole_rule_in, newcomer_rule}
-use Rattle.run_table.specs.Rules.{decided, leg_ends, may_run, result_at, with_leg_in}
-use Rattle.run_table.specs.Settling.{settled}
-use Rattle.run_table.specs.StateWords.{has_ended, is_blocked, is_open, is_settled, leg_in_phase, opened, run_in_phase, settled_as}
-use Rattle.run_table.specs.StopMoves.{displace, stop_holder}
-use Rattle.run_table.specs.Stops.{stopped, stopped_run}
-use Rattle.run_table.specs.TableState.{LegState, JobState, RunState}
-use Rattle.run_table.specs.Words.{ancestor_results, condition_of, is_stopping, needs_have_settled, planned_legs}
-use Rattle.run_table.specs.declared.phases.JobPhase.{JobPhase}
-use Rattle.run_table.specs.declared.phases.JobPhase.TheVariants as job
-use Rattle.run_table.specs.declared.phases.LegPhase.{LegPhase}
-use Rattle.run_table.specs.declared.phases.LegPhase.TheVariants as leg
-use Rattle.run_table.specs.declared.phases.RunPhase.{RunPhase}
-use Rattle.run_table.specs.declared.phases.RunPhase.TheVariants as run
-use Rattle.run_table.specs.declared.place.Place.{Place}
-use Rattle.run_table.specs.declared.place.Place.TheVariants.{Opening, AtLeg, Closing, Whole}
-use Rattle.run_table.proofs.Changed.{holds_of_each}
+use Rattle.workflow_runs.specs.Arrivals.{arrived, displaced, is_in_group_of_run, others_pending, room_made, started, stopped_where_asked}
+use Rattle.workflow_runs.specs.GroupOf.{cancels_in_progress, group_at}
+use Rattle.workflow_runs.specs.Groups.{may_start, running_in}
+use Rattle.workflow_runs.specs.Moves.{Holder, Moved, at_each, without_moves}
+use Rattle.workflow_runs.specs.Places.{LegPlace, run_at, job_at, leg_at, with_run, with_job}
+use Rattle.workflow_runs.specs.Rules.{rule_at, opening_rule, leg_rule, leg_rule_in, closing_rule, whole_rule, whole_rule_in, newcomer_rule}
+use Rattle.workflow_runs.specs.Rules.{decided, leg_ends, may_run, result_at, with_leg_in}
+use Rattle.workflow_runs.specs.Settling.{settled}
+use Rattle.workflow_runs.specs.StateWords.{has_ended, is_blocked, is_open, is_settled, leg_in_phase, opened, run_in_phase, settled_as}
+use Rattle.workflow_runs.specs.StopMoves.{displace, stop_holder}
+use Rattle.workflow_runs.specs.Stops.{stopped, stopped_run}
+use Rattle.workflow_runs.specs.RunState.{LegState, JobState, RunState}
+use Rattle.workflow_runs.specs.Words.{ancestor_results, condition_of, is_stopping, needs_have_settled, planned_legs}
+use Rattle.workflow_runs.specs.declared.phases.JobPhase.{JobPhase}
+use Rattle.workflow_runs.specs.declared.phases.JobPhase.TheVariants as job
+use Rattle.workflow_runs.specs.declared.phases.LegPhase.{LegPhase}
+use Rattle.workflow_runs.specs.declared.phases.LegPhase.TheVariants as leg
+use Rattle.workflow_runs.specs.declared.phases.RunPhase.{RunPhase}
+use Rattle.workflow_runs.specs.declared.phases.RunPhase.TheVariants as run
+use Rattle.workflow_runs.specs.declared.place.Place.{Place}
+use Rattle.workflow_runs.specs.declared.place.Place.TheVariants.{Opening, AtLeg, Closing, Whole}
+use Rattle.workflow_runs.proofs.Changed.{holds_of_each}
 use Rattle.run_table.proofs.Decided.{Decided, JobDecided, NowDecided, all_decided, leg_change_decided, one_decided}
-use Rattle.run_table.proofs.HoldersKeep.{displaced_settles, holder_stop_settles}
-use Rattle.run_table.proofs.JobKeeps.{job_in}
-use Rattle.run_table.proofs.JobPhases.{is_open_open}
-use Rattle.run_table.proofs.LivePlaces.{LivePlace}
-use Rattle.run_table.proofs.Moved.{changed_none}
-use Rattle.run_table.proofs.Optional.{from_and_then, if_some}
-use Rattle.run_table.proofs.RuleKeeps.{newcomer_waits, rule_settles, run_ended}
-use Rattle.run_table.proofs.RunFits.{RunsFit, job_in_run}
-use Rattle.run_table.proofs.Settles.{Settles}
-use Rattle.run_table.proofs.SettlingKeeps.{settling_keeps}
+use Rattle.workflow_runs.proofs.HoldersKeep.{displaced_settles, holder_stop_settles}
+use Rattle.workflow_runs.proofs.JobKeeps.{job_in}
+use Rattle.workflow_runs.proofs.JobPhases.{is_open_open}
+use Rattle.workflow_runs.proofs.LivePlaces.{LivePlace}
+use Rattle.workflow_runs.proofs.Moved.{changed_none}
+use Rattle.workflow_runs.proofs.Optional.{from_and_then, if_some}
+use Rattle.workflow_runs.proofs.RuleKeeps.{newcomer_waits, rule_settles, run_ended}
+use Rattle.workflow_runs.proofs.RunFits.{RunsFit, job_in_run}
+use Rattle.workflow_runs.proofs.Settles.{Settles}
+use Rattle.workflow_runs.proofs.SettlingKeeps.{settling_keeps}
 use Rattle.run_table.proofs.StopDecided.{stopped_decided}
 
 -- ---- the rules

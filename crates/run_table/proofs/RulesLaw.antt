@@ -10,50 +10,50 @@ use Rattle.wf_value.specs.declared.outcome.JobResult.TheVariants as result
 use Rattle.wf_value.specs.declared.outcome.Outcome.TheVariants as outcome
 use Rattle.group_name.specs.Group.{Group}
 use Rattle.needs_graph.specs.Results.{conclusion_of}
-use Rattle.run_table.specs.Arrivals.{arrived, displaced, is_in_group_of_run, room_made, started}
-use Rattle.run_table.specs.GroupOf.{cancels_in_progress, group_at}
-use Rattle.run_table.specs.GroupWords.{holder_of, same_holder}
-use Rattle.run_table.specs.Groups.{HasOneEach, holds, is_in, leg_waits, may_start, run_waits, waits}
-use Rattle.run_table.specs.JobResults.{results_of}
-use Rattle.run_table.specs.Moves.{Holder, Move, Moved, and_then, without_moves}
-use Rattle.run_table.specs.Places.{LegPlace, job_at, leg_at, run_at, with_job, with_run}
-use Rattle.run_table.specs.Rules.{closing_rule, decided, leg_rule, leg_rule_in, may_run, newcomer_rule, opening_rule, result_at, rule_at}
-use Rattle.run_table.specs.Rules.{whole_rule, whole_rule_in, with_leg_in}
-use Rattle.run_table.specs.Settling.{first_place, first_rule, settled_within}
-use Rattle.run_table.specs.Sound.{LegsFit, PhaseFits}
-use Rattle.run_table.specs.StateWords.{has_ended, is_blocked, is_done, is_live, is_open, is_settled, leg_in_phase, opened}
-use Rattle.run_table.specs.StateWords.{run_in_phase, settled_as}
-use Rattle.run_table.specs.TableState.{LegState, JobState, RunState}
-use Rattle.run_table.specs.Words.{is_stopping, needs_have_settled, planned_legs}
-use Rattle.run_table.specs.declared.phases.JobPhase.{JobPhase}
-use Rattle.run_table.specs.declared.phases.JobPhase.TheVariants as job
-use Rattle.run_table.specs.declared.phases.LegPhase.{LegPhase}
-use Rattle.run_table.specs.declared.phases.LegPhase.TheVariants as leg
-use Rattle.run_table.specs.declared.phases.RunPhase.{RunPhase}
-use Rattle.run_table.specs.declared.phases.RunPhase.TheVariants as run
-use Rattle.run_table.specs.declared.place.Place.{Place}
-use Rattle.run_table.specs.declared.place.Place.TheVariants.{Opening, AtLeg, Closing, Whole}
+use Rattle.workflow_runs.specs.Arrivals.{arrived, displaced, is_in_group_of_run, room_made, started}
+use Rattle.workflow_runs.specs.GroupOf.{cancels_in_progress, group_at}
+use Rattle.workflow_runs.specs.GroupWords.{holder_of, same_holder}
+use Rattle.workflow_runs.specs.Groups.{HasOneEach, holds, is_in, leg_waits, may_start, run_waits, waits}
+use Rattle.workflow_runs.specs.JobResults.{results_of}
+use Rattle.workflow_runs.specs.Moves.{Holder, Move, Moved, and_then, without_moves}
+use Rattle.workflow_runs.specs.Places.{LegPlace, job_at, leg_at, run_at, with_job, with_run}
+use Rattle.workflow_runs.specs.Rules.{closing_rule, decided, leg_rule, leg_rule_in, may_run, newcomer_rule, opening_rule, result_at}
+use Rattle.workflow_runs.specs.Rules.{rule_at}
+use Rattle.workflow_runs.specs.Rules.{whole_rule, whole_rule_in, with_leg_in}
+use Rattle.workflow_runs.specs.Settling.{first_place, first_rule, settled_within}
+use Rattle.workflow_runs.specs.SoundRuns.{LegsFit, PhaseFits}
+use Rattle.workflow_runs.specs.StateWords.{has_ended, is_blocked, is_done, is_live, is_open, is_settled, leg_in_phase, opened}
+use Rattle.workflow_runs.specs.StateWords.{run_in_phase, settled_as}
+use Rattle.workflow_runs.specs.RunState.{LegState, JobState, RunState}
+use Rattle.workflow_runs.specs.Words.{is_stopping, needs_have_settled, planned_legs}
+use Rattle.workflow_runs.specs.declared.phases.JobPhase.{JobPhase}
+use Rattle.workflow_runs.specs.declared.phases.JobPhase.TheVariants as job
+use Rattle.workflow_runs.specs.declared.phases.LegPhase.{LegPhase}
+use Rattle.workflow_runs.specs.declared.phases.LegPhase.TheVariants as leg
+use Rattle.workflow_runs.specs.declared.phases.RunPhase.{RunPhase}
+use Rattle.workflow_runs.specs.declared.phases.RunPhase.TheVariants as run
+use Rattle.workflow_runs.specs.declared.place.Place.{Place}
+use Rattle.workflow_runs.specs.declared.place.Place.TheVariants.{Opening, AtLeg, Closing, Whole}
 use Rattle.run_table.proofs.ArrivalLaw.{arrival_goes_on}
 use Rattle.run_table.proofs.ChangesTold.{leg_tells, new_legs_same, only_none, only_one, quiet_job_tells, run_tells}
 use Rattle.run_table.proofs.GroupSaid.{own_holder}
 use Rattle.run_table.proofs.GroupsKept.{Grows, cancels_kept, grows_on, is_in_kept, stays_grows}
 use Rattle.run_table.proofs.HolderStatus.{Goes, Status, ends_at_once, goes_over, goes_to_arrive, goes_to_start, goes_unseen, leg_status}
-use Rattle.run_table.proofs.HolderStatus.{run_status}
-use Rattle.run_table.proofs.HolderStatus.{status, status_by, status_in_job, status_of_leg, status_of_run}
-use Rattle.run_table.proofs.HoldersFade.{holds_before_leg, job_fades, leg_fades, leg_passes, passes, waits_before_leg}
-use Rattle.run_table.proofs.HoldersKeep.{arrival_settles, asked_settles, displaced_settles}
-use Rattle.run_table.proofs.JobKeeps.{open_is_live}
-use Rattle.run_table.proofs.JobPhases.{is_open_open}
+use Rattle.run_table.proofs.HolderStatus.{run_status, status, status_by, status_in_job, status_of_leg, status_of_run}
+use Rattle.workflow_runs.proofs.HoldersFade.{holds_before_leg, job_fades, leg_fades, leg_passes, passes, waits_before_leg}
+use Rattle.workflow_runs.proofs.HoldersKeep.{arrival_settles, asked_settles, displaced_settles}
+use Rattle.workflow_runs.proofs.JobKeeps.{open_is_live}
+use Rattle.workflow_runs.proofs.JobPhases.{is_open_open}
 use Rattle.run_table.proofs.LawSoFar.{GoesOn, end_is_quiet, goes_on_still, goes_on_then, quiet_goes_on, start_is_quiet}
 use Rattle.run_table.proofs.LawSoFar.{unmoved_is_quiet}
-use Rattle.run_table.proofs.LivePlaces.{LivePlace, first_place_is_live}
-use Rattle.run_table.proofs.OneEach.{Comes, IsOneOf, groups_stay, newcomer_besides, one_that_waits}
-use Rattle.run_table.proofs.OneEachRules.{decided_fades, ended_fades, first_rule_one_each, live_waits, set_itself, set_waits}
-use Rattle.run_table.proofs.Optional.{from_and_then, if_some}
+use Rattle.workflow_runs.proofs.LivePlaces.{LivePlace, first_place_is_live}
+use Rattle.workflow_runs.proofs.OneEach.{Comes, IsOneOf, groups_stay, newcomer_besides, one_that_waits}
+use Rattle.workflow_runs.proofs.OneEachRules.{decided_fades, ended_fades, first_rule_one_each, live_waits, set_itself, set_waits}
+use Rattle.workflow_runs.proofs.Optional.{from_and_then, if_some}
 use Rattle.run_table.proofs.OwnMoves.{own}
-use Rattle.run_table.proofs.RuleKeeps.{newcomer_waits, run_ended}
-use Rattle.run_table.proofs.RunFits.{RunsFit, job_in_run, jobs_fit}
-use Rattle.run_table.proofs.SettlingKeeps.{first_rule_settles, settles_within}
+use Rattle.workflow_runs.proofs.RuleKeeps.{newcomer_waits, run_ended}
+use Rattle.workflow_runs.proofs.RunFits.{RunsFit, job_in_run, jobs_fit}
+use Rattle.workflow_runs.proofs.SettlingKeeps.{first_rule_settles, settles_within}
 use Rattle.run_table.proofs.StopsTold.{Tells, goes_by}
 use Rattle.run_table.proofs.Unbegun.{AllStill, LegUnbegun, There, leg_all_still, live_job_still, opened_still, phase_still, still_of_all}
 

@@ -16,8 +16,8 @@ use Rattle.wf_value.specs.declared.refusal.Refusal.{Refusal}
 use Rattle.wf_value.proofs.Rising.{name_cmp, Less-from_is_lt, Equal-from_same, rises_next, rises_rest, earlier_below}
 use Rattle.run_table.specs.TableState.{RunnerState}
 use Rattle.run_table.specs.Turns.{is_named, is_below, is_above, kept_named, names_rise, runner_named, with_runner}
-use Rattle.run_table.proofs.Doors.{given}
-use Rattle.run_table.proofs.Found.{all_weaken, all_append, each_at}
+use Rattle.workflow_runs.proofs.Doors.{given}
+use Rattle.workflow_runs.proofs.Found.{all_weaken, all_append, each_at}
 
 -- ---- two names
 

@@ -14,8 +14,8 @@ use Rattle.std.proofs.lemmas.Slice.Eq.{bytes_eq-Decides}
 use Rattle.wf_value.proofs.Rising.{name_cmp, Equal-from_same, names_apart}
 use Rattle.run_table.specs.TableState.{RunnerState}
 use Rattle.run_table.specs.Turns.{is_named, is_below, is_above, names_rise, runner_named, with_runner}
-use Rattle.run_table.proofs.Found.{all_append, each_at, find_passes, found_at, found_nowhere, none_found}
-use Rattle.run_table.proofs.LeaseReads.{ChangesAt}
+use Rattle.workflow_runs.proofs.Found.{all_append, each_at, find_passes, found_at, found_nowhere, none_found}
+use Rattle.workflow_runs.proofs.LeaseReads.{ChangesAt}
 use Rattle.run_table.proofs.RunnerOrder.{after_less, after_greater, all_filter, find_gone, find_kept}
 
 -- ---- a runner and its name

@@ -13,35 +13,37 @@ use Rattle.run_plan.specs.declared.command.Done.{Done as Reported}
 use Rattle.run_plan.specs.declared.command.Command.{Command}
 use Rattle.run_plan.specs.declared.command.Command.TheVariants as command
 use Rattle.run_plan.specs.declared.reply.Reply.{Reply}
-use Rattle.run_table.specs.Fitting.{first_fit, place_of_lease}
+use Rattle.workflow_runs.specs.Fitting.{first_fit, place_of_lease}
 use Rattle.run_table.specs.Histories.{after}
-use Rattle.run_table.specs.Moves.{Holder, Step}
-use Rattle.run_table.specs.Places.{LegPlace, with_job, with_leg, with_run}
-use Rattle.run_table.specs.Rules.{leg_in_phase}
+use Rattle.workflow_runs.specs.Moves.{Holder}
+use Rattle.run_table.specs.TableState.{Step, TableState}
+use Rattle.workflow_runs.specs.Places.{LegPlace, with_job, with_leg, with_run}
+use Rattle.workflow_runs.specs.Rules.{leg_in_phase}
 use Rattle.run_table.specs.Sound.{IsSound}
-use Rattle.run_table.specs.Step.{empty, entered, unchanged, admission_answer, new_run, admitting, admitted, claim_answer, leased_leg}
-use Rattle.run_table.specs.Step.{leasing}
-use Rattle.run_table.specs.Step.{serving_nothing, claiming, claimed, report_answer, with_ended, reporting, reported, stepped}
+use Rattle.run_table.specs.Step.{empty, entered, unchanged, admission_answer, admitting, admitted, claim_answer, leasing}
+use Rattle.workflow_runs.specs.NewRun.{new_run, leased_leg}
+use Rattle.run_table.specs.Step.{serving_nothing, claiming, claimed, report_answer, reporting, reported, stepped}
+use Rattle.workflow_runs.specs.StopMoves.{with_ended}
 use Rattle.run_table.specs.Step.{cancel_answer, cancelling, cancelled, losing, lost, refused, released}
 use Rattle.run_table.specs.Skips.{SkipsAreDue}
-use Rattle.run_table.specs.Stops.{after_end, outcome_of_loss, stopped_run, stops_others, with_stopped_legs}
-use Rattle.run_table.specs.TableState.{JobState, RunState, TableState}
+use Rattle.workflow_runs.specs.Stops.{after_end, outcome_of_loss, stopped_run, stops_others, with_stopped_legs}
+use Rattle.workflow_runs.specs.RunState.{JobState, RunState}
 use Rattle.run_table.specs.Turns.{runner_named}
-use Rattle.run_table.specs.declared.phases.LegPhase.TheVariants as leg
+use Rattle.workflow_runs.specs.declared.phases.LegPhase.TheVariants as leg
 use Rattle.run_table.proofs.AdmitKeeps.{all_fit, job_is_blocked}
 use Rattle.run_table.proofs.ClaimKeeps.{leasing_keeps}
 use Rattle.run_table.proofs.Decided.{JobDecided, Decided, decided_stays, job_change_decided, leg_change_decided}
 use Rattle.run_table.proofs.Entered.{entered_settles}
-use Rattle.run_table.proofs.Found.{at_the_end, before_the_end}
-use Rattle.run_table.proofs.JobKeeps.{job_in}
+use Rattle.workflow_runs.proofs.Found.{at_the_end, before_the_end}
+use Rattle.workflow_runs.proofs.JobKeeps.{job_in}
 use Rattle.run_table.proofs.Kept.{kept_from_sound}
-use Rattle.run_table.proofs.NeedsSettled.{result_in}
+use Rattle.workflow_runs.proofs.NeedsSettled.{result_in}
 use Rattle.run_table.proofs.ReportKeeps.{loss_keeps, report_keeps}
 use Rattle.run_table.proofs.RulesDecided.{arrival_decided, settled_decided}
-use Rattle.run_table.proofs.RunFits.{job_in_run}
+use Rattle.workflow_runs.proofs.RunFits.{job_in_run}
 use Rattle.run_table.proofs.StepKeeps.{empty_is_sound, run_to_cancel, stepped_is_sound}
 use Rattle.run_table.proofs.StopDecided.{stopped_decided}
-use Rattle.run_table.proofs.StopKeeps.{stopped_run_settles}
+use Rattle.workflow_runs.proofs.StopKeeps.{stopped_run_settles}
 
 -- ---- a new run
 

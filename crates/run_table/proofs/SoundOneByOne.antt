@@ -4,21 +4,22 @@ use Rattle.std.specs.Option.{option_map_or}
 use Rattle.std.proofs.Common.{ap, sym, ◌∙◌}
 use Rattle.run_table.specs.ByLease.{lease_of_leg, lease_of_runner}
 use Rattle.run_table.specs.ByNumber.{Finds}
-use Rattle.run_table.specs.Groups.{HasOneEach}
+use Rattle.workflow_runs.specs.Groups.{HasOneEach}
 use Rattle.run_table.specs.OneByOne.{EachRunIsSound, EachRunnerIsSound, HoldsWork, IsFound, LegIsSound, is_worked_on, leg_of, runner_of}
-use Rattle.run_table.specs.Parallel.{is_at_work}
-use Rattle.run_table.specs.Places.{LegPlace, leg_at, leg_place}
-use Rattle.run_table.specs.Settling.{first_place}
+use Rattle.workflow_runs.specs.Parallel.{is_at_work}
+use Rattle.workflow_runs.specs.Places.{LegPlace, leg_at, leg_place}
+use Rattle.workflow_runs.specs.Settling.{first_place}
 use Rattle.run_table.specs.Sound.{DeliveriesDiffer, IsAtWork, IsHeld, IsSound, KeptLeasesAreLegs}
-use Rattle.run_table.specs.TableOf.{AreAsPlanned}
-use Rattle.run_table.specs.TableState.{LegState, RunState, RunnerState, TableState}
+use Rattle.workflow_runs.specs.AsPlanned.{AreAsPlanned}
+use Rattle.run_table.specs.TableState.{RunnerState, TableState}
+use Rattle.workflow_runs.specs.RunState.{LegState, RunState}
 use Rattle.run_table.specs.Turns.{names_rise}
 use Rattle.run_table.specs.declared.sound.leases.Leases.{Leases}
-use Rattle.run_table.proofs.JobKeeps.{job_in, leg_in}
-use Rattle.run_table.proofs.LegReads.{had_from_leg, leg_from_had}
-use Rattle.run_table.proofs.OneAfterAnother.{found_has, found_is, found_some, there}
-use Rattle.run_table.proofs.Optional.{from_and_then}
-use Rattle.run_table.proofs.RunFits.{job_in_run, leg_in_job}
+use Rattle.workflow_runs.proofs.JobKeeps.{job_in, leg_in}
+use Rattle.workflow_runs.proofs.LegReads.{had_from_leg, leg_from_had}
+use Rattle.run_table.proofs.ByNumberRead.{found_has, found_is, found_some, there}
+use Rattle.workflow_runs.proofs.Optional.{from_and_then}
+use Rattle.workflow_runs.proofs.RunFits.{job_in_run, leg_in_job}
 
 abbrev pub table_with : Leases → List RunState → List RunnerState → TableState
 table_with leases runs runners = record { last_lease = leases.last; runs = runs; runners = runners }

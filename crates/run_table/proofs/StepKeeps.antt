@@ -9,25 +9,27 @@ use Rattle.run_plan.specs.declared.command.Done.{Done as Reported}
 use Rattle.run_plan.specs.declared.command.Command.{Command}
 use Rattle.run_plan.specs.declared.command.Command.TheVariants as command
 use Rattle.run_plan.specs.declared.reply.Reply.{Reply}
-use Rattle.run_table.specs.Fitting.{first_fit}
-use Rattle.run_table.specs.Moves.{Step}
-use Rattle.run_table.specs.Places.{LegPlace, run_at, with_leg, with_run}
+use Rattle.workflow_runs.specs.Fitting.{first_fit}
+use Rattle.run_table.specs.TableState.{Step, TableState}
+use Rattle.workflow_runs.specs.Places.{LegPlace, run_at, with_leg, with_run}
 use Rattle.run_table.specs.Sound.{IsSound}
 use Rattle.run_table.specs.Step.{empty, entered, unchanged, admission_answer, admitting, admitted, claim_answer, claiming_runner}
-use Rattle.run_table.specs.Step.{leased_leg, lease_at, leasing, serving_nothing, claiming, claimed, report_answer, reporting_runner}
+use Rattle.run_table.specs.Step.{lease_at, leasing, serving_nothing, claiming, claimed, report_answer, reporting_runner}
+use Rattle.workflow_runs.specs.NewRun.{leased_leg}
 use Rattle.run_table.specs.Step.{answer_of_run, cancel_answer, cancelling, cancelled, losing, lost, refused, released}
-use Rattle.run_table.specs.Stops.{outcome_of_loss, stopped_run}
-use Rattle.run_table.specs.Step.{with_ended, reporting, reported, stepped, step}
-use Rattle.run_table.specs.TableState.{RunState, TableState}
+use Rattle.workflow_runs.specs.Stops.{outcome_of_loss, stopped_run}
+use Rattle.run_table.specs.Step.{reporting, reported, stepped, step}
+use Rattle.workflow_runs.specs.StopMoves.{with_ended}
+use Rattle.workflow_runs.specs.RunState.{RunState}
 use Rattle.run_table.specs.Turns.{runner_named, with_runner}
 use Rattle.run_plan.specs.declared.last_command.ClaimReply.TheVariants as given
 use Rattle.run_table.proofs.ClaimKeeps.{serving_keeps, leasing_keeps}
 use Rattle.run_table.proofs.CommandsOneEach.{ended_one_each, leased_one_each, stopped_one_each}
 use Rattle.run_table.proofs.Entered.{entered_keeps, entered_one_each}
 use Rattle.run_table.proofs.Kept.{kept_from_sound, kept_settles, rest_is_sound}
-use Rattle.run_table.proofs.OneEach.{none_of_each}
+use Rattle.workflow_runs.proofs.OneEach.{none_of_each}
 use Rattle.run_table.proofs.ReportKeeps.{loss_keeps, loss_stays, report_keeps, report_stays}
-use Rattle.run_table.proofs.StopKeeps.{stopped_run_settles}
+use Rattle.workflow_runs.proofs.StopKeeps.{stopped_run_settles}
 
 -- a command is answered from the table as it is, or changes it
 answered_or_changed : (t : TableState) (answer : Option Reply) (change : Step) → IsSound t → (answer ≡ None → IsSound change.table)

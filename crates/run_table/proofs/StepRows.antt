@@ -17,23 +17,25 @@ use Rattle.run_plan.specs.declared.planned.PlannedJob.{PlannedJob}
 use Rattle.run_plan.specs.declared.command.Claim.{Claim as Claimed}
 use Rattle.run_plan.specs.declared.command.Command.TheVariants as command
 use Rattle.run_plan.specs.declared.reply.Reply.TheVariants as reply
-use Rattle.run_table.specs.Fitting.{place_of_lease}
-use Rattle.run_table.specs.LegContext.{context_at}
-use Rattle.run_table.specs.Arrivals.{started}
-use Rattle.run_table.specs.Moves.{Holder, without_moves}
-use Rattle.run_table.specs.Places.{with_job}
-use Rattle.run_table.specs.Rules.{decided, may_run, new_leg, opened, rule_at, settled_as}
-use Rattle.run_table.specs.Settling.{settled, first_place, first_rule, left}
-use Rattle.run_table.specs.Step.{step, empty, blocked_job, claiming_runner, reporting_runner, refused, leased_leg}
-use Rattle.run_table.specs.Stops.{with_stopped_legs}
-use Rattle.run_table.specs.TableState.{LegState, JobState, RunState, RunnerState, TableState}
-use Rattle.run_table.specs.Words.{all_have_results, is_set, needs_have_settled, planned_legs}
+use Rattle.workflow_runs.specs.Fitting.{place_of_lease}
+use Rattle.workflow_runs.specs.LegContext.{context_at}
+use Rattle.workflow_runs.specs.Arrivals.{started}
+use Rattle.workflow_runs.specs.Moves.{Holder, without_moves}
+use Rattle.workflow_runs.specs.Places.{with_job}
+use Rattle.workflow_runs.specs.Rules.{decided, may_run, new_leg, opened, rule_at, settled_as}
+use Rattle.workflow_runs.specs.Settling.{settled, first_place, first_rule, left}
+use Rattle.run_table.specs.Step.{step, empty, claiming_runner, reporting_runner, refused}
+use Rattle.workflow_runs.specs.NewRun.{blocked_job, leased_leg}
+use Rattle.workflow_runs.specs.Stops.{with_stopped_legs}
+use Rattle.run_table.specs.TableState.{RunnerState, TableState}
+use Rattle.workflow_runs.specs.RunState.{LegState, JobState, RunState}
+use Rattle.workflow_runs.specs.Words.{all_have_results, is_set, needs_have_settled, planned_legs}
 use Rattle.run_plan.specs.declared.last_command.ClaimReply.TheVariants as given
-use Rattle.run_table.specs.declared.phases.LegPhase.TheVariants as leg
-use Rattle.run_table.specs.declared.phases.JobPhase.TheVariants as job
-use Rattle.run_table.specs.declared.phases.RunPhase.{RunPhase}
-use Rattle.run_table.specs.declared.phases.RunPhase.TheVariants as run
-use Rattle.run_table.specs.declared.place.Place.TheVariants.{Opening, Whole}
+use Rattle.workflow_runs.specs.declared.phases.LegPhase.TheVariants as leg
+use Rattle.workflow_runs.specs.declared.phases.JobPhase.TheVariants as job
+use Rattle.workflow_runs.specs.declared.phases.RunPhase.{RunPhase}
+use Rattle.workflow_runs.specs.declared.phases.RunPhase.TheVariants as run
+use Rattle.workflow_runs.specs.declared.place.Place.TheVariants.{Opening, Whole}
 use Rattle.run_table.proofs.OnTables.{on_tables}
 
 -- a run of the event with this body

@@ -19,55 +19,54 @@ use Rattle.run_plan.specs.declared.planned.PlannedJob.{PlannedJob}
 use Rattle.run_plan.specs.declared.reply.Reply.{Reply}
 use Rattle.run_plan.specs.declared.reply.Reply.TheVariants as reply
 use Rattle.wf_value.specs.declared.code.Code.TheVariants.{LeaseNotHeld, NoRunner}
-use Rattle.run_table.specs.Fitting.{first_fit, has_lease, place_of_lease}
-use Rattle.run_table.specs.GroupOf.{cancels_in_progress}
-use Rattle.run_table.specs.Groups.{HasOneEach, holds, is_in, leg_holds}
-use Rattle.run_table.specs.Moves.{Holder, Move, Moved, Step, without_moves}
-use Rattle.run_table.specs.Parallel.{is_at_work}
-use Rattle.run_table.specs.Places.{LegPlace, job_at, leg_at, leg_places, run_at, with_job, with_leg}
-use Rattle.run_table.specs.Settling.{left, settled, settling}
+use Rattle.workflow_runs.specs.Fitting.{first_fit, has_lease, place_of_lease}
+use Rattle.workflow_runs.specs.GroupOf.{cancels_in_progress}
+use Rattle.workflow_runs.specs.Groups.{HasOneEach, holds, is_in, leg_holds}
+use Rattle.workflow_runs.specs.Moves.{Holder, Move, Moved, without_moves}
+use Rattle.run_table.specs.TableState.{Step, RunnerState, TableState}
+use Rattle.workflow_runs.specs.Parallel.{is_at_work}
+use Rattle.workflow_runs.specs.Places.{LegPlace, job_at, leg_at, leg_places, run_at, with_job, with_leg}
+use Rattle.workflow_runs.specs.Settling.{left, settled, settling}
 use Rattle.run_table.specs.Sound.{IsSound}
-use Rattle.run_table.specs.StateWords.{has_ended, leg_in_phase}
-use Rattle.run_table.specs.Step.{admission_answer, admitted, admitting, at_rest_after, blocked_job, cancel_answer, cancelled}
-use Rattle.run_table.specs.Step.{cancelling, claim_answer}
-use Rattle.run_table.specs.Step.{claimed, claiming, claiming_runner, entered, lease_at, lease_end_moves, leased_leg, leasing, losing}
-use Rattle.run_table.specs.Step.{lost, new_run}
+use Rattle.workflow_runs.specs.StateWords.{has_ended, leg_in_phase}
+use Rattle.run_table.specs.Step.{admission_answer, admitted, admitting, at_rest_after, cancel_answer, cancelled}
+use Rattle.workflow_runs.specs.NewRun.{blocked_job, leased_leg, new_run}
+use Rattle.run_table.specs.Step.{cancelling, claim_answer, claimed, claiming, claiming_runner, entered, lease_at, leasing, losing, lost}
+use Rattle.workflow_runs.specs.StopMoves.{lease_end_moves, with_ended, end_moves, legs_stop_moves, others_stop_moves, stop_holder}
 use Rattle.run_table.specs.Step.{refused, released, report_answer, reported, reporting, reporting_runner, serving_nothing, stepped}
-use Rattle.run_table.specs.Step.{unchanged, with_ended}
-use Rattle.run_table.specs.StopMoves.{end_moves, legs_stop_moves, others_stop_moves, stop_holder}
-use Rattle.run_table.specs.Stops.{after_end, outcome_of_loss, stops_others, with_stopped_legs}
-use Rattle.run_table.specs.TableState.{LegState, RunState, RunnerState, TableState}
+use Rattle.run_table.specs.Step.{unchanged}
+use Rattle.workflow_runs.specs.Stops.{after_end, outcome_of_loss, stops_others, with_stopped_legs}
+use Rattle.workflow_runs.specs.RunState.{LegState, RunState}
 use Rattle.run_table.specs.Turns.{runner_named, with_runner}
-use Rattle.run_table.specs.declared.phases.LegPhase.{LegPhase}
-use Rattle.run_table.specs.declared.phases.LegPhase.TheVariants as leg
+use Rattle.workflow_runs.specs.declared.phases.LegPhase.{LegPhase}
+use Rattle.workflow_runs.specs.declared.phases.LegPhase.TheVariants as leg
 use Rattle.run_table.proofs.AdmitKeeps.{all_fit}
 use Rattle.run_table.proofs.ChangesTold.{leg_tells, legs_stop_tells, only_none, only_one}
 use Rattle.run_table.proofs.ClaimKeeps.{fitting_leg}
 use Rattle.run_table.proofs.CommandsOneEach.{ended_one_each, leased_fades, leased_one_each, stopped_one_each}
 use Rattle.run_table.proofs.Entered.{entered_keeps, entered_one_each, entered_settles, groups_before, held, new_run_waits, waited}
-use Rattle.run_table.proofs.Found.{at_the_end, before_the_end, find_passes}
+use Rattle.workflow_runs.proofs.Found.{at_the_end, before_the_end, find_passes}
 use Rattle.run_table.proofs.GroupSaid.{own_holder}
 use Rattle.run_table.proofs.GroupsKept.{Grows, grows_not, grows_on, new_run_grows, past_the_end, stays_grows}
 use Rattle.run_table.proofs.HolderStatus.{Goes, Status, ends_at_once, goes_over, goes_to_arrive, leg_status, status, status_by}
-use Rattle.run_table.proofs.HolderStatus.{status_by_run}
-use Rattle.run_table.proofs.HolderStatus.{status_in_job, status_in_run, status_of_leg, status_of_run}
-use Rattle.run_table.proofs.HoldersFade.{leg_fades, leg_passes, legs_stop_fades, passes}
-use Rattle.run_table.proofs.HoldersKeep.{run_stop_settles}
-use Rattle.run_table.proofs.JobKeeps.{leg_elsewhere, leg_in, leg_now, leg_stays}
+use Rattle.run_table.proofs.HolderStatus.{status_by_run, status_in_job, status_in_run, status_of_leg, status_of_run}
+use Rattle.workflow_runs.proofs.HoldersFade.{leg_fades, leg_passes, legs_stop_fades, passes}
+use Rattle.workflow_runs.proofs.HoldersKeep.{run_stop_settles}
+use Rattle.workflow_runs.proofs.JobKeeps.{leg_elsewhere, leg_in, leg_now, leg_stays}
 use Rattle.run_table.proofs.Kept.{kept_from_sound}
 use Rattle.run_table.proofs.LawSoFar.{GoesOn, end_is_quiet, goes_on_still, goes_on_then, quiet_goes_on, stop_is_quiet, stops_are_quiet}
 use Rattle.run_table.proofs.LawSoFar.{unmoved_is_quiet}
-use Rattle.run_table.proofs.LegReads.{had_at, had_is, leg_from_works, work_parts, works_at}
-use Rattle.run_table.proofs.OneEach.{Comes}
+use Rattle.workflow_runs.proofs.LegReads.{had_at, had_is, leg_from_works, work_parts, works_at}
+use Rattle.workflow_runs.proofs.OneEach.{Comes}
 use Rattle.run_table.proofs.OnlyStops.{job_stops}
 use Rattle.run_table.proofs.OwnMoves.{own}
 use Rattle.run_table.proofs.ReportKeeps.{has_it, held_for_loss, held_for_report, loss_keeps, loss_stays, report_keeps, report_stays}
 use Rattle.run_table.proofs.ReportKeeps.{work_at}
 use Rattle.run_table.proofs.RulesLaw.{arrival_keeps, settled_keeps}
-use Rattle.run_table.proofs.RunFits.{RunsFit}
+use Rattle.workflow_runs.proofs.RunFits.{RunsFit}
 use Rattle.run_table.proofs.RunnerPut.{stood}
-use Rattle.run_table.proofs.Settles.{StayFit}
-use Rattle.run_table.proofs.SettlingKeeps.{settling_settles}
+use Rattle.workflow_runs.proofs.Settles.{StayFit}
+use Rattle.workflow_runs.proofs.SettlingKeeps.{settling_settles}
 use Rattle.run_table.proofs.StopsTold.{Tells, goes_by, goes_same}
 use Rattle.run_table.proofs.Unbegun.{Still, leg_still, legs_all_still, new_run_still}
 

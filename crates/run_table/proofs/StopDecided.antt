@@ -12,23 +12,23 @@ use Rattle.needs_graph.specs.JobNeeds.{JobNeeds}
 use Rattle.needs_graph.specs.Marks.{places}
 use Rattle.needs_graph.specs.Needs.{is_listed, needs_of}
 use Rattle.run_plan.specs.PlanOf.{needs_listed, needs_of_planned, plan_of}
-use Rattle.run_table.specs.Places.{run_at, job_at, with_run}
-use Rattle.run_table.specs.Rules.{is_open, settled_as}
-use Rattle.run_table.specs.Stops.{cancelled, stopped_in, stopped_run, stopped_where, told_to_stop, with_stopped_legs}
-use Rattle.run_table.specs.TableState.{JobState, RunState}
-use Rattle.run_table.specs.WithinRun.{may_run_in, needs_settled_in}
-use Rattle.run_table.specs.Words.{all_have_results, needs_have_settled, results_so_far}
-use Rattle.run_table.specs.declared.phases.JobPhase.{JobPhase}
-use Rattle.run_table.specs.declared.phases.RunPhase.{RunPhase}
-use Rattle.run_table.specs.declared.phases.RunPhase.TheVariants as run
+use Rattle.workflow_runs.specs.Places.{run_at, job_at, with_run}
+use Rattle.workflow_runs.specs.Rules.{is_open, settled_as}
+use Rattle.workflow_runs.specs.Stops.{cancelled, stopped_in, stopped_run, stopped_where, told_to_stop, with_stopped_legs}
+use Rattle.workflow_runs.specs.RunState.{JobState, RunState}
+use Rattle.workflow_runs.specs.WithinRun.{may_run_in, needs_settled_in}
+use Rattle.workflow_runs.specs.Words.{all_have_results, needs_have_settled, results_so_far}
+use Rattle.workflow_runs.specs.declared.phases.JobPhase.{JobPhase}
+use Rattle.workflow_runs.specs.declared.phases.RunPhase.{RunPhase}
+use Rattle.workflow_runs.specs.declared.phases.RunPhase.TheVariants as run
 use Rattle.run_table.proofs.AncestorsSettled.{both_true}
-use Rattle.run_table.proofs.Changed.{at_changed, holds_of_each}
+use Rattle.workflow_runs.proofs.Changed.{at_changed, holds_of_each}
 use Rattle.run_table.proofs.Decided.{JobDecided, Decided, decided_stays}
-use Rattle.run_table.proofs.JobKeeps.{job_in}
-use Rattle.run_table.proofs.NeedsSettled.{needs_by_run}
-use Rattle.run_table.proofs.Optional.{from_map}
-use Rattle.run_table.proofs.RunFits.{RunsFit, job_in_run}
-use Rattle.run_table.proofs.StopKeeps.{get_placed, stopped_run_settles}
+use Rattle.workflow_runs.proofs.JobKeeps.{job_in}
+use Rattle.workflow_runs.proofs.NeedsSettled.{needs_by_run}
+use Rattle.workflow_runs.proofs.Optional.{from_map}
+use Rattle.workflow_runs.proofs.RunFits.{RunsFit, job_in_run}
+use Rattle.workflow_runs.proofs.StopKeeps.{get_placed, stopped_run_settles}
 
 -- ---- the needs of a plan are jobs of it
 

@@ -7,31 +7,30 @@ use Rattle.std.proofs.lemmas.Bool.{cases_eq, eqb-true}
 use Rattle.std.proofs.lemmas.Option.{slice_get-map}
 use Rattle.wf_value.specs.declared.outcome.JobResult.TheVariants as result
 use Rattle.wf_value.specs.declared.outcome.Outcome.TheVariants.{Cancelled}
-use Rattle.run_table.specs.FirstOf.{changed_at, placed}
-use Rattle.run_table.specs.GroupWords.{holder_of, same_holder}
-use Rattle.run_table.specs.Moves.{Holder, Move, Moved}
-use Rattle.run_table.specs.Places.{LegPlace, leg_place, run_at, with_run}
-use Rattle.run_table.specs.RunConditions.{may_run_in}
-use Rattle.run_table.specs.StateWords.{is_open, settled_as}
-use Rattle.run_table.specs.StopMoves.{jobs_stop_moves, leg_stop_moves, legs_stop_moves, run_stop_moves, run_stop_moves_in, stop_holder}
-use Rattle.run_table.specs.StopMoves.{told_moves}
-use Rattle.run_table.specs.StopMoves.{where_stop_moves}
-use Rattle.run_table.specs.Stops.{cancelled, stopped, stopped_in, stopped_phase, stopped_run, stopped_where, told_to_stop}
-use Rattle.run_table.specs.Stops.{with_stopped_legs}
-use Rattle.run_table.specs.TableState.{LegState, JobState, RunState}
-use Rattle.run_table.specs.declared.phases.LegPhase.{LegPhase}
-use Rattle.run_table.specs.declared.phases.LegPhase.TheVariants as leg
-use Rattle.run_table.specs.declared.phases.RunPhase.{RunPhase}
-use Rattle.run_table.specs.declared.phases.RunPhase.TheVariants as run
-use Rattle.run_table.proofs.ArrivalKeeps.{one_or_another}
-use Rattle.run_table.proofs.Changed.{at_another, at_changed}
+use Rattle.workflow_runs.specs.FirstOf.{changed_at, placed}
+use Rattle.workflow_runs.specs.GroupWords.{holder_of, same_holder}
+use Rattle.workflow_runs.specs.Moves.{Holder, Move, Moved}
+use Rattle.workflow_runs.specs.Places.{LegPlace, leg_place, run_at, with_run}
+use Rattle.workflow_runs.specs.RunConditions.{may_run_in}
+use Rattle.workflow_runs.specs.StateWords.{is_open, settled_as}
+use Rattle.workflow_runs.specs.StopMoves.{jobs_stop_moves, leg_stop_moves, legs_stop_moves, run_stop_moves, run_stop_moves_in, stop_holder}
+use Rattle.workflow_runs.specs.StopMoves.{told_moves, where_stop_moves}
+use Rattle.workflow_runs.specs.Stops.{cancelled, stopped, stopped_in, stopped_phase, stopped_run, stopped_where, told_to_stop}
+use Rattle.workflow_runs.specs.Stops.{with_stopped_legs}
+use Rattle.workflow_runs.specs.RunState.{LegState, JobState, RunState}
+use Rattle.workflow_runs.specs.declared.phases.LegPhase.{LegPhase}
+use Rattle.workflow_runs.specs.declared.phases.LegPhase.TheVariants as leg
+use Rattle.workflow_runs.specs.declared.phases.RunPhase.{RunPhase}
+use Rattle.workflow_runs.specs.declared.phases.RunPhase.TheVariants as run
+use Rattle.workflow_runs.proofs.ArrivalKeeps.{one_or_another}
+use Rattle.workflow_runs.proofs.Changed.{at_another, at_changed}
 use Rattle.run_table.proofs.GroupSaid.{own_holder}
 use Rattle.run_table.proofs.HolderStatus.{Goes, Status, ends_by_stop, goes_not, goes_over, goes_to_stop, goes_unseen, leg_status}
 use Rattle.run_table.proofs.HolderStatus.{run_status, status}
 use Rattle.run_table.proofs.HolderStatus.{status_by, status_by_run, status_in_job, status_in_run, status_of_leg, status_of_run}
 use Rattle.run_table.proofs.OwnMoves.{own}
 use Rattle.run_table.proofs.PlacedOne.{filter_flat_map, none_of_all, one_of_placed}
-use Rattle.run_table.proofs.StopKeeps.{get_placed}
+use Rattle.workflow_runs.proofs.StopKeeps.{get_placed}
 
 -- ---- what stands at a place, changed
 

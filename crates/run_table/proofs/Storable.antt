@@ -10,25 +10,27 @@ use Rattle.wf_value.specs.declared.outcome.JobResult.{JobResult}
 use Rattle.run_plan.specs.PlanOf.{plan_of}
 use Rattle.run_plan.specs.declared.planned.PlannedJob.{PlannedJob}
 use Rattle.run_plan.proofs.FewLegs.{few_planned}
-use Rattle.run_table.specs.FirstOf.{placed}
-use Rattle.run_table.specs.JobResults.{settled_result}
-use Rattle.run_table.specs.Places.{LegPlace, job_at, leg_at, run_at}
-use Rattle.run_table.specs.Rules.{has_ended, is_live, is_settled, job_places, leg_rule, leg_rule_in, outcome_of, places, result_at}
-use Rattle.run_table.specs.Rules.{run_places}
-use Rattle.run_table.specs.Settling.{applies, first_place}
-use Rattle.run_table.specs.Sound.{IsSound, LegsFit, PhaseFits}
+use Rattle.workflow_runs.specs.FirstOf.{placed}
+use Rattle.workflow_runs.specs.JobResults.{settled_result}
+use Rattle.workflow_runs.specs.Places.{LegPlace, job_at, leg_at, run_at}
+use Rattle.workflow_runs.specs.Rules.{has_ended, is_live, is_settled, job_places, leg_rule, leg_rule_in, outcome_of, places, result_at}
+use Rattle.workflow_runs.specs.Rules.{run_places}
+use Rattle.workflow_runs.specs.Settling.{applies, first_place}
+use Rattle.run_table.specs.Sound.{IsSound}
+use Rattle.workflow_runs.specs.SoundRuns.{LegsFit, PhaseFits}
 use Rattle.run_table.specs.Stored.{IsStorable, LegsAreFew, is_new}
-use Rattle.run_table.specs.TableState.{LegState, JobState, RunState, TableState}
-use Rattle.run_table.specs.Words.{planned_legs}
-use Rattle.run_table.specs.declared.place.Place.{Place}
-use Rattle.run_table.specs.declared.place.Place.TheVariants.{AtLeg, Closing, Whole}
-use Rattle.run_table.specs.declared.phases.LegPhase.{LegPhase}
-use Rattle.run_table.specs.declared.phases.LegPhase.TheVariants as leg
-use Rattle.run_table.specs.declared.phases.JobPhase.{JobPhase}
-use Rattle.run_table.specs.declared.phases.JobPhase.TheVariants as job
-use Rattle.run_table.specs.declared.phases.RunPhase.{RunPhase}
-use Rattle.run_table.specs.declared.phases.RunPhase.TheVariants as run
-use Rattle.run_table.proofs.Found.{each_of_append, each_of_flat_map, each_of_map, each_of_placed, none_found}
+use Rattle.run_table.specs.TableState.{TableState}
+use Rattle.workflow_runs.specs.RunState.{LegState, JobState, RunState}
+use Rattle.workflow_runs.specs.Words.{planned_legs}
+use Rattle.workflow_runs.specs.declared.place.Place.{Place}
+use Rattle.workflow_runs.specs.declared.place.Place.TheVariants.{AtLeg, Closing, Whole}
+use Rattle.workflow_runs.specs.declared.phases.LegPhase.{LegPhase}
+use Rattle.workflow_runs.specs.declared.phases.LegPhase.TheVariants as leg
+use Rattle.workflow_runs.specs.declared.phases.JobPhase.{JobPhase}
+use Rattle.workflow_runs.specs.declared.phases.JobPhase.TheVariants as job
+use Rattle.workflow_runs.specs.declared.phases.RunPhase.{RunPhase}
+use Rattle.workflow_runs.specs.declared.phases.RunPhase.TheVariants as run
+use Rattle.workflow_runs.proofs.Found.{each_of_append, each_of_flat_map, each_of_map, each_of_placed, none_found}
 
 -- ---- the legs of a job are few
 

@@ -12,16 +12,19 @@ use Rattle.run_plan.specs.declared.last_command.LastCommand.{LastCommand}
 use Rattle.run_plan.specs.declared.last_command.LastCommand.TheVariants as last
 use Rattle.run_plan.specs.declared.planned.PlannedJob.{PlannedJob}
 use Rattle.run_plan.specs.declared.reply.Lease.{Lease}
-use Rattle.run_table.specs.Places.{plan_at, run_at}
-use Rattle.run_table.specs.Sound.{IsALegs, IsSound, KeptIsALegs, KeptLeasesAreLegs, LeasesDiffer, LegsFit}
+use Rattle.workflow_runs.specs.Places.{plan_at, run_at}
+use Rattle.run_table.specs.Sound.{IsALegs, IsSound, KeptIsALegs, KeptLeasesAreLegs, LeasesDiffer}
+use Rattle.workflow_runs.specs.SoundRuns.{LegsFit}
 use Rattle.run_table.specs.Step.{lease_at}
 use Rattle.run_table.specs.Stored.{StoredRunner, StoredTable, stored_last, stored_runner}
-use Rattle.run_table.specs.TableOf.{AreAsPlanned, AreRunnersAs, HasRoom, IsNoTable, IsStoredAs}
-use Rattle.run_table.specs.TableState.{LegState, RunState, RunnerState, TableState}
+use Rattle.run_table.specs.TableOf.{AreRunnersAs, IsNoTable, IsStoredAs}
+use Rattle.workflow_runs.specs.AsPlanned.{AreAsPlanned, HasRoom}
+use Rattle.run_table.specs.TableState.{RunnerState, TableState}
+use Rattle.workflow_runs.specs.RunState.{LegState, RunState}
 use Rattle.run_table.specs.Turns.{names_rise}
-use Rattle.run_table.specs.declared.phases.JobPhase.{JobPhase}
-use Rattle.run_table.specs.declared.phases.JobPhase.TheVariants as job
-use Rattle.run_table.proofs.RunFits.{job_in_run}
+use Rattle.workflow_runs.specs.declared.phases.JobPhase.{JobPhase}
+use Rattle.workflow_runs.specs.declared.phases.JobPhase.TheVariants as job
+use Rattle.workflow_runs.proofs.RunFits.{job_in_run}
 
 -- ---- a lease that is kept follows from the runs
 

@@ -11,33 +11,33 @@ use Rattle.wf_value.specs.declared.outcome.JobResult.TheVariants as result
 use Rattle.wf_value.specs.declared.outcome.Outcome.{Outcome}
 use Rattle.wf_value.specs.declared.outcome.Outcome.TheVariants as outcome
 use Rattle.run_plan.specs.Admitted.{Admitted}
-use Rattle.run_table.specs.FirstOf.{changed_at}
-use Rattle.run_table.specs.Groups.{holds, leg_holds, leg_waits, run_waits, waits}
-use Rattle.run_table.specs.Moves.{Holder, Moved, at_each}
-use Rattle.run_table.specs.Places.{LegPlace, job_at, leg_at, run_at, with_job, with_leg, with_run}
-use Rattle.run_table.specs.RunConditions.{may_run_in}
-use Rattle.run_table.specs.Rules.{result_at}
-use Rattle.run_table.specs.Sound.{LeaseFits, LegsFit, PhaseFits}
-use Rattle.run_table.specs.StateWords.{is_live, is_open, new_leg, run_in_phase, settled_as}
-use Rattle.run_table.specs.Step.{new_run}
-use Rattle.run_table.specs.StopMoves.{stop_holder}
-use Rattle.run_table.specs.Stops.{cancelled, stopped, stopped_in, stopped_phase, stopped_run, stopped_where, told_to_stop}
-use Rattle.run_table.specs.Stops.{with_stopped_legs}
-use Rattle.run_table.specs.TableState.{LegState, JobState, RunState}
-use Rattle.run_table.specs.Words.{planned_legs}
-use Rattle.run_table.specs.declared.phases.JobPhase.{JobPhase}
-use Rattle.run_table.specs.declared.phases.JobPhase.TheVariants as job
-use Rattle.run_table.specs.declared.phases.LegPhase.{LegPhase}
-use Rattle.run_table.specs.declared.phases.LegPhase.TheVariants as leg
-use Rattle.run_table.specs.declared.phases.RunPhase.{RunPhase}
-use Rattle.run_table.specs.declared.phases.RunPhase.TheVariants as run
-use Rattle.run_table.proofs.Changed.{came}
-use Rattle.run_table.proofs.Found.{before_the_end}
-use Rattle.run_table.proofs.JobKeeps.{with_job_of, with_leg_of}
-use Rattle.run_table.proofs.LeaseReads.{place_or_another}
-use Rattle.run_table.proofs.Optional.{from_and_then}
-use Rattle.run_table.proofs.RunFits.{RunsFit, leases_fit}
-use Rattle.run_table.proofs.StopKeeps.{get_placed}
+use Rattle.workflow_runs.specs.FirstOf.{changed_at}
+use Rattle.workflow_runs.specs.Groups.{holds, leg_holds, leg_waits, run_waits, waits}
+use Rattle.workflow_runs.specs.Moves.{Holder, Moved, at_each}
+use Rattle.workflow_runs.specs.Places.{LegPlace, job_at, leg_at, run_at, with_job, with_leg, with_run}
+use Rattle.workflow_runs.specs.RunConditions.{may_run_in}
+use Rattle.workflow_runs.specs.Rules.{result_at}
+use Rattle.workflow_runs.specs.SoundRuns.{LeaseFits, LegsFit, PhaseFits}
+use Rattle.workflow_runs.specs.StateWords.{is_live, is_open, new_leg, run_in_phase, settled_as}
+use Rattle.workflow_runs.specs.NewRun.{new_run}
+use Rattle.workflow_runs.specs.StopMoves.{stop_holder}
+use Rattle.workflow_runs.specs.Stops.{cancelled, stopped, stopped_in, stopped_phase, stopped_run, stopped_where, told_to_stop}
+use Rattle.workflow_runs.specs.Stops.{with_stopped_legs}
+use Rattle.workflow_runs.specs.RunState.{LegState, JobState, RunState}
+use Rattle.workflow_runs.specs.Words.{planned_legs}
+use Rattle.workflow_runs.specs.declared.phases.JobPhase.{JobPhase}
+use Rattle.workflow_runs.specs.declared.phases.JobPhase.TheVariants as job
+use Rattle.workflow_runs.specs.declared.phases.LegPhase.{LegPhase}
+use Rattle.workflow_runs.specs.declared.phases.LegPhase.TheVariants as leg
+use Rattle.workflow_runs.specs.declared.phases.RunPhase.{RunPhase}
+use Rattle.workflow_runs.specs.declared.phases.RunPhase.TheVariants as run
+use Rattle.workflow_runs.proofs.Changed.{came}
+use Rattle.workflow_runs.proofs.Found.{before_the_end}
+use Rattle.workflow_runs.proofs.JobKeeps.{with_job_of, with_leg_of}
+use Rattle.workflow_runs.proofs.LeaseReads.{place_or_another}
+use Rattle.workflow_runs.proofs.Optional.{from_and_then}
+use Rattle.workflow_runs.proofs.RunFits.{RunsFit, leases_fit}
+use Rattle.workflow_runs.proofs.StopKeeps.{get_placed}
 
 -- ---- what has not begun
 

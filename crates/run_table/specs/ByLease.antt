@@ -1,7 +1,8 @@
 -- The leases of legs, place by place, and those that runners hold. Own.
 use Rattle.std.specs.Prelude.{◌≡◌, ℕ, List, Option, Some, option_and_then, slice_get}
-use Rattle.run_table.specs.Places.{LegPlace, run_at}
-use Rattle.run_table.specs.TableState.{LegState, JobState, RunState, RunnerState}
+use Rattle.workflow_runs.specs.Places.{LegPlace, run_at}
+use Rattle.run_table.specs.TableState.{RunnerState}
+use Rattle.workflow_runs.specs.RunState.{LegState, JobState, RunState}
 
 -- the lease of the leg at a place, where it has one
 abbrev pub lease_in_job : List LegState → ℕ → Option ℕ

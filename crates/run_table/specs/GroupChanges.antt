@@ -7,14 +7,9 @@ use Rattle.std.specs.Option.{option_map_or}
 use Rattle.wf_value.specs.declared.outcome.Outcome.{Outcome}
 use Rattle.wf_value.specs.declared.outcome.Outcome.TheVariants.{Cancelled}
 use Rattle.run_table.specs.GroupLaw.{cancelled_end}
-use Rattle.run_table.specs.GroupWords.{has_arrived, holder_of, is_pending, is_running, is_the, latest, same_holder, was_stopped}
-use Rattle.run_table.specs.Moves.{Holder, Move}
-
--- who holds a group: the running holder, whether it has been told to stop, and the pending one
-pub record GroupState : Type 0 where
-  pub running : Option Holder
-  pub stopping : Bool
-  pub pending : Option Holder
+use Rattle.workflow_runs.specs.GroupWords.{has_arrived, holder_of, is_pending, is_running, is_the, latest, same_holder, was_stopped}
+use Rattle.workflow_runs.specs.Moves.{Holder, Move}
+use Rattle.workflow_runs.specs.GroupState.{GroupState}
 
 -- The state is what the moves say: the running holder has started and not ended, the pending one is the latest
 -- arrival and has neither started nor ended, and there are no others.

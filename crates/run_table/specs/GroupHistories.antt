@@ -6,17 +6,18 @@ use Rattle.wf_value.specs.declared.outcome.Outcome.TheVariants as outcome
 use Rattle.group_name.specs.Group.{Group}
 use Rattle.run_plan.specs.declared.command.Command.{Command}
 use Rattle.run_table.specs.GroupChanges.{base_moves, beyond_base}
-use Rattle.run_table.specs.GroupOf.{cancels_in_progress}
-use Rattle.run_table.specs.GroupWords.{holder_of}
-use Rattle.run_table.specs.Groups.{group_state, is_in}
+use Rattle.workflow_runs.specs.GroupOf.{cancels_in_progress}
+use Rattle.workflow_runs.specs.GroupWords.{holder_of}
+use Rattle.workflow_runs.specs.Groups.{group_state, is_in}
 use Rattle.run_table.specs.Histories.{after}
-use Rattle.run_table.specs.Moves.{Holder, Move}
-use Rattle.run_table.specs.Places.{LegPlace, leg_at, run_at}
+use Rattle.workflow_runs.specs.Moves.{Holder, Move}
+use Rattle.workflow_runs.specs.Places.{LegPlace, leg_at, run_at}
 use Rattle.run_table.specs.Step.{stepped}
-use Rattle.run_table.specs.TableState.{LegState, JobState, RunState, TableState}
-use Rattle.run_table.specs.declared.phases.JobPhase.TheVariants as job
-use Rattle.run_table.specs.declared.phases.LegPhase.TheVariants as leg
-use Rattle.run_table.specs.declared.phases.RunPhase.TheVariants as run
+use Rattle.run_table.specs.TableState.{TableState}
+use Rattle.workflow_runs.specs.RunState.{LegState, JobState, RunState}
+use Rattle.workflow_runs.specs.declared.phases.JobPhase.TheVariants as job
+use Rattle.workflow_runs.specs.declared.phases.LegPhase.TheVariants as leg
+use Rattle.workflow_runs.specs.declared.phases.RunPhase.TheVariants as run
 
 -- ---- the moves
 

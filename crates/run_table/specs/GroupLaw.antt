@@ -5,8 +5,8 @@
 use Rattle.std.specs.Prelude.{◌≡◌, List, [], ◌∷◌, ◌++◌, map, option_to_list, Bool, true, false, Option, Some}
 use Rattle.wf_value.specs.declared.outcome.Outcome.{Outcome}
 use Rattle.wf_value.specs.declared.outcome.Outcome.TheVariants.{Cancelled}
-use Rattle.run_table.specs.GroupWords.{has_ended, has_started, is_running, latest, next_displaced, was_stopped}
-use Rattle.run_table.specs.Moves.{Holder, Move}
+use Rattle.workflow_runs.specs.GroupWords.{has_ended, has_started, is_running, latest, next_displaced, was_stopped}
+use Rattle.workflow_runs.specs.Moves.{Holder, Move}
 
 abbrev pub BeginsWith : List Move → List Move → Type 0
 BeginsWith front moves = (rest : List Move) × (moves ≡ front ++ rest)

@@ -3,9 +3,9 @@ use Rattle.std.specs.Prelude.{List, [], ◌∷◌, ◌++◌, map, Bool, true, fa
 use Rattle.std.specs.List.{list_all}
 use Rattle.wf_value.specs.declared.outcome.Outcome.{Outcome}
 use Rattle.wf_value.specs.declared.outcome.Outcome.TheVariants.{Success, Failure, Cancelled}
-use Rattle.run_table.specs.GroupWords.{arrival_of, has_ended, has_started, holder_of, is_running, is_the, latest, next_displaced}
-use Rattle.run_table.specs.GroupWords.{same_holder, was_stopped}
-use Rattle.run_table.specs.Moves.{Holder, Move}
+use Rattle.workflow_runs.specs.GroupWords.{arrival_of, has_ended, has_started, holder_of, is_running, is_the, latest, next_displaced}
+use Rattle.workflow_runs.specs.GroupWords.{same_holder, was_stopped}
+use Rattle.workflow_runs.specs.Moves.{Holder, Move}
 
 abbrev pub is_cancelled : Outcome → Bool
 is_cancelled Success = false

@@ -3,10 +3,10 @@ use Rattle.std.specs.Prelude.{◌≡◌, ◌⊎◌, ℕ, List, Bool, true, false
 use Rattle.std.specs.Bool.{MatchBool}
 use Rattle.std.specs.List.{list_any}
 use Rattle.group_name.specs.Group.{Group}
-use Rattle.run_table.specs.GroupOf.{group_at}
-use Rattle.run_table.specs.Groups.{holds, is_taken, same_group, waits}
-use Rattle.run_table.specs.Moves.{Holder}
-use Rattle.run_table.specs.TableState.{RunState}
+use Rattle.workflow_runs.specs.GroupOf.{group_at}
+use Rattle.workflow_runs.specs.Groups.{holds, is_taken, same_group, waits}
+use Rattle.workflow_runs.specs.Moves.{Holder}
+use Rattle.workflow_runs.specs.RunState.{RunState}
 use Rattle.run_table.specs.declared.sound.groups.Standing.{Standing}
 use Rattle.run_table.specs.declared.sound.groups.Standing.TheVariants.{Pending, Running}
 

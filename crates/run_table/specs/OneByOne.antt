@@ -4,12 +4,14 @@ use Rattle.std.specs.Prelude.{◌≡◌, ℕ, ◌≤◌, List, [], slice_get, Bo
 use Rattle.std.specs.BTreeMap.{get}
 use Rattle.std.specs.Option.{option_map_or}
 use Rattle.std.specs.Ordering.{nat_cmp}
-use Rattle.run_table.specs.Parallel.{is_at_work, legs_at_work, most_at_work}
-use Rattle.run_table.specs.Places.{LegPlace, leg_at, leg_place, run_at}
-use Rattle.run_table.specs.Rules.{result_at}
-use Rattle.run_table.specs.Sound.{IsLastOf, LeaseFits, LegsFit, PhaseFits}
-use Rattle.run_table.specs.TableState.{LegState, JobState, RunState, RunnerState}
-use Rattle.run_table.specs.Words.{needs_have_settled, planned_legs}
+use Rattle.workflow_runs.specs.Parallel.{is_at_work, legs_at_work, most_at_work}
+use Rattle.workflow_runs.specs.Places.{LegPlace, leg_at, leg_place, run_at}
+use Rattle.workflow_runs.specs.Rules.{result_at}
+use Rattle.run_table.specs.Sound.{IsLastOf}
+use Rattle.workflow_runs.specs.SoundRuns.{LeaseFits, LegsFit, PhaseFits}
+use Rattle.run_table.specs.TableState.{RunnerState}
+use Rattle.workflow_runs.specs.RunState.{LegState, JobState, RunState}
+use Rattle.workflow_runs.specs.Words.{needs_have_settled, planned_legs}
 use Rattle.run_table.specs.declared.sound.leases.Leases.{Leases}
 
 -- ---- what is looked up by a lease

@@ -3,10 +3,10 @@
 use Rattle.std.specs.Prelude.{◌≡◌, ℕ, List, true, false, Some}
 use Rattle.wf_value.specs.declared.outcome.JobResult.TheVariants as result
 use Rattle.needs_graph.specs.Conditions.{condition_value}
-use Rattle.run_table.specs.Places.{job_at}
-use Rattle.run_table.specs.TableState.{JobState, RunState}
-use Rattle.run_table.specs.Words.{ancestor_results, condition_of, needs_have_settled}
-use Rattle.run_table.specs.declared.phases.JobPhase.TheVariants as job
+use Rattle.workflow_runs.specs.Places.{job_at}
+use Rattle.workflow_runs.specs.RunState.{JobState, RunState}
+use Rattle.workflow_runs.specs.Words.{ancestor_results, condition_of, needs_have_settled}
+use Rattle.workflow_runs.specs.declared.phases.JobPhase.TheVariants as job
 
 -- a job that settled as skipped has all its needs settled, and its condition is false for the results of its
 -- ancestors, in a run that is not stopping

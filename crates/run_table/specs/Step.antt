@@ -2,19 +2,16 @@
 -- answered from the table as it is, which then stays: the refusals, in the order of their checks, a delivery that is known, a
 -- command that is repeated, what a runner asks, and what is looked at. Or it changes the table, which settles then: the moves
 -- of its own change come first.
-use Rattle.std.specs.Prelude.{ℕ, ◌+◌, ◌-◌, ◌&&◌, List, [], ◌∷◌, ◌++◌, map, length, Bool, false, not, is_some, nat_le, Option, Some, None}
+use Rattle.std.specs.Prelude.{ℕ, ◌+◌, ◌-◌, ◌&&◌, List, [], ◌∷◌, ◌++◌, length, Bool, false, not, is_some, nat_le, Option, Some, None}
 use Rattle.std.specs.Prelude.{option_map, if◌then◌else◌}
 use Rattle.std.specs.List.{position}
 use Rattle.std.specs.Option.{option_or, option_map_or}
-use Rattle.std.specs.Str.{bytes_eq}
 use Rattle.wf_value.specs.declared.code.Code.{Code}
 use Rattle.wf_value.specs.declared.code.Code.TheVariants.{HasLease, LeaseNotHeld, LastCounter, NoRun, NoRunner}
 use Rattle.wf_value.specs.declared.code.Code.TheVariants.{RunCompleted}
 use Rattle.wf_value.specs.declared.refusal.Refusal.TheVariants.{Numbered}
-use Rattle.wf_value.specs.declared.outcome.Outcome.{Outcome}
 use Rattle.run_plan.specs.Admitted.{Admitted}
 use Rattle.run_plan.specs.LastCommand.{is_last_claim, is_last_report}
-use Rattle.run_plan.specs.PlanOf.{plan_of}
 use Rattle.run_plan.specs.ReplyText.{carries_text}
 use Rattle.run_plan.specs.declared.command.Beat.{Beat as Asked}
 use Rattle.run_plan.specs.declared.command.Claim.{Claim as Claimed}
@@ -24,24 +21,24 @@ use Rattle.run_plan.specs.declared.command.Command.TheVariants as command
 use Rattle.run_plan.specs.declared.reply.Lease.{Lease as Leased}
 use Rattle.run_plan.specs.declared.reply.Reply.{Reply}
 use Rattle.run_plan.specs.declared.reply.Reply.TheVariants as reply
-use Rattle.run_table.specs.Arrivals.{arrived}
-use Rattle.run_table.specs.Fitting.{first_fit, is_told_to_stop, place_of_lease}
-use Rattle.run_table.specs.Moves.{Holder, Move, Moved, Step}
-use Rattle.run_table.specs.Places.{LegPlace, run_at, with_leg}
-use Rattle.run_table.specs.Settling.{settled, settling_moves}
-use Rattle.run_table.specs.StopMoves.{end_moves, stop_holder}
-use Rattle.run_table.specs.Stops.{after_end, outcome_of_loss}
-use Rattle.run_table.specs.TableState.{LegState, JobState, RunState, RunnerState, TableState}
+use Rattle.workflow_runs.specs.Arrivals.{arrived}
+use Rattle.workflow_runs.specs.Fitting.{first_fit, is_told_to_stop}
+use Rattle.workflow_runs.specs.Moves.{Holder, Move, Moved}
+use Rattle.run_table.specs.TableState.{Step, RunnerState, TableState}
+use Rattle.workflow_runs.specs.Places.{LegPlace, run_at, with_leg}
+use Rattle.workflow_runs.specs.Settling.{settled, settling_moves}
+use Rattle.workflow_runs.specs.StopMoves.{stop_holder, with_ended, lease_end_moves}
+use Rattle.workflow_runs.specs.Stops.{outcome_of_loss}
+use Rattle.workflow_runs.specs.RunState.{RunState}
 use Rattle.run_table.specs.Turns.{runner_named, answer_of_turn, with_runner, holds_lease, holds_this}
 use Rattle.run_table.specs.ViewText.{Seen, seen_of, seen_text}
-use Rattle.run_table.specs.Words.{job_id, combo_at}
+use Rattle.workflow_runs.specs.Words.{job_id, combo_at}
 use Rattle.run_plan.specs.declared.last_command.LastCommand.TheVariants as last
 use Rattle.run_plan.specs.declared.last_command.ClaimReply.{ClaimReply}
 use Rattle.run_plan.specs.declared.last_command.ClaimReply.TheVariants as given
-use Rattle.run_table.specs.declared.phases.LegPhase.TheVariants as leg
-use Rattle.run_table.specs.declared.phases.JobPhase.TheVariants as job
-use Rattle.run_table.specs.declared.phases.RunPhase.{RunPhase}
-use Rattle.run_table.specs.declared.phases.RunPhase.TheVariants as run
+use Rattle.workflow_runs.specs.declared.phases.RunPhase.{RunPhase}
+use Rattle.workflow_runs.specs.declared.phases.RunPhase.TheVariants as run
+use Rattle.workflow_runs.specs.NewRun.{is_delivered_as, new_run, leased_leg}
 
 -- the table without runs and runners
 abbrev pub empty : TableState
@@ -68,21 +65,11 @@ at_rest t reply = at_rest_after [] t reply
 
 -- ---- admit
 
-abbrev pub is_delivered_as : List ℕ → RunState → Bool
-is_delivered_as delivery run = bytes_eq run.admitted.delivery delivery
-
 -- a delivery that is in the table makes no second run
 abbrev pub admission_answer : TableState → Admitted → Option Reply
 admission_answer t event =
     option_or (option_map (λ i. reply.Created (i + 1)) (position (is_delivered_as event.delivery) t.runs))
     (if nat_le 100000 (length t.runs) then Some (refused LastCounter) else None)
-
-abbrev pub blocked_job : JobState
-blocked_job = record { phase = job.Blocked; legs = [] }
-
--- a run that is waiting, with all jobs of its plan blocked
-abbrev pub new_run : Admitted → RunState
-new_run event = record { admitted = event; phase = run.Waiting; stopping = false; jobs = map (λ _. blocked_job) (plan_of event.body) }
 
 -- the new run arrives in its group
 abbrev pub entered : TableState → Admitted → Moved
@@ -112,10 +99,6 @@ claim_answer t claim =
 -- what is kept of a runner after its claim
 abbrev pub claiming_runner : Claimed → Option ℕ → ClaimReply → RunnerState
 claiming_runner claim holds given = record { name = claim.runner; number = claim.number; last = last.Claim claim given; holds = holds }
-
--- a leg that runs under a lease
-abbrev pub leased_leg : ℕ → LegState
-leased_leg lease = record { phase = leg.Running; lease = Some lease }
 
 -- what a runner is told of the leg that it gets
 abbrev pub lease_at : List RunState → LegPlace → ℕ → Leased
@@ -153,14 +136,6 @@ report_answer t report =
 -- what is kept of a runner after its report
 abbrev pub reporting_runner : Reported → RunnerState
 reporting_runner report = record { name = report.runner; number = report.number; last = last.Done report; holds = None }
-
--- the leg of the lease ends
-abbrev pub with_ended : ℕ → Outcome → List RunState → List RunState
-with_ended lease outcome runs = option_map_or (λ p. after_end p outcome runs) (place_of_lease runs lease) runs
-
--- with the moves that this makes
-abbrev pub lease_end_moves : ℕ → Outcome → List RunState → List Move
-lease_end_moves lease outcome runs = option_map_or (λ p. end_moves p outcome runs) (place_of_lease runs lease) []
 
 abbrev pub reporting : TableState → Reported → Step
 reporting t report =

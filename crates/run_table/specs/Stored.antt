@@ -4,10 +4,11 @@ use Rattle.std.specs.Prelude.{◌≡◌, ℕ, ◌≤◌, List, length, map, fals
 use Rattle.run_plan.specs.declared.last_command.ClaimReply.TheVariants as given
 use Rattle.run_plan.specs.declared.last_command.LastCommand.{LastCommand}
 use Rattle.run_plan.specs.declared.last_command.LastCommand.TheVariants as last
-use Rattle.run_table.specs.Places.{LegPlace, job_at, leg_at}
-use Rattle.run_table.specs.Sound.{JobsAreThePlans}
-pub use Rattle.run_table.specs.StateWords.{is_new}
-use Rattle.run_table.specs.TableState.{LegState, JobState, RunState, RunnerState, TableState}
+use Rattle.workflow_runs.specs.Places.{LegPlace, job_at, leg_at}
+use Rattle.workflow_runs.specs.SoundRuns.{JobsAreThePlans}
+pub use Rattle.workflow_runs.specs.StateWords.{is_new}
+use Rattle.run_table.specs.TableState.{RunnerState, TableState}
+use Rattle.workflow_runs.specs.RunState.{LegState, JobState, RunState}
 use Rattle.run_table.specs.declared.parts.LastParts.{LastParts}
 use Rattle.run_table.specs.declared.parts.LastParts.TheVariants as stored
 

@@ -1,14 +1,12 @@
 -- Which table the parts of one are: the sound table of which they are stored, and none where there is no such table. Own.
-use Rattle.std.specs.Prelude.{◌≡◌, ◌⊎◌, ℕ, ◌≤◌, List, [], length, map, slice_get, Option, Some, None}
-use Rattle.run_plan.specs.PlanOf.{plan_of}
+use Rattle.std.specs.Prelude.{◌≡◌, ℕ, ◌≤◌, List, map, Option, Some, None}
 use Rattle.run_plan.specs.declared.last_command.ClaimReply.{ClaimReply}
 use Rattle.run_plan.specs.declared.last_command.ClaimReply.TheVariants as given
 use Rattle.run_plan.specs.declared.last_command.LastCommand.{LastCommand}
-use Rattle.run_plan.specs.declared.planned.PlannedJob.{PlannedJob}
-use Rattle.run_table.specs.Places.{run_at}
 use Rattle.run_table.specs.Sound.{IsALegs, IsSound, KeptIsALegs, KeptLeasesAreLegs}
 use Rattle.run_table.specs.Stored.{StoredRunner, StoredTable, stored_last, stored_runner, stored_table}
-use Rattle.run_table.specs.TableState.{LegState, JobState, RunState, RunnerState, TableState}
+use Rattle.run_table.specs.TableState.{RunnerState, TableState}
+use Rattle.workflow_runs.specs.RunState.{RunState}
 use Rattle.run_table.specs.declared.parts.LastParts.{LastParts}
 
 -- ---- the table of the parts
@@ -20,26 +18,6 @@ pub record IsStoredAs (parts : StoredTable) (t : TableState) : Type 0 where
 -- no table is stored so
 abbrev pub IsNoTable : StoredTable → Type 0
 IsNoTable parts = (t : TableState) → IsStoredAs parts t → ⊥
-
--- ---- runs
-
--- a job has none of its legs, or all that its plan has
-abbrev pub HasRoom : ℕ → List LegState → Type 0
-HasRoom room legs = (legs ≡ []) ⊎ (length legs ≡ room)
-
-abbrev pub HasItsRoom : List PlannedJob → ℕ → JobState → Type 0
-HasItsRoom plan j x = (planned : PlannedJob) → slice_get plan j ≡ Some planned → HasRoom (length planned.legs) x.legs
-
-abbrev pub HaveRoom : List PlannedJob → List JobState → Type 0
-HaveRoom plan jobs = (j : ℕ) (x : JobState) → slice_get jobs j ≡ Some x → HasItsRoom plan j x
-
-pub record IsAsPlanned (plan : List PlannedJob) (jobs : List JobState) : Type 0 where
-  pub as_many : length jobs ≡ length plan
-  pub have_room : HaveRoom plan jobs
-
-pub record AreAsPlanned (runs : List RunState) : Type 0 where
-  pub few : length runs ≤ 100000
-  pub each : (r : ℕ) (x : RunState) → run_at runs r ≡ Some x → IsAsPlanned (plan_of x.admitted.body) x.jobs
 
 -- ---- runners
 

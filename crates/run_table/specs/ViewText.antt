@@ -7,15 +7,15 @@ use Rattle.wf_value.specs.Words.{outcome_word, result_word}
 use Rattle.needs_graph.specs.Results.{conclusion_of}
 use Rattle.run_plan.specs.PlanOf.{plan_of}
 use Rattle.run_plan.specs.declared.planned.PlannedJob.{PlannedJob}
-pub use Rattle.run_table.specs.JobResults.{results_of}
-use Rattle.run_table.specs.RunNumber.{events, run_number}
-use Rattle.run_table.specs.TableState.{LegState, JobState, RunState}
-use Rattle.run_table.specs.declared.phases.LegPhase.{LegPhase}
-use Rattle.run_table.specs.declared.phases.LegPhase.TheVariants as leg
-use Rattle.run_table.specs.declared.phases.JobPhase.{JobPhase}
-use Rattle.run_table.specs.declared.phases.JobPhase.TheVariants as job
-use Rattle.run_table.specs.declared.phases.RunPhase.{RunPhase}
-use Rattle.run_table.specs.declared.phases.RunPhase.TheVariants as phase
+pub use Rattle.workflow_runs.specs.JobResults.{results_of}
+use Rattle.workflow_runs.specs.RunNumber.{events, run_number}
+use Rattle.workflow_runs.specs.RunState.{LegState, JobState, RunState}
+use Rattle.workflow_runs.specs.declared.phases.LegPhase.{LegPhase}
+use Rattle.workflow_runs.specs.declared.phases.LegPhase.TheVariants as leg
+use Rattle.workflow_runs.specs.declared.phases.JobPhase.{JobPhase}
+use Rattle.workflow_runs.specs.declared.phases.JobPhase.TheVariants as job
+use Rattle.workflow_runs.specs.declared.phases.RunPhase.{RunPhase}
+use Rattle.workflow_runs.specs.declared.phases.RunPhase.TheVariants as phase
 
 -- what is seen of a run: its id, its number and itself
 pub record Seen : Type 0 where

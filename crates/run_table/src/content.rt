@@ -5,28 +5,23 @@ ghost use Rattle.wf_value.specs.Gives.{Gives, no_memory};
 ghost use Rattle.run_plan.specs.ReplyText.{carries_text};
 ghost use Rattle.run_plan.specs.declared.last_command.ClaimReply.TheVariants as given;
 ghost use Rattle.run_table.specs.Claims.{is_claim};
-ghost use Rattle.run_table.specs.Fitting.{first_fit};
-ghost use Rattle.run_table.specs.Groups.{HasOneEach};
-ghost use Rattle.run_table.specs.Sound.{IsSound, RunsAreSound};
+ghost use Rattle.workflow_runs.specs.Fitting.{first_fit};
+ghost use Rattle.workflow_runs.specs.Groups.{HasOneEach};
+ghost use Rattle.run_table.specs.Sound.{IsSound};
+ghost use Rattle.workflow_runs.specs.SoundRuns.{RunsAreSound};
 ghost use Rattle.run_table.specs.Step.{admission_answer, admitted, admitting, answer_of_run, answered, beat_answer};
 ghost use Rattle.run_table.specs.Step.{cancel_answer, cancelled, claim_answer, fetch_answer, losing, loss_answer, lost};
 ghost use Rattle.run_table.specs.Step.{claimed, claiming, claiming_runner, empty, is_free};
 ghost use Rattle.run_table.specs.Step.{lease_answer, lease_at, leasing, look_answer, outcome, refused, report_answer};
-ghost use Rattle.run_table.specs.Step.{reported, reporting, seen, serving_nothing, step, unchanged, with_ended};
-ghost use Rattle.run_table.specs.Stops.{outcome_of_loss};
+ghost use Rattle.run_table.specs.Step.{reported, reporting, seen, serving_nothing, step, unchanged};
+ghost use Rattle.workflow_runs.specs.StopMoves.{with_ended};
+ghost use Rattle.workflow_runs.specs.Stops.{outcome_of_loss};
 ghost use Rattle.run_table.specs.Turns.{names_rise};
 
 mod of;
 
-use crate::fit::{first_fit, is_told_to_stop, outcome_of_loss};
-use crate::holder::Holder;
-use crate::leg::Leg;
-use crate::phases::RunPhase;
-use crate::place::LegPlace;
-use crate::run::Run;
 use crate::runner::{Runner, holds_lease, holds_this};
 use crate::runners::Runners;
-use crate::runs::{MOST_RUNS, Runs};
 use crate::turns::{answer_to_claim, answer_to_report};
 use crate::view::{RunView, look};
 use run_plan::{
@@ -35,6 +30,13 @@ use run_plan::{
 use std::alloc::Global;
 use std::marker::Model;
 use wf_value::{Chars, Code, Refusal, TryCopy};
+use workflow_runs::fit::{first_fit, is_told_to_stop, outcome_of_loss};
+use workflow_runs::holder::Holder;
+use workflow_runs::leg::Leg;
+use workflow_runs::phases::RunPhase;
+use workflow_runs::place::LegPlace;
+use workflow_runs::run::Run;
+use workflow_runs::runs::{MOST_RUNS, Runs};
 
 /// What a table holds: the last lease that was given, the runs and the runners.
 #[derive(Drop)]

@@ -2,13 +2,14 @@
 //! change of a group keeps it.
 
 ghost use Rattle.std.specs.Prelude.{◌≡◌, ◌⊎◌, ◌∷◌, [], ◌++◌, List, Bool, true, false, Some};
-ghost use Rattle.run_table.specs.GroupChanges.{Change, GroupState, Matches, MayAllBe, MayBe, after_all, base_moves};
+ghost use Rattle.run_table.specs.GroupChanges.{Change, Matches, MayAllBe, MayBe, after_all, base_moves};
+ghost use Rattle.workflow_runs.specs.GroupState.{GroupState};
 ghost use Rattle.run_table.specs.GroupChanges.{beyond_base, changed, moves_of, moves_of_all};
 ghost use Rattle.run_table.specs.GroupLaw.{BeginsWith, KeepsLaw};
 ghost use Rattle.run_table.specs.GroupLawTest.{keeps_law};
-ghost use Rattle.run_table.specs.GroupWords.{has_arrived, has_ended, has_started, is_pending, is_running, is_the};
-ghost use Rattle.run_table.specs.GroupWords.{latest, next_displaced, was_stopped};
-ghost use Rattle.run_table.specs.Moves.{Holder, Move};
+ghost use Rattle.workflow_runs.specs.GroupWords.{has_arrived, has_ended, has_started, is_pending, is_running, is_the};
+ghost use Rattle.workflow_runs.specs.GroupWords.{latest, next_displaced, was_stopped};
+ghost use Rattle.workflow_runs.specs.Moves.{Holder, Move};
 ghost use Rattle.wf_value.specs.declared.outcome.Outcome.{Outcome};
 ghost use Rattle.wf_value.specs.declared.outcome.Outcome.TheVariants.{Cancelled};
 

@@ -1,11 +1,10 @@
 //! A table in parts, as it is stored: what follows from the rest, as a run's number, a leg's labels and what a kept lease says
 //! beside its number, is not in them.
 
-use crate::leg::Leg;
-use crate::phases::{JobPhase, RunPhase};
-use run_plan::{Claim, Done, Number, Prepared, RunnerName};
+use run_plan::{Claim, Done, Number, RunnerName};
 use std::marker::Model;
 use wf_value::Sequence;
+use workflow_runs::run_parts::RunParts;
 
 /// The last numbered command of a runner, with what is stored of the reply that is kept for it.
 #[derive(Drop)]
@@ -14,39 +13,6 @@ pub enum LastParts {
     Claim(Claim, Option<Number>),
     /// A report, whose reply is `ok`.
     Done(Done),
-}
-
-/// A job of a run, and its legs.
-#[derive(Drop)]
-pub struct JobParts {
-    pub phase: JobPhase,
-    pub legs: Sequence<Leg>,
-}
-
-impl Model for JobParts {
-    ghost use Rattle.run_table.specs.TableState.{JobState};
-
-    ghost Value = { JobState };
-
-    ghost view = { λ j. record { phase = j.phase; legs = j.legs } };
-}
-
-/// A run: what was admitted, how far it has come, and its jobs.
-#[derive(Drop)]
-pub struct RunParts {
-    pub prepared: Prepared,
-    pub phase: RunPhase,
-    /// Whether the run has been told to stop.
-    pub stopping: bool,
-    pub jobs: Sequence<JobParts>,
-}
-
-impl Model for RunParts {
-    ghost use Rattle.run_table.specs.TableState.{RunState};
-
-    ghost Value = { RunState };
-
-    ghost view = { λ r. record { admitted = r.prepared; phase = r.phase; stopping = r.stopping; jobs = r.jobs } };
 }
 
 /// A runner: its last numbered command, and the lease that it holds.

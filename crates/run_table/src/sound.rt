@@ -4,11 +4,11 @@ ghost use Rattle.std.specs.BTreeMap.{get};
 ghost use Rattle.std.specs.Bool.{Decides};
 ghost use Rattle.std.specs.Ordering.{nat_cmp};
 ghost use Rattle.std.specs.Prelude.{◌≡◌, ℕ, IfOk, true};
-ghost use Rattle.run_table.specs.BoundGroups.{ErrsOnlyByMemory};
+ghost use Rattle.workflow_runs.specs.BoundGroups.{ErrsOnlyByMemory};
 ghost use Rattle.run_table.specs.ByLease.{lease_of_leg, lease_of_runner};
 ghost use Rattle.run_table.specs.ByNumber.{Finds};
 ghost use Rattle.run_table.specs.Sound.{IsSound, KeptLeasesAreLegs};
-ghost use Rattle.run_table.specs.TableOf.{AreAsPlanned};
+ghost use Rattle.workflow_runs.specs.AsPlanned.{AreAsPlanned};
 ghost use Rattle.run_table.specs.Turns.{names_rise};
 
 mod deliveries;
@@ -23,7 +23,6 @@ mod runs;
 
 use crate::content::LAST_NUMBER;
 use crate::runner::Runner;
-use crate::runs::Runs;
 use crate::sound::deliveries::do_deliveries_differ;
 use crate::sound::groups::taken_groups;
 use crate::sound::leases::Leases;
@@ -32,6 +31,7 @@ use crate::sound::runners::are_runners_sound;
 use crate::sound::runs::are_runs_sound;
 use std::alloc::Global;
 use wf_value::Refusal;
+use workflow_runs::runs::Runs;
 
 /// Whether the table of these runs and runners is sound, where the runs are as planned, the names of the runners rise and the leases
 /// that are kept are those of legs.

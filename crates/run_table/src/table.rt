@@ -1,6 +1,6 @@
 ghost use Rattle.std.specs.Prelude.{◌≡◌, ◌≤◌, true, IfOk, MatchOption, Ok, OnErr, IsOk};
 ghost use Rattle.wf_value.specs.Gives.{Gives};
-ghost use Rattle.run_table.specs.BoundGroups.{ErrsOnlyByMemory};
+ghost use Rattle.workflow_runs.specs.BoundGroups.{ErrsOnlyByMemory};
 ghost use Rattle.run_table.specs.Sound.{IsSound};
 ghost use Rattle.run_table.specs.Stored.{IsStorable};
 ghost use Rattle.run_table.specs.Step.{answered, empty, is_free, seen, step};
@@ -9,13 +9,13 @@ ghost use Rattle.run_table.specs.Turns.{names_rise};
 
 use crate::content::Content;
 use crate::parts::Parts;
-use crate::run::Run;
 use crate::runner::Runner;
 use crate::view::RunView;
 use run_plan::{Command, Number, Reply};
 use std::alloc::Global;
 use std::marker::Model;
 use wf_value::{Refusal, TryCopy};
+use workflow_runs::run::Run;
 
 /// The run table. Whatever its commands were, it keeps what a table is.
 #[derive(Drop)]

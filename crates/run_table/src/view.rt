@@ -2,13 +2,13 @@ ghost use Rattle.std.specs.Prelude.{◌≡◌, Ok};
 ghost use Rattle.wf_value.specs.Gives.{Gives};
 ghost use Rattle.run_table.specs.ViewText.{seen_of, seen_text};
 
-use crate::run::Run;
-use crate::runs::Runs;
 use crate::view_text::{conclusion_word, push_jobs, status_word};
 use run_plan::Number;
 use std::alloc::Global;
 use std::marker::Model;
 use wf_value::{Chars, Refusal};
+use workflow_runs::run::Run;
+use workflow_runs::runs::Runs;
 
 /// What is seen of a run: its id, its number among the runs of its workflow, and the run.
 #[derive(Drop)]

@@ -3,17 +3,17 @@
 ghost use Rattle.std.specs.Prelude.{◌≡◌, ◌++◌, OnOk, map, string_bytes};
 ghost use Rattle.std.specs.List.{join_with_byte, list_any};
 ghost use Rattle.needs_graph.specs.Results.{conclusion_of};
-ghost use Rattle.run_table.specs.Cells.{states};
+ghost use Rattle.workflow_runs.specs.Cells.{states};
 ghost use Rattle.run_table.specs.ViewText.{conclusion_text, has_claimed_leg, job_text, jobs_text, leg_text, legs_text, planned_job_text};
 ghost use Rattle.run_table.specs.ViewText.{results_of, status_text, was_claimed};
 
-use crate::job::Job;
-use crate::leg::Leg;
-use crate::phases::{JobPhase, LegPhase, RunPhase};
 use needs_graph::conclude;
 use run_plan::PlannedJob;
 use std::alloc::AllocError;
 use wf_value::Outcome;
+use workflow_runs::job::Job;
+use workflow_runs::leg::Leg;
+use workflow_runs::phases::{JobPhase, LegPhase, RunPhase};
 
 fn leg_word(phase: LegPhase) -> &'static str
     ensures { result.now ≡ leg_text phase }

@@ -10,16 +10,17 @@ use Rattle.std.proofs.lemmas.List.Folds.{flat_map-map}
 use Rattle.wf_value.specs.Names.{rises_by}
 use Rattle.wf_value.specs.declared.outcome.JobResult.TheVariants as result
 use Rattle.wf_value.specs.declared.outcome.Outcome.TheVariants as outcome
-use Rattle.run_table.specs.Places.{job_at}
+use Rattle.workflow_runs.specs.Places.{job_at}
 use Rattle.run_table.specs.Stored.{IsStorable, stored_runner, stored_table}
-use Rattle.run_table.specs.TableState.{LegState, JobState, RunState, RunnerState, TableState}
+use Rattle.run_table.specs.TableState.{RunnerState, TableState}
+use Rattle.workflow_runs.specs.RunState.{LegState, JobState, RunState}
 use Rattle.run_table.specs.Turns.{names_rise}
-use Rattle.run_table.specs.declared.phases.JobPhase.{JobPhase}
-use Rattle.run_table.specs.declared.phases.JobPhase.TheVariants as job_phase
-use Rattle.run_table.specs.declared.phases.LegPhase.{LegPhase}
-use Rattle.run_table.specs.declared.phases.LegPhase.TheVariants as leg_phase
-use Rattle.run_table.specs.declared.phases.RunPhase.{RunPhase}
-use Rattle.run_table.specs.declared.phases.RunPhase.TheVariants as run_phase
+use Rattle.workflow_runs.specs.declared.phases.JobPhase.{JobPhase}
+use Rattle.workflow_runs.specs.declared.phases.JobPhase.TheVariants as job_phase
+use Rattle.workflow_runs.specs.declared.phases.LegPhase.{LegPhase}
+use Rattle.workflow_runs.specs.declared.phases.LegPhase.TheVariants as leg_phase
+use Rattle.workflow_runs.specs.declared.phases.RunPhase.{RunPhase}
+use Rattle.workflow_runs.specs.declared.phases.RunPhase.TheVariants as run_phase
 use Rattle.table_text.specs.Commands.{admit}
 use Rattle.table_text.specs.Tables.{IsLease, flag_byte, job, job_byte, jobs_planned, leg, leg_byte, run, run_byte, runner, table}
 use Rattle.table_text.specs.Format.{word_bytes}

@@ -5,7 +5,7 @@ use Rattle.std.proofs.lemmas.List.Concat.{length-flat_map}
 use Rattle.std.proofs.lemmas.List.Sums.{sum_by-cons}
 use Rattle.run_plan.specs.declared.command.Command.TheVariants as asked
 use Rattle.run_table.specs.Stored.{StoredRunner, StoredTable}
-use Rattle.run_table.specs.TableState.{LegState, JobState, RunState}
+use Rattle.workflow_runs.specs.RunState.{LegState, JobState, RunState}
 use Rattle.run_table.specs.declared.parts.LastParts.{LastParts}
 use Rattle.run_table.specs.declared.parts.LastParts.TheVariants as last
 use Rattle.table_text.specs.Commands.{admit, command_bytes}

@@ -4,7 +4,8 @@ use Rattle.std.specs.Prelude.{None}
 use Rattle.run_table.specs.Sound.{IsSound, KeptLeasesAreLegs}
 use Rattle.run_table.specs.Stored.{StoredTable, stored_table}
 use Rattle.run_table.specs.TableOf.{IsNoTable, IsStoredAs}
-use Rattle.run_table.specs.TableState.{RunState, TableState}
+use Rattle.run_table.specs.TableState.{TableState}
+use Rattle.workflow_runs.specs.RunState.{RunState}
 use Rattle.run_table.proofs.StoredOnce.{same_runners}
 use Rattle.table_text.specs.Format.{NoneBeginsAnother, OpensWith, StandsAtFront}
 use Rattle.table_text.specs.ReadingTables.{table_at}

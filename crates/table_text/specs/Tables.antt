@@ -10,15 +10,15 @@ use Rattle.run_plan.specs.SmallText.{is_runner_byte}
 use Rattle.run_plan.specs.declared.command.Command.{Command}
 use Rattle.run_plan.specs.declared.command.Command.TheVariants as asked
 use Rattle.run_table.specs.Stored.{StoredRunner, StoredTable, is_new}
-use Rattle.run_table.specs.TableState.{LegState, JobState, RunState}
+use Rattle.workflow_runs.specs.RunState.{LegState, JobState, RunState}
 use Rattle.run_table.specs.declared.parts.LastParts.{LastParts}
 use Rattle.run_table.specs.declared.parts.LastParts.TheVariants as last
-use Rattle.run_table.specs.declared.phases.JobPhase.{JobPhase}
-use Rattle.run_table.specs.declared.phases.JobPhase.TheVariants as job_phase
-use Rattle.run_table.specs.declared.phases.LegPhase.{LegPhase}
-use Rattle.run_table.specs.declared.phases.LegPhase.TheVariants as leg_phase
-use Rattle.run_table.specs.declared.phases.RunPhase.{RunPhase}
-use Rattle.run_table.specs.declared.phases.RunPhase.TheVariants as run_phase
+use Rattle.workflow_runs.specs.declared.phases.JobPhase.{JobPhase}
+use Rattle.workflow_runs.specs.declared.phases.JobPhase.TheVariants as job_phase
+use Rattle.workflow_runs.specs.declared.phases.LegPhase.{LegPhase}
+use Rattle.workflow_runs.specs.declared.phases.LegPhase.TheVariants as leg_phase
+use Rattle.workflow_runs.specs.declared.phases.RunPhase.{RunPhase}
+use Rattle.workflow_runs.specs.declared.phases.RunPhase.TheVariants as run_phase
 use Rattle.table_text.specs.declared.kept.Kept.{Kept}
 use Rattle.table_text.specs.declared.kept.Kept.TheVariants as replied
 use Rattle.table_text.specs.Commands.{admit, command, number, small_text}

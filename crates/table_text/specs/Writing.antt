@@ -2,7 +2,7 @@
 use Rattle.std.specs.Prelude.{◌≡◌, ◌≤◌, ℕ, List, length, take, false}
 use Rattle.std.specs.List.{AllByRecursion}
 use Rattle.run_table.specs.Stored.{is_new}
-use Rattle.run_table.specs.TableState.{LegState, JobState, RunState}
+use Rattle.workflow_runs.specs.RunState.{LegState, JobState, RunState}
 use Rattle.table_text.specs.Tables.{jobs_planned}
 
 -- a leg that has a byte

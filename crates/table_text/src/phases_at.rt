@@ -9,8 +9,8 @@ ghost use Rattle.table_text.specs.Tables.{flag_byte, job_byte, leg_byte, run_byt
 
 use crate::front::byte_at;
 use crate::not_read::NotRead;
-use run_table::{JobPhase, LegPhase, RunPhase};
 use wf_value::{JobResult, Outcome};
+use workflow_runs::{JobPhase, LegPhase, RunPhase};
 
 /// The phase that a byte stands for.
 fn leg_phase_of(byte: u8) -> Result<LegPhase, NotRead>

@@ -3,7 +3,8 @@
 
 ghost use Rattle.std.specs.Prelude.{◌≡◌, [], ◌∷◌, ◌++◌, ◌≤◌, length, OnErr, OnOk};
 ghost use Rattle.run_table.specs.Stored.{is_new, stored_last, stored_runner, stored_table};
-ghost use Rattle.run_table.specs.TableState.{JobState, RunState, RunnerState};
+ghost use Rattle.run_table.specs.TableState.{RunnerState};
+ghost use Rattle.workflow_runs.specs.RunState.{JobState, RunState};
 ghost use Rattle.table_text.specs.Format.{word_bytes};
 ghost use Rattle.table_text.specs.Tables.{flag_byte, job, job_byte, last_command, lease, leg, leg_byte, run, run_byte, runner, table};
 ghost use Rattle.table_text.specs.Writing.{HasByte, JobHasBytes, Keeps, RunHasBytes};
@@ -11,9 +12,10 @@ ghost use Rattle.table_text.specs.Writing.{HasByte, JobHasBytes, Keeps, RunHasBy
 use crate::push::{push_admit, push_claim, push_done, push_number, push_small_text, push_word};
 use crate::push_list::{Push, push_list};
 use run_plan::{ClaimReply, LastCommand, Number};
-use run_table::{Job, JobPhase, Leg, LegPhase, Run, RunPhase, Runner, Table};
+use run_table::{Runner, Table};
 use std::alloc::AllocError;
 use wf_value::{JobResult, Outcome};
+use workflow_runs::{Job, JobPhase, Leg, LegPhase, Run, RunPhase};
 
 fn push_byte(out: &mut Vec<u8>, value: u8) -> Result<(), AllocError>
     ensures bytes { OnOk result (out.new.items ≡ out.old.items ++ value ∷ []) }

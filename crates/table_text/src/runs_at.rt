@@ -12,9 +12,9 @@ use crate::list_at::{ReadAt, list_at};
 use crate::not_read::NotRead;
 use crate::phases_at::{flag_at, job_phase_at, leg_phase_at, run_phase_at};
 use run_plan::Prepared;
-use run_table::{JobParts, Leg, LegPhase, RunParts};
 use std::alloc::Global;
 use wf_value::Sequence;
+use workflow_runs::{JobParts, Leg, LegPhase, RunParts};
 
 /// The leg at the front, its phase and the number of its lease, 0 where it has none, and what stands behind it.
 #[tactic(auto, unfolding(crate::specs::ReadingTables::leg_at))]

@@ -10,7 +10,8 @@ ghost use Rattle.table_text.specs.Writing.{JobHasBytes, RunHasBytes};
 
 use crate::lengths::{WORD, admit_length, claim_length, done_length, small_text_length};
 use run_plan::LastCommand;
-use run_table::{Job, Run, Runner, Table};
+use run_table::{Runner, Table};
+use workflow_runs::{Job, Run};
 
 /// The byte of a phase, of a flag and of a kept reply.
 const BYTE: u64 = 1;

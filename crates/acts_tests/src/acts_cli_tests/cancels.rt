@@ -1,6 +1,6 @@
 //! Runs that are cancelled, runners that are lost, and bodies that are fetched. GitHub Docs, "Canceling a workflow".
 
-use crate::acts_cli_tests::scripts::{Play, Row, expect_plays};
+use crate::acts_cli_tests::scripts::{Row, expect_play};
 use std::test::Fail;
 
 const BUILD: &str = r#"{"jobs":{"build":{"runs-on":"linux"}}}"#;
@@ -70,17 +70,29 @@ const FETCHED: [Row; 2] = [
     ("fetch 2", "refused 40"),
 ];
 
-const OF_ONE_JOB: [Play; 5] = [
-    (BUILD, &CANCELLED),
-    (BUILD, &CANCELLED_BEFORE_A_CLAIM),
-    (BUILD, &LOST),
-    (BUILD, &LOST_WHILE_STOPPING),
-    (BUILD, &FETCHED),
-];
+#[test]
+fn a_run_is_cancelled(rt: HostRuntime) -> Result<(), Fail> {
+    expect_play(&rt, rt.alloc(), BUILD, &CANCELLED)
+}
 
 #[test]
-fn a_run_of_one_job(rt: HostRuntime) -> Result<(), Fail> {
-    expect_plays(&rt, rt.alloc(), &OF_ONE_JOB)
+fn a_run_is_cancelled_before_a_claim(rt: HostRuntime) -> Result<(), Fail> {
+    expect_play(&rt, rt.alloc(), BUILD, &CANCELLED_BEFORE_A_CLAIM)
+}
+
+#[test]
+fn a_runner_is_lost(rt: HostRuntime) -> Result<(), Fail> {
+    expect_play(&rt, rt.alloc(), BUILD, &LOST)
+}
+
+#[test]
+fn a_runner_is_lost_while_its_leg_stops(rt: HostRuntime) -> Result<(), Fail> {
+    expect_play(&rt, rt.alloc(), BUILD, &LOST_WHILE_STOPPING)
+}
+
+#[test]
+fn bodies_are_fetched(rt: HostRuntime) -> Result<(), Fail> {
+    expect_play(&rt, rt.alloc(), BUILD, &FETCHED)
 }
 
 /// A job that runs under each condition, once the run has been told to stop.
@@ -190,16 +202,24 @@ const LOST_UNDER_ALWAYS: [Row; 4] = [
 
 const ALWAYS: &str = r#"{"jobs":{"a":{"runs-on":"linux","if":"always()"}}}"#;
 
-const OF_MORE_JOBS: [Play; 4] = [
-    (EACH_CONDITION, &CONDITIONS_AFTER_A_CANCEL),
-    (AT_WORK, &JOBS_AT_WORK),
-    (THREE, &TWO_AND_A_LOST_ONE),
-    (ALWAYS, &LOST_UNDER_ALWAYS),
-];
+#[test]
+fn each_condition_after_a_cancel(rt: HostRuntime) -> Result<(), Fail> {
+    expect_play(&rt, rt.alloc(), EACH_CONDITION, &CONDITIONS_AFTER_A_CANCEL)
+}
 
 #[test]
-fn runs_of_more(rt: HostRuntime) -> Result<(), Fail> {
-    expect_plays(&rt, rt.alloc(), &OF_MORE_JOBS)
+fn jobs_at_work_are_cancelled(rt: HostRuntime) -> Result<(), Fail> {
+    expect_play(&rt, rt.alloc(), AT_WORK, &JOBS_AT_WORK)
+}
+
+#[test]
+fn one_runner_of_three_is_lost(rt: HostRuntime) -> Result<(), Fail> {
+    expect_play(&rt, rt.alloc(), THREE, &TWO_AND_A_LOST_ONE)
+}
+
+#[test]
+fn a_runner_of_a_job_that_always_runs_is_lost(rt: HostRuntime) -> Result<(), Fail> {
+    expect_play(&rt, rt.alloc(), ALWAYS, &LOST_UNDER_ALWAYS)
 }
 
 const NO_LINES: [Row; 14] = [
@@ -221,5 +241,5 @@ const NO_LINES: [Row; 14] = [
 
 #[test]
 fn lines_that_are_none(rt: HostRuntime) -> Result<(), Fail> {
-    expect_plays(&rt, rt.alloc(), &[(BUILD, &NO_LINES)])
+    expect_play(&rt, rt.alloc(), BUILD, &NO_LINES)
 }

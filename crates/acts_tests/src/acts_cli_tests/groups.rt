@@ -1,7 +1,7 @@
 //! Concurrency groups. GitHub Docs, "Control the concurrency of workflows and jobs".
 
 use crate::acts_cli_tests::scripts::Line::{Push, Words};
-use crate::acts_cli_tests::scripts::{LineRow, Script, expect_scripts};
+use crate::acts_cli_tests::scripts::{LineRow, Script, expect_script};
 use std::alloc::Global;
 use std::test::Fail;
 use wf_value::Refusal;
@@ -195,21 +195,49 @@ const PENDING_RUN_IS_CANCELLED: &[LineRow] = &[
     (Words("look 3"), "run 3 3 queued - go:open(ready)"),
 ];
 
-const RUNS_AND_JOBS: [&[LineRow]; 9] = [
-    NEWCOMER_DISPLACES_THE_PENDING_RUN,
-    ANOTHER_GROUP_GOES_ON,
-    NEWCOMER_STOPS_THE_RUN_IN_PROGRESS,
-    NEWCOMER_STOPS_A_READY_RUN,
-    RUNNER_OF_A_STOPPING_RUN_IS_LOST,
-    SECOND_STOP_CHANGES_NOTHING,
-    GROUPS_OF_JOBS,
-    A_RUN_AND_A_LEG_SHARE_A_GROUP,
-    PENDING_RUN_IS_CANCELLED,
-];
+#[test]
+fn a_newcomer_displaces_the_pending_run(rt: HostRuntime) -> Result<(), Fail> {
+    expect_script(&rt, rt.alloc(), NEWCOMER_DISPLACES_THE_PENDING_RUN)
+}
 
 #[test]
-fn groups_of_runs_and_jobs(rt: HostRuntime) -> Result<(), Fail> {
-    expect_scripts(&rt, rt.alloc(), &RUNS_AND_JOBS)
+fn a_run_of_another_group_goes_on(rt: HostRuntime) -> Result<(), Fail> {
+    expect_script(&rt, rt.alloc(), ANOTHER_GROUP_GOES_ON)
+}
+
+#[test]
+fn a_newcomer_stops_the_run_in_progress(rt: HostRuntime) -> Result<(), Fail> {
+    expect_script(&rt, rt.alloc(), NEWCOMER_STOPS_THE_RUN_IN_PROGRESS)
+}
+
+#[test]
+fn a_newcomer_stops_a_ready_run(rt: HostRuntime) -> Result<(), Fail> {
+    expect_script(&rt, rt.alloc(), NEWCOMER_STOPS_A_READY_RUN)
+}
+
+#[test]
+fn the_runner_of_a_stopping_run_is_lost(rt: HostRuntime) -> Result<(), Fail> {
+    expect_script(&rt, rt.alloc(), RUNNER_OF_A_STOPPING_RUN_IS_LOST)
+}
+
+#[test]
+fn a_second_stop_changes_nothing(rt: HostRuntime) -> Result<(), Fail> {
+    expect_script(&rt, rt.alloc(), SECOND_STOP_CHANGES_NOTHING)
+}
+
+#[test]
+fn jobs_have_groups(rt: HostRuntime) -> Result<(), Fail> {
+    expect_script(&rt, rt.alloc(), GROUPS_OF_JOBS)
+}
+
+#[test]
+fn runs_and_legs_share_groups(rt: HostRuntime) -> Result<(), Fail> {
+    expect_script(&rt, rt.alloc(), A_RUN_AND_A_LEG_SHARE_A_GROUP)
+}
+
+#[test]
+fn a_pending_run_is_cancelled(rt: HostRuntime) -> Result<(), Fail> {
+    expect_script(&rt, rt.alloc(), PENDING_RUN_IS_CANCELLED)
 }
 
 const STRASSE: &str = r#"{"concurrency":"Straße","jobs":{"go":{"runs-on":"linux"}}}"#;
@@ -367,20 +395,44 @@ const NO_GROUP_BY_A_MATRIX: &[LineRow] = &[
     (Words("look 1"), "refused 40"),
 ];
 
-const GROUPS: [&[LineRow]; 8] = [
-    NAMES_OF_GROUPS,
-    GROUP_BY_AN_INPUT,
-    GROUPS_OF_TWO_REPOSITORIES,
-    LEGS_OF_A_JOB,
-    OWN_GROUP,
-    GROUP_BY_A_RESULT,
-    A_STOP_IN_THE_MIDST_OF_SETTLING,
-    NO_GROUP_BY_A_MATRIX,
-];
+#[test]
+fn groups_go_by_their_names(rt: HostRuntime) -> Result<(), Fail> {
+    expect_script(&rt, rt.alloc(), NAMES_OF_GROUPS)
+}
 
 #[test]
-fn which_groups_there_are(rt: HostRuntime) -> Result<(), Fail> {
-    expect_scripts(&rt, rt.alloc(), &GROUPS)
+fn a_group_by_an_input(rt: HostRuntime) -> Result<(), Fail> {
+    expect_script(&rt, rt.alloc(), GROUP_BY_AN_INPUT)
+}
+
+#[test]
+fn a_repository_has_groups_of_its_own(rt: HostRuntime) -> Result<(), Fail> {
+    expect_script(&rt, rt.alloc(), GROUPS_OF_TWO_REPOSITORIES)
+}
+
+#[test]
+fn the_legs_of_a_job_share_its_group(rt: HostRuntime) -> Result<(), Fail> {
+    expect_script(&rt, rt.alloc(), LEGS_OF_A_JOB)
+}
+
+#[test]
+fn a_job_in_the_group_of_its_run(rt: HostRuntime) -> Result<(), Fail> {
+    expect_script(&rt, rt.alloc(), OWN_GROUP)
+}
+
+#[test]
+fn a_group_by_a_result(rt: HostRuntime) -> Result<(), Fail> {
+    expect_script(&rt, rt.alloc(), GROUP_BY_A_RESULT)
+}
+
+#[test]
+fn settling_goes_on_after_a_stop(rt: HostRuntime) -> Result<(), Fail> {
+    expect_script(&rt, rt.alloc(), A_STOP_IN_THE_MIDST_OF_SETTLING)
+}
+
+#[test]
+fn a_run_has_no_group_by_a_matrix(rt: HostRuntime) -> Result<(), Fail> {
+    expect_script(&rt, rt.alloc(), NO_GROUP_BY_A_MATRIX)
 }
 
 /// A look at a run, whose number is its id.

@@ -2,7 +2,7 @@
 //! "Workflow syntax for GitHub Actions", sections `jobs.<job_id>.strategy.fail-fast` and
 //! `jobs.<job_id>.strategy.max-parallel`, and "Running variations of jobs in a workflow".
 
-use crate::acts_cli_tests::scripts::{Play, Row, expect_plays};
+use crate::acts_cli_tests::scripts::{Row, expect_play};
 use std::test::Fail;
 
 const FOUR_BY_TWO: &str =
@@ -111,20 +111,34 @@ const BESIDE_A_FAILURE_THAT_IS_PASSED_OVER: [Row; 11] = [
     ),
 ];
 
-const FAILED_LEGS: [Play; 5] = [
-    (FOUR_BY_TWO, &A_FAILURE_STOPS_THE_REST),
-    (TWO, &A_STOPPING_LEG_SUCCEEDS),
-    (TWO, &A_CANCELLED_LEG_STOPS_NONE),
-    (WITHOUT_FAIL_FAST, &THE_REST_GOES_ON),
-    (
-        TWO_OF_FOUR_PASSED_OVER,
-        &BESIDE_A_FAILURE_THAT_IS_PASSED_OVER,
-    ),
-];
+#[test]
+fn a_failed_leg_stops_the_rest(rt: HostRuntime) -> Result<(), Fail> {
+    expect_play(&rt, rt.alloc(), FOUR_BY_TWO, &A_FAILURE_STOPS_THE_REST)
+}
 
 #[test]
-fn failures_of_legs(rt: HostRuntime) -> Result<(), Fail> {
-    expect_plays(&rt, rt.alloc(), &FAILED_LEGS)
+fn a_leg_that_was_told_to_stop_succeeds(rt: HostRuntime) -> Result<(), Fail> {
+    expect_play(&rt, rt.alloc(), TWO, &A_STOPPING_LEG_SUCCEEDS)
+}
+
+#[test]
+fn a_cancelled_leg_stops_no_other(rt: HostRuntime) -> Result<(), Fail> {
+    expect_play(&rt, rt.alloc(), TWO, &A_CANCELLED_LEG_STOPS_NONE)
+}
+
+#[test]
+fn the_rest_goes_on_without_fail_fast(rt: HostRuntime) -> Result<(), Fail> {
+    expect_play(&rt, rt.alloc(), WITHOUT_FAIL_FAST, &THE_REST_GOES_ON)
+}
+
+#[test]
+fn a_failure_is_passed_over(rt: HostRuntime) -> Result<(), Fail> {
+    expect_play(
+        &rt,
+        rt.alloc(),
+        TWO_OF_FOUR_PASSED_OVER,
+        &BESIDE_A_FAILURE_THAT_IS_PASSED_OVER,
+    )
 }
 
 const ONE_AT_A_TIME: &str = concat!(
@@ -189,15 +203,19 @@ const STRATEGY_AS_LABELS: [Row; 3] = [
     ("claim r2 2 true-3", r#"lease 2 1 b 0 {"n":1}"#),
 ];
 
-const LEGS_FOR_RUNNERS: [Play; 3] = [
-    (ONE_AT_A_TIME, &ONE_LEG_AFTER_THE_OTHER),
-    (LABELS_OF_THEIR_OWN, &EACH_ITS_RUNNER),
-    (LABELS_BY_STRATEGY, &STRATEGY_AS_LABELS),
-];
+#[test]
+fn one_leg_at_a_time(rt: HostRuntime) -> Result<(), Fail> {
+    expect_play(&rt, rt.alloc(), ONE_AT_A_TIME, &ONE_LEG_AFTER_THE_OTHER)
+}
 
 #[test]
-fn legs_and_their_runners(rt: HostRuntime) -> Result<(), Fail> {
-    expect_plays(&rt, rt.alloc(), &LEGS_FOR_RUNNERS)
+fn each_leg_finds_its_runner(rt: HostRuntime) -> Result<(), Fail> {
+    expect_play(&rt, rt.alloc(), LABELS_OF_THEIR_OWN, &EACH_ITS_RUNNER)
+}
+
+#[test]
+fn labels_of_the_strategy(rt: HostRuntime) -> Result<(), Fail> {
+    expect_play(&rt, rt.alloc(), LABELS_BY_STRATEGY, &STRATEGY_AS_LABELS)
 }
 
 const BUILD: &str = r#"{"jobs":{"build":{"runs-on":"linux"}}}"#;
@@ -229,9 +247,12 @@ const NO_BEATS: [Row; 8] = [
     ("beat r1 1 ", "refused 75"),
 ];
 
-const BEATING: [Play; 2] = [(BUILD, &BEATS), (BUILD, &NO_BEATS)];
+#[test]
+fn runners_beat(rt: HostRuntime) -> Result<(), Fail> {
+    expect_play(&rt, rt.alloc(), BUILD, &BEATS)
+}
 
 #[test]
-fn runners_that_beat(rt: HostRuntime) -> Result<(), Fail> {
-    expect_plays(&rt, rt.alloc(), &BEATING)
+fn lines_that_are_no_beats(rt: HostRuntime) -> Result<(), Fail> {
+    expect_play(&rt, rt.alloc(), BUILD, &NO_BEATS)
 }

@@ -1,7 +1,7 @@
 //! Runs whose jobs need one another. GitHub Docs, "Workflow syntax for GitHub Actions", sections
 //! `jobs.<job_id>.needs` and `jobs.<job_id>.if`.
 
-use crate::acts_cli_tests::scripts::{Play, Row, Script, expect_plays};
+use crate::acts_cli_tests::scripts::{Row, Script, expect_play};
 use std::alloc::Global;
 use std::test::Fail;
 use wf_value::Refusal;
@@ -100,17 +100,29 @@ const LEGS_AND_THEN_ANOTHER: [Row; 6] = [
     ),
 ];
 
-const NEEDING: [Play; 5] = [
-    (AFTER_ANY_END, &SKIPPED_FOR_ITS_ANCESTOR),
-    (AFTER_A_FAILURE, &NO_FAILURE),
-    (AFTER_A_FAILURE, &A_FAILURE),
-    (DIAMOND, &THROUGH_THE_DIAMOND),
-    (AFTER_A_MATRIX, &LEGS_AND_THEN_ANOTHER),
-];
+#[test]
+fn a_job_is_skipped_for_its_ancestor(rt: HostRuntime) -> Result<(), Fail> {
+    expect_play(&rt, rt.alloc(), AFTER_ANY_END, &SKIPPED_FOR_ITS_ANCESTOR)
+}
 
 #[test]
-fn jobs_that_need_jobs(rt: HostRuntime) -> Result<(), Fail> {
-    expect_plays(&rt, rt.alloc(), &NEEDING)
+fn a_job_after_no_failure(rt: HostRuntime) -> Result<(), Fail> {
+    expect_play(&rt, rt.alloc(), AFTER_A_FAILURE, &NO_FAILURE)
+}
+
+#[test]
+fn a_job_after_a_failure(rt: HostRuntime) -> Result<(), Fail> {
+    expect_play(&rt, rt.alloc(), AFTER_A_FAILURE, &A_FAILURE)
+}
+
+#[test]
+fn a_diamond_of_jobs(rt: HostRuntime) -> Result<(), Fail> {
+    expect_play(&rt, rt.alloc(), DIAMOND, &THROUGH_THE_DIAMOND)
+}
+
+#[test]
+fn a_job_after_the_legs_of_another(rt: HostRuntime) -> Result<(), Fail> {
+    expect_play(&rt, rt.alloc(), AFTER_A_MATRIX, &LEGS_AND_THEN_ANOTHER)
 }
 
 /// The result of a direct need is a text of the job's own templates. One that is further up has none.
@@ -172,15 +184,19 @@ const FLAGS_BY_RESULTS: [Row; 9] = [
     ),
 ];
 
-const BY_RESULTS: [Play; 3] = [
-    (RESULT_AS_LABEL, &LABELS_BY_RESULTS),
-    (OTHER_RESULTS, &LABELS_BY_OTHER_RESULTS),
-    (RESULT_AS_FLAG, &FLAGS_BY_RESULTS),
-];
+#[test]
+fn a_result_as_a_label(rt: HostRuntime) -> Result<(), Fail> {
+    expect_play(&rt, rt.alloc(), RESULT_AS_LABEL, &LABELS_BY_RESULTS)
+}
 
 #[test]
-fn results_of_needs_in_templates(rt: HostRuntime) -> Result<(), Fail> {
-    expect_plays(&rt, rt.alloc(), &BY_RESULTS)
+fn results_that_are_not_seen(rt: HostRuntime) -> Result<(), Fail> {
+    expect_play(&rt, rt.alloc(), OTHER_RESULTS, &LABELS_BY_OTHER_RESULTS)
+}
+
+#[test]
+fn a_result_as_a_flag(rt: HostRuntime) -> Result<(), Fail> {
+    expect_play(&rt, rt.alloc(), RESULT_AS_FLAG, &FLAGS_BY_RESULTS)
 }
 
 /// A workflow of 256 jobs of which each but the last needs the one behind it; the last has this member too.

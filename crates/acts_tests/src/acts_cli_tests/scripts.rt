@@ -10,9 +10,6 @@ use wf_value::Refusal;
 /// A line of a script, and its answer.
 pub type Row = (&'static str, &'static str);
 
-/// A workflow, and the rows that are played once run 1 of it is admitted.
-pub type Play = (&'static str, &'static [Row]);
-
 /// A line of a script.
 pub enum Line {
     /// A `push` to `o/r` is admitted: the delivery, and the workflow.
@@ -101,35 +98,20 @@ impl Script {
 }
 
 /// Admits run 1, of this workflow, and plays the rows.
-fn expect_play(
+pub fn expect_play(
     rt: &impl Abort,
     alloc: Global,
     workflow: &str,
     rows: &[Row],
-) -> Result<(), Refusal> {
+) -> Result<(), Fail> {
     let mut script = Script::admitting(alloc, workflow)?;
     script.add_all(rows)?;
-    script.expect(rt, alloc)
+    Ok(script.expect(rt, alloc)?)
 }
 
-/// Plays the rows of each workflow, each from an empty table.
-pub fn expect_plays(rt: &impl Abort, alloc: Global, plays: &[Play]) -> Result<(), Fail> {
-    for (workflow, rows) in plays {
-        expect_play(rt, alloc, workflow, rows)?;
-    }
-    Ok(())
-}
-
-fn expect_script(rt: &impl Abort, alloc: Global, rows: &[LineRow]) -> Result<(), Refusal> {
+/// Plays the rows from an empty table.
+pub fn expect_script(rt: &impl Abort, alloc: Global, rows: &[LineRow]) -> Result<(), Fail> {
     let mut script = Script::new(alloc);
     script.add_lines(rows)?;
-    script.expect(rt, alloc)
-}
-
-/// Plays scripts, each from an empty table.
-pub fn expect_scripts(rt: &impl Abort, alloc: Global, scripts: &[&[LineRow]]) -> Result<(), Fail> {
-    for rows in scripts {
-        expect_script(rt, alloc, rows)?;
-    }
-    Ok(())
+    Ok(script.expect(rt, alloc)?)
 }

@@ -3,10 +3,11 @@
 
 use crate::commands::prepared;
 use crate::holds::holds;
-use run_table::{JobParts, JobPhase, Leg, LegPhase, Parts, RunParts, RunPhase, Table};
+use run_table::{Parts, Table};
 use std::alloc::Global;
 use std::process::Abort;
 use wf_value::{Refusal, Sequence};
+use workflow_runs::{JobParts, JobPhase, Leg, LegPhase, RunParts, RunPhase};
 
 const UPPER: &str =
     "{\"repo\":\"o/r\",\"path\":\"ci.json\",\"workflow\":{\"concurrency\":\"Deploy\",\"jobs\":{\"go\":{\"runs-on\":\"linux\"}}}}";

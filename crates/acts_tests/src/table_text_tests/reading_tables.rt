@@ -4,11 +4,12 @@ use super::tables::{ROWS, Row, bytes_of};
 use crate::holds::holds;
 use crate::run_plan_tests::expect_twice;
 use run_plan::Number;
-use run_table::{JobParts, JobPhase, LastParts, LegPhase, Parts, RunParts, RunPhase, RunnerParts};
+use run_table::{LastParts, Parts, RunnerParts};
 use std::alloc::Global;
 use std::process::Abort;
 use table_text::read_parts;
 use wf_value::Refusal;
+use workflow_runs::{JobParts, JobPhase, LegPhase, RunParts, RunPhase};
 
 /// A run: its phase, whether it has been told to stop, the phase of its one job, that of its leg, and the lease of the leg, 0 where it has
 /// none.

@@ -1,17 +1,17 @@
 //! What the table of these parts holds.
 
 ghost use Rattle.std.specs.Prelude.{IfOk, MatchOption};
-ghost use Rattle.run_table.specs.BoundGroups.{ErrsOnlyByMemory};
+ghost use Rattle.workflow_runs.specs.BoundGroups.{ErrsOnlyByMemory};
 ghost use Rattle.run_table.specs.TableOf.{IsNoTable, IsStoredAs};
 
 use crate::content::Content;
 use crate::parts::Parts;
 use crate::runners::Runners;
-use crate::runs::Runs;
 use crate::sound::is_sound;
 use crate::sound::leases::{Leases, legs_by_lease, runners_by_lease};
 use std::alloc::Global;
 use wf_value::Refusal;
+use workflow_runs::runs::Runs;
 
 impl Content {
     /// What the table holds that is stored as these parts, where there is one.

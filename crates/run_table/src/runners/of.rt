@@ -4,7 +4,7 @@ ghost use Rattle.std.specs.BTreeMap.{get};
 ghost use Rattle.std.specs.Cmp.Lexicographic.{slice_cmp};
 ghost use Rattle.std.specs.Ordering.{is_lt, nat_cmp};
 ghost use Rattle.std.specs.Prelude.{◌≡◌, ◌≤◌, ℕ, IfOk, List, MatchOption, length, true};
-ghost use Rattle.run_table.specs.BoundGroups.{ErrsOnlyByMemory};
+ghost use Rattle.workflow_runs.specs.BoundGroups.{ErrsOnlyByMemory};
 ghost use Rattle.run_table.specs.ByLease.{lease_of_leg};
 ghost use Rattle.run_table.specs.ByNumber.{Finds};
 ghost use Rattle.run_table.specs.TableOf.{AreRunnersAs, IsLastAs, IsReplyAs, IsRunnerAs};
@@ -16,14 +16,14 @@ ghost use Rattle.run_plan.specs.declared.last_command.LastCommand.{LastCommand a
 
 use crate::content::lease_at;
 use crate::parts::{LastParts, RunnerParts};
-use crate::place::LegPlace;
 use crate::runner::Runner;
 use crate::runners::Runners;
-use crate::runs::Runs;
 use run_plan::{ClaimReply, LastCommand, Number};
 use std::alloc::Global;
 use std::collections::BTreeMap;
 use wf_value::{Refusal, TryCopy};
+use workflow_runs::place::LegPlace;
+use workflow_runs::runs::Runs;
 
 impl Runners {
     /// The runners of these parts, where their names rise and each lease that is kept is some leg's.

@@ -4,10 +4,10 @@ ghost use Rattle.std.specs.Bool.{Decides};
 ghost use Rattle.std.specs.List.{position};
 ghost use Rattle.std.specs.Prelude.{◌≡◌, Some};
 ghost use Rattle.run_table.specs.Sound.{DeliveriesDiffer};
-ghost use Rattle.run_table.specs.Step.{is_delivered_as};
+ghost use Rattle.workflow_runs.specs.NewRun.{is_delivered_as};
 
-use crate::run::Run;
-use crate::runs::Runs;
+use workflow_runs::run::Run;
+use workflow_runs::runs::Runs;
 
 /// Whether the run at the place is the one that is found by its delivery.
 fn is_found(runs: &Runs, r: usize, run: &Run) -> bool

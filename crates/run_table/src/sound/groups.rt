@@ -2,19 +2,19 @@
 
 ghost use Rattle.std.specs.Prelude.{◌≡◌, IfOk, MatchOption, Ok};
 ghost use Rattle.wf_value.specs.Gives.{Gives};
-ghost use Rattle.run_table.specs.BoundGroups.{ErrsOnlyByMemory};
+ghost use Rattle.workflow_runs.specs.BoundGroups.{ErrsOnlyByMemory};
 ghost use Rattle.run_table.specs.GroupSets.{AddsEach, AreGroupsOf, AreTaken, DifferInGroup, IsALeg, IsALegOfJob, IsALegOfRun, IsARun};
 ghost use Rattle.run_table.specs.GroupSets.{group_as, stands};
-ghost use Rattle.run_table.specs.Groups.{HasOneEach};
-ghost use Rattle.run_table.specs.Holders.{holder_in_words};
+ghost use Rattle.workflow_runs.specs.Groups.{HasOneEach};
+ghost use Rattle.workflow_runs.specs.Holders.{holder_in_words};
 
-use crate::holder::Holder;
-use crate::place::LegPlace;
-use crate::runs::Runs;
 use crate::sound::group_set::GroupSet;
 use group_name::GroupKey;
 use std::alloc::Global;
 use wf_value::Refusal;
+use workflow_runs::holder::Holder;
+use workflow_runs::place::LegPlace;
+use workflow_runs::runs::Runs;
 
 /// How a run or a leg stands in its group.
 #[derive(Clone, Copy)]

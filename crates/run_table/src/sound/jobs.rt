@@ -3,19 +3,19 @@
 
 ghost use Rattle.std.specs.Bool.{Decides};
 ghost use Rattle.std.specs.Prelude.{◌≡◌};
-ghost use Rattle.run_table.specs.Cells.{states};
+ghost use Rattle.workflow_runs.specs.Cells.{states};
 ghost use Rattle.run_table.specs.OneByOne.{EachJobIsSound, EachLegIsSound, IsWithinParallel, JobIsSound, NeedsAreFirst};
-ghost use Rattle.run_table.specs.Rules.{result_at};
-ghost use Rattle.run_table.specs.Sound.{LegsFit, MayLackLegs};
-ghost use Rattle.run_table.specs.declared.phases.JobPhase.TheVariants.{Settled};
-ghost use Rattle.run_table.specs.Words.{needs_have_settled, planned_legs};
+ghost use Rattle.workflow_runs.specs.Rules.{result_at};
+ghost use Rattle.workflow_runs.specs.SoundRuns.{LegsFit, MayLackLegs};
+ghost use Rattle.workflow_runs.specs.declared.phases.JobPhase.TheVariants.{Settled};
+ghost use Rattle.workflow_runs.specs.Words.{needs_have_settled, planned_legs};
 
-use crate::job::Job;
-use crate::phases::JobPhase;
-use crate::runs::Runs;
 use crate::sound::leases::Leases;
 use crate::sound::legs::are_legs_sound;
 use wf_value::JobResult;
+use workflow_runs::job::Job;
+use workflow_runs::phases::JobPhase;
+use workflow_runs::runs::Runs;
 
 /// Whether a job that never opened may settle so.
 fn may_lack_legs(settled: JobResult) -> bool

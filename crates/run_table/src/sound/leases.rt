@@ -3,20 +3,20 @@
 ghost use Rattle.std.specs.BTreeMap.{get};
 ghost use Rattle.std.specs.Ordering.{nat_cmp};
 ghost use Rattle.std.specs.Prelude.{◌≡◌, ℕ, IfOk, OnOk, Some};
-ghost use Rattle.run_table.specs.BoundGroups.{ErrsOnlyByMemory};
+ghost use Rattle.workflow_runs.specs.BoundGroups.{ErrsOnlyByMemory};
 ghost use Rattle.run_table.specs.ByLease.{HasInJob, HasInRun, lease_of_leg, lease_of_runner};
 ghost use Rattle.run_table.specs.ByNumber.{Adds, Finds};
-ghost use Rattle.run_table.specs.Cells.{states};
+ghost use Rattle.workflow_runs.specs.Cells.{states};
 
-use crate::job::Job;
-use crate::leg::Leg;
-use crate::place::LegPlace;
 use crate::runner::Runner;
-use crate::runs::Runs;
 use run_plan::Number;
 use std::alloc::Global;
 use std::collections::BTreeMap;
 use wf_value::Refusal;
+use workflow_runs::job::Job;
+use workflow_runs::leg::Leg;
+use workflow_runs::place::LegPlace;
+use workflow_runs::runs::Runs;
 
 /// What is known of the leases of a table.
 #[derive(Drop)]

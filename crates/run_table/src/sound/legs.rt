@@ -4,14 +4,14 @@
 ghost use Rattle.std.specs.Bool.{Decides};
 ghost use Rattle.std.specs.Prelude.{◌≡◌, is_some, Some};
 ghost use Rattle.run_table.specs.OneByOne.{EachLegIsSound, IsFound, IsGiven, LegIsSound, leg_of, runner_of};
-ghost use Rattle.run_table.specs.Sound.{LeaseFits};
+ghost use Rattle.workflow_runs.specs.SoundRuns.{LeaseFits};
 
-use crate::leg::Leg;
-use crate::phases::LegPhase;
-use crate::place::LegPlace;
 use crate::sound::leases::Leases;
 use run_plan::Number;
 use wf_value::Outcome;
+use workflow_runs::leg::Leg;
+use workflow_runs::phases::LegPhase;
+use workflow_runs::place::LegPlace;
 
 /// Whether a leg in this phase may have this lease, or may lack one.
 fn lease_fits(phase: LegPhase, lease: Option<Number>) -> bool

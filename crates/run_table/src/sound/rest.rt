@@ -2,27 +2,27 @@
 
 ghost use Rattle.std.specs.Bool.{Decides};
 ghost use Rattle.std.specs.Prelude.{◌≡◌, ◌&&◌, IfOk, None, not};
-ghost use Rattle.run_table.specs.BoundGroups.{ErrsOnlyByMemory};
-ghost use Rattle.run_table.specs.Cells.{states};
-ghost use Rattle.run_table.specs.Groups.{may_start};
+ghost use Rattle.workflow_runs.specs.BoundGroups.{ErrsOnlyByMemory};
+ghost use Rattle.workflow_runs.specs.Cells.{states};
+ghost use Rattle.workflow_runs.specs.Groups.{may_start};
 ghost use Rattle.run_table.specs.GroupSets.{AreTaken};
-ghost use Rattle.run_table.specs.Holders.{holder_in_words};
-ghost use Rattle.run_table.specs.Settling.{first_place};
-ghost use Rattle.run_table.specs.StateWords.{is_blocked};
-ghost use Rattle.run_table.specs.WithinRun.{first_in_job, first_in_jobs, first_in_run, first_of_legs, goes_on, needs_settled_in};
-ghost use Rattle.run_table.specs.WithinRun.{whole_goes_on_in};
+ghost use Rattle.workflow_runs.specs.Holders.{holder_in_words};
+ghost use Rattle.workflow_runs.specs.Settling.{first_place};
+ghost use Rattle.workflow_runs.specs.StateWords.{is_blocked};
+ghost use Rattle.workflow_runs.specs.WithinRun.{first_in_job, first_in_jobs, first_in_run, first_of_legs, goes_on, needs_settled_in};
+ghost use Rattle.workflow_runs.specs.WithinRun.{whole_goes_on_in};
 
-use crate::first_place::has_settled_jobs;
-use crate::holder::Holder;
-use crate::job::Job;
-use crate::leg::Leg;
-use crate::phases::{LegPhase, RunPhase};
-use crate::place::LegPlace;
-use crate::run::Run;
-use crate::runs::Runs;
 use crate::sound::group_set::GroupSet;
 use std::alloc::Global;
 use wf_value::Refusal;
+use workflow_runs::first_place::has_settled_jobs;
+use workflow_runs::holder::Holder;
+use workflow_runs::job::Job;
+use workflow_runs::leg::Leg;
+use workflow_runs::phases::{LegPhase, RunPhase};
+use workflow_runs::place::LegPlace;
+use workflow_runs::run::Run;
+use workflow_runs::runs::Runs;
 
 /// The runs, and the groups in which somebody runs.
 #[derive(Drop)]

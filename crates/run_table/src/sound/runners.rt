@@ -6,9 +6,9 @@ ghost use Rattle.run_table.specs.OneByOne.{EachRunnerIsSound, HoldsWork, RunnerI
 ghost use Rattle.run_table.specs.Sound.{IsLastOf};
 
 use crate::runner::Runner;
-use crate::runs::Runs;
 use crate::sound::leases::Leases;
 use run_plan::{LastCommand, Number, RunnerName};
+use workflow_runs::runs::Runs;
 
 /// Whether the last command is this runner's, and has this number.
 fn is_last_of(name: &RunnerName, number: Number, last: &LastCommand) -> bool

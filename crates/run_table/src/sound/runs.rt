@@ -4,16 +4,16 @@ ghost use Rattle.std.specs.Bool.{Decides};
 ghost use Rattle.std.specs.Prelude.{◌≡◌};
 ghost use Rattle.std.specs.List.{list_all};
 ghost use Rattle.run_table.specs.OneByOne.{EachJobIsSound, EachRunIsSound, RunIsSound};
-ghost use Rattle.run_table.specs.Sound.{PhaseFits};
-ghost use Rattle.run_table.specs.StateWords.{is_blocked};
+ghost use Rattle.workflow_runs.specs.SoundRuns.{PhaseFits};
+ghost use Rattle.workflow_runs.specs.StateWords.{is_blocked};
 
-use crate::first_place::has_settled_jobs;
-use crate::job::Job;
-use crate::phases::RunPhase;
-use crate::run::Run;
-use crate::runs::Runs;
 use crate::sound::jobs::are_jobs_sound;
 use crate::sound::leases::Leases;
+use workflow_runs::first_place::has_settled_jobs;
+use workflow_runs::job::Job;
+use workflow_runs::phases::RunPhase;
+use workflow_runs::run::Run;
+use workflow_runs::runs::Runs;
 
 fn are_blocked(jobs: &[Job]) -> bool
     ensures { result ≡ list_all (λ job. is_blocked job.state.phase) jobs.now }

@@ -1,4 +1,4 @@
-use Rattle.run_table.proofs.Lowered.{first_rule_lowers}
+use Rattle.workflow_runs.proofs.Lowered.{first_rule_lowers}
 use Rattle.run_table.proofs.laws.each_rule_lowers.Goals as goal
 
 pub returns : goal.returns

@@ -1,4 +1,4 @@
-use Rattle.run_table.proofs.Rests.{settling_by_rule}
+use Rattle.workflow_runs.proofs.Rests.{settling_by_rule}
 use Rattle.run_table.proofs.laws.rules_lead_to_one_end.Goals as goal
 
 pub returns : goal.returns

@@ -1,4 +1,4 @@
-use Rattle.run_table.proofs.Rests.{settled_has_no_place}
+use Rattle.workflow_runs.proofs.Rests.{settled_has_no_place}
 use Rattle.run_table.proofs.laws.settled_runs_rest.Goals as goal
 
 pub returns : goal.returns

@@ -1,7 +1,7 @@
 use Rattle.std.proofs.Common.{◌≡◌, ◌≤◌, arith, false, true, None, Some, rules}
-use Rattle.run_table.specs.Settling.{first_place}
+use Rattle.workflow_runs.specs.Settling.{first_place}
 use Rattle.run_table.proofs.GroupsOfTable.{found_each, found_none_of_each}
-use Rattle.run_table.proofs.OneAfterAnother.{like, no, not_so}
+use Rattle.workflow_runs.proofs.OneAfterAnother.{like, no, not_so}
 use Rattle.run_table.proofs.SoundOneByOne.{each_run, each_runner, to_sound}
 use Rattle.run_table.proofs.sound.is_sound.Goals as goal
 

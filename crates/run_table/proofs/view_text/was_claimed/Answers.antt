@@ -1,5 +1,5 @@
 use Rattle.std.proofs.Common.{◌∙◌}
-use Rattle.run_table.proofs.Doors.{claimed_cells}
+use Rattle.run_table.proofs.ClaimedCells.{claimed_cells}
 use Rattle.run_table.proofs.view_text.was_claimed.Goals as goal
 
 pub returns : goal.returns

@@ -4,7 +4,7 @@ use Rattle.std.specs.List.{AllByRecursion}
 use Rattle.std.proofs.lemmas.List.{length-map}
 use Rattle.run_plan.specs.PlanOf.{faults_of}
 use Rattle.run_plan.specs.declared.command.Command.TheVariants as asked
-use Rattle.run_table.specs.Cells.{JobCells, states}
+use Rattle.workflow_runs.specs.Cells.{JobCells, states}
 use Rattle.table_text.specs.Lengths.{fields_length}
 use Rattle.table_text.specs.TableLengths.{job_length}
 use Rattle.table_text.specs.Writing.{JobHasBytes}

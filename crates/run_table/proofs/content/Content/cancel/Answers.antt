@@ -1,8 +1,8 @@
 use Rattle.std.specs.Prelude.{◌-◌}
 use Rattle.std.proofs.Common.{ap, ◌∙◌}
 use Rattle.run_table.specs.TableState.{TableState}
-use Rattle.run_table.specs.Places.{with_run}
-use Rattle.run_table.specs.Stops.{stopped_run}
+use Rattle.workflow_runs.specs.Places.{with_run}
+use Rattle.workflow_runs.specs.Stops.{stopped_run}
 use Rattle.run_table.proofs.BeforeSettling.{so_settles, stopped_may_settle}
 use Rattle.run_table.proofs.content.Content.cancel.Goals as goal
 

@@ -1,6 +1,6 @@
 use Rattle.std.proofs.Common.{ap, ◌∙◌}
 use Rattle.run_table.specs.TableState.{TableState}
-use Rattle.run_table.specs.Step.{with_ended}
+use Rattle.workflow_runs.specs.StopMoves.{with_ended}
 use Rattle.run_table.proofs.BeforeSettling.{reported_may_settle, so_settles}
 use Rattle.run_table.proofs.content.Content.end.Goals as goal
 

@@ -1,10 +1,11 @@
 use Rattle.std.specs.Prelude.{List}
 use Rattle.std.proofs.Common.{ap, sym, subst, ◌∙◌}
-use Rattle.run_table.specs.Groups.{HasOneEach}
-use Rattle.run_table.specs.Sound.{RunsAreSound}
-use Rattle.run_table.specs.Step.{with_ended}
-use Rattle.run_table.specs.Stops.{outcome_of_loss}
-use Rattle.run_table.specs.TableState.{RunState, TableState}
+use Rattle.workflow_runs.specs.Groups.{HasOneEach}
+use Rattle.workflow_runs.specs.SoundRuns.{RunsAreSound}
+use Rattle.workflow_runs.specs.StopMoves.{with_ended}
+use Rattle.workflow_runs.specs.Stops.{outcome_of_loss}
+use Rattle.run_table.specs.TableState.{TableState}
+use Rattle.workflow_runs.specs.RunState.{RunState}
 use Rattle.run_table.proofs.content.Content.end_lost.Goals as goal
 
 pub settle-requires-clause-sound : goal.settle-requires-clause-sound

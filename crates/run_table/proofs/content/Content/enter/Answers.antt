@@ -2,7 +2,7 @@ use Rattle.std.proofs.Common.{ap, sym}
 use Rattle.run_table.specs.TableState.{TableState}
 use Rattle.run_table.proofs.BeforeSettling.{entering_arrives, entering_settles}
 use Rattle.run_table.proofs.EnteredRests.{entering_rests}
-use Rattle.run_table.proofs.Doors.{given}
+use Rattle.workflow_runs.proofs.Doors.{given}
 use Rattle.run_table.proofs.content.Content.enter.Goals as goal
 
 pub arrive-requires-clause-waits : goal.arrive-requires-clause-waits

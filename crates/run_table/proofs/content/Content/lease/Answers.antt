@@ -1,10 +1,11 @@
 use Rattle.std.proofs.Common.{ap, refl, sym, ◌∙◌, Ok}
 use Rattle.run_plan.specs.declared.reply.Lease.{Lease as Leased}
 use Rattle.run_plan.specs.declared.reply.Reply.TheVariants as reply
-use Rattle.run_table.specs.Places.{with_leg}
-use Rattle.run_table.specs.Step.{lease_at, leased_leg}
+use Rattle.workflow_runs.specs.Places.{with_leg}
+use Rattle.run_table.specs.Step.{lease_at}
+use Rattle.workflow_runs.specs.NewRun.{leased_leg}
 use Rattle.run_table.specs.TableState.{TableState}
-use Rattle.run_table.proofs.Doors.{given}
+use Rattle.workflow_runs.proofs.Doors.{given}
 use Rattle.run_table.proofs.Leased.{leased_table}
 use Rattle.run_table.proofs.BeforeSettling.{leased_may_settle, so_settles}
 use Rattle.run_table.proofs.content.Content.lease.Goals as goal

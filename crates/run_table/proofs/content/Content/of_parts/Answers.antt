@@ -1,10 +1,12 @@
 use Rattle.std.proofs.Common.{◌≡◌, List, Option, None, false, ap, sym, ◌∙◌, subst, rules}
 use Rattle.std.specs.Prelude.{MatchOption, true}
 use Rattle.run_table.specs.Stored.{StoredRunner, StoredTable}
-use Rattle.run_table.specs.TableOf.{AreAsPlanned, AreRunnersAs}
-use Rattle.run_table.specs.TableState.{RunState, RunnerState, TableState}
+use Rattle.run_table.specs.TableOf.{AreRunnersAs}
+use Rattle.workflow_runs.specs.AsPlanned.{AreAsPlanned}
+use Rattle.run_table.specs.TableState.{RunnerState, TableState}
+use Rattle.workflow_runs.specs.RunState.{RunState}
 use Rattle.run_table.specs.Turns.{names_rise}
-use Rattle.run_table.proofs.OneAfterAnother.{not_so}
+use Rattle.workflow_runs.proofs.OneAfterAnother.{not_so}
 use Rattle.run_table.proofs.StoredOnce.{none_planned, none_sound}
 use Rattle.run_table.proofs.content.Content.of_parts.Goals as goal
 

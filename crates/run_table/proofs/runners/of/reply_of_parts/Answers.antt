@@ -4,8 +4,8 @@ use Rattle.std.specs.Ordering.{nat_cmp}
 use Rattle.run_plan.specs.declared.last_command.ClaimReply.TheVariants as reply
 use Rattle.run_table.specs.ByLease.{lease_of_leg}
 use Rattle.run_table.specs.TableOf.{IsReplyAs}
-use Rattle.run_table.proofs.Doors.{given}
-use Rattle.run_table.proofs.OneAfterAnother.{found_has}
+use Rattle.workflow_runs.proofs.Doors.{given}
+use Rattle.run_table.proofs.ByNumberRead.{found_has}
 use Rattle.run_table.proofs.PartsRead.{a_reply, run_in_range}
 use Rattle.run_table.proofs.runners.of.reply_of_parts.Goals as goal
 

@@ -4,8 +4,8 @@ use Rattle.run_table.specs.Sound.{KeptIsALegs, KeptLeasesAreLegs}
 use Rattle.run_table.specs.Stored.{stored_runner}
 use Rattle.run_table.specs.TableOf.{IsRunnerAs}
 use Rattle.run_table.specs.TableState.{RunnerState}
-use Rattle.run_table.proofs.Binding.{one_more}
-use Rattle.run_table.proofs.OneAfterAnother.{grown, read_at}
+use Rattle.workflow_runs.proofs.Binding.{one_more}
+use Rattle.workflow_runs.proofs.OneAfterAnother.{grown, read_at}
 use Rattle.run_table.proofs.PartsRead.{no_runners}
 use Rattle.run_table.proofs.runners.of.runners_of_parts.Goals as goal
 

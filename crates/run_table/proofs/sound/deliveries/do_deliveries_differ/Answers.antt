@@ -1,7 +1,7 @@
 use Rattle.std.proofs.Common.{◌≡◌, List, arith, ap, false, true, get_or, length, subst, rules}
-use Rattle.run_table.specs.TableState.{RunState}
+use Rattle.workflow_runs.specs.RunState.{RunState}
 use Rattle.run_table.proofs.DeliveriesFound.{IsFoundAt, differ_found, found_differ}
-use Rattle.run_table.proofs.OneAfterAnother.{like, none_yet, one_passed, passed, stopped_at}
+use Rattle.workflow_runs.proofs.OneAfterAnother.{like, none_yet, one_passed, passed, stopped_at}
 use Rattle.run_table.proofs.sound.deliveries.do_deliveries_differ.Goals as goal
 
 pub loop-r-init : goal.loop-r-init

@@ -1,5 +1,5 @@
 use Rattle.run_table.proofs.DeliveriesFound.{IsFoundAt}
-use Rattle.run_table.proofs.OneAfterAnother.{SoFar}
+use Rattle.workflow_runs.proofs.OneAfterAnother.{SoFar}
 use Rattle.run_table.proofs.sound.deliveries.do_deliveries_differ.Given as goal
 
 -- each run so far is the one that is found by its delivery

@@ -1,6 +1,6 @@
 use Rattle.std.proofs.Common.{◌≡◌, None, Some, rules}
 use Rattle.std.specs.List.{position}
-use Rattle.run_table.specs.Step.{is_delivered_as}
+use Rattle.workflow_runs.specs.NewRun.{is_delivered_as}
 use Rattle.run_table.proofs.DeliveriesFound.{is_no_place, is_place}
 use Rattle.run_table.proofs.sound.deliveries.is_found.Goals as goal
 

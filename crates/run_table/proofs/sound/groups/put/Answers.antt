@@ -1,7 +1,7 @@
 use Rattle.std.proofs.Common.{◌≡◌, ◌∙◌, Some, None, rules}
 use Rattle.run_table.specs.GroupSets.{group_as}
-use Rattle.run_table.specs.Holders.{holder_in_words}
-use Rattle.run_table.proofs.GroupKeys.{ok_same}
+use Rattle.workflow_runs.specs.Holders.{holder_in_words}
+use Rattle.workflow_runs.proofs.GroupKeys.{ok_same}
 use Rattle.run_table.proofs.GroupsGathered.{group_put, none_has}
 use Rattle.run_table.proofs.sound.groups.put.Goals as goal
 

@@ -1,6 +1,6 @@
 use Rattle.std.proofs.Common.{◌≡◌, arith, true, rules}
 use Rattle.run_table.specs.GroupSets.{IsALeg, IsALegOfRun, group_as}
-use Rattle.run_table.specs.Holders.{run_of}
+use Rattle.workflow_runs.specs.Holders.{run_of}
 use Rattle.run_table.proofs.GroupsGathered.{all_gathered, all_new, next_gathered}
 use Rattle.run_table.proofs.GroupsOfTable.{a_leg_of_run, leg_of_that_run, run_within}
 use Rattle.run_table.proofs.sound.groups.put_legs.Goals as goal

@@ -1,5 +1,5 @@
 use Rattle.run_table.specs.GroupSets.{Gathered, IsALeg, group_as}
-use Rattle.run_table.specs.Holders.{run_of}
+use Rattle.workflow_runs.specs.Holders.{run_of}
 use Rattle.run_table.proofs.GroupsGathered.{SoFar}
 use Rattle.run_table.proofs.sound.groups.put_legs.Given as goal
 

@@ -1,7 +1,7 @@
 use Rattle.std.proofs.Common.{◌≡◌, arith, true, rules}
 use Rattle.run_table.specs.GroupSets.{IsALegOfJob, group_as}
-use Rattle.run_table.specs.Moves.{Holder}
-use Rattle.run_table.specs.Places.{leg_place}
+use Rattle.workflow_runs.specs.Moves.{Holder}
+use Rattle.workflow_runs.specs.Places.{leg_place}
 use Rattle.run_table.proofs.GroupsGathered.{all_gathered, all_new, next_gathered}
 use Rattle.run_table.proofs.GroupsOfTable.{a_leg_is, is_that_leg, leg_of, leg_within}
 use Rattle.run_table.proofs.sound.groups.put_legs_of_job.Goals as goal

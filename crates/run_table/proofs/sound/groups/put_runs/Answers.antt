@@ -1,7 +1,7 @@
 use Rattle.std.proofs.Common.{◌≡◌, arith, true, rules}
 use Rattle.run_table.specs.GroupSets.{IsARun, group_as}
-use Rattle.run_table.specs.Holders.{run_of}
-use Rattle.run_table.specs.Moves.{Holder}
+use Rattle.workflow_runs.specs.Holders.{run_of}
+use Rattle.workflow_runs.specs.Moves.{Holder}
 use Rattle.run_table.proofs.GroupsGathered.{all_gathered, all_new, next_gathered}
 use Rattle.run_table.proofs.GroupsOfTable.{a_run_is, is_that_run, run_within}
 use Rattle.run_table.proofs.sound.groups.put_runs.Goals as goal

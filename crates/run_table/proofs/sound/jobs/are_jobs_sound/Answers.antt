@@ -1,8 +1,8 @@
 use Rattle.std.proofs.Common.{◌≡◌, ℕ, arith, false, true, rules}
-use Rattle.run_table.specs.Cells.{JobCells}
+use Rattle.workflow_runs.specs.Cells.{JobCells}
 use Rattle.run_table.specs.OneByOne.{JobIsSound}
-use Rattle.run_table.specs.TableState.{JobState}
-use Rattle.run_table.proofs.OneAfterAnother.{each_mapped, each_unmapped, like, none_yet, one_passed, passed, stopped_at}
+use Rattle.workflow_runs.specs.RunState.{JobState}
+use Rattle.workflow_runs.proofs.OneAfterAnother.{each_mapped, each_unmapped, like, none_yet, one_passed, passed, stopped_at}
 use Rattle.run_table.proofs.sound.jobs.are_jobs_sound.Goals as goal
 
 pub loop-j-init : goal.loop-j-init

@@ -1,5 +1,5 @@
 use Rattle.run_table.specs.OneByOne.{JobIsSound}
-use Rattle.run_table.proofs.OneAfterAnother.{SoFar}
+use Rattle.workflow_runs.proofs.OneAfterAnother.{SoFar}
 use Rattle.run_table.proofs.sound.jobs.are_jobs_sound.Given as goal
 
 -- each job so far is sound

@@ -1,7 +1,7 @@
 use Rattle.std.proofs.Common.{List, subst}
 use Rattle.std.specs.Bool.{Decides}
 use Rattle.run_table.specs.OneByOne.{EachLegIsSound}
-use Rattle.run_table.specs.TableState.{LegState}
+use Rattle.workflow_runs.specs.RunState.{LegState}
 use Rattle.run_table.proofs.sound.jobs.has_sound_legs.Goals as goal
 
 pub returns : goal.returns

@@ -1,5 +1,5 @@
 use Rattle.std.proofs.Common.{◌≡◌, true, rules}
-use Rattle.run_table.proofs.OneAfterAnother.{no, not_so}
+use Rattle.workflow_runs.proofs.OneAfterAnother.{no, not_so}
 use Rattle.run_table.proofs.sound.jobs.is_job_sound.Goals as goal
 
 pub returns-then-not-legs_fit : goal.returns-then-not-legs_fit

@@ -3,10 +3,11 @@ use Rattle.std.specs.BTreeMap.{get}
 use Rattle.std.specs.Ordering.{nat_cmp}
 use Rattle.run_table.specs.ByLease.{HasInRun, lease_of_leg}
 use Rattle.run_table.specs.ByNumber.{Adds, Finds}
-use Rattle.run_table.specs.Places.{LegPlace}
-use Rattle.run_table.specs.TableState.{JobState, RunState}
+use Rattle.workflow_runs.specs.Places.{LegPlace}
+use Rattle.workflow_runs.specs.RunState.{JobState, RunState}
 use Rattle.run_table.proofs.LeasesPut.{run_put, runs_put}
-use Rattle.run_table.proofs.OneAfterAnother.{all_found, none_added, read_at}
+use Rattle.workflow_runs.proofs.OneAfterAnother.{read_at}
+use Rattle.run_table.proofs.ByNumberRead.{all_found, none_added}
 use Rattle.run_table.proofs.sound.leases.legs_by_lease.Goals as goal
 
 pub loop-r-init : goal.loop-r-init

@@ -3,11 +3,12 @@ use Rattle.std.specs.BTreeMap.{get}
 use Rattle.std.specs.Ordering.{nat_cmp}
 use Rattle.run_table.specs.ByLease.{HasInJob, HasInRun}
 use Rattle.run_table.specs.ByNumber.{Adds}
-use Rattle.run_table.specs.Cells.{states}
-use Rattle.run_table.specs.Places.{LegPlace}
-use Rattle.run_table.specs.TableState.{LegState}
+use Rattle.workflow_runs.specs.Cells.{states}
+use Rattle.workflow_runs.specs.Places.{LegPlace}
+use Rattle.workflow_runs.specs.RunState.{LegState}
 use Rattle.run_table.proofs.LeasesPut.{as_many_states, cell_at, job_put, jobs_put}
-use Rattle.run_table.proofs.OneAfterAnother.{none_added, read_at}
+use Rattle.workflow_runs.proofs.OneAfterAnother.{read_at}
+use Rattle.run_table.proofs.ByNumberRead.{none_added}
 use Rattle.run_table.proofs.sound.leases.put_jobs.Goals as goal
 
 pub loop-j-init : goal.loop-j-init

@@ -1,7 +1,7 @@
 use Rattle.std.specs.BTreeMap.{get}
 use Rattle.std.specs.Ordering.{nat_cmp}
 use Rattle.run_table.specs.ByNumber.{Adds}
-use Rattle.run_table.specs.Cells.{states}
+use Rattle.workflow_runs.specs.Cells.{states}
 use Rattle.run_table.proofs.LeasesPut.{SoFarInRun}
 use Rattle.run_table.proofs.sound.leases.put_jobs.Given as goal
 

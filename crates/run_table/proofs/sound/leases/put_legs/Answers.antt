@@ -2,9 +2,10 @@ use Rattle.std.proofs.Common.{arith, refl, rules}
 use Rattle.std.specs.BTreeMap.{get}
 use Rattle.std.specs.Ordering.{nat_cmp}
 use Rattle.run_table.specs.ByLease.{HasInJob}
-use Rattle.run_table.specs.Places.{LegPlace}
+use Rattle.workflow_runs.specs.Places.{LegPlace}
 use Rattle.run_table.proofs.LeasesPut.{leg_put, legs_put}
-use Rattle.run_table.proofs.OneAfterAnother.{none_added, read_at}
+use Rattle.workflow_runs.proofs.OneAfterAnother.{read_at}
+use Rattle.run_table.proofs.ByNumberRead.{none_added}
 use Rattle.run_table.proofs.sound.leases.put_legs.Goals as goal
 
 pub loop-l-init : goal.loop-l-init

@@ -3,7 +3,8 @@ use Rattle.std.specs.BTreeMap.{get}
 use Rattle.std.specs.Ordering.{nat_cmp}
 use Rattle.run_table.specs.ByLease.{lease_of_runner}
 use Rattle.run_table.proofs.LeasesPut.{runner_put, runners_put}
-use Rattle.run_table.proofs.OneAfterAnother.{all_found, none_added, read_at}
+use Rattle.workflow_runs.proofs.OneAfterAnother.{read_at}
+use Rattle.run_table.proofs.ByNumberRead.{all_found, none_added}
 use Rattle.run_table.proofs.sound.leases.runners_by_lease.Goals as goal
 
 pub loop-k-init : goal.loop-k-init

@@ -1,8 +1,8 @@
 use Rattle.std.proofs.Common.{◌≡◌, ℕ, arith, false, rules}
 use Rattle.run_table.specs.OneByOne.{LegIsSound}
-use Rattle.run_table.specs.Places.{leg_place}
-use Rattle.run_table.specs.TableState.{LegState}
-use Rattle.run_table.proofs.OneAfterAnother.{none_yet, one_passed, passed, stopped_at}
+use Rattle.workflow_runs.specs.Places.{leg_place}
+use Rattle.workflow_runs.specs.RunState.{LegState}
+use Rattle.workflow_runs.proofs.OneAfterAnother.{none_yet, one_passed, passed, stopped_at}
 use Rattle.run_table.proofs.sound.legs.are_legs_sound.Goals as goal
 
 pub loop-l-init : goal.loop-l-init

@@ -1,6 +1,6 @@
 use Rattle.run_table.specs.OneByOne.{LegIsSound}
-use Rattle.run_table.specs.Places.{leg_place}
-use Rattle.run_table.proofs.OneAfterAnother.{SoFar}
+use Rattle.workflow_runs.specs.Places.{leg_place}
+use Rattle.workflow_runs.proofs.OneAfterAnother.{SoFar}
 use Rattle.run_table.proofs.sound.legs.are_legs_sound.Given as goal
 
 -- each leg so far is sound

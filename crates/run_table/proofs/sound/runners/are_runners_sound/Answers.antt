@@ -1,6 +1,6 @@
 use Rattle.std.proofs.Common.{◌≡◌, arith, false, rules}
 use Rattle.run_table.specs.OneByOne.{RunnerIsSound}
-use Rattle.run_table.proofs.OneAfterAnother.{none_yet, one_passed, passed, stopped_at}
+use Rattle.workflow_runs.proofs.OneAfterAnother.{none_yet, one_passed, passed, stopped_at}
 use Rattle.run_table.proofs.sound.runners.are_runners_sound.Goals as goal
 
 pub loop-k-init : goal.loop-k-init

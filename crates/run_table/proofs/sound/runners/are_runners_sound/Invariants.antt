@@ -1,5 +1,5 @@
 use Rattle.run_table.specs.OneByOne.{RunnerIsSound}
-use Rattle.run_table.proofs.OneAfterAnother.{SoFar}
+use Rattle.workflow_runs.proofs.OneAfterAnother.{SoFar}
 use Rattle.run_table.proofs.sound.runners.are_runners_sound.Given as goal
 
 -- each runner so far is sound

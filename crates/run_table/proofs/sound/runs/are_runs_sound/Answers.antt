@@ -1,8 +1,8 @@
 use Rattle.std.proofs.Common.{◌≡◌, List, arith, subst, false, true, rules}
 use Rattle.std.specs.Bool.{Decides}
 use Rattle.run_table.specs.OneByOne.{RunIsSound}
-use Rattle.run_table.specs.TableState.{RunState}
-use Rattle.run_table.proofs.OneAfterAnother.{OfEach, none_yet, one_passed, passed, stopped_at}
+use Rattle.workflow_runs.specs.RunState.{RunState}
+use Rattle.workflow_runs.proofs.OneAfterAnother.{OfEach, none_yet, one_passed, passed, stopped_at}
 use Rattle.run_table.proofs.sound.runs.are_runs_sound.Goals as goal
 
 pub loop-r-init : goal.loop-r-init

@@ -1,5 +1,5 @@
 use Rattle.run_table.specs.OneByOne.{RunIsSound}
-use Rattle.run_table.proofs.OneAfterAnother.{SoFar}
+use Rattle.workflow_runs.proofs.OneAfterAnother.{SoFar}
 use Rattle.run_table.proofs.sound.runs.are_runs_sound.Given as goal
 
 -- each run so far is sound

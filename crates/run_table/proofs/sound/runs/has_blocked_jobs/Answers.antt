@@ -1,9 +1,9 @@
 use Rattle.std.specs.List.{list_all}
 use Rattle.std.proofs.Common.{ap, sym, ◌∙◌}
 use Rattle.std.proofs.lemmas.List.Folds.{list_all-map}
-use Rattle.run_table.specs.Cells.{JobCells}
-use Rattle.run_table.specs.StateWords.{is_blocked}
-use Rattle.run_table.specs.TableState.{JobState}
+use Rattle.workflow_runs.specs.Cells.{JobCells}
+use Rattle.workflow_runs.specs.StateWords.{is_blocked}
+use Rattle.workflow_runs.specs.RunState.{JobState}
 use Rattle.run_table.proofs.sound.runs.has_blocked_jobs.Goals as goal
 
 pub returns : goal.returns

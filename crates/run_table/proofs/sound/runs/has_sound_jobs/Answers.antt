@@ -1,7 +1,7 @@
 use Rattle.std.proofs.Common.{List, subst}
 use Rattle.std.specs.Bool.{Decides}
 use Rattle.run_table.specs.OneByOne.{EachJobIsSound}
-use Rattle.run_table.specs.TableState.{JobState}
+use Rattle.workflow_runs.specs.RunState.{JobState}
 use Rattle.run_table.proofs.sound.runs.has_sound_jobs.Goals as goal
 
 pub returns : goal.returns

@@ -1,6 +1,6 @@
 use Rattle.std.proofs.Common.{subst}
 use Rattle.run_table.specs.Sound.{IsSound}
-use Rattle.run_table.proofs.Doors.{given}
+use Rattle.workflow_runs.proofs.Doors.{given}
 use Rattle.run_table.proofs.table.TableTryCopy.copy.Goals as goal
 
 pub invariant_of-result : goal.invariant_of-result

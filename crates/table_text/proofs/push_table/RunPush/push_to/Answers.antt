@@ -1,7 +1,7 @@
 use Rattle.std.proofs.Common.{sym, ◌∙◌, ap, subst}
 use Rattle.std.specs.List.{AllByRecursion, flat_map}
 use Rattle.std.proofs.lemmas.List.Folds.{flat_map-map}
-use Rattle.run_table.specs.Cells.{JobCells}
+use Rattle.workflow_runs.specs.Cells.{JobCells}
 use Rattle.table_text.specs.Commands.{admit}
 use Rattle.table_text.specs.Tables.{flag_byte, job, run_byte}
 use Rattle.table_text.specs.Writing.{JobHasBytes}

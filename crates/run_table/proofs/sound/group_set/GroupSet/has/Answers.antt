@@ -4,7 +4,7 @@ use Rattle.std.specs.List.{list_any}
 use Rattle.group_name.specs.Group.{Group}
 use Rattle.group_name.specs.Order.{group_cmp}
 use Rattle.run_table.specs.GroupSets.{has_group}
-use Rattle.run_table.specs.Groups.{same_group}
+use Rattle.workflow_runs.specs.Groups.{same_group}
 use Rattle.run_table.proofs.GroupSetReads.{equal_for_maps, found_some, not_there, own_group}
 use Rattle.run_table.proofs.sound.group_set.GroupSet.has.Goals as goal
 

@@ -1,8 +1,8 @@
 use Rattle.std.proofs.Common.{◌≡◌, ◌∙◌, List, Bool, false, true, None, subst, sym, rules}
 use Rattle.std.specs.Bool.{Decides}
-use Rattle.run_table.specs.TableState.{LegState}
-use Rattle.run_table.specs.WithinRun.{first_in_job, first_of_legs}
-use Rattle.run_table.proofs.OneAfterAnother.{when_ok}
+use Rattle.workflow_runs.specs.RunState.{LegState}
+use Rattle.workflow_runs.specs.WithinRun.{first_in_job, first_of_legs}
+use Rattle.workflow_runs.proofs.OneAfterAnother.{when_ok}
 use Rattle.run_table.proofs.RestTested.{job_closes, job_decided, job_opens}
 use Rattle.run_table.proofs.sound.rest.Grouped.job_rests.Goals as goal
 

@@ -1,7 +1,7 @@
 use Rattle.std.proofs.Common.{◌≡◌, ℕ, arith, false, true, rules}
-use Rattle.run_table.specs.Cells.{JobCells, states}
-use Rattle.run_table.specs.WithinRun.{first_in_job}
-use Rattle.run_table.proofs.OneAfterAnother.{each_mapped, each_unmapped, like, none_yet, one_passed, passed, stopped_at}
+use Rattle.workflow_runs.specs.Cells.{JobCells, states}
+use Rattle.workflow_runs.specs.WithinRun.{first_in_job}
+use Rattle.workflow_runs.proofs.OneAfterAnother.{each_mapped, each_unmapped, like, none_yet, one_passed, passed, stopped_at}
 use Rattle.run_table.proofs.RestTested.{NoneAt, each_none, none_of_each}
 use Rattle.run_table.proofs.sound.rest.Grouped.jobs_rest.Goals as goal
 

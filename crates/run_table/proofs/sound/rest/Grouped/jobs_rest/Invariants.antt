@@ -1,5 +1,5 @@
-use Rattle.run_table.specs.WithinRun.{first_in_job}
-use Rattle.run_table.proofs.OneAfterAnother.{SoFar}
+use Rattle.workflow_runs.specs.WithinRun.{first_in_job}
+use Rattle.workflow_runs.proofs.OneAfterAnother.{SoFar}
 use Rattle.run_table.proofs.RestTested.{NoneAt}
 use Rattle.run_table.proofs.sound.rest.Grouped.jobs_rest.Given as goal
 

@@ -1,7 +1,7 @@
 use Rattle.std.proofs.Common.{◌≡◌, ◌∙◌, Some, None, rules}
-use Rattle.run_table.specs.GroupOf.{group_at}
-use Rattle.run_table.specs.Holders.{holder_in_words}
-use Rattle.run_table.proofs.GroupKeys.{ok_same}
+use Rattle.workflow_runs.specs.GroupOf.{group_at}
+use Rattle.workflow_runs.specs.Holders.{holder_in_words}
+use Rattle.workflow_runs.proofs.GroupKeys.{ok_same}
 use Rattle.run_table.proofs.RestTested.{kept_back, not_kept_back}
 use Rattle.run_table.proofs.sound.rest.Grouped.keeps_back.Goals as goal
 

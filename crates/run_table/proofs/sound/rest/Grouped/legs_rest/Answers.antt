@@ -1,5 +1,5 @@
 use Rattle.std.proofs.Common.{◌≡◌, arith, false, true, rules}
-use Rattle.run_table.proofs.OneAfterAnother.{like, none_yet, one_passed, passed, stopped_at}
+use Rattle.workflow_runs.proofs.OneAfterAnother.{like, none_yet, one_passed, passed, stopped_at}
 use Rattle.run_table.proofs.RestTested.{NoneAt, each_none, leg_asked, leg_decided, none_of_each}
 use Rattle.run_table.proofs.sound.rest.Grouped.legs_rest.Goals as goal
 

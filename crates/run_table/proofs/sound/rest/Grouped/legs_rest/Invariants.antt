@@ -1,4 +1,4 @@
-use Rattle.run_table.proofs.OneAfterAnother.{SoFar}
+use Rattle.workflow_runs.proofs.OneAfterAnother.{SoFar}
 use Rattle.run_table.proofs.RestTested.{NoneAt, leg_asked}
 use Rattle.run_table.proofs.sound.rest.Grouped.legs_rest.Given as goal
 

@@ -1,10 +1,10 @@
 use Rattle.std.proofs.Common.{◌≡◌, ◌∙◌, List, Bool, false, true, None, ap, subst, sym, rules}
 use Rattle.std.specs.Bool.{Decides}
-use Rattle.run_table.specs.Cells.{states}
-use Rattle.run_table.specs.StateWords.{is_live}
-use Rattle.run_table.specs.TableState.{JobState}
-use Rattle.run_table.specs.WithinRun.{first_in_jobs, first_in_run}
-use Rattle.run_table.proofs.OneAfterAnother.{when_ok}
+use Rattle.workflow_runs.specs.Cells.{states}
+use Rattle.workflow_runs.specs.StateWords.{is_live}
+use Rattle.workflow_runs.specs.RunState.{JobState}
+use Rattle.workflow_runs.specs.WithinRun.{first_in_jobs, first_in_run}
+use Rattle.workflow_runs.proofs.OneAfterAnother.{when_ok}
 use Rattle.run_table.proofs.RestTested.{run_decided, run_rests, whole_moves}
 use Rattle.run_table.proofs.sound.rest.Grouped.run_rests.Goals as goal
 

@@ -1,8 +1,8 @@
 use Rattle.std.proofs.Common.{◌≡◌, List, arith, false, true, subst, rules}
 use Rattle.std.specs.Bool.{Decides}
-use Rattle.run_table.specs.TableState.{RunState}
-use Rattle.run_table.specs.WithinRun.{first_in_run}
-use Rattle.run_table.proofs.OneAfterAnother.{OfEach, none_yet, one_passed, passed, stopped_at}
+use Rattle.workflow_runs.specs.RunState.{RunState}
+use Rattle.workflow_runs.specs.WithinRun.{first_in_run}
+use Rattle.workflow_runs.proofs.OneAfterAnother.{OfEach, none_yet, one_passed, passed, stopped_at}
 use Rattle.run_table.proofs.RestTested.{NoneAt, runs_decided}
 use Rattle.run_table.proofs.sound.rest.Grouped.runs_rest.Goals as goal
 

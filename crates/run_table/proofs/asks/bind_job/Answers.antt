@@ -1,4 +1,0 @@
-use Rattle.run_table.proofs.asks.bind_job.Goals as goal
-
-pub returns-clause-says : goal.returns-clause-says
-returns-clause-says c = record { groups = c.in_ok-groups.ensures.says; labels = c.in_ok-labels.ensures.tells }

@@ -1,7 +1,0 @@
-use Rattle.run_table.specs.WithinRun.{first_in_job}
-use Rattle.run_table.proofs.Firsts.{NoneBefore}
-use Rattle.run_table.proofs.first_place.first_in_jobs.Given as goal
-
--- none so far has a rule
-abbrev pub invariant-loop-j : goal.invariant-loop-j
-invariant-loop-j l = NoneBefore (λ j job. first_in_job l.runs l.r l.run j job.state) l.jobs l.j

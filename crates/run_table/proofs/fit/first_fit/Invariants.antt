@@ -1,9 +1,0 @@
-use Rattle.std.proofs.Common.{ℕ}
-use Rattle.run_table.specs.TableState.{RunState}
-use Rattle.run_table.specs.WithinRun.{fit_in_jobs}
-use Rattle.run_table.proofs.Firsts.{NoneBefore}
-use Rattle.run_table.proofs.fit.first_fit.Given as goal
-
--- none so far is the one
-abbrev pub invariant-loop-r : goal.invariant-loop-r
-invariant-loop-r l = NoneBefore (λ (r : ℕ) (run : RunState). fit_in_jobs l.labels l.runs r run.jobs) l.runs l.r

@@ -1,7 +1,0 @@
-use Rattle.run_table.specs.WithinRun.{lease_in_run}
-use Rattle.run_table.proofs.Firsts.{NoneBefore}
-use Rattle.run_table.proofs.fit.place_of_lease.Given as goal
-
--- none so far is the one
-abbrev pub invariant-loop-r : goal.invariant-loop-r
-invariant-loop-r l = NoneBefore (lease_in_run l.lease) l.runs l.r

@@ -1,9 +1,0 @@
-use Rattle.run_table.specs.JobResults.{direct_needs}
-use Rattle.run_table.proofs.Digits.{told_in_digits}
-use Rattle.run_table.proofs.leg_view.LegView.context.Goals as goal
-
-pub returns : goal.returns
-returns c =
-    let leg = c.self.inside in
-    told_in_digits leg.run.now.admitted leg.run_id leg.run_number c.format.result.now c.format-2.result.now leg.job.now leg.leg
-    (direct_needs leg.run.now leg.place) c.args.self.now c.format.ensures.text c.format-2.ensures.text c.self.view_is

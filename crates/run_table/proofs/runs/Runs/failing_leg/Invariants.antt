@@ -1,7 +1,0 @@
-use Rattle.run_table.specs.WithinRun.{failing}
-use Rattle.run_table.proofs.Firsts.{NoneBefore}
-use Rattle.run_table.proofs.runs.Runs.failing_leg.Given as goal
-
--- none so far fails the job
-abbrev pub invariant-loop-l : goal.invariant-loop-l
-invariant-loop-l l = NoneBefore (λ k leg. failing l.self l.r l.j (k, leg)) l.legs l.l

@@ -1,9 +1,0 @@
-use Rattle.std.proofs.Common.{◌≡◌, take}
-use Rattle.run_plan.specs.PlanOf.{plan_of}
-use Rattle.run_table.specs.TableOf.{IsAsPlanned}
-use Rattle.run_table.proofs.OneAfterAnother.{SoFar}
-use Rattle.run_table.proofs.runs.Runs.of_parts.Given as goal
-
--- the runs so far, each as planned
-abbrev pub invariant-loop-r : goal.invariant-loop-r
-invariant-loop-r l = (l.runs ≡ take l.r l.parts) × SoFar (λ k x. IsAsPlanned (plan_of x.admitted.body) x.jobs) l.parts l.r

@@ -1,0 +1,154 @@
+-- An arrival, made by stopping the one that is found: in a group at most one other is pending, and at most one is running.
+use Rattle.std.specs.Prelude.{◌≡◌, ℕ, zero, suc, List, [], ◌∷◌, filter, find, ◌&&◌, not, Bool, true, false, is_some, Option, Some, None}
+use Rattle.std.specs.Prelude.{if◌then◌else◌, refl}
+use Rattle.std.specs.List.{AllByRecursion}
+use Rattle.std.specs.Option.{option_map_or}
+use Rattle.std.proofs.Common.{ap, sym, ◌∙◌}
+use Rattle.std.proofs.lemmas.Bool.{and_parts, true≢false}
+use Rattle.group_name.specs.Group.{Group}
+use Rattle.workflow_runs.specs.Arrivals.{arrived, displaced, in_progress_stopped, room_made, stopped_where_asked}
+use Rattle.workflow_runs.specs.FirstOf.{changed_at}
+use Rattle.workflow_runs.specs.GroupOf.{cancels_in_progress, group_at}
+use Rattle.workflow_runs.specs.GroupWords.{same_holder}
+use Rattle.workflow_runs.specs.Groups.{HasOneBeside, all_holders, is_pending_in, is_running_in, waits}
+use Rattle.workflow_runs.specs.Holders.{first_meant}
+use Rattle.workflow_runs.specs.Moves.{Holder, Moved, at_each, without_moves}
+use Rattle.workflow_runs.specs.SoundRuns.{RunsAreSound}
+use Rattle.workflow_runs.specs.StateWords.{leg_in_phase}
+use Rattle.workflow_runs.specs.StopMoves.{displace, stop_holder}
+use Rattle.workflow_runs.specs.Stops.{stopped, stopped_in, stopped_phase, stopped_run, told_to_stop}
+use Rattle.workflow_runs.specs.RunState.{LegState, JobState, RunState}
+use Rattle.workflow_runs.specs.declared.holder.Whom.TheVariants.{OthersPending, Running}
+use Rattle.workflow_runs.specs.declared.phases.LegPhase.{LegPhase}
+use Rattle.workflow_runs.specs.declared.phases.LegPhase.TheVariants as leg
+use Rattle.workflow_runs.specs.declared.phases.RunPhase.{RunPhase}
+use Rattle.workflow_runs.specs.declared.phases.RunPhase.TheVariants as run
+use Rattle.workflow_runs.proofs.ArrivalKeeps.{displaced_one_each, itself, still_its}
+use Rattle.workflow_runs.proofs.RunFits.{RunsFit, runs_fit}
+
+-- ---- what is stopped stays as it is when it is stopped again
+
+changed_twice : {X : Type 0} (i : ℕ) (f : X → X) (xs : List X) → ((x : X) → f (f x) ≡ f x)
+    → changed_at i f (changed_at i f xs) ≡ changed_at i f xs
+changed_twice i f [] same = refl
+changed_twice zero f (x ∷ xs) same = ap (λ y. y ∷ xs) (same x)
+changed_twice (suc i) f (x ∷ xs) same = ap (λ ys. x ∷ ys) (changed_twice i f xs same)
+
+phase_twice : (phase : LegPhase) → stopped_phase (stopped_phase phase) ≡ stopped_phase phase
+phase_twice leg.New = refl
+phase_twice leg.Waiting = refl
+phase_twice leg.Ready = refl
+phase_twice leg.Running = refl
+phase_twice leg.Stopping = refl
+phase_twice (leg.Ended r) = refl
+
+leg_twice : (z : LegState) → stopped (stopped z) ≡ stopped z
+leg_twice z = ap (λ (phase : LegPhase). leg_in_phase phase z) (phase_twice z.phase)
+
+live_twice : (x : RunState) (b : Bool) → x.phase ≡ run.Live → x.stopping ≡ b
+    → stopped_run (if b then x else told_to_stop x) ≡ (if b then x else told_to_stop x)
+live_twice x true live is = ap (λ phase. stopped_in phase x) live ∙ ap (λ b. if b then x else told_to_stop x) is
+live_twice x false live is = ap (λ phase. stopped_in phase (told_to_stop x)) live
+
+run_twice : (x : RunState) (phase : RunPhase) → x.phase ≡ phase → stopped_run (stopped_in phase x) ≡ stopped_in phase x
+run_twice x run.Waiting is = refl
+run_twice x run.Live is = live_twice x x.stopping is refl
+run_twice x run.Ended is = ap (λ phase. stopped_in phase x) is
+
+stopped_twice : (h : Holder) (runs : List RunState) → (stop_holder h (stop_holder h runs).runs).runs ≡ (stop_holder h runs).runs
+stopped_twice (Holder.a_run r) runs = changed_twice r stopped_run runs (λ x. run_twice x x.phase refl)
+stopped_twice (Holder.a_leg p) runs =
+    let in_job : JobState → JobState = λ job. record job { legs = changed_at p.leg stopped job.legs } in
+    let in_run : RunState → RunState = λ run. record run { jobs = changed_at p.job in_job run.jobs } in
+    changed_twice p.run in_run runs
+    (λ run. ap (λ jobs. record run { jobs = jobs })
+    (changed_twice p.job in_job run.jobs
+    (λ job. ap (λ legs. record job { legs = legs }) (changed_twice p.leg stopped job.legs leg_twice))))
+
+-- ---- a change at all that pass a test is one at the first of them, where no two pass
+
+module _ (change : Holder → List RunState → Moved)
+    (twice : (h : Holder) (runs : List RunState) → (change h (change h runs).runs).runs ≡ (change h runs).runs) where
+  at_one : (h : Holder) (hs : List Holder) (runs : List RunState) → AllByRecursion (λ k. k ≡ h) hs
+      → (at_each change (h ∷ hs) runs).runs ≡ (change h runs).runs
+  at_one h [] runs all = refl
+  at_one h (k ∷ hs) runs all =
+      ap (λ i. (at_each change (i ∷ hs) (change h runs).runs).runs) all.0
+      ∙ at_one h hs (change h runs).runs all.1
+      ∙ twice h runs
+
+  module _ (test : Holder → Bool) (one : (h k : Holder) → test h ≡ true → test k ≡ true → h ≡ k) where
+    all_that_one : (h : Holder) → test h ≡ true → (hs : List Holder) → AllByRecursion (λ k. k ≡ h) (filter test hs)
+    all_that_one h is [] = tt
+    all_that_one h is (k ∷ hs) =
+        elim (test k) as (λ b. test k ≡ b → AllByRecursion (λ i. i ≡ h) (if b then k ∷ filter test hs else filter test hs)) [
+          | true ↦ λ passes. (one k h passes is, all_that_one h is hs)
+          | false ↦ λ passes. all_that_one h is hs
+        ] refl
+
+    pub at_the_first : (hs : List Holder) (runs : List RunState)
+        → (at_each change (filter test hs) runs).runs ≡ option_map_or (λ h. (change h runs).runs) (find test hs) runs
+    at_the_first [] runs = refl
+    at_the_first (h ∷ hs) runs =
+        elim (test h) as
+        (λ b. test h ≡ b → (at_each change (if b then h ∷ filter test hs else filter test hs) runs).runs
+        ≡ option_map_or (λ k. (change k runs).runs) (if b then Some h else find test hs) runs) [
+          | true ↦ λ passes. at_one h (filter test hs) runs (all_that_one h passes hs)
+          | false ↦ λ passes. at_the_first hs runs
+        ] refl
+
+-- ---- the newcomer's group
+
+no_other : (h newcomer : Holder) → not (same_holder h newcomer) ≡ true → h ≡ newcomer → ⊥
+no_other h newcomer other same =
+    true≢false (sym other ∙ ap not (ap (λ k. same_holder k newcomer) same ∙ itself newcomer))
+
+module _ (runs : List RunState) (newcomer : Holder) (g : Group) (its : group_at runs newcomer ≡ Some g)
+    (waiting : waits runs newcomer ≡ true) (sound : RunsAreSound runs) (one : HasOneBeside runs newcomer) where
+  fit : RunsFit runs
+  fit = runs_fit runs sound.jobs_are_the_plans sound.run_phases_fit sound.jobs_fit sound.needs_settled_first sound.leases_fit
+
+  one_other : (h k : Holder) → (is_pending_in runs g h && not (same_holder h newcomer)) ≡ true
+      → (is_pending_in runs g k && not (same_holder k newcomer)) ≡ true → h ≡ k
+  one_other h k e f =
+      let of_h = and_parts (is_pending_in runs g h) (not (same_holder h newcomer)) e in
+      let of_k = and_parts (is_pending_in runs g k) (not (same_holder k newcomer)) f in
+      one.pending g h k (no_other h newcomer of_h.1) (no_other k newcomer of_k.1) of_h.0 of_k.0
+
+  pub the_pending_one_stopped : option_map_or (λ h. (stop_holder h runs).runs) (first_meant runs newcomer OthersPending) runs
+      ≡ (displaced g newcomer runs).runs
+  the_pending_one_stopped =
+      ap (λ o. option_map_or (λ h. (stop_holder h runs).runs)
+      (find (λ k. option_map_or (λ v. is_pending_in runs v k && not (same_holder k newcomer)) o false) (all_holders runs)) runs) its
+      ∙ sym (at_the_first displace stopped_twice (λ k. is_pending_in runs g k && not (same_holder k newcomer)) one_other
+      (all_holders runs) runs)
+
+  pub the_running_one_stopped : let mid = (displaced g newcomer runs).runs in
+      option_map_or (λ h. (stop_holder h mid).runs) (first_meant mid newcomer Running) mid ≡ (in_progress_stopped g mid).runs
+  the_running_one_stopped =
+      let mid = (displaced g newcomer runs).runs in
+      ap (λ o. option_map_or (λ h. (stop_holder h mid).runs)
+      (find (λ k. option_map_or (λ v. is_running_in mid v k) o false) (all_holders mid)) mid)
+      (still_its runs fit newcomer g waiting its one)
+      ∙ sym (at_the_first stop_holder stopped_twice (is_running_in mid g)
+      ((displaced_one_each runs fit newcomer g waiting its one).running g)
+      (all_holders mid) mid)
+
+-- ---- the arrival
+
+pub arrived_in : (runs : List RunState) (newcomer : Holder) (g : Group) (cancels : Bool) → group_at runs newcomer ≡ Some g
+    → cancels ≡ cancels_in_progress runs newcomer
+    → (stopped_where_asked cancels g (displaced g newcomer runs).runs).runs ≡ (arrived newcomer runs).runs
+arrived_in runs newcomer g cancels its is =
+    ap (λ b. (room_made b newcomer runs g).runs) is
+    ∙ sym (ap (λ o. (option_map_or (room_made (cancels_in_progress runs newcomer) newcomer runs) o (without_moves runs)).runs) its)
+
+pub arrived_in_none : (runs : List RunState) (newcomer : Holder) → group_at runs newcomer ≡ None → runs ≡ (arrived newcomer runs).runs
+arrived_in_none runs newcomer none =
+    sym (ap (λ o. (option_map_or (room_made (cancels_in_progress runs newcomer) newcomer runs) o (without_moves runs)).runs) none)
+
+-- ---- where there is a group
+
+pub group_there : {X : Type 0} (o : Option X) → is_some o ≡ true → (x : X) × (o ≡ Some x)
+group_there None some = cc
+group_there (Some x) some = (x, refl)

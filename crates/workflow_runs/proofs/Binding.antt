@@ -1,0 +1,207 @@
+-- What is bound for a leg says what its templates say once results are known.
+use Rattle.std.specs.Prelude.{◌≡◌, ℕ, zero, suc, List, [], ◌∷◌, ◌++◌, ◌&&◌, length, filter_map, find, codes, Bool, true, false, Option}
+use Rattle.std.specs.Prelude.{Some, None}
+use Rattle.std.specs.Prelude.{option_map, option_and_then, slice_get, if◌then◌else◌, refl}
+use Rattle.std.specs.List.{cons_option, slice_index_or}
+use Rattle.std.specs.Option.{option_map_or, option_or}
+use Rattle.std.specs.Str.{bytes_eq}
+use Rattle.std.proofs.Common.{ap, inl, inr, sym, subst, ◌∙◌}
+use Rattle.std.proofs.lemmas.Bool.{and_parts}
+use Rattle.std.proofs.lemmas.Slice.Eq.{bytes_eq-Decides}
+use Rattle.wf_value.specs.ScalarValue.{scalar_text}
+use Rattle.wf_value.specs.Words.{result_word}
+use Rattle.wf_value.specs.declared.outcome.JobResult.{JobResult}
+use Rattle.wf_value.specs.declared.scalar.Scalar.{Scalar}
+use Rattle.wf_value.specs.declared.scalar.Scalar.TheVariants.{Null, Truth, Whole, Text}
+use Rattle.wf_expr.specs.Bound.{HasResults, Results, result_value}
+use Rattle.wf_expr.specs.ContextValue.{Values}
+use Rattle.wf_expr.specs.FlagValue.{sets_flag}
+use Rattle.wf_expr.proofs.FlagLemmas.{flag-text}
+use Rattle.wf_reader.specs.Contexts.{ContextObjects, sent_value}
+use Rattle.wf_reader.specs.Event.{event_of}
+use Rattle.wf_reader.specs.declared.concurrency.Concurrency.{Concurrency}
+use Rattle.needs_graph.specs.Ancestors.{needs_at}
+use Rattle.run_plan.specs.Admitted.{Admitted}
+use Rattle.run_plan.specs.PlanOf.{plan_graph, plan_of}
+use Rattle.run_plan.specs.declared.planned.PlannedJob.{PlannedJob}
+use Rattle.run_plan.specs.declared.planned.PlannedLeg.{PlannedLeg}
+use Rattle.workflow_runs.specs.BoundGroups.{Says, SaysSo, facts_by, need_of_job}
+use Rattle.workflow_runs.specs.GroupOf.{RunFacts, asked_of_leg}
+use Rattle.workflow_runs.specs.JobResults.{direct_needs, has_id, needs_in, results_so_far}
+use Rattle.workflow_runs.specs.LegContext.{LegFacts, context_of, under}
+use Rattle.workflow_runs.specs.RunState.{RunState}
+use Rattle.workflow_runs.specs.declared.groups.Asked.{Asked}
+use Rattle.workflow_runs.proofs.BoundSays.{as_long, as_short}
+
+-- ---- flags
+
+-- a value sets a flag where its text is `true`
+flag_of_text : (value : Scalar) (b : Bool) → bytes_eq (scalar_text value) (codes "true") ≡ b → sets_flag value ≡ b
+flag_of_text Null b is = is
+flag_of_text (Truth true) b is = is
+flag_of_text (Truth false) b is = is
+flag_of_text (Whole n) true is =
+    elim ((flag-text (Whole n)).1 ((bytes_eq-Decides (scalar_text (Whole n)) (codes "true")).0 is)) [ inl e ↦ cc | inr e ↦ cc ]
+flag_of_text (Whole n) false is = refl
+flag_of_text (Text t) b is = is
+
+pub flag_by_text : (value : Scalar) (text : List ℕ) → scalar_text value ≡ text → bytes_eq text (codes "true") ≡ sets_flag value
+flag_by_text value text is =
+    sym (flag_of_text value (bytes_eq text (codes "true")) (ap (λ t. bytes_eq t (codes "true")) is))
+
+-- ---- the result of a job that a leg's job needs, by its id
+
+one_of_them : (id : List ℕ) (results : Results) (k : ℕ) (o : Option PlannedJob) (more : List (List ℕ × Option JobResult)) (found : Option ℕ)
+    → option_and_then (λ r. r) (under id more) ≡ option_and_then results found
+    → option_and_then (λ r. r) (under id (cons_option (option_map (λ planned. (planned.id, results k)) o) more))
+    ≡ option_and_then results (if option_map_or (λ planned. bytes_eq planned.id id) o false then Some k else found)
+one_of_them id results k None more found rest = rest
+one_of_them id results k (Some planned) more found rest =
+    elim (bytes_eq planned.id id) as
+    (λ b. option_and_then (λ r. r) (option_map (λ (p : List ℕ × Option JobResult). p.1)
+    (if b then Some (planned.id, results k) else find (λ p. bytes_eq p.0 id) more))
+    ≡ option_and_then results (if b then Some k else found)) [
+      | true ↦ refl
+      | false ↦ rest
+    ]
+
+result_of_id : (id : List ℕ) (plan : List PlannedJob) (results : Results) (places : List ℕ)
+    → option_and_then (λ r. r)
+    (under id (filter_map (λ k. option_map (λ (planned : PlannedJob). (planned.id, results k)) (slice_get plan k)) places))
+    ≡ option_and_then results (find (has_id plan id) places)
+unfolding has_id
+result_of_id id plan results [] = refl
+result_of_id id plan results (k ∷ places) =
+    one_of_them id results k (slice_get plan k)
+    (filter_map (λ i. option_map (λ (planned : PlannedJob). (planned.id, results i)) (slice_get plan i)) places)
+    (find (has_id plan id) places) (result_of_id id plan results places)
+
+-- ---- the sender hands in no results
+
+nothing_sent : (contexts : ContextObjects) (context : List ℕ) (path : List (List ℕ)) → bytes_eq context (codes "needs") ≡ true
+    → sent_value contexts (context ∷ path) ≡ None
+nothing_sent contexts context path is =
+    ap (λ name. sent_value contexts (name ∷ path)) ((bytes_eq-Decides context (codes "needs")).0 is)
+
+-- ---- the context of a leg by results
+
+-- what is kept of a path of needs, and what the context then says of it
+by_need : (results : Results) (found : Option ℕ) (later now : Option JobResult) (sent : Option Scalar)
+    → later ≡ option_and_then results found → (found ≡ None → now ≡ None) → sent ≡ None
+    → option_or (option_map (λ r. Text (result_word r)) later) sent
+    ≡ option_map_or (λ need. result_value (results need)) found (option_or (option_map (λ r. Text (result_word r)) now) sent)
+by_need results None later now sent is none nothing =
+    ap (λ o. option_or (option_map (λ r. Text (result_word r)) o) sent) (is ∙ sym (none refl))
+by_need results (Some k) later now sent is none nothing =
+    ap (λ o. option_or (option_map (λ r. Text (result_word r)) o) sent) is
+    ∙ ap (option_or (result_value (results k))) nothing
+    ∙ or_none (result_value (results k))
+  where
+    or_none : (o : Option Scalar) → option_or o None ≡ o
+    or_none None = refl
+    or_none (Some x) = refl
+
+inner_by : (results : Results) (b : Bool) (found : Option ℕ) (later now : Option JobResult) (sent : Option Scalar)
+    → later ≡ option_and_then results found → (found ≡ None → now ≡ None) → (b ≡ true → sent ≡ None)
+    → option_or (if b then option_map (λ r. Text (result_word r)) later else None) sent
+    ≡ option_map_or (λ need. result_value (results need)) (if b then found else None)
+    (option_or (if b then option_map (λ r. Text (result_word r)) now else None) sent)
+inner_by results true found later now sent is none nothing = by_need results found later now sent is none (nothing refl)
+inner_by results false found later now sent is none nothing = refl
+
+-- what is known of a leg when its run is admitted
+abbrev pub facts_now : RunState → List ℕ → List ℕ → PlannedJob → ℕ → ℕ → LegFacts
+facts_now run id number job j l = record {
+  event = run.admitted;
+  run_id = id;
+  run_number = number;
+  job = job;
+  leg = l;
+  needs = direct_needs run j;
+}
+
+abbrev pub told_of : RunState → List ℕ → List ℕ → RunFacts
+told_of run id number = record { event = run.admitted; run_id = id; run_number = number }
+
+none_needed : (run : RunState) (j : ℕ) (id : List ℕ) (found : Option ℕ)
+    → find (has_id (plan_of run.admitted.body) id) (needs_at (needs_in run) j) ≡ found → found ≡ None
+    → option_and_then (λ r. r) (under id (direct_needs run j)) ≡ None
+unfolding direct_needs
+none_needed run j id found is none =
+    result_of_id id (plan_of run.admitted.body) (λ k. slice_index_or (results_so_far run.jobs) k None) (needs_at (needs_in run) j)
+    ∙ ap (option_and_then (λ k. slice_index_or (results_so_far run.jobs) k None)) (is ∙ none)
+
+pub leg_has_results : (run : RunState) (id number : List ℕ) (job : PlannedJob) (j l : ℕ) (results : Results)
+    → HasResults (context_of (facts_now run id number job j l)) (need_of_job (plan_of run.admitted.body) j) results
+    (context_of (facts_by (told_of run id number) j job l results))
+leg_has_results run id number job j l results [] = refl
+leg_has_results run id number job j l results (context ∷ []) = refl
+leg_has_results run id number job j l results (context ∷ name ∷ []) = refl
+leg_has_results run id number job j l results (context ∷ inner ∷ name ∷ []) =
+    let plan = plan_of run.admitted.body in
+    let places = needs_at (plan_graph plan) j in
+    let found = find (has_id plan inner) places in
+    inner_by results (bytes_eq context (codes "needs") && bytes_eq name (codes "result")) found
+    (option_and_then (λ r. r) (under inner (filter_map
+    (λ k. option_map (λ (planned : PlannedJob). (planned.id, results k)) (slice_get plan k)) places)))
+    (option_and_then (λ r. r) (under inner (direct_needs run j)))
+    (sent_value (event_of run.admitted.body).contexts (context ∷ inner ∷ name ∷ []))
+    (result_of_id inner plan results places) (none_needed run j inner found refl)
+    (λ both. nothing_sent (event_of run.admitted.body).contexts context (inner ∷ name ∷ [])
+    (and_parts (bytes_eq context (codes "needs")) (bytes_eq name (codes "result")) both).0)
+leg_has_results run id number job j l results (context ∷ inner ∷ name ∷ more ∷ names) = refl
+
+-- what holds of the paths of a run's own needs
+pub by_needs : (values : Values) (needs : RunState × ℕ) (event : Admitted) (j : ℕ) (later : Results → Values)
+    → needs.0.admitted ≡ event → needs.1 ≡ j
+    → ((results : Results) → HasResults values (need_of_job (plan_of event.body) j) results (later results))
+    → (results : Results) → HasResults values (need_of_job (plan_of needs.0.admitted.body) needs.1) results (later results)
+by_needs values needs event j later is place has results =
+    subst (λ (a : Admitted). HasResults values (need_of_job (plan_of a.body) needs.1) results (later results)) (sym is)
+    (subst (λ (i : ℕ). HasResults values (need_of_job (plan_of event.body) i) results (later results)) (sym place) (has results))
+
+-- ---- one more is bound
+
+pub one_more : {X : Type 0} (P : ℕ → X → Type 0) (xs : List X) (x : X) → ((k : ℕ) (y : X) → slice_get xs k ≡ Some y → P k y)
+    → P (length xs) x → (k : ℕ) (y : X) → slice_get (xs ++ x ∷ []) k ≡ Some y → P k y
+one_more P [] x each here zero y at = let same : x ≡ y = cc in subst (P 0) same here
+one_more P [] x each here (suc k) y at = cc
+one_more P (z ∷ xs) x each here zero y at = each 0 y at
+one_more P (z ∷ xs) x each here (suc k) y at = one_more (λ i. P (suc i)) xs x (λ i w is. each (suc i) w is) here k y at
+
+-- ---- the legs of a job
+
+asked_where : (repository : List ℕ) (values : Results → Values) (asked : Concurrency) (legs : List PlannedLeg) (kept : List Asked) (l : ℕ)
+    → length kept ≡ length legs → ((k : Asked) → slice_get kept l ≡ Some k → Says repository values asked k)
+    → (o : Option PlannedLeg) → slice_get legs l ≡ o → (p : Option Asked) → slice_get kept l ≡ p
+    → SaysSo repository values (option_and_then (λ _. Some asked) o) p
+asked_where repository values asked legs kept l same each None at None is = tt
+asked_where repository values asked legs kept l same each None at (Some k) is =
+    let none : slice_get kept l ≡ None = as_short legs kept l same at in
+    let bad : Some k ≡ None = sym is ∙ none in
+    cc
+asked_where repository values asked legs kept l same each (Some leg) at None is =
+    let some = as_long legs kept l leg same at in
+    let bad : None ≡ Some some.0 = sym is ∙ some.1 in
+    cc
+asked_where repository values asked legs kept l same each (Some leg) at (Some k) is = each k is
+
+pub legs_say : (repository : List ℕ) (values : ℕ → Results → Values) (job : PlannedJob) (asked : Concurrency) (kept : List Asked)
+    → job.concurrency ≡ Some asked → length kept ≡ length job.legs
+    → ((l : ℕ) (k : Asked) → slice_get kept l ≡ Some k → Says repository (values l) asked k)
+    → (l : ℕ) → SaysSo repository (values l) (asked_of_leg job l) (slice_get kept l)
+legs_say repository values job asked kept is same each l =
+    subst (λ (o : Option Concurrency). SaysSo repository (values l) (option_and_then (λ _. o) (slice_get job.legs l)) (slice_get kept l))
+    (sym is)
+    (asked_where repository (values l) asked job.legs kept l same (each l) (slice_get job.legs l) refl (slice_get kept l) refl)
+
+nothing_asked : {X : Type 0} (o : Option PlannedLeg) → option_and_then (λ _. let none : Option X = None in none) o ≡ None
+nothing_asked None = refl
+nothing_asked (Some leg) = refl
+
+pub no_leg_says : (repository : List ℕ) (values : ℕ → Results → Values) (job : PlannedJob) → job.concurrency ≡ None → (l : ℕ)
+    → SaysSo repository (values l) (asked_of_leg job l) None
+no_leg_says repository values job none l =
+    let nothing : asked_of_leg job l ≡ None =
+    ap (λ (o : Option Concurrency). option_and_then (λ _. o) (slice_get job.legs l)) none ∙ nothing_asked (slice_get job.legs l) in
+    subst (λ (o : Option Concurrency). SaysSo repository (values l) o None) (sym nothing) tt

@@ -1,0 +1,180 @@
+-- What is kept of a run and of its legs says, by the results of the run's jobs, which groups they have.
+use Rattle.std.specs.Prelude.{◌≡◌, ℕ, zero, suc, ◌+◌, List, [], ◌∷◌, length, Bool, false, Option, Some, None, option_map}
+use Rattle.std.specs.Prelude.{option_and_then, slice_get, refl}
+use Rattle.std.specs.Fmt.{decimal}
+use Rattle.std.specs.Option.{option_map_or}
+use Rattle.std.proofs.Common.{arith, ap, subst, sym, ◌∙◌}
+use Rattle.wf_expr.specs.Bound.{Results}
+use Rattle.wf_expr.specs.ContextValue.{Values}
+use Rattle.wf_reader.specs.Event.{event_of}
+use Rattle.wf_reader.specs.declared.concurrency.Concurrency.{Concurrency}
+use Rattle.group_name.specs.Group.{Group}
+use Rattle.group_name.specs.BoundGroup.{group_at as bound_group_at}
+use Rattle.run_plan.specs.PlanOf.{plan_of}
+use Rattle.run_plan.specs.declared.planned.PlannedJob.{PlannedJob}
+use Rattle.workflow_runs.specs.Asks.{AreBound, RunSays, asked_of}
+use Rattle.workflow_runs.specs.BoundGroups.{SaysSo, facts_by, is_set_by, results_by_place}
+use Rattle.workflow_runs.specs.GroupOf.{RunFacts, asked_of_leg, cancels_in_progress, group_at, leg_cancels, leg_group, named_group}
+use Rattle.workflow_runs.specs.GroupOf.{run_cancels}
+use Rattle.workflow_runs.specs.GroupOf.{run_context, run_facts_at, run_group}
+use Rattle.workflow_runs.specs.Holders.{run_of}
+use Rattle.workflow_runs.specs.JobResults.{direct_needs}
+use Rattle.workflow_runs.specs.LegContext.{LegFacts, context_of, facts_at}
+use Rattle.workflow_runs.specs.Moves.{Holder}
+use Rattle.workflow_runs.specs.Places.{LegPlace, run_at}
+use Rattle.workflow_runs.specs.RunNumber.{events, run_number}
+use Rattle.workflow_runs.specs.RunState.{RunState}
+use Rattle.workflow_runs.specs.Words.{is_set}
+use Rattle.workflow_runs.specs.declared.asks.JobAsks.{JobAsks}
+use Rattle.workflow_runs.specs.declared.asks.RunAsks.{RunAsks}
+use Rattle.workflow_runs.specs.declared.groups.Asked.{Asked}
+
+-- ---- one `concurrency`
+
+says_group : (repository : List ℕ) (values : Results → Values) (asked : Option Concurrency) (kept : Option Asked)
+    → SaysSo repository values asked kept → (results : Results)
+    → option_and_then (λ a. bound_group_at results a.group) kept ≡ option_and_then (named_group repository (values results)) asked
+says_group repository values None None says results = refl
+says_group repository values None (Some kept) says results = absurd says
+says_group repository values (Some asked) None says results = absurd says
+says_group repository values (Some asked) (Some kept) says results = says.group results
+
+says_flag : (repository : List ℕ) (values : Results → Values) (asked : Option Concurrency) (kept : Option Asked)
+    → SaysSo repository values asked kept → (results : Results)
+    → option_map_or (λ a. is_set_by results a.cancels) kept false
+    ≡ option_map_or (λ c. is_set (values results) c.cancel_in_progress) asked false
+says_flag repository values None None says results = refl
+says_flag repository values None (Some kept) says results = absurd says
+says_flag repository values (Some asked) None says results = absurd says
+says_flag repository values (Some asked) (Some kept) says results = says.cancels results
+
+-- ---- what is told of a run, and of a leg by the results of its run's jobs
+
+abbrev pub facts_of_run : List RunState → ℕ → RunState → RunFacts
+facts_of_run runs r run = record {
+  event = run.admitted;
+  run_id = decimal (r + 1);
+  run_number = decimal (run_number (events runs) r run.admitted);
+}
+
+pub run_told : (runs : List RunState) (r : ℕ) (x : RunState) → run_at runs r ≡ Some x → run_facts_at runs r ≡ Some (facts_of_run runs r x)
+unfolding run_facts_at
+run_told runs r x at = ap (option_map (facts_of_run runs r)) at
+
+abbrev pub leg_facts_of : List RunState → LegPlace → RunState → PlannedJob → LegFacts
+leg_facts_of runs p x job = facts_by (facts_of_run runs p.run x) p.job job p.leg (results_by_place x)
+
+pub leg_told : (runs : List RunState) (p : LegPlace) (x : RunState) (job : PlannedJob) → run_at runs p.run ≡ Some x
+    → slice_get (plan_of x.admitted.body) p.job ≡ Some job → facts_at runs p ≡ Some (leg_facts_of runs p x job)
+unfolding facts_at direct_needs
+leg_told runs p x job at planned =
+    ap (option_and_then (λ (run : RunState). option_map (leg_facts_of runs p run) (slice_get (plan_of run.admitted.body) p.job))) at
+    ∙ ap (option_map (leg_facts_of runs p x)) planned
+
+run_untold : (runs : List RunState) (r : ℕ) → run_at runs r ≡ None → run_facts_at runs r ≡ None
+unfolding run_facts_at
+run_untold runs r none = ap (option_map (facts_of_run runs r)) none
+
+pub leg_untold : (runs : List RunState) (p : LegPlace) → run_at runs p.run ≡ None → facts_at runs p ≡ None
+unfolding facts_at direct_needs
+leg_untold runs p none =
+    ap (option_and_then (λ (run : RunState). option_map (leg_facts_of runs p run) (slice_get (plan_of run.admitted.body) p.job))) none
+
+pub job_untold : (runs : List RunState) (p : LegPlace) (x : RunState) → run_at runs p.run ≡ Some x
+    → slice_get (plan_of x.admitted.body) p.job ≡ None → facts_at runs p ≡ None
+unfolding facts_at direct_needs
+job_untold runs p x at unplanned =
+    ap (option_and_then (λ (run : RunState). option_map (leg_facts_of runs p run) (slice_get (plan_of run.admitted.body) p.job))) at
+    ∙ ap (option_map (leg_facts_of runs p x)) unplanned
+
+-- ---- lists of one length
+
+-- a list that is as long has an element at the same place
+pub as_long : {X Y : Type 0} (xs : List X) (ys : List Y) (k : ℕ) (x : X) → length ys ≡ length xs → slice_get xs k ≡ Some x
+    → (y : Y) × (slice_get ys k ≡ Some y)
+as_long [] ys k x same at = cc
+as_long (z ∷ xs) [] k x same at = absurd (omega (arith, same))
+as_long (z ∷ xs) (y ∷ ys) zero x same at = (y, refl)
+as_long (z ∷ xs) (y ∷ ys) (suc k) x same at = as_long xs ys k x (omega (arith, same)) at
+
+-- a list that is as long has none where the other has none
+pub as_short : {X Y : Type 0} (xs : List X) (ys : List Y) (k : ℕ) → length ys ≡ length xs → slice_get xs k ≡ None → slice_get ys k ≡ None
+as_short [] [] k same none = refl
+as_short [] (y ∷ ys) k same none = absurd (omega (arith, same))
+as_short (x ∷ xs) [] k same none = refl
+as_short (x ∷ xs) (y ∷ ys) zero same none = cc
+as_short (x ∷ xs) (y ∷ ys) (suc k) same none = as_short xs ys k (omega (arith, same)) none
+
+-- ---- what is kept says the group and the flag by the results of the run's jobs
+
+abbrev pub group_by : RunState → Option Asked → Option Group
+group_by x o = option_and_then (λ a. bound_group_at (results_by_place x) a.group) o
+
+abbrev pub flag_by : RunState → Option Asked → Bool
+flag_by x o = option_map_or (λ a. is_set_by (results_by_place x) a.cancels) o false
+
+module _ (runs : List RunState) (kept : List RunAsks) (bound : AreBound runs kept) where
+  pub run_says : (r : ℕ) (x : RunState) (k : RunAsks) → run_at runs r ≡ Some x → slice_get kept r ≡ Some k
+      → RunSays (facts_of_run runs r x) k
+  run_says r x k at is = bound.each r (facts_of_run runs r x) k (run_told runs r x at) is
+
+  leg_says : (p : LegPlace) (x : RunState) (k : RunAsks) → run_at runs p.run ≡ Some x → slice_get kept p.run ≡ Some k
+      → (o : Option PlannedJob) → slice_get (plan_of x.admitted.body) p.job ≡ o
+      → group_by x (asked_of k (Holder.a_leg p)) ≡ option_and_then leg_group (facts_at runs p)
+      × flag_by x (asked_of k (Holder.a_leg p)) ≡ option_map_or leg_cancels (facts_at runs p) false
+  leg_says p x k at is None unplanned =
+      let says = run_says p.run x k at is in
+      let none : asked_of k (Holder.a_leg p) ≡ None =
+      ap (option_and_then (λ (job : JobAsks). slice_get job.groups p.leg))
+      (as_short (plan_of x.admitted.body) k.jobs p.job says.as_many unplanned) in
+      let untold = job_untold runs p x at unplanned in (
+        ap (group_by x) none ∙ sym (ap (option_and_then leg_group) untold),
+        ap (flag_by x) none ∙ sym (ap (λ o. option_map_or leg_cancels o false) untold),
+      )
+  leg_says p x k at is (Some job) planned =
+      let f = facts_of_run runs p.run x in
+      let run = run_says p.run x k at is in
+      let repo = (event_of f.event.body).repo in
+      let values : Results → Values = λ results. context_of (facts_by f p.job job p.leg results) in
+      let asks = as_long (plan_of x.admitted.body) k.jobs p.job job run.as_many planned in
+      let says = subst
+      (λ (o : Option JobAsks). SaysSo repo values (asked_of_leg job p.leg) (option_and_then (λ (a : JobAsks). slice_get a.groups p.leg) o))
+      (sym asks.1) ((run.jobs p.job asks.0 asks.1 job planned).groups p.leg) in
+      let told = leg_told runs p x job at planned in (
+        says_group repo values (asked_of_leg job p.leg) (asked_of k (Holder.a_leg p)) says (results_by_place x)
+            ∙ sym (ap (option_and_then leg_group) told),
+        says_flag repo values (asked_of_leg job p.leg) (asked_of k (Holder.a_leg p)) says (results_by_place x)
+            ∙ sym (ap (λ o. option_map_or leg_cancels o false) told),
+      )
+
+  pub group_said : (h : Holder) (x : RunState) (k : RunAsks) → run_at runs (run_of h) ≡ Some x → slice_get kept (run_of h) ≡ Some k
+      → group_by x (asked_of k h) ≡ group_at runs h
+  unfolding group_at
+  group_said (Holder.a_run r) x k at is =
+      let f = facts_of_run runs r x in
+      let event = event_of f.event.body in
+      says_group event.repo (λ results. run_context f) event.workflow.concurrency k.own (run_says r x k at is).own (results_by_place x)
+      ∙ sym (ap (option_and_then run_group) (run_told runs r x at))
+  group_said (Holder.a_leg p) x k at is = (leg_says p x k at is (slice_get (plan_of x.admitted.body) p.job) refl).0
+
+  pub flag_said : (h : Holder) (x : RunState) (k : RunAsks) → run_at runs (run_of h) ≡ Some x → slice_get kept (run_of h) ≡ Some k
+      → flag_by x (asked_of k h) ≡ cancels_in_progress runs h
+  unfolding cancels_in_progress
+  flag_said (Holder.a_run r) x k at is =
+      let f = facts_of_run runs r x in
+      let event = event_of f.event.body in
+      says_flag event.repo (λ results. run_context f) event.workflow.concurrency k.own (run_says r x k at is).own (results_by_place x)
+      ∙ sym (ap (λ o. option_map_or run_cancels o false) (run_told runs r x at))
+  flag_said (Holder.a_leg p) x k at is = (leg_says p x k at is (slice_get (plan_of x.admitted.body) p.job) refl).1
+
+-- ---- where there is no run there is nothing
+
+pub no_group : (runs : List RunState) (h : Holder) → run_at runs (run_of h) ≡ None → group_at runs h ≡ None
+unfolding group_at
+no_group runs (Holder.a_run r) none = ap (option_and_then run_group) (run_untold runs r none)
+no_group runs (Holder.a_leg p) none = ap (option_and_then leg_group) (leg_untold runs p none)
+
+pub no_flag : (runs : List RunState) (h : Holder) → run_at runs (run_of h) ≡ None → cancels_in_progress runs h ≡ false
+unfolding cancels_in_progress
+no_flag runs (Holder.a_run r) none = ap (λ o. option_map_or run_cancels o false) (run_untold runs r none)
+no_flag runs (Holder.a_leg p) none = ap (λ o. option_map_or leg_cancels o false) (leg_untold runs p none)

@@ -1,0 +1,18 @@
+-- What is told of a leg, with the digits of its run's numbers.
+use Rattle.std.specs.Prelude.{◌≡◌, ℕ, List, Option}
+use Rattle.std.specs.Fmt.{decimal}
+use Rattle.std.proofs.Common.{ap, ◌∙◌}
+use Rattle.wf_value.specs.declared.outcome.JobResult.{JobResult}
+use Rattle.run_plan.specs.Admitted.{Admitted}
+use Rattle.run_plan.specs.declared.planned.PlannedJob.{PlannedJob}
+use Rattle.workflow_runs.specs.LegContext.{LegFacts}
+
+abbrev pub facts : Admitted → List ℕ → List ℕ → PlannedJob → ℕ → List (List ℕ × Option JobResult) → LegFacts
+facts event id number job leg needs =
+    record { event = event; run_id = id; run_number = number; job = job; leg = leg; needs = needs }
+
+pub told_in_digits : (event : Admitted) (id number : ℕ) (id_text number_text : List ℕ) (job : PlannedJob) (leg : ℕ)
+    (needs : List (List ℕ × Option JobResult)) (told : LegFacts) → id_text ≡ decimal id → number_text ≡ decimal number
+    → facts event (decimal id) (decimal number) job leg needs ≡ told → facts event id_text number_text job leg needs ≡ told
+told_in_digits event id number id_text number_text job leg needs told is_id is_number is =
+    ap (λ x. facts event x number_text job leg needs) is_id ∙ ap (λ y. facts event (decimal id) y job leg needs) is_number ∙ is

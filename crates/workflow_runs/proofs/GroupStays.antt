@@ -1,0 +1,92 @@
+-- The group of a run, and of a leg once the jobs that its job needs have settled, stays what it is.
+use Rattle.std.specs.Prelude.{◌≡◌, ℕ, ◌+◌, List, take, count_by, true, Option, Some, None, option_map, option_and_then}
+use Rattle.std.specs.Prelude.{slice_get, refl}
+use Rattle.std.specs.Fmt.{decimal}
+use Rattle.std.proofs.Common.{arith, ap, sym, ◌∙◌}
+use Rattle.std.proofs.lemmas.Option.{slice_get-map}
+use Rattle.run_plan.specs.Admitted.{Admitted}
+use Rattle.workflow_runs.specs.GroupOf.{RunFacts, group_at, leg_group, run_facts_at, run_group}
+use Rattle.workflow_runs.specs.LegContext.{facts_at}
+use Rattle.workflow_runs.specs.Moves.{Holder}
+use Rattle.workflow_runs.specs.Places.{LegPlace, leg_at, run_at}
+use Rattle.workflow_runs.specs.RunNumber.{events, same_workflow}
+use Rattle.workflow_runs.specs.RunState.{LegState, RunState}
+use Rattle.workflow_runs.specs.Words.{needs_have_settled}
+use Rattle.workflow_runs.proofs.JobKeeps.{leg_in, no_leg}
+use Rattle.workflow_runs.proofs.LegFacts.{SameUpTo, facts_stay, taken_same}
+use Rattle.workflow_runs.proofs.RunFits.{RunsFit}
+use Rattle.workflow_runs.proofs.Settles.{StayFit, same_events}
+
+-- ---- what is told of a run
+
+abbrev told_run : ℕ → List Admitted → Option Admitted → Option RunFacts
+told_run r all o = option_map (λ event. record {
+  event = event;
+  run_id = decimal (r + 1);
+  run_number = decimal (count_by (same_workflow event) all);
+}) o
+
+told_twice : (r : ℕ) (all : List Admitted) (o : Option RunState)
+    → option_map (λ (run : RunState). record {
+      event = run.admitted;
+      run_id = decimal (r + 1);
+      run_number = decimal (count_by (same_workflow run.admitted) all);
+    }) o
+    ≡ told_run r all (option_map (λ (run : RunState). run.admitted) o)
+told_twice r all None = refl
+told_twice r all (Some run) = refl
+
+run_facts_are : (runs : List RunState) (r : ℕ)
+    → run_facts_at runs r ≡ told_run r (take (r + 1) (events runs)) (slice_get (events runs) r)
+unfolding run_facts_at
+run_facts_are runs r =
+    told_twice r (take (r + 1) (events runs)) (run_at runs r)
+    ∙ ap (told_run r (take (r + 1) (events runs))) (sym (slice_get-map (λ (run : RunState). run.admitted) runs r))
+
+pub run_facts_stay : (runs next : List RunState) (r : ℕ) → SameUpTo r (events next) (events runs)
+    → run_facts_at next r ≡ run_facts_at runs r
+run_facts_stay runs next r same =
+    run_facts_are next r
+    ∙ ap (λ es. told_run r es (slice_get (events next) r))
+    (taken_same (r + 1) (events next) (events runs) (λ s lt. same s (omega (arith, lt))))
+    ∙ ap (told_run r (take (r + 1) (events runs))) (same r (omega arith))
+    ∙ sym (run_facts_are runs r)
+
+pub run_group_stays : (runs next : List RunState) (r : ℕ) → SameUpTo r (events next) (events runs)
+    → group_at next (Holder.a_run r) ≡ group_at runs (Holder.a_run r)
+unfolding group_at
+run_group_stays runs next r same = ap (option_and_then run_group) (run_facts_stay runs next r same)
+
+-- ---- a leg
+
+-- where there is a leg, the needs of its job have settled
+pub leg_needs_settled : (runs : List RunState) → RunsFit runs → (p : LegPlace) (z : LegState) → leg_at runs p ≡ Some z
+    → needs_have_settled runs p.run p.job ≡ true
+leg_needs_settled runs fit p z was =
+    let at = leg_in runs p z was in
+    (fit p.run at.place.run at.place.run_is).needs_first p.job at.job at.place.job_is (λ none. no_leg at.job.legs p.leg z none at.leg_is)
+
+pub leg_group_same : (runs next : List RunState) (p : LegPlace) → facts_at next p ≡ facts_at runs p
+    → group_at next (Holder.a_leg p) ≡ group_at runs (Holder.a_leg p)
+unfolding group_at
+leg_group_same runs next p same = ap (option_and_then leg_group) same
+
+pub leg_group_stays : (runs next : List RunState) → RunsFit runs → StayFit runs next → (p : LegPlace) (z : LegState)
+    → leg_at runs p ≡ Some z → group_at next (Holder.a_leg p) ≡ group_at runs (Holder.a_leg p)
+leg_group_stays runs next fit stay p z was =
+    leg_group_same runs next p
+    (facts_stay runs next p (same_events runs next p.run (λ s le. stay.same_admitted s)) (leg_needs_settled runs fit p z was)
+    (stay.keeps_results p.run))
+
+-- ---- a run or a leg
+
+-- there is a leg at the place of the holder, if it is one
+abbrev pub IsThere : List RunState → Holder → Type 0
+IsThere runs (Holder.a_run r) = Unit {0}
+IsThere runs (Holder.a_leg p) = (z : LegState) × (leg_at runs p ≡ Some z)
+
+pub group_stays : (runs next : List RunState) → RunsFit runs → StayFit runs next → (h : Holder) → IsThere runs h
+    → group_at next h ≡ group_at runs h
+group_stays runs next fit stay (Holder.a_run r) there =
+    run_group_stays runs next r (same_events runs next r (λ s le. stay.same_admitted s))
+group_stays runs next fit stay (Holder.a_leg p) there = leg_group_stays runs next fit stay p there.0 there.1

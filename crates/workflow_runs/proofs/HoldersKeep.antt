@@ -1,0 +1,104 @@
+-- A stop of a run or of a leg keeps what settling keeps, and so does the room that an arrival makes.
+use Rattle.std.specs.Prelude.{◌≡◌, ℕ, List, [], ◌∷◌, Bool, true, false, is_some, Option, Some, None, refl}
+use Rattle.std.specs.Option.{option_map_or}
+use Rattle.std.proofs.Common.{ap, sym, ◌∙◌, subst}
+use Rattle.group_name.specs.Group.{Group}
+use Rattle.workflow_runs.specs.Arrivals.{arrived, displaced, others_pending, room_made, stopped_where_asked}
+use Rattle.workflow_runs.specs.GroupOf.{cancels_in_progress, group_at}
+use Rattle.workflow_runs.specs.Groups.{running_in}
+use Rattle.workflow_runs.specs.Moves.{Holder, Moved, at_each, without_moves}
+use Rattle.workflow_runs.specs.Places.{LegPlace, leg_at, run_at, with_leg, with_run}
+use Rattle.workflow_runs.specs.StateWords.{has_ended, outcome_of}
+use Rattle.workflow_runs.specs.StopMoves.{displace, stop_holder}
+use Rattle.workflow_runs.specs.Stops.{stopped, stopped_phase, stopped_run}
+use Rattle.workflow_runs.specs.RunState.{LegState, RunState}
+use Rattle.workflow_runs.specs.declared.phases.LegPhase.{LegPhase}
+use Rattle.workflow_runs.specs.declared.phases.LegPhase.TheVariants as leg
+use Rattle.workflow_runs.proofs.JobKeeps.{leg_in, leg_settles}
+use Rattle.workflow_runs.proofs.Moved.{changed_none, with_leg_none, with_leg_stays}
+use Rattle.workflow_runs.proofs.RunFits.{RunsFit, leases_fit}
+use Rattle.workflow_runs.proofs.Settles.{Settles, settles_nothing, settles_on}
+use Rattle.workflow_runs.proofs.StopKeeps.{lease_still_fits, same_work, stopped_run_settles}
+
+-- ---- a run
+
+no_run : (o : Option RunState) (x y : RunState) → o ≡ None → o ≡ Some x → y ≡ x
+no_run o x y none some = cc
+
+pub run_stop_settles : (runs : List RunState) (r : ℕ) → RunsFit runs → Settles runs (with_run r stopped_run runs)
+run_stop_settles runs r fit =
+    elim (run_at runs r) as (λ o. run_at runs r ≡ o → Settles runs (with_run r stopped_run runs)) [
+      | None ↦ λ is. subst (Settles runs) (changed_none runs r stopped_run (λ x at. no_run (run_at runs r) x (stopped_run x) is at))
+          (settles_nothing runs fit)
+      | Some x ↦ λ is. stopped_run_settles runs fit r x is
+    ] refl
+
+-- ---- a leg
+
+ended_stays : (phase : LegPhase) → is_some (outcome_of phase) ≡ true → stopped_phase phase ≡ phase
+ended_stays leg.New e = cc
+ended_stays leg.Waiting e = cc
+ended_stays leg.Ready e = cc
+ended_stays leg.Running e = cc
+ended_stays leg.Stopping e = cc
+ended_stays (leg.Ended r) e = refl
+
+stopped_stays : (z x : LegState) → Some z ≡ Some x → has_ended z ≡ true → stopped x ≡ x
+stopped_stays z x same e =
+    let is : z ≡ x = cc in
+    let ended : has_ended x ≡ true = ap has_ended (sym is) ∙ e in
+    ap (λ (phase : LegPhase). record x { phase = phase }) (ended_stays x.phase ended)
+
+pub leg_stop_settles : (runs : List RunState) (p : LegPlace) → RunsFit runs → Settles runs (with_leg p stopped runs)
+leg_stop_settles runs p fit =
+    elim (leg_at runs p) as (λ o. leg_at runs p ≡ o → Settles runs (with_leg p stopped runs)) [
+      | None ↦ λ is. subst (Settles runs) (with_leg_none runs p stopped is) (settles_nothing runs fit)
+      | Some z ↦ λ is. elim (has_ended z) as (λ b. has_ended z ≡ b → Settles runs (with_leg p stopped runs)) [
+        | true ↦ λ e. subst (Settles runs) (with_leg_stays runs p stopped (λ x at. stopped_stays z x (sym is ∙ at) e))
+            (settles_nothing runs fit)
+        | false ↦ λ e.
+            leg_settles runs fit p z stopped (leg_in runs p z is) e (lease_still_fits z.phase z.lease (leases_fit runs fit p z is)) refl
+            (same_work z)
+      ] refl
+    ] refl
+
+-- ---- one holder, and one after another
+
+pub holder_stop_settles : (h : Holder) (runs : List RunState) → RunsFit runs → Settles runs (stop_holder h runs).runs
+holder_stop_settles (Holder.a_run r) runs fit = run_stop_settles runs r fit
+holder_stop_settles (Holder.a_leg p) runs fit = leg_stop_settles runs p fit
+
+each_settles : (change : Holder → List RunState → Moved)
+    → ((h : Holder) (runs : List RunState) → RunsFit runs → Settles runs (change h runs).runs) → (hs : List Holder) (runs : List RunState)
+    → RunsFit runs → Settles runs (at_each change hs runs).runs
+each_settles change one [] runs fit = settles_nothing runs fit
+each_settles change one (h ∷ hs) runs fit =
+    let first = one h runs fit in
+    settles_on runs (change h runs).runs (at_each change hs (change h runs).runs).runs first
+    (each_settles change one hs (change h runs).runs first.stay.fit)
+
+-- ---- an arrival
+
+pub displaced_settles : (g : Group) (newcomer : Holder) (runs : List RunState) → RunsFit runs
+    → Settles runs (displaced g newcomer runs).runs
+displaced_settles g newcomer runs fit = each_settles displace holder_stop_settles (others_pending g newcomer runs) runs fit
+
+pub asked_settles : (cancels : Bool) (g : Group) (runs : List RunState) → RunsFit runs
+    → Settles runs (stopped_where_asked cancels g runs).runs
+asked_settles true g runs fit = each_settles stop_holder holder_stop_settles (running_in runs g) runs fit
+asked_settles false g runs fit = settles_nothing runs fit
+
+pub room_settles : (cancels : Bool) (newcomer : Holder) (runs : List RunState) (g : Group) → RunsFit runs
+    → Settles runs (room_made cancels newcomer runs g).runs
+room_settles cancels newcomer runs g fit =
+    let first = displaced_settles g newcomer runs fit in
+    let mid = (displaced g newcomer runs).runs in
+    settles_on runs mid (stopped_where_asked cancels g mid).runs first (asked_settles cancels g mid first.stay.fit)
+
+pub arrival_settles : (newcomer : Holder) (runs : List RunState) → RunsFit runs → Settles runs (arrived newcomer runs).runs
+arrival_settles newcomer runs fit =
+    elim (group_at runs newcomer) as
+    (λ o. Settles runs (option_map_or (room_made (cancels_in_progress runs newcomer) newcomer runs) o (without_moves runs)).runs) [
+      | None ↦ settles_nothing runs fit
+      | Some g ↦ room_settles (cancels_in_progress runs newcomer) newcomer runs g fit
+    ]

@@ -1,0 +1,125 @@
+-- Who is kept back from its group by one that runs there is still kept back after a change that lets nobody go.
+use Rattle.std.specs.Prelude.{◌≡◌, ℕ, zero, suc, List, [], ◌∷◌, ◌||◌, not, Bool, true, false, Option, Some, None, slice_get, refl}
+use Rattle.std.specs.List.{list_any}
+use Rattle.std.specs.Option.{option_map_or}
+use Rattle.std.proofs.Common.{ap, sym, ◌∙◌}
+use Rattle.std.proofs.lemmas.Bool.{and_parts}
+use Rattle.group_name.specs.Group.{Group}
+use Rattle.workflow_runs.specs.FirstOf.{changed_at}
+use Rattle.workflow_runs.specs.GroupOf.{group_at}
+use Rattle.workflow_runs.specs.Groups.{all_holders, holds, is_in, is_running_in, is_taken, leg_holds, may_start, same_group}
+use Rattle.workflow_runs.specs.Moves.{Holder}
+use Rattle.workflow_runs.specs.Places.{LegPlace, job_at, leg_at, run_at, with_job, with_leg, with_run}
+use Rattle.workflow_runs.specs.StateWords.{is_live}
+use Rattle.workflow_runs.specs.RunState.{LegState, JobState, RunState}
+use Rattle.workflow_runs.proofs.HoldersFade.{by_run, job_passes, leg_passes, passes, run_passes}
+use Rattle.workflow_runs.proofs.JobKeeps.{with_job_of, with_leg_of}
+use Rattle.workflow_runs.proofs.OneEach.{GroupsStay, IsOneOf, both, not_taken, one_that_holds}
+use Rattle.workflow_runs.proofs.RunFits.{job_in_run, leg_in_job}
+
+-- ---- who holds a group
+
+-- no run and no leg that holds a group lets it go
+abbrev pub StillHold : List RunState → List RunState → Type 0
+StillHold runs next = (h : Holder) (g : Group) → group_at runs h ≡ Some g → holds runs h ≡ true → holds next h ≡ true
+
+-- one that may not start may not start then
+abbrev pub KeepsBack : List RunState → List RunState → Type 0
+KeepsBack runs next = (h : Holder) → IsOneOf runs h → may_start runs h ≡ false → may_start next h ≡ false
+
+record AnyOf {X : Type 0} (test : X → Bool) : Type 0 where
+  one : X
+  passed : test one ≡ true
+
+any_of : {X : Type 0} (test : X → Bool) (xs : List X) → list_any test xs ≡ true → AnyOf test
+any_of test [] e = cc
+any_of test (x ∷ xs) e =
+    elim (test x) as (λ b. test x ≡ b → (b || list_any test xs) ≡ true → AnyOf test) [
+      | true ↦ λ is e. record { one = x; passed = is }
+      | false ↦ λ is e. any_of test xs e
+    ] refl e
+
+in_group : (g : Group) (o : Option Group) → option_map_or (same_group g) o false ≡ true → (k : Group) × (o ≡ Some k)
+in_group g None e = cc
+in_group g (Some k) e = (k, refl)
+
+module _ (runs next : List RunState) (stays : GroupsStay runs next) (still : StillHold runs next) where
+  still_runs : (g : Group) (h : Holder) → is_running_in runs g h ≡ true → is_running_in next g h ≡ true
+  still_runs g h e =
+      let parts = and_parts (is_in runs g h) (holds runs h) e in
+      let group = in_group g (group_at runs h) parts.0 in
+      both (is_in next g h) (holds next h)
+      (ap (λ o. option_map_or (same_group g) o false) (stays h (one_that_holds runs h parts.1)) ∙ parts.0) (still h group.0 group.1 parts.1)
+
+  still_taken : (g : Group) → is_taken runs g ≡ true → is_taken next g ≡ true
+  still_taken g e =
+      let any = any_of (is_running_in runs g) (all_holders runs) e in
+      elim (is_taken next g) as (λ b. is_taken next g ≡ b → b ≡ true) [
+        | true ↦ λ is. refl
+        | false ↦ λ is. absurd (not_taken next g any.one is (still_runs g any.one any.passed))
+      ] refl
+
+  back_from : (o : Option Group) → option_map_or (λ g. not (is_taken runs g)) o true ≡ false
+      → option_map_or (λ g. not (is_taken next g)) o true ≡ false
+  back_from None e = cc
+  back_from (Some g) e = ap not (still_taken g (was_not (is_taken runs g) e))
+    where
+      was_not : (b : Bool) → not b ≡ false → b ≡ true
+      was_not true e = refl
+      was_not false e = cc
+
+  pub kept_back : KeepsBack runs next
+  kept_back h there e =
+      ap (λ o. option_map_or (λ g. not (is_taken next g)) o true) (stays h there) ∙ back_from (group_at runs h) e
+
+-- ---- what passes a test at each place passes after a change at one of them
+
+pub passed_on : {X : Type 0} (test : X → Bool) (f : X → X) (i : ℕ) (xs : List X)
+    → ((x : X) → slice_get xs i ≡ Some x → test x ≡ true → test (f x) ≡ true) → (k : ℕ)
+    → passes test (slice_get xs k) ≡ true → passes test (slice_get (changed_at i f xs) k) ≡ true
+passed_on test f i [] strong k e = e
+passed_on test f zero (x ∷ xs) strong zero e = strong x refl e
+passed_on test f zero (x ∷ xs) strong (suc k) e = e
+passed_on test f (suc i) (x ∷ xs) strong zero e = e
+passed_on test f (suc i) (x ∷ xs) strong (suc k) e = passed_on test f i xs strong k e
+
+-- ---- a change of one run, of one job and of one leg
+
+pub legs_still_hold : (f : RunState → RunState) (r : ℕ) (runs : List RunState) (p : LegPlace)
+    → ((x : RunState) → run_at runs r ≡ Some x → run_passes leg_holds p.job p.leg x ≡ true → run_passes leg_holds p.job p.leg (f x) ≡ true)
+    → holds runs (Holder.a_leg p) ≡ true → holds (with_run r f runs) (Holder.a_leg p) ≡ true
+legs_still_hold f r runs p strong e =
+    by_run leg_holds (with_run r f runs) p
+    ∙ passed_on (run_passes leg_holds p.job p.leg) f r runs strong p.run (sym (by_run leg_holds runs p) ∙ e)
+
+module _ (runs : List RunState) (r j : ℕ) (f : JobState → JobState)
+    (strong : (y : JobState) → job_at runs r j ≡ Some y → (l : ℕ) → job_passes leg_holds l y ≡ true → job_passes leg_holds l (f y) ≡ true)
+  where
+    in_run : (i l : ℕ) (x : RunState) → run_at runs r ≡ Some x → run_passes leg_holds i l x ≡ true
+        → run_passes leg_holds i l (with_job_of j f x) ≡ true
+    in_run i l x at e =
+        passed_on (job_passes leg_holds l) f j x.jobs (λ y was now. strong y (job_in_run runs r j x at ∙ was) l now) i e
+
+    pub job_still_holds : (h : Holder) → holds runs h ≡ true → holds (with_job r j f runs) h ≡ true
+    job_still_holds (Holder.a_run s) e =
+        passed_on (λ (x : RunState). is_live x.phase) (with_job_of j f) r runs (λ x at now. now) s e
+    job_still_holds (Holder.a_leg p) e =
+        legs_still_hold (with_job_of j f) r runs p (λ x at now. in_run p.job p.leg x at now) e
+
+-- one that did not hold goes to any phase
+pub leg_still_holds : (runs : List RunState) (p : LegPlace) (z : LegState) (f : LegState → LegState) → leg_at runs p ≡ Some z
+    → leg_holds z.phase ≡ false → (h : Holder) → holds runs h ≡ true → holds (with_leg p f runs) h ≡ true
+leg_still_holds runs p z f was held_not =
+    job_still_holds runs p.run p.job (with_leg_of p.leg f)
+    (λ y at l now. passed_on (leg_passes leg_holds) f p.leg y.legs
+    (λ v is holding. absurd (false_true (leg_holds z.phase) held_not
+    (subst_held v z (same_leg (sym was ∙ leg_in_job runs p y at ∙ is)) holding))) l now)
+  where
+    false_true : (b : Bool) → b ≡ false → b ≡ true → ⊥
+    false_true b e f = let bad : false ≡ true = sym e ∙ f in cc
+
+    same_leg : {x y : LegState} → Some x ≡ Some y → x ≡ y
+    same_leg e = cc
+
+    subst_held : (v z : LegState) → z ≡ v → leg_holds v.phase ≡ true → leg_holds z.phase ≡ true
+    subst_held v z e h = ap (λ (x : LegState). leg_holds x.phase) e ∙ h

@@ -1,0 +1,57 @@
+-- Settling opens jobs of live runs alone.
+use Rattle.std.specs.Prelude.{◌≡◌, ℕ, List, [], ◌∷◌, map, flat_map, Bool, true, false, if◌then◌else◌, Some, slice_get, refl}
+use Rattle.std.specs.List.{AllByRecursion}
+use Rattle.workflow_runs.specs.FirstOf.{placed}
+use Rattle.workflow_runs.specs.Places.{run_at}
+use Rattle.workflow_runs.specs.Rules.{is_live, job_places, run_places, places}
+use Rattle.workflow_runs.specs.Settling.{applies, first_place}
+use Rattle.workflow_runs.specs.RunState.{LegState, JobState, RunState}
+use Rattle.workflow_runs.specs.declared.place.Place.{Place}
+use Rattle.workflow_runs.specs.declared.place.Place.TheVariants.{Opening, AtLeg, Closing, Whole}
+use Rattle.workflow_runs.specs.declared.phases.RunPhase.{RunPhase}
+use Rattle.workflow_runs.specs.declared.phases.RunPhase.TheVariants as run
+use Rattle.workflow_runs.proofs.Found.{found, all_weaken, all_of, all_append, all_map, all_flat_map, placed_get}
+
+abbrev pub LivePlace : List RunState → Place → Type 0
+LivePlace runs (Opening r j) = (x : RunState) × (run_at runs r ≡ Some x) × (x.phase ≡ run.Live)
+LivePlace runs (AtLeg p) = Unit {0}
+LivePlace runs (Closing r j) = Unit {0}
+LivePlace runs (Whole r) = Unit {0}
+
+is_live_live : (phase : RunPhase) → is_live phase ≡ true → phase ≡ run.Live
+is_live_live run.Waiting e = cc
+is_live_live run.Live e = refl
+is_live_live run.Ended e = cc
+
+of_a_job : (runs : List RunState) (r : ℕ) (x : RunState) → run_at runs r ≡ Some x → x.phase ≡ run.Live → (e : ℕ × JobState)
+    → AllByRecursion (LivePlace runs) (job_places r e)
+of_a_job runs r x was live e = (
+  (x, was, live),
+  all_append (LivePlace runs) (map (λ l. AtLeg (record { run = r; job = e.0; leg = l.0 })) (placed e.1.legs)) (Closing r e.0 ∷ [])
+      (all_map (LivePlace runs) (λ (l : ℕ × LegState). AtLeg (record { run = r; job = e.0; leg = l.0 })) (λ l. tt) (placed e.1.legs))
+      (tt, tt),
+)
+
+of_the_jobs : (runs : List RunState) (r : ℕ) (x : RunState) → run_at runs r ≡ Some x → (b : Bool) → is_live x.phase ≡ b
+    → AllByRecursion (LivePlace runs) (if b then flat_map (job_places r) (placed x.jobs) else [])
+of_the_jobs runs r x was true e =
+    all_flat_map (LivePlace runs) (job_places r) (placed x.jobs)
+    (all_of (λ j. AllByRecursion (LivePlace runs) (job_places r j)) (of_a_job runs r x was (is_live_live x.phase e)) (placed x.jobs))
+of_the_jobs runs r x was false e = tt
+
+of_a_run : (runs : List RunState) (e : ℕ × RunState) → slice_get runs e.0 ≡ Some e.1 → AllByRecursion (LivePlace runs) (run_places e)
+of_a_run runs e was =
+    all_append (LivePlace runs) (if is_live e.1.phase then flat_map (job_places e.0) (placed e.1.jobs) else []) (Whole e.0 ∷ [])
+    (of_the_jobs runs e.0 e.1 was (is_live e.1.phase) refl) (tt, tt)
+
+all_live : (runs : List RunState) → AllByRecursion (LivePlace runs) (places runs)
+all_live runs =
+    all_flat_map (LivePlace runs) run_places (placed runs)
+    (all_weaken (λ (e : ℕ × RunState). slice_get runs e.0 ≡ Some e.1) (λ e. AllByRecursion (LivePlace runs) (run_places e)) (of_a_run runs)
+    (placed runs) (placed_get runs))
+
+pub first_place_is_live : (runs : List RunState) (place : Place) → first_place runs ≡ Some place → LivePlace runs place
+first_place_is_live runs place e = (found (LivePlace runs) (applies runs) (places runs) place (all_live runs) e).is_element
+
+pub first_place_applies : (runs : List RunState) (place : Place) → first_place runs ≡ Some place → applies runs place ≡ true
+first_place_applies runs place e = (found (LivePlace runs) (applies runs) (places runs) place (all_live runs) e).passes

@@ -1,0 +1,221 @@
+-- Each settling rule lowers the count of phases before it.
+use Rattle.std.specs.Prelude.{◌≡◌, ℕ, zero, suc, ◌+◌, ◌*◌, ◌<◌, ◌&&◌, List, [], ◌∷◌, length, sum_by, Bool, true, false, Some}
+use Rattle.std.specs.Prelude.{option_and_then, slice_get, if◌then◌else◌, refl}
+use Rattle.std.specs.List.{enumerate_from, list_all}
+use Rattle.std.specs.Option.{option_map_or}
+use Rattle.std.proofs.Common.{arith, ap, subst, sym, ◌∙◌, lit<}
+use Rattle.std.proofs.lemmas.Bool.{and_parts}
+use Rattle.std.proofs.lemmas.List.Sums.{sum_by-cons}
+use Rattle.std.proofs.lemmas.List.Folds.{sum_by-replicate}
+use Rattle.wf_value.specs.declared.outcome.JobResult.TheVariants as result
+use Rattle.wf_value.specs.declared.outcome.Outcome.TheVariants as outcome
+use Rattle.run_plan.specs.PlanOf.{plan_of}
+use Rattle.run_plan.specs.declared.planned.PlannedJob.{PlannedJob}
+use Rattle.workflow_runs.specs.FirstOf.{changed_at}
+use Rattle.workflow_runs.specs.Places.{LegPlace, run_at, job_at, leg_at, with_run, with_job}
+use Rattle.workflow_runs.specs.Arrivals.{arrived, is_in_group_of_run, started}
+use Rattle.workflow_runs.specs.Groups.{may_start}
+use Rattle.workflow_runs.specs.Moves.{Holder, Moved, without_moves}
+use Rattle.workflow_runs.specs.Rules.{rule_at, opening_rule, leg_rule, leg_rule_in, closing_rule, whole_rule, whole_rule_in, newcomer_rule}
+use Rattle.workflow_runs.specs.Rules.{decided, may_run, result_at, with_leg_in}
+use Rattle.workflow_runs.specs.StateWords.{has_ended, is_blocked, is_open, is_settled, leg_in_phase, new_leg, opened, run_in_phase}
+use Rattle.workflow_runs.specs.StateWords.{settled_as}
+use Rattle.workflow_runs.specs.Settling.{first_place, first_rule, leg_phases_left, leg_left, job_phases_left, job_left, legs_in_plan}
+use Rattle.workflow_runs.specs.Settling.{run_phases_left, run_left, left}
+use Rattle.workflow_runs.specs.RunState.{LegState, JobState, RunState}
+use Rattle.workflow_runs.specs.Words.{needs_have_settled, is_stopping, planned_legs}
+use Rattle.workflow_runs.specs.declared.phases.LegPhase.{LegPhase}
+use Rattle.workflow_runs.specs.declared.phases.LegPhase.TheVariants as leg
+use Rattle.workflow_runs.specs.declared.phases.JobPhase.TheVariants as job
+use Rattle.workflow_runs.specs.declared.phases.RunPhase.{RunPhase}
+use Rattle.workflow_runs.specs.declared.phases.RunPhase.TheVariants as run
+use Rattle.workflow_runs.specs.declared.place.Place.{Place}
+use Rattle.workflow_runs.specs.declared.place.Place.TheVariants.{Opening, AtLeg, Closing, Whole}
+use Rattle.workflow_runs.proofs.JobKeeps.{JobIn, job_in, leg_in, with_job_of, with_leg_of}
+use Rattle.workflow_runs.proofs.JobPhases.{is_blocked_blocked, is_open_open}
+use Rattle.workflow_runs.proofs.Optional.{from_and_then, if_some}
+use Rattle.workflow_runs.proofs.RuleKeeps.{run_ended}
+use Rattle.workflow_runs.proofs.StopsLower.{arrival_lowers}
+
+-- ---- sums over a list that is changed at one place
+
+pub sum_of_changed : {X : Type 0} (f : X → ℕ) (xs : List X) (i : ℕ) (g : X → X) (x : X) → slice_get xs i ≡ Some x
+    → sum_by f (changed_at i g xs) + f x ≡ sum_by f xs + f (g x)
+sum_of_changed f [] i g x h = cc
+sum_of_changed f (z ∷ zs) zero g x h =
+    let same : z ≡ x = cc in
+    let at_old : f z ≡ f x = ap f same in
+    let at_new : f (g z) ≡ f (g x) = ap (λ v. f (g v)) same in
+    let new = sum_by-cons f (g z) zs in
+    let old = sum_by-cons f z zs in
+    omega (arith, at_old, at_new, new, old)
+sum_of_changed f (z ∷ zs) (suc i) g x h =
+    let tail = sum_of_changed f zs i g x h in
+    let new = sum_by-cons f z (changed_at i g zs) in
+    let old = sum_by-cons f z zs in
+    omega (arith, tail, new, old)
+
+sum_of_placed : {X : Type 0} (f : ℕ → X → ℕ) (xs : List X) (n i : ℕ) (g : X → X) (x : X) → slice_get xs i ≡ Some x
+    → sum_by (λ e. f e.0 e.1) (enumerate_from n (changed_at i g xs)) + f (n + i) x
+    ≡ sum_by (λ e. f e.0 e.1) (enumerate_from n xs) + f (n + i) (g x)
+sum_of_placed f [] n i g x h = cc
+sum_of_placed {X} f (z ∷ zs) n zero g x h =
+    let sum : ℕ × X → ℕ = λ e. f e.0 e.1 in
+    let same : z ≡ x = cc in
+    let at : n + 0 ≡ n = omega arith in
+    let old : f (n + 0) x ≡ f n z = ap (λ m. f m x) at ∙ ap (f n) (sym same) in
+    let new : f (n + 0) (g x) ≡ f n (g z) = ap (λ m. f m (g x)) at ∙ ap (λ v. f n (g v)) (sym same) in
+    let sum_new = sum_by-cons sum (n, g z) (enumerate_from (n + 1) zs) in
+    let sum_old = sum_by-cons sum (n, z) (enumerate_from (n + 1) zs) in
+    omega (arith, old, new, sum_new, sum_old)
+sum_of_placed {X} f (z ∷ zs) n (suc i) g x h =
+    let sum : ℕ × X → ℕ = λ e. f e.0 e.1 in
+    let later : n + suc i ≡ (n + 1) + i = omega arith in
+    let old : f (n + suc i) x ≡ f ((n + 1) + i) x = ap (λ m. f m x) later in
+    let new : f (n + suc i) (g x) ≡ f ((n + 1) + i) (g x) = ap (λ m. f m (g x)) later in
+    let sum_new = sum_by-cons sum (n, z) (enumerate_from (n + 1) (changed_at i g zs)) in
+    let sum_old = sum_by-cons sum (n, z) (enumerate_from (n + 1) zs) in
+    let tail = sum_of_placed f zs (n + 1) i g x h in
+    omega (arith, old, new, sum_new, sum_old, tail)
+
+-- ---- from a leg to its job, from a job to its run, from a run to the runs
+
+leg_lowers : (planned : ℕ) (y : JobState) (l : ℕ) (f : LegState → LegState) (z : LegState) → slice_get y.legs l ≡ Some z
+    → leg_left (f z) < leg_left z → job_left planned (with_leg_of l f y) < job_left planned y
+leg_lowers planned y l f z was less =
+    let sum = sum_of_changed leg_left y.legs l f z was in
+    omega (arith, sum, less)
+
+job_lowers : (x : RunState) (j : ℕ) (f : JobState → JobState) (y : JobState) → slice_get x.jobs j ≡ Some y
+    → job_left (legs_in_plan (plan_of x.admitted.body) j) (f y) < job_left (legs_in_plan (plan_of x.admitted.body) j) y
+    → run_left (with_job_of j f x) < run_left x
+job_lowers x j f y was less =
+    let count : ℕ → JobState → ℕ = λ k v. job_left (legs_in_plan (plan_of x.admitted.body) k) v in
+    let sum = sum_of_placed count x.jobs 0 j f y was in
+    let at : 0 + j ≡ j = omega arith in
+    let old : count (0 + j) y ≡ count j y = ap (λ m. count m y) at in
+    let new : count (0 + j) (f y) ≡ count j (f y) = ap (λ m. count m (f y)) at in
+    omega (arith, sum, old, new, less)
+
+run_lowers : (runs : List RunState) (r : ℕ) (f : RunState → RunState) (x : RunState) → run_at runs r ≡ Some x → run_left (f x) < run_left x
+    → left (with_run r f runs) < left runs
+run_lowers runs r f x was less =
+    let sum = sum_of_changed run_left runs r f x was in
+    omega (arith, sum, less)
+
+-- what the plan says, by the table and by the run
+planned_in_run : (runs : List RunState) (r j : ℕ) (x : RunState) → run_at runs r ≡ Some x
+    → planned_legs runs r j ≡ legs_in_plan (plan_of x.admitted.body) j
+planned_in_run runs r j x e =
+    ap (λ o. option_map_or (λ (planned : PlannedJob). length planned.legs)
+    (option_and_then (λ (run : RunState). slice_get (plan_of run.admitted.body) j) o) 0) e
+
+job_lowers_all : (runs : List RunState) (r j : ℕ) (f : JobState → JobState) (y : JobState) → JobIn runs r j y
+    → job_left (planned_legs runs r j) (f y) < job_left (planned_legs runs r j) y → left (with_job r j f runs) < left runs
+job_lowers_all runs r j f y at less =
+    let less_in_run = subst (λ (n : ℕ). job_left n (f y) < job_left n y) (planned_in_run runs r j at.run at.run_is) less in
+    run_lowers runs r (with_job_of j f) at.run at.run_is (job_lowers at.run j f y at.job_is less_in_run)
+
+-- ---- the rules
+
+leg_goes_lower : (runs : List RunState) (p : LegPlace) (z : LegState) (to : LegPhase) → leg_at runs p ≡ Some z
+    → leg_phases_left to < leg_phases_left z.phase → left (with_leg_in to p runs) < left runs
+leg_goes_lower runs p z to was lower =
+    let at = leg_in runs p z was in
+    let less = leg_lowers (planned_legs runs p.run p.job) at.job p.leg (leg_in_phase to) z at.leg_is lower in
+    job_lowers_all runs p.run p.job (with_leg_of p.leg (leg_in_phase to)) at.job at.place less
+
+left_by : (phase is : LegPhase) (to : ℕ) → phase ≡ is → to < leg_phases_left is → to < leg_phases_left phase
+left_by phase is to e less = subst (λ (v : LegPhase). to < leg_phases_left v) (sym e) less
+
+newcomer_lowers : (runs : List RunState) (p : LegPlace) (z : LegState) → leg_at runs p ≡ Some z → z.phase ≡ leg.New
+    → left (newcomer_rule runs p).runs < left runs
+newcomer_lowers runs p z was is =
+    elim (is_in_group_of_run runs p) as
+    (λ b. left (if b then without_moves (with_leg_in (leg.Ended outcome.Cancelled) p runs)
+    else arrived (Holder.a_leg p) (with_leg_in leg.Waiting p runs)).runs < left runs) [
+      | true ↦ leg_goes_lower runs p z (leg.Ended outcome.Cancelled) was (left_by z.phase leg.New 0 is (lit< tt))
+      | false ↦
+          let waits = leg_goes_lower runs p z leg.Waiting was (left_by z.phase leg.New 4 is (lit< tt)) in
+          let rest = arrival_lowers (Holder.a_leg p) (with_leg_in leg.Waiting p runs) in
+          omega (arith, waits, rest)
+    ]
+
+leg_rule_lowers : (runs : List RunState) (m : Moved) (p : LegPlace) (z : LegState) (phase : LegPhase) → leg_at runs p ≡ Some z
+    → z.phase ≡ phase → leg_rule_in phase runs p ≡ Some m → left m.runs < left runs
+leg_rule_lowers runs m p z leg.New was is h =
+    let same : newcomer_rule runs p ≡ m = cc in
+    subst (λ (v : Moved). left v.runs < left runs) same (newcomer_lowers runs p z was is)
+leg_rule_lowers runs m p z leg.Waiting was is h =
+    let taken = if_some (may_start runs (Holder.a_leg p)) (started (Holder.a_leg p) (with_leg_in leg.Ready p runs)) m h in
+    subst (λ (v : Moved). left v.runs < left runs) taken.1
+    (leg_goes_lower runs p z leg.Ready was (left_by z.phase leg.Waiting 3 is (lit< tt)))
+leg_rule_lowers runs m p z leg.Ready was is h = cc
+leg_rule_lowers runs m p z leg.Running was is h = cc
+leg_rule_lowers runs m p z leg.Stopping was is h = cc
+leg_rule_lowers runs m p z (leg.Ended r) was is h = cc
+
+decided_lowered : (may : Bool) (planned : ℕ) (stopping : Bool) (y : JobState) → y.phase ≡ job.Blocked
+    → job_left planned ((if may then opened planned else settled_as (if stopping then result.Cancelled else result.Skipped)) y)
+    < job_left planned y
+decided_lowered true planned stopping y blocked =
+    let before : job_phases_left planned y.phase ≡ 2 + 5 * planned = ap (job_phases_left planned) blocked in
+    omega (arith, before, sum_by-replicate leg_left planned new_leg)
+decided_lowered false planned stopping y blocked =
+    let before : job_phases_left planned y.phase ≡ 2 + 5 * planned = ap (job_phases_left planned) blocked in
+    omega (arith, before)
+
+opening_rule_lowers : (runs : List RunState) (m : Moved) (r j : ℕ) (y : JobState) → job_at runs r j ≡ Some y
+    → opening_rule runs r j y ≡ Some m → left m.runs < left runs
+opening_rule_lowers runs m r j y was h =
+    let taken = if_some (is_blocked y.phase && needs_have_settled runs r j) (without_moves (with_job r j (decided runs r j) runs)) m h in
+    let blocked = is_blocked_blocked y.phase (and_parts (is_blocked y.phase) (needs_have_settled runs r j) taken.0).0 in
+    let less = decided_lowered (may_run runs r j) (planned_legs runs r j) (is_stopping runs r) y blocked in
+    subst (λ (v : Moved). left v.runs < left runs) taken.1 (job_lowers_all runs r j (decided runs r j) y (job_in runs r j y was) less)
+
+closing_rule_lowers : (runs : List RunState) (m : Moved) (r j : ℕ) (y : JobState) → job_at runs r j ≡ Some y
+    → closing_rule runs r j y ≡ Some m → left m.runs < left runs
+closing_rule_lowers runs m r j y was h =
+    let close = settled_as (result_at runs r j y) in
+    let taken = if_some (is_open y.phase && list_all has_ended y.legs) (without_moves (with_job r j close runs)) m h in
+    let is_open = is_open_open y.phase (and_parts (is_open y.phase) (list_all has_ended y.legs) taken.0).0 in
+    let before : job_phases_left (planned_legs runs r j) y.phase ≡ 1 = ap (job_phases_left (planned_legs runs r j)) is_open in
+    let less : job_left (planned_legs runs r j) (close y) < job_left (planned_legs runs r j) y = omega (arith, before) in
+    subst (λ (v : Moved). left v.runs < left runs) taken.1 (job_lowers_all runs r j close y (job_in runs r j y was) less)
+
+run_goes_lower : (runs : List RunState) (r : ℕ) (x : RunState) (to : RunPhase) → run_at runs r ≡ Some x
+    → run_phases_left to < run_phases_left x.phase → left (with_run r (run_in_phase to) runs) < left runs
+run_goes_lower runs r x to was lower =
+    let less : run_left (run_in_phase to x) < run_left x = omega (arith, lower) in
+    run_lowers runs r (run_in_phase to) x was less
+
+whole_rule_lowers : (runs : List RunState) (m : Moved) (r : ℕ) (x : RunState) (phase : RunPhase) → run_at runs r ≡ Some x
+    → x.phase ≡ phase → whole_rule_in phase runs r x ≡ Some m → left m.runs < left runs
+whole_rule_lowers runs m r x run.Waiting was is h =
+    let taken = if_some (may_start runs (Holder.a_run r)) (started (Holder.a_run r) (with_run r (run_in_phase run.Live) runs)) m h in
+    subst (λ (v : Moved). left v.runs < left runs) taken.1
+    (run_goes_lower runs r x run.Live was (subst (λ (v : RunPhase). 1 < run_phases_left v) (sym is) (lit< tt)))
+whole_rule_lowers runs m r x run.Live was is h =
+    let taken = if_some (list_all is_settled x.jobs) (run_ended runs r x) m h in
+    subst (λ (v : Moved). left v.runs < left runs) taken.1
+    (run_goes_lower runs r x run.Ended was (subst (λ (v : RunPhase). 0 < run_phases_left v) (sym is) (lit< tt)))
+whole_rule_lowers runs m r x run.Ended was is h = cc
+
+pub rule_lowers : (runs : List RunState) (m : Moved) (place : Place) → rule_at runs place ≡ Some m → left m.runs < left runs
+rule_lowers runs m (Opening r j) h =
+    let made = from_and_then (opening_rule runs r j) (job_at runs r j) m h in
+    opening_rule_lowers runs m r j made.value made.is made.gives
+rule_lowers runs m (AtLeg p) h =
+    let made = from_and_then (leg_rule runs p) (leg_at runs p) m h in
+    leg_rule_lowers runs m p made.value made.value.phase made.is refl made.gives
+rule_lowers runs m (Closing r j) h =
+    let made = from_and_then (closing_rule runs r j) (job_at runs r j) m h in
+    closing_rule_lowers runs m r j made.value made.is made.gives
+rule_lowers runs m (Whole r) h =
+    let made = from_and_then (whole_rule runs r) (run_at runs r) m h in
+    whole_rule_lowers runs m r made.value made.value.phase made.is refl made.gives
+
+pub first_rule_lowers : (runs : List RunState) (m : Moved) → first_rule runs ≡ Some m → left m.runs < left runs
+first_rule_lowers runs m h =
+    let made = from_and_then (rule_at runs) (first_place runs) m h in
+    rule_lowers runs m made.value made.gives

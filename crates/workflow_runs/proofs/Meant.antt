@@ -1,0 +1,219 @@
+-- The first of those that are meant in a group, found run by run, job by job and leg by leg.
+use Rattle.std.specs.Prelude.{◌≡◌, ℕ, zero, suc, ◌<◌, ◌≤◌, List, [], ◌∷◌, map, length, find, ◌||◌, not, Bool, true, false, is_none, is_some}
+use Rattle.std.specs.Prelude.{Option, Some, None, option_map, option_and_then, slice_get, if◌then◌else◌, refl}
+use Rattle.std.specs.List.{list_any}
+use Rattle.std.specs.Option.{option_map_or, option_or}
+use Rattle.std.proofs.Common.{arith, ap, ap₂, sym, ◌∙◌}
+use Rattle.std.proofs.lemmas.List.Folds.{find-append}
+use Rattle.group_name.specs.Group.{Group}
+use Rattle.workflow_runs.specs.FirstOf.{first_some, placed}
+use Rattle.workflow_runs.specs.GroupOf.{group_at}
+use Rattle.workflow_runs.specs.Groups.{all_holders, is_running_in, is_taken, may_start}
+use Rattle.workflow_runs.specs.Holders.{first_meant, holder_in_words}
+use Rattle.workflow_runs.specs.Moves.{Holder}
+use Rattle.workflow_runs.specs.Places.{LegPlace, job_at, leg_place, leg_places, leg_places_of_job, leg_places_of_run, run_at}
+use Rattle.workflow_runs.specs.RunState.{LegState, JobState, RunState}
+use Rattle.workflow_runs.specs.declared.holder.Holder.{Holder as HolderInCode}
+use Rattle.workflow_runs.specs.declared.holder.Whom.TheVariants.{Running}
+use Rattle.workflow_runs.proofs.Firsts.{find-flat_map, find-map, found_at, none_found}
+
+-- ---- a search in what something has, where it is there
+
+none_in : {X Y Z : Type 0} (g : X → List Y) (f : ℕ → Y → Option Z) (o : Option X) (i : ℕ)
+    → ((k : ℕ) → k < i → option_and_then (f k) (option_and_then (λ x. slice_get (g x) k) o) ≡ None)
+    → option_map_or (λ x. length (g x)) o 0 ≤ i → option_and_then (λ x. first_some (λ e. f e.0 e.1) (placed (g x))) o ≡ None
+none_in g f None i before le = refl
+none_in g f (Some x) i before le = none_found f (g x) i before le
+
+found_in : {X Y Z : Type 0} (g : X → List Y) (f : ℕ → Y → Option Z) (o : Option X) (i : ℕ) (z : Z)
+    → ((k : ℕ) → k < i → option_and_then (f k) (option_and_then (λ x. slice_get (g x) k) o) ≡ None)
+    → option_and_then (f i) (option_and_then (λ x. slice_get (g x) i) o) ≡ Some z
+    → option_and_then (λ x. first_some (λ e. f e.0 e.1) (placed (g x))) o ≡ Some z
+found_in g f None i z before here = cc
+found_in g f (Some x) i z before here = found_at f (g x) i z before here
+
+-- what is taken where a test holds, of an element that is there
+not_taken : {X Y : Type 0} (b : Bool) (y : Y) (o : Option X) → b ≡ false → option_and_then (λ _. if b then Some y else None) o ≡ None
+not_taken b y None is = refl
+not_taken b y (Some x) is = ap (λ c. if c then Some y else None) is
+
+taken : {X Y : Type 0} (b : Bool) (y : Y) (xs : List X) (i : ℕ) → b ≡ true → i < length xs
+    → option_and_then (λ _. if b then Some y else None) (slice_get xs i) ≡ Some y
+taken b y [] i is lt = absurd (omega arith)
+taken b y (x ∷ xs) zero is lt = ap (λ c. if c then Some y else None) is
+taken b y (x ∷ xs) (suc i) is lt = taken b y xs i is (omega arith)
+
+taken_in : {X Y Z : Type 0} (g : X → List Y) (b : Bool) (z : Z) (o : Option X) (i : ℕ) → b ≡ true
+    → i < option_map_or (λ x. length (g x)) o 0
+    → option_and_then (λ _. if b then Some z else None) (option_and_then (λ x. slice_get (g x) i) o) ≡ Some z
+taken_in g b z None i is lt = absurd (omega arith)
+taken_in g b z (Some x) i is lt = taken b z (g x) i is lt
+
+-- ---- runs
+
+-- the first place of a run that passes
+abbrev pub first_run : (ℕ → Bool) → List RunState → Option ℕ
+first_run test runs = find test (map (λ r. r.0) (placed runs))
+
+runs_one_by_one : (test : ℕ → Bool) (runs : List RunState)
+    → first_run test runs ≡ first_some (λ e. if test e.0 then Some e.0 else None) (placed runs)
+runs_one_by_one test runs = find-map test (λ (e : ℕ × RunState). e.0) (placed runs)
+
+pub run_found : (test : ℕ → Bool) (runs : List RunState) (r : ℕ) → ((k : ℕ) → k < r → test k ≡ false) → r < length runs → test r ≡ true
+    → Some r ≡ first_run test runs
+run_found test runs r before lt is = sym
+    (runs_one_by_one test runs
+    ∙ found_at (λ k (run : RunState). if test k then Some k else None) runs r r
+    (λ k less. not_taken (test k) k (slice_get runs k) (before k less)) (taken (test r) r runs r is lt))
+
+pub no_run_found : (test : ℕ → Bool) (runs : List RunState) (r : ℕ) → ((k : ℕ) → k < r → test k ≡ false) → length runs ≤ r
+    → None ≡ first_run test runs
+no_run_found test runs r before le = sym
+    (runs_one_by_one test runs
+    ∙ none_found (λ k (run : RunState). if test k then Some k else None) runs r
+    (λ k less. not_taken (test k) k (slice_get runs k) (before k less)) le)
+
+-- ---- the legs of a job
+
+-- the first leg of a job that passes, and of a run
+abbrev pub first_of_job : (LegPlace → Bool) → List RunState → ℕ → ℕ → Option LegPlace
+first_of_job test runs r j = option_and_then (λ job. find test (leg_places_of_job r (j, job))) (job_at runs r j)
+
+abbrev pub first_of_run : (LegPlace → Bool) → List RunState → ℕ → Option LegPlace
+first_of_run test runs r = option_and_then (λ run. find test (leg_places_of_run (r, run))) (run_at runs r)
+
+module _ (test : LegPlace → Bool) (runs : List RunState) where
+  legs_one_by_one : (r j : ℕ) (o : Option JobState)
+      → option_and_then (λ job. find test (leg_places_of_job r (j, job))) o
+      ≡ option_and_then
+      (λ job. first_some (λ e. if test (leg_place r j e.0) then Some (leg_place r j e.0) else None) (placed job.legs)) o
+  legs_one_by_one r j None = refl
+  legs_one_by_one r j (Some job) = find-map test (λ (l : ℕ × LegState). leg_place r j l.0) (placed job.legs)
+
+  pub leg_found : (r j l : ℕ) → ((k : ℕ) → k < l → test (leg_place r j k) ≡ false)
+      → l < option_map_or (λ (job : JobState). length job.legs) (job_at runs r j) 0 → test (leg_place r j l) ≡ true
+      → Some (leg_place r j l) ≡ first_of_job test runs r j
+  leg_found r j l before lt is = sym
+      (legs_one_by_one r j (job_at runs r j)
+      ∙ found_in (λ (job : JobState). job.legs) (λ k leg. if test (leg_place r j k) then Some (leg_place r j k) else None)
+      (job_at runs r j) l
+      (leg_place r j l)
+      (λ k less. not_taken (test (leg_place r j k)) (leg_place r j k)
+      (option_and_then (λ (job : JobState). slice_get job.legs k) (job_at runs r j))
+      (before k less))
+      (taken_in (λ (job : JobState). job.legs) (test (leg_place r j l)) (leg_place r j l) (job_at runs r j) l is lt))
+
+  pub no_leg_found : (r j l : ℕ) → ((k : ℕ) → k < l → test (leg_place r j k) ≡ false)
+      → option_map_or (λ (job : JobState). length job.legs) (job_at runs r j) 0 ≤ l → None ≡ first_of_job test runs r j
+  no_leg_found r j l before le = sym
+      (legs_one_by_one r j (job_at runs r j)
+      ∙ none_in (λ (job : JobState). job.legs) (λ k leg. if test (leg_place r j k) then Some (leg_place r j k) else None)
+      (job_at runs r j) l
+      (λ k less. not_taken (test (leg_place r j k)) (leg_place r j k)
+      (option_and_then (λ (job : JobState). slice_get job.legs k) (job_at runs r j))
+      (before k less)) le)
+
+  -- ---- the jobs of a run
+
+  jobs_one_by_one : (r : ℕ) (o : Option RunState)
+      → option_and_then (λ run. find test (leg_places_of_run (r, run))) o
+      ≡ option_and_then (λ run. first_some (λ e. find test (leg_places_of_job r (e.0, e.1))) (placed run.jobs)) o
+  jobs_one_by_one r None = refl
+  jobs_one_by_one r (Some run) = find-flat_map test (leg_places_of_job r) (placed run.jobs)
+
+  pub job_found : (r j : ℕ) (o : Option LegPlace) → ((k : ℕ) → k < j → first_of_job test runs r k ≡ None) → o ≡ first_of_job test runs r j
+      → is_some o ≡ true
+      → o ≡ first_of_run test runs r
+  job_found r j None before here some = cc
+  job_found r j (Some p) before here some = sym
+      (jobs_one_by_one r (run_at runs r)
+      ∙ found_in (λ (run : RunState). run.jobs) (λ k job. find test (leg_places_of_job r (k, job))) (run_at runs r) j p before (sym here))
+
+  pub no_job_found : (r j : ℕ) → ((k : ℕ) → k < j → first_of_job test runs r k ≡ None)
+      → option_map_or (λ (run : RunState). length run.jobs) (run_at runs r) 0 ≤ j → None ≡ first_of_run test runs r
+  no_job_found r j before le = sym
+      (jobs_one_by_one r (run_at runs r)
+      ∙ none_in (λ (run : RunState). run.jobs) (λ k job. find test (leg_places_of_job r (k, job))) (run_at runs r) j before le)
+
+  -- ---- the runs of a table
+
+  pub leg_of_run_found : (r : ℕ) (o : Option LegPlace) → ((k : ℕ) → k < r → first_of_run test runs k ≡ None) → o ≡ first_of_run test runs r
+      → is_some o ≡ true
+      → o ≡ find test (leg_places runs)
+  leg_of_run_found r None before here some = cc
+  leg_of_run_found r (Some p) before here some = sym
+      (find-flat_map test leg_places_of_run (placed runs)
+      ∙ found_at (λ k run. find test (leg_places_of_run (k, run))) runs r p before (sym here))
+
+  pub no_leg_of_run_found : (r : ℕ) → ((k : ℕ) → k < r → first_of_run test runs k ≡ None) → length runs ≤ r
+      → None ≡ find test (leg_places runs)
+  no_leg_of_run_found r before le = sym
+      (find-flat_map test leg_places_of_run (placed runs)
+      ∙ none_found (λ k run. find test (leg_places_of_run (k, run))) runs r before le)
+
+-- ---- runs and legs
+
+find_mapped : {X Y : Type 0} (test : Y → Bool) (g : X → Y) (xs : List X) → find test (map g xs) ≡ option_map g (find (λ x. test (g x)) xs)
+find_mapped test g [] = refl
+find_mapped test g (x ∷ xs) =
+    elim (test (g x)) as
+    (λ b. (if b then Some (g x) else find test (map g xs)) ≡ option_map g (if b then Some x else find (λ y. test (g y)) xs)) [
+      | true ↦ refl
+      | false ↦ find_mapped test g xs
+    ]
+
+find_mapped_twice : {X Y Z : Type 0} (test : Z → Bool) (g : Y → Z) (h : X → Y) (xs : List X)
+    → find test (map (λ x. g (h x)) xs) ≡ option_map g (find (λ y. test (g y)) (map h xs))
+find_mapped_twice test g h [] = refl
+find_mapped_twice test g h (x ∷ xs) =
+    elim (test (g (h x))) as
+    (λ b. (if b then Some (g (h x)) else find test (map (λ y. g (h y)) xs))
+    ≡ option_map g (if b then Some (h x) else find (λ y. test (g y)) (map h xs))) [
+      | true ↦ refl
+      | false ↦ find_mapped_twice test g h xs
+    ]
+
+-- the runs come before the legs
+pub by_kind : (test : Holder → Bool) (runs : List RunState)
+    → find test (all_holders runs)
+    ≡ option_or (option_map Holder.a_run (first_run (λ r. test (Holder.a_run r)) runs))
+    (option_map Holder.a_leg (find (λ p. test (Holder.a_leg p)) (leg_places runs)))
+by_kind test runs =
+    find-append test (map (λ r. Holder.a_run r.0) (placed runs)) (map (λ p. Holder.a_leg p) (leg_places runs))
+    ∙ ap₂ option_or (find_mapped_twice test Holder.a_run (λ (r : ℕ × RunState). r.0) (placed runs))
+    (find_mapped test Holder.a_leg (leg_places runs))
+
+-- ---- whether one is found
+
+pub some_found : {X : Type 0} (test : X → Bool) (xs : List X) → is_some (find test xs) ≡ list_any test xs
+some_found test [] = refl
+some_found test (x ∷ xs) =
+    elim (test x) as (λ b. is_some (if b then Some x else find test xs) ≡ (b || list_any test xs)) [
+      | true ↦ refl
+      | false ↦ some_found test xs
+    ]
+
+-- nothing keeps back one that has no group, or in whose group nobody is found running
+pub starts_by : (runs : List RunState) (o : Option Group)
+    → (not (is_some o) || not (is_some (find (λ k. option_map_or (λ g. is_running_in runs g k) o false) (all_holders runs))))
+    ≡ option_map_or (λ g. not (is_taken runs g)) o true
+starts_by runs None = refl
+starts_by runs (Some g) = ap not (some_found (is_running_in runs g) (all_holders runs))
+
+-- where the holder has a group, and this is what was found
+pub starts_where : (runs : List RunState) (h : Holder) (found : Option HolderInCode) (b : Bool) → is_some (group_at runs h) ≡ true
+    → option_map holder_in_words found ≡ first_meant runs h Running → b ≡ is_none found → b ≡ may_start runs h
+starts_where runs h found b grouped is none =
+    none
+    ∙ ap not (found_in_words found)
+    ∙ ap (λ o. not (is_some o)) is
+    ∙ ap (λ c. not c || not (is_some (first_meant runs h Running))) (sym grouped)
+    ∙ starts_by runs (group_at runs h)
+  where
+    found_in_words : (o : Option HolderInCode) → is_some o ≡ is_some (option_map holder_in_words o)
+    found_in_words None = refl
+    found_in_words (Some k) = refl
+
+pub nothing_yet : {X : Type 0} (o : Option X) → is_some o ≡ false → o ≡ None
+nothing_yet None none = refl
+nothing_yet (Some x) none = cc

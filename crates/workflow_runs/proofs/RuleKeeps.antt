@@ -1,0 +1,264 @@
+-- The rule at each place keeps what the runs keep by themselves, and their leases.
+use Rattle.std.specs.Prelude.{◌≡◌, ℕ, zero, suc, List, [], ◌∷◌, ◌&&◌, replicate, Bool, true, false, Option, Some, None, option_and_then}
+use Rattle.std.specs.Prelude.{slice_get, is_some, if◌then◌else◌, refl}
+use Rattle.std.specs.List.{list_all}
+use Rattle.std.proofs.Common.{ap, sym, ◌∙◌, subst, inl, inr}
+use Rattle.std.proofs.lemmas.Bool.{and_parts}
+use Rattle.std.proofs.Math.ListN.{length-replicate}
+use Rattle.wf_value.specs.declared.outcome.JobResult.{JobResult}
+use Rattle.wf_value.specs.declared.outcome.JobResult.TheVariants as result
+use Rattle.wf_value.specs.declared.outcome.Outcome.TheVariants as outcome
+use Rattle.needs_graph.specs.Results.{conclusion_of}
+use Rattle.workflow_runs.specs.FirstOf.{changed_at}
+use Rattle.workflow_runs.specs.Places.{LegPlace, run_at, job_at, leg_at, with_run, with_job}
+use Rattle.workflow_runs.specs.Arrivals.{arrived, is_in_group_of_run, started}
+use Rattle.workflow_runs.specs.Groups.{may_start}
+use Rattle.workflow_runs.specs.JobResults.{results_of}
+use Rattle.workflow_runs.specs.Moves.{Holder, Move, Moved, without_moves}
+use Rattle.workflow_runs.specs.Rules.{rule_at, opening_rule, leg_rule, leg_rule_in, closing_rule, whole_rule, whole_rule_in, newcomer_rule}
+use Rattle.workflow_runs.specs.Rules.{decided, may_run, result_at, with_leg_in}
+use Rattle.workflow_runs.specs.StateWords.{has_ended, is_blocked, is_open, is_settled, leg_in_phase, new_leg, opened, outcome_of}
+use Rattle.workflow_runs.specs.StateWords.{run_in_phase}
+use Rattle.workflow_runs.specs.StateWords.{settled_as}
+use Rattle.workflow_runs.specs.SoundRuns.{PhaseFits, MayLackLegs, LeaseFits}
+use Rattle.workflow_runs.specs.Parallel.{is_at_work}
+use Rattle.workflow_runs.specs.RunState.{LegState, JobState, RunState}
+use Rattle.workflow_runs.specs.Words.{needs_have_settled, is_stopping, planned_legs, settled_result}
+use Rattle.workflow_runs.specs.declared.phases.LegPhase.{LegPhase}
+use Rattle.workflow_runs.specs.declared.phases.LegPhase.TheVariants as leg
+use Rattle.workflow_runs.specs.declared.phases.JobPhase.{JobPhase}
+use Rattle.workflow_runs.specs.declared.place.Place.{Place}
+use Rattle.workflow_runs.specs.declared.place.Place.TheVariants.{Opening, AtLeg, Closing, Whole}
+use Rattle.workflow_runs.specs.declared.phases.RunPhase.{RunPhase}
+use Rattle.workflow_runs.specs.declared.phases.RunPhase.TheVariants as run
+use Rattle.workflow_runs.proofs.HoldersKeep.{arrival_settles}
+use Rattle.workflow_runs.proofs.JobKeeps.{job_in, leg_in, live_fits, open_is_live, job_keeps, leg_settles}
+use Rattle.workflow_runs.proofs.JobPhases.{all_legs, is_blocked_blocked, is_open_open, no_legs}
+use Rattle.workflow_runs.proofs.LegReads.{work_of}
+use Rattle.workflow_runs.proofs.LivePlaces.{LivePlace}
+use Rattle.workflow_runs.proofs.Optional.{from_and_then, if_some, each_passes}
+use Rattle.workflow_runs.proofs.RunFits.{JobFits, RunsFit, leases_fit}
+use Rattle.workflow_runs.proofs.Settles.{Settles, one_settles, settles_on}
+
+-- ---- a leg goes on
+
+pub record GoesOn (before after : LegPhase) (lease : Option ℕ) : Type 0 where
+  pub unended : is_some (outcome_of before) ≡ false
+  pub fits : LeaseFits after lease
+  pub works : is_at_work after ≡ is_at_work before
+
+pub leg_goes : (runs : List RunState) (p : LegPlace) (z : LegState) (to : LegPhase) → RunsFit runs → leg_at runs p ≡ Some z
+    → GoesOn z.phase to z.lease → Settles runs (with_leg_in to p runs)
+leg_goes runs p z to fit was on =
+    leg_settles runs fit p z (leg_in_phase to) (leg_in runs p z was) on.unended on.fits refl
+    (ap (λ (b : Bool). if b then z.lease else None) on.works)
+
+new_waits : (phase : LegPhase) (lease : Option ℕ) → phase ≡ leg.New → LeaseFits phase lease → GoesOn phase leg.Waiting lease
+new_waits leg.New lease e fits = record { unended = refl; fits = fits; works = refl }
+new_waits leg.Waiting lease e fits = cc
+new_waits leg.Ready lease e fits = cc
+new_waits leg.Running lease e fits = cc
+new_waits leg.Stopping lease e fits = cc
+new_waits (leg.Ended r) lease e fits = cc
+
+pub new_ends : (phase : LegPhase) (lease : Option ℕ) → phase ≡ leg.New → GoesOn phase (leg.Ended outcome.Cancelled) lease
+new_ends leg.New lease e = record { unended = refl; fits = tt; works = refl }
+new_ends leg.Waiting lease e = cc
+new_ends leg.Ready lease e = cc
+new_ends leg.Running lease e = cc
+new_ends leg.Stopping lease e = cc
+new_ends (leg.Ended r) lease e = cc
+
+pub waiting_starts : (phase : LegPhase) (lease : Option ℕ) → phase ≡ leg.Waiting → LeaseFits phase lease → GoesOn phase leg.Ready lease
+waiting_starts leg.New lease e fits = cc
+waiting_starts leg.Waiting lease e fits = record { unended = refl; fits = fits; works = refl }
+waiting_starts leg.Ready lease e fits = cc
+waiting_starts leg.Running lease e fits = cc
+waiting_starts leg.Stopping lease e fits = cc
+waiting_starts (leg.Ended r) lease e fits = cc
+
+-- the runs in which a leg that is new waits
+pub newcomer_waits : (runs : List RunState) (p : LegPlace) (z : LegState) → RunsFit runs → leg_at runs p ≡ Some z → z.phase ≡ leg.New
+    → Settles runs (with_leg_in leg.Waiting p runs)
+newcomer_waits runs p z fit was is = leg_goes runs p z leg.Waiting fit was (new_waits z.phase z.lease is (leases_fit runs fit p z was))
+
+newcomer_settles : (runs : List RunState) (p : LegPlace) (z : LegState) → RunsFit runs → leg_at runs p ≡ Some z → z.phase ≡ leg.New
+    → Settles runs (newcomer_rule runs p).runs
+newcomer_settles runs p z fit was is =
+    elim (is_in_group_of_run runs p) as
+    (λ b. Settles runs (if b then without_moves (with_leg_in (leg.Ended outcome.Cancelled) p runs)
+    else arrived (Holder.a_leg p) (with_leg_in leg.Waiting p runs)).runs) [
+      | true ↦ leg_goes runs p z (leg.Ended outcome.Cancelled) fit was (new_ends z.phase z.lease is)
+      | false ↦
+          let waiting = with_leg_in leg.Waiting p runs in
+          let first = newcomer_waits runs p z fit was is in
+          settles_on runs waiting (arrived (Holder.a_leg p) waiting).runs first
+          (arrival_settles (Holder.a_leg p) waiting first.stay.fit)
+    ]
+
+leg_rule_settles_in : (runs : List RunState) (m : Moved) (p : LegPlace) (z : LegState) (phase : LegPhase) → RunsFit runs
+    → leg_at runs p ≡ Some z → z.phase ≡ phase → leg_rule_in phase runs p ≡ Some m → Settles runs m.runs
+leg_rule_settles_in runs m p z leg.New fit was is h =
+    let same : newcomer_rule runs p ≡ m = cc in
+    subst (λ (v : Moved). Settles runs v.runs) same (newcomer_settles runs p z fit was is)
+leg_rule_settles_in runs m p z leg.Waiting fit was is h =
+    let taken = if_some (may_start runs (Holder.a_leg p)) (started (Holder.a_leg p) (with_leg_in leg.Ready p runs)) m h in
+    subst (λ (v : Moved). Settles runs v.runs) taken.1
+    (leg_goes runs p z leg.Ready fit was (waiting_starts z.phase z.lease is (leases_fit runs fit p z was)))
+leg_rule_settles_in runs m p z leg.Ready fit was is h = cc
+leg_rule_settles_in runs m p z leg.Running fit was is h = cc
+leg_rule_settles_in runs m p z leg.Stopping fit was is h = cc
+leg_rule_settles_in runs m p z (leg.Ended r) fit was is h = cc
+
+leg_rule_settles : (runs : List RunState) (m : Moved) (p : LegPlace) (z : LegState) → RunsFit runs → leg_at runs p ≡ Some z
+    → leg_rule runs p z ≡ Some m → Settles runs m.runs
+leg_rule_settles runs m p z fit was h = leg_rule_settles_in runs m p z z.phase fit was refl h
+
+-- ---- a job opens
+
+each_of_replicate : {X : Type 0} (n : ℕ) (x : X) (k : ℕ) (y : X) → slice_get (replicate n x) k ≡ Some y → x ≡ y
+each_of_replicate zero x k y e = cc
+each_of_replicate (suc n) x zero y e = cc
+each_of_replicate (suc n) x (suc k) y e = each_of_replicate n x k y e
+
+nothing_new : (f : LegState → Option ℕ) → f new_leg ≡ None → (n l : ℕ) → option_and_then f (slice_get (replicate n new_leg) l) ≡ None
+nothing_new f none zero l = refl
+nothing_new f none (suc n) zero = none
+nothing_new f none (suc n) (suc l) = nothing_new f none n l
+
+nothing_there : (f : LegState → Option ℕ) (legs : List LegState) (l : ℕ) → legs ≡ [] → option_and_then f (slice_get legs l) ≡ None
+nothing_there f legs l none = ap (λ (xs : List LegState). option_and_then f (slice_get xs l)) none
+
+-- what a blocked job is made
+abbrev made : Bool → ℕ → Bool → JobState → JobState
+made may planned stopping = if may then opened planned else settled_as (if stopping then result.Cancelled else result.Skipped)
+
+may_lack_legs : (stopping : Bool) → MayLackLegs (if stopping then result.Cancelled else result.Skipped)
+may_lack_legs true = tt
+may_lack_legs false = tt
+
+made_fits : (may : Bool) (planned : ℕ) (stopping : Bool) (y : JobState) (gathered : JobResult) → y.legs ≡ []
+    → JobFits planned gathered (made may planned stopping y)
+made_fits true planned stopping y gathered none = record {
+  legs_fit = length-replicate planned new_leg;
+  leases_fit = (λ l z e. subst (λ (v : LegState). LeaseFits v.phase v.lease) (each_of_replicate planned new_leg l z e) refl);
+}
+made_fits false planned stopping y gathered none = record {
+  legs_fit = inl (none, may_lack_legs stopping);
+  leases_fit = (λ l z e. let past : slice_get [] l ≡ Some z = subst (λ (xs : List LegState). slice_get xs l ≡ Some z) none e in cc);
+}
+
+made_reads : (f : LegState → Option ℕ) → f new_leg ≡ None → (may : Bool) (planned : ℕ) (stopping : Bool) (y : JobState) → y.legs ≡ []
+    → (l : ℕ)
+    → option_and_then f (slice_get (made may planned stopping y).legs l) ≡ option_and_then f (slice_get y.legs l)
+made_reads f new true planned stopping y none l = nothing_new f new planned l ∙ sym (nothing_there f y.legs l none)
+made_reads f new false planned stopping y none l = refl
+
+no_result : (phase : JobPhase) (a : JobResult) (o : Option JobResult) → settled_result phase ≡ None → settled_result phase ≡ Some a
+    → o ≡ Some a
+no_result phase a o none some = cc
+
+opening_rule_settles : (runs : List RunState) (m : Moved) (r j : ℕ) (y : JobState) → RunsFit runs → LivePlace runs (Opening r j)
+    → job_at runs r j ≡ Some y → opening_rule runs r j y ≡ Some m → Settles runs m.runs
+opening_rule_settles runs m r j y fit live was h =
+    let taken = if_some (is_blocked y.phase && needs_have_settled runs r j) (without_moves (with_job r j (decided runs r j) runs)) m h in
+    let both = and_parts (is_blocked y.phase) (needs_have_settled runs r j) taken.0 in
+    let blocked = is_blocked_blocked y.phase both.0 in
+    let at = job_in runs r j y was in
+    let x = at.run in
+    let run_fits = fit r x at.run_is in
+    let same_run : live.0 ≡ x = let two : Some live.0 ≡ Some x = sym live.1 ∙ at.run_is in cc in
+    let is_live : x.phase ≡ run.Live = subst (λ (v : RunState). v.phase ≡ run.Live) same_run live.2 in
+    let none = no_legs (planned_legs runs r j) (result_at runs r j y) y.phase y.legs (run_fits.jobs_fit j y at.job_is).legs_fit blocked in
+    subst (λ (v : Moved). Settles runs v.runs) taken.1
+    (one_settles runs fit r x (λ (v : RunState). record v { jobs = changed_at j (decided runs r j) v.jobs }) at.run_is
+    (job_keeps runs r x run_fits j y (decided runs r j) at.job_is
+    (live_fits x.phase x.stopping (changed_at j (decided runs r j) x.jobs) is_live)
+    (made_fits (may_run runs r j) (planned_legs runs r j) (is_stopping runs r) y (result_at runs r j (decided runs r j y)) none)
+    (record {
+      keeps_result = (λ a e. no_result y.phase a (settled_result (decided runs r j y).phase) (ap settled_result blocked) e);
+      needs_first = (λ some. both.1);
+    })
+    (made_reads (λ (z : LegState). z.lease) refl (may_run runs r j) (planned_legs runs r j) (is_stopping runs r) y none)
+    (made_reads work_of refl (may_run runs r j) (planned_legs runs r j) (is_stopping runs r) y none)))
+
+-- ---- a job settles
+
+closing_rule_settles : (runs : List RunState) (m : Moved) (r j : ℕ) (y : JobState) → RunsFit runs → job_at runs r j ≡ Some y
+    → closing_rule runs r j y ≡ Some m → Settles runs m.runs
+closing_rule_settles runs m r j y fit was h =
+    let close = settled_as (result_at runs r j y) in
+    let taken = if_some (is_open y.phase && list_all has_ended y.legs) (without_moves (with_job r j close runs)) m h in
+    let done = and_parts (is_open y.phase) (list_all has_ended y.legs) taken.0 in
+    let at = job_in runs r j y was in
+    let x = at.run in
+    let run_fits = fit r x at.run_is in
+    let fits = run_fits.jobs_fit j y at.job_is in
+    let is_open = is_open_open y.phase done.0 in
+    let planned = all_legs (planned_legs runs r j) (result_at runs r j y) y.phase y.legs fits.legs_fit is_open in
+    let live = open_is_live x.phase x.stopping x.jobs j y run_fits.phase_fits at.job_is is_open in
+    subst (λ (v : Moved). Settles runs v.runs) taken.1
+    (one_settles runs fit r x (λ (v : RunState). record v { jobs = changed_at j close v.jobs }) at.run_is
+    (job_keeps runs r x run_fits j y close at.job_is (live_fits x.phase x.stopping (changed_at j close x.jobs) live)
+    (record { legs_fit = inr (planned, done.1, refl); leases_fit = fits.leases_fit })
+    (record {
+      keeps_result = (λ a e. no_result y.phase a (settled_result (close y).phase) (ap settled_result is_open) e);
+      needs_first = (λ some. run_fits.needs_first j y at.job_is some);
+    }) (λ l. refl) (λ l. refl)))
+
+-- ---- a run goes on
+
+pub phase_settles : (runs : List RunState) (r : ℕ) (x : RunState) (to : RunPhase) → RunsFit runs → run_at runs r ≡ Some x
+    → PhaseFits to x.stopping x.jobs → Settles runs (with_run r (run_in_phase to) runs)
+phase_settles runs r x to fit was phase_fits =
+    let fits = fit r x was in
+    one_settles runs fit r x (run_in_phase to) was
+    (record {
+      stays = record {
+        same_admitted = refl;
+        keeps_results = (λ j a e. e);
+        fits = record {
+          has_its_jobs = fits.has_its_jobs;
+          phase_fits = phase_fits;
+          jobs_fit = fits.jobs_fit;
+          needs_first = fits.needs_first;
+        };
+      };
+      same_had = (λ j l. refl);
+      same_works = (λ j l. refl);
+    })
+
+-- what a live run with all jobs settled is made
+abbrev pub run_ended : List RunState → ℕ → RunState → Moved
+run_ended runs r x = record {
+  runs = with_run r (run_in_phase run.Ended) runs;
+  moves = Move.end_with (conclusion_of (results_of x.jobs)) (Holder.a_run r) ∷ [];
+}
+
+whole_rule_settles_in : (runs : List RunState) (m : Moved) (r : ℕ) (x : RunState) (phase : RunPhase) → RunsFit runs
+    → run_at runs r ≡ Some x → whole_rule_in phase runs r x ≡ Some m → Settles runs m.runs
+whole_rule_settles_in runs m r x run.Waiting fit was h =
+    let taken = if_some (may_start runs (Holder.a_run r)) (started (Holder.a_run r) (with_run r (run_in_phase run.Live) runs)) m h in
+    subst (λ (v : Moved). Settles runs v.runs) taken.1 (phase_settles runs r x run.Live fit was tt)
+whole_rule_settles_in runs m r x run.Live fit was h =
+    let taken = if_some (list_all is_settled x.jobs) (run_ended runs r x) m h in
+    subst (λ (v : Moved). Settles runs v.runs) taken.1
+    (phase_settles runs r x run.Ended fit was (λ j y at. each_passes is_settled x.jobs j y taken.0 at))
+whole_rule_settles_in runs m r x run.Ended fit was h = cc
+
+-- ---- at each place
+
+pub rule_settles : (runs : List RunState) (m : Moved) (place : Place) → RunsFit runs → LivePlace runs place → rule_at runs place ≡ Some m
+    → Settles runs m.runs
+rule_settles runs m (Opening r j) fit live h =
+    let made = from_and_then (opening_rule runs r j) (job_at runs r j) m h in
+    opening_rule_settles runs m r j made.value fit live made.is made.gives
+rule_settles runs m (AtLeg p) fit live h =
+    let made = from_and_then (leg_rule runs p) (leg_at runs p) m h in
+    leg_rule_settles runs m p made.value fit made.is made.gives
+rule_settles runs m (Closing r j) fit live h =
+    let made = from_and_then (closing_rule runs r j) (job_at runs r j) m h in
+    closing_rule_settles runs m r j made.value fit made.is made.gives
+rule_settles runs m (Whole r) fit live h =
+    let made = from_and_then (whole_rule runs r) (run_at runs r) m h in
+    whole_rule_settles_in runs m r made.value made.value.phase fit made.is made.gives

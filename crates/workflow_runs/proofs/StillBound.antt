@@ -1,0 +1,140 @@
+-- A run that changes is still kept with its number and with what it asks of groups.
+use Rattle.std.specs.Prelude.{◌≡◌, ℕ, zero, suc, ◌+◌, ◌<◌, List, [], ◌∷◌, ◌++◌, length, count_by, Some, option_map, slice_get, slice_set}
+use Rattle.std.specs.Prelude.{Result, Ok, Err, OnOk, OnErr, refl}
+use Rattle.std.specs.Fmt.{decimal}
+use Rattle.std.proofs.Common.{arith, ap, sym, subst, ◌∙◌, get_or}
+use Rattle.std.proofs.lemmas.List.{length-append, length-map, map-append}
+use Rattle.std.proofs.lemmas.Option.{slice_get_within}
+use Rattle.wf_value.specs.Gives.{Gives}
+use Rattle.wf_value.specs.declared.refusal.Refusal.{Refusal}
+use Rattle.run_plan.specs.Admitted.{Admitted}
+use Rattle.workflow_runs.specs.Asks.{AreBound, RunSays}
+use Rattle.workflow_runs.specs.Counted.{AreCounted}
+use Rattle.workflow_runs.specs.Delivered.{FindsFirst}
+use Rattle.workflow_runs.specs.GroupOf.{RunFacts, run_facts_at}
+use Rattle.workflow_runs.specs.RunNumber.{AreNumbered, events, numbers_after, run_number, same_workflow}
+use Rattle.workflow_runs.specs.RunState.{RunState}
+use Rattle.workflow_runs.specs.declared.asks.RunAsks.{RunAsks}
+use Rattle.workflow_runs.specs.declared.runs.index.Index.{Index}
+use Rattle.workflow_runs.proofs.Binding.{one_more as one_more_bound}
+use Rattle.workflow_runs.proofs.BoundSays.{run_told}
+use Rattle.workflow_runs.proofs.Doors.{given}
+use Rattle.workflow_runs.proofs.GroupStays.{run_facts_stay}
+use Rattle.workflow_runs.proofs.RunNumbers.{events_kept, length_kept, number_at, one_more, still_numbered}
+
+facts_same : (runs next : List RunState) (r : ℕ) → events next ≡ events runs → run_facts_at next r ≡ run_facts_at runs r
+facts_same runs next r same = run_facts_stay runs next r (λ s le. ap (λ es. slice_get es s) same)
+
+still_bound : (xs : List RunState) (kept : List RunAsks) (r : ℕ) (x y : RunState) → r < length xs → x ≡ get_or xs r x
+    → y.admitted ≡ x.admitted → AreBound xs kept → AreBound (slice_set xs r y) kept
+still_bound xs kept r x y lt is same are = record {
+  as_many = omega (arith, length_kept xs r y, are.as_many);
+  each = (λ k run groups told is_kept.
+      are.each k run groups (sym (facts_same xs (slice_set xs r y) k (events_kept xs r x y lt is same)) ∙ told) is_kept);
+}
+
+pub still_kept : (xs : List RunState) (numbers : List ℕ) (kept : List RunAsks) (index : Index) (r : ℕ) (x y : RunState) → r < length xs
+    → x ≡ get_or xs r x → y.admitted ≡ x.admitted
+    → AreNumbered xs numbers × AreBound xs kept × FindsFirst (events xs) index.places.places × AreCounted (events xs) index.counts.counts
+    → AreNumbered (slice_set xs r y) numbers × AreBound (slice_set xs r y) kept × FindsFirst (events (slice_set xs r y)) index.places.places
+    × AreCounted (events (slice_set xs r y)) index.counts.counts
+still_kept xs numbers kept index r x y lt is same are =
+    let stay : events (slice_set xs r y) ≡ events xs = events_kept xs r x y lt is same in (
+      still_numbered xs numbers r x y lt is same are.0,
+      still_bound xs kept r x y lt is same are.1,
+      subst (λ (es : List Admitted). FindsFirst es index.places.places) (sym stay) are.2,
+      subst (λ (es : List Admitted). AreCounted es index.counts.counts) (sym stay) are.3,
+    )
+
+-- ---- one run more
+
+front_same : {X : Type 0} (xs : List X) (x : X) (s : ℕ) → s < length xs → slice_get (xs ++ x ∷ []) s ≡ slice_get xs s
+front_same [] x s lt = absurd (omega arith)
+front_same (y ∷ xs) x zero lt = refl
+front_same (y ∷ xs) x (suc s) lt = front_same xs x s (omega arith)
+
+at_end : {X : Type 0} (xs : List X) (x : X) (n : ℕ) → n ≡ length xs → slice_get (xs ++ x ∷ []) n ≡ Some x
+at_end [] x zero is = refl
+at_end [] x (suc n) is = absurd (omega (arith, is))
+at_end (y ∷ xs) x zero is = absurd (omega (arith, is))
+at_end (y ∷ xs) x (suc n) is = at_end xs x n (omega (arith, is))
+
+as_many_numbers : (before es : List Admitted) → length (numbers_after before es) ≡ length es
+as_many_numbers before [] = refl
+as_many_numbers before (e ∷ es) = ap (λ n. suc n) (as_many_numbers (before ++ e ∷ []) es)
+
+some_facts : (x y : RunFacts) → Some x ≡ Some y → x ≡ y
+some_facts x y e = cc
+
+some_number : (m n : ℕ) → Some m ≡ Some n → m ≡ n
+some_number m n e = cc
+
+module _ (runs : List RunState) (run : RunState) (numbers : List ℕ) (n : ℕ) (before : AreNumbered runs numbers)
+    (are : AreNumbered (runs ++ run ∷ []) (numbers ++ n ∷ [])) where
+  its_events : events (runs ++ run ∷ []) ≡ events runs ++ run.admitted ∷ []
+  its_events = map-append (λ (x : RunState). x.admitted) runs (run ∷ [])
+
+  facts_before : (r : ℕ) → r < length runs → run_facts_at (runs ++ run ∷ []) r ≡ run_facts_at runs r
+  facts_before r lt =
+      let many : length (events runs) ≡ length runs = length-map runs (λ (x : RunState). x.admitted) in
+      run_facts_stay runs (runs ++ run ∷ []) r
+      (λ s le. ap (λ es. slice_get es s) its_events ∙ front_same (events runs) run.admitted s (omega (arith, many)))
+
+  its_number : run_number (events (runs ++ run ∷ [])) (length runs) run.admitted ≡ n
+  its_number =
+      let all = events (runs ++ run ∷ []) in
+      let many : length numbers ≡ length runs =
+      ap length before.numbered ∙ as_many_numbers [] (events runs) ∙ length-map runs (λ (x : RunState). x.admitted) in
+      let event : slice_get all (length runs) ≡ Some run.admitted =
+      ap (λ es. slice_get es (length runs)) its_events
+      ∙ at_end (events runs) run.admitted (length runs) (sym (length-map runs (λ (x : RunState). x.admitted))) in
+      some_number (run_number all (length runs) run.admitted) n
+      (sym (number_at (runs ++ run ∷ []) (numbers ++ n ∷ []) (length runs) are ∙ ap (option_map (run_number all (length runs))) event)
+      ∙ at_end numbers n (length runs) (sym many))
+
+  added_bound : (kept : List RunAsks) (asked : RunAsks) → AreBound runs kept
+      → RunSays (record { event = run.admitted; run_id = decimal (length runs + 1); run_number = decimal n }) asked
+      → AreBound (runs ++ run ∷ []) (kept ++ asked ∷ [])
+  added_bound kept asked bound says =
+      let next = runs ++ run ∷ [] in
+      let many = bound.as_many in
+      let told : run_facts_at next (length runs)
+      ≡ Some (record { event = run.admitted; run_id = decimal (length runs + 1); run_number = decimal n }) =
+      run_told next (length runs) run (at_end runs run (length runs) refl)
+      ∙ ap (λ m. Some (record { event = run.admitted; run_id = decimal (length runs + 1); run_number = decimal m })) its_number in
+      record {
+        as_many = omega (arith, length-append runs (run ∷ []), length-append kept (asked ∷ []), many);
+        each = (λ r facts groups of_run is.
+            one_more_bound (λ k g. (f : RunFacts) → run_facts_at next k ≡ Some f → RunSays f g) kept asked
+            (λ k g at f known.
+            let within : k < length kept = slice_get_within kept k g at in
+            bound.each k f g (sym (facts_before k (omega (arith, many, within))) ∙ known) at)
+            (λ f known.
+            let same = some_facts _ f (sym told ∙ sym (ap (run_facts_at next) many) ∙ known) in
+            subst (λ (v : RunFacts). RunSays v asked) same says) r groups is facts of_run);
+      }
+
+-- a run that was added with its number and with what it asks, or none of these
+pub all_added : {X : Type 0} (runs : List RunState) (run : RunState) (numbers : List ℕ) (kept : List RunAsks) (number : ℕ)
+    (asked : RunAsks)
+    (new_runs : List RunState) (new_numbers : List ℕ) (new_kept : List RunAsks) (result : Result X Refusal) → length runs < 100000
+    → AreNumbered runs numbers × AreBound runs kept → number ≡ count_by (λ other. same_workflow run.admitted other.admitted) runs + 1
+    → RunSays (record { event = run.admitted; run_id = decimal (length runs + 1); run_number = decimal number }) asked
+    → Gives (λ _. new_runs) result (Ok (runs ++ run ∷ [])) → OnOk result (new_numbers ≡ numbers ++ number ∷ [])
+    → OnOk result (new_kept ≡ kept ++ asked ∷ []) → OnErr result (new_runs ≡ runs) → OnErr result (new_numbers ≡ numbers)
+    → OnErr result (new_kept ≡ kept) → AreNumbered new_runs new_numbers × AreBound new_runs new_kept
+all_added runs run numbers kept number asked new_runs new_numbers new_kept (Ok x) room are is says run_added number_added kept_added
+    same_runs same_numbers same_kept =
+    let next = given (runs ++ run ∷ []) new_runs run_added in
+    let count = count_by (λ (other : RunState). same_workflow run.admitted other.admitted) runs in
+    let numbered = subst (λ (n : ℕ). AreNumbered (runs ++ run ∷ []) (numbers ++ n ∷ [])) (sym is)
+    (one_more runs run numbers count room are.0 refl) in (
+      subst (λ (rs : List RunState). AreNumbered rs new_numbers) next (subst (AreNumbered (runs ++ run ∷ [])) (sym number_added) numbered),
+      subst (λ (rs : List RunState). AreBound rs new_kept) next
+          (subst (AreBound (runs ++ run ∷ [])) (sym kept_added) (added_bound runs run numbers number are.0 numbered kept asked are.1 says)),
+    )
+all_added runs run numbers kept number asked new_runs new_numbers new_kept (Err e) room are is says run_added number_added kept_added
+    same_runs same_numbers same_kept = (
+      subst (λ (rs : List RunState). AreNumbered rs new_numbers) (sym same_runs) (subst (AreNumbered runs) (sym same_numbers) are.0),
+      subst (λ (rs : List RunState). AreBound rs new_kept) (sym same_runs) (subst (AreBound runs) (sym same_kept) are.1),
+    )

@@ -1,0 +1,144 @@
+-- The first place of a table where a rule applies, found run by run and job by job.
+use Rattle.std.specs.Prelude.{◌≡◌, ℕ, ◌+◌, ◌&&◌, List, [], ◌∷◌, ◌++◌, map, flat_map, find, Bool, true, false, is_some, Option, Some, None}
+use Rattle.std.specs.Prelude.{option_map, option_and_then, slice_get, if◌then◌else◌, refl}
+use Rattle.std.specs.List.{enumerate_from, list_all, position, position_from}
+use Rattle.std.specs.Option.{option_or}
+use Rattle.std.proofs.Common.{ap, sym, ◌∙◌}
+use Rattle.std.proofs.lemmas.Iterator.Adapters.{position_from-zero}
+use Rattle.std.proofs.lemmas.List.Folds.{find-append}
+use Rattle.workflow_runs.specs.FirstOf.{first_some, placed}
+use Rattle.workflow_runs.specs.Places.{LegPlace, job_at, leg_at}
+use Rattle.workflow_runs.specs.Groups.{may_start}
+use Rattle.workflow_runs.specs.Moves.{Holder}
+use Rattle.workflow_runs.specs.Rules.{job_places, run_places, opening_rule, leg_rule, leg_rule_in, closing_rule, whole_rule, whole_rule_in}
+use Rattle.workflow_runs.specs.Settling.{applies, first_place}
+use Rattle.workflow_runs.specs.RunState.{LegState, JobState, RunState}
+use Rattle.workflow_runs.specs.StateWords.{is_live, is_blocked, is_done, is_settled}
+use Rattle.workflow_runs.specs.WithinRun.{goes_on, goes_on_in, leg_place, first_in_job, first_in_jobs, first_in_run, first_of_legs}
+use Rattle.workflow_runs.specs.WithinRun.{needs_settled_in, whole_goes_on_in}
+use Rattle.workflow_runs.specs.Words.{needs_have_settled}
+use Rattle.workflow_runs.specs.declared.phases.LegPhase.{LegPhase}
+use Rattle.workflow_runs.specs.declared.phases.LegPhase.TheVariants as leg
+use Rattle.workflow_runs.specs.declared.phases.RunPhase.{RunPhase}
+use Rattle.workflow_runs.specs.declared.phases.RunPhase.TheVariants as run
+use Rattle.workflow_runs.specs.declared.place.Place.TheVariants.{Opening, AtLeg, Closing, Whole}
+use Rattle.workflow_runs.proofs.Firsts.{find-flat_map, find-map, first_same_placed}
+use Rattle.workflow_runs.proofs.NeedsSettled.{needs_by_run}
+
+-- ---- whether the rule at a place applies, by what stands there
+
+some_if : {X : Type 0} (b : Bool) (x : X) → is_some (if b then Some x else None) ≡ b
+some_if true x = refl
+some_if false x = refl
+
+job_found : (runs : List RunState) (r j : ℕ) (run : RunState) (job : JobState) → slice_get runs r ≡ Some run
+    → slice_get run.jobs j ≡ Some job → job_at runs r j ≡ Some job
+job_found runs r j run job at_run at_job = ap (option_and_then (λ x. slice_get x.jobs j)) at_run ∙ at_job
+
+opening_applies : (runs : List RunState) (r j : ℕ) (run : RunState) (job : JobState) → slice_get runs r ≡ Some run
+    → job_at runs r j ≡ Some job → applies runs (Opening r j) ≡ (is_blocked job.phase && needs_settled_in run j)
+opening_applies runs r j run job at_run at =
+    ap (λ o. is_some (option_and_then (opening_rule runs r j) o)) at ∙ some_if (is_blocked job.phase && needs_have_settled runs r j) _
+    ∙ ap (λ b. is_blocked job.phase && b) (needs_by_run runs r j run at_run)
+
+leg_rule_applies : (phase : LegPhase) (runs : List RunState) (p : LegPlace) → is_some (leg_rule_in phase runs p) ≡ goes_on_in phase runs p
+leg_rule_applies leg.New runs p = refl
+leg_rule_applies leg.Waiting runs p = some_if (may_start runs (Holder.a_leg p)) _
+leg_rule_applies leg.Ready runs p = refl
+leg_rule_applies leg.Running runs p = refl
+leg_rule_applies leg.Stopping runs p = refl
+leg_rule_applies (leg.Ended r) runs p = refl
+
+leg_applies : (runs : List RunState) (p : LegPlace) (l : LegState) → leg_at runs p ≡ Some l → applies runs (AtLeg p) ≡ goes_on runs p l
+leg_applies runs p l at = ap (λ o. is_some (option_and_then (leg_rule runs p) o)) at ∙ leg_rule_applies l.phase runs p
+
+closing_applies : (runs : List RunState) (r j : ℕ) (job : JobState) → job_at runs r j ≡ Some job → applies runs (Closing r j) ≡ is_done job
+closing_applies runs r j job at = ap (λ o. is_some (option_and_then (closing_rule runs r j) o)) at ∙ some_if (is_done job) _
+
+whole_rule_applies : (phase : RunPhase) (runs : List RunState) (r : ℕ) (x : RunState)
+    → is_some (whole_rule_in phase runs r x) ≡ whole_goes_on_in phase runs r x
+whole_rule_applies run.Waiting runs r x = some_if (may_start runs (Holder.a_run r)) _
+whole_rule_applies run.Live runs r x = some_if (list_all is_settled x.jobs) _
+whole_rule_applies run.Ended runs r x = refl
+
+whole_applies : (runs : List RunState) (r : ℕ) (x : RunState) → slice_get runs r ≡ Some x
+    → applies runs (Whole r) ≡ whole_goes_on_in x.phase runs r x
+whole_applies runs r x at =
+    ap (λ o. is_some (option_and_then (whole_rule runs r) o)) at ∙ whole_rule_applies x.phase runs r x
+
+-- ---- the first leg of a list that passes a test
+
+passing_from : {X Y : Type 0} (test : X → Bool) (place : ℕ → Y) (xs : List X) (n : ℕ)
+    → first_some (λ e. if test e.1 then Some (place e.0) else None) (enumerate_from n xs) ≡ option_map place (position_from test n xs)
+passing_from test place [] n = refl
+passing_from test place (x ∷ xs) n =
+    elim (test x) as
+    (λ b. option_or (if b then Some (place n) else None)
+    (first_some (λ e. if test e.1 then Some (place e.0) else None) (enumerate_from (n + 1) xs))
+    ≡ option_map place (if b then Some n else position_from test (n + 1) xs)) [
+      | true ↦ refl
+      | false ↦ passing_from test place xs (n + 1)
+    ]
+
+pub first_passing : {X Y : Type 0} (test : X → Bool) (place : ℕ → Y) (xs : List X)
+    → first_some (λ e. if test e.1 then Some (place e.0) else None) (placed xs) ≡ option_map place (position test xs)
+first_passing test place xs = passing_from test place xs 0 ∙ ap (option_map place) (sym (position_from-zero test xs))
+
+-- ---- within a job
+
+at_legs : (runs : List RunState) (r j : ℕ) (run : RunState) (job : JobState) → slice_get runs r ≡ Some run → slice_get run.jobs j ≡ Some job
+    → find (applies runs) (map (λ l. AtLeg (leg_place r j l.0)) (placed job.legs)) ≡ first_of_legs runs r j job.legs
+at_legs runs r j run job at_run at_job =
+    find-map (applies runs) (λ (l : ℕ × LegState). AtLeg (leg_place r j l.0)) (placed job.legs)
+    ∙ first_same_placed (λ l. if applies runs (AtLeg (leg_place r j l.0)) then Some (AtLeg (leg_place r j l.0)) else None)
+    (λ l. if goes_on runs (leg_place r j l.0) l.1 then Some (AtLeg (leg_place r j l.0)) else None) job.legs
+    (λ l leg at. ap (λ b. if b then Some (AtLeg (leg_place r j l)) else None)
+    (leg_applies runs (leg_place r j l) leg
+    (ap (option_and_then (λ x. slice_get x.legs l)) (job_found runs r j run job at_run at_job) ∙ at)))
+
+or_none : {X : Type 0} (o : Option X) → option_or o None ≡ o
+or_none None = refl
+or_none (Some x) = refl
+
+in_job : (runs : List RunState) (r j : ℕ) (run : RunState) (job : JobState) → slice_get runs r ≡ Some run → slice_get run.jobs j ≡ Some job
+    → find (applies runs) (job_places r (j, job)) ≡ first_in_job runs r run j job
+in_job runs r j run job at_run at_job =
+    let at = job_found runs r j run job at_run at_job in
+    let legs = map (λ l. AtLeg (leg_place r j l.0)) (placed job.legs) in
+    ap (λ b. if b then Some (Opening r j) else find (applies runs) (legs ++ Closing r j ∷ [])) (opening_applies runs r j run job at_run at)
+    ∙ ap (λ o. if is_blocked job.phase && needs_settled_in run j then Some (Opening r j) else o)
+    (find-append (applies runs) legs (Closing r j ∷ [])
+    ∙ ap (λ o. option_or o (find (applies runs) (Closing r j ∷ []))) (at_legs runs r j run job at_run at_job)
+    ∙ ap (λ b. option_or (first_of_legs runs r j job.legs) (if b then Some (Closing r j) else None))
+    (closing_applies runs r j job at))
+
+-- ---- within a run
+
+in_jobs : (runs : List RunState) (r : ℕ) (run : RunState) → slice_get runs r ≡ Some run
+    → find (applies runs) (flat_map (job_places r) (placed run.jobs)) ≡ first_in_jobs runs r run run.jobs
+in_jobs runs r run at =
+    find-flat_map (applies runs) (job_places r) (placed run.jobs)
+    ∙ first_same_placed (λ j. find (applies runs) (job_places r j)) (λ j. first_in_job runs r run j.0 j.1) run.jobs
+    (λ j job at_job. in_job runs r j run job at at_job)
+
+jobs_if_live : (runs : List RunState) (r : ℕ) (run : RunState) (live : Bool) → slice_get runs r ≡ Some run
+    → find (applies runs) (if live then flat_map (job_places r) (placed run.jobs) else [])
+    ≡ (if live then first_in_jobs runs r run run.jobs else None)
+jobs_if_live runs r run true at = in_jobs runs r run at
+jobs_if_live runs r run false at = refl
+
+in_run : (runs : List RunState) (r : ℕ) (run : RunState) → slice_get runs r ≡ Some run
+    → find (applies runs) (run_places (r, run)) ≡ first_in_run runs r run
+in_run runs r run at =
+    find-append (applies runs) (if is_live run.phase then flat_map (job_places r) (placed run.jobs) else []) (Whole r ∷ [])
+    ∙ ap (λ o. option_or o (find (applies runs) (Whole r ∷ []))) (jobs_if_live runs r run (is_live run.phase) at)
+    ∙ ap (λ b. option_or (if is_live run.phase then first_in_jobs runs r run run.jobs else None) (if b then Some (Whole r) else None))
+    (whole_applies runs r run at)
+
+-- ---- in the whole table
+
+-- the first place with a rule is that of the first run that has one
+pub first_place_by_run : (runs : List RunState) → first_place runs ≡ first_some (λ r. first_in_run runs r.0 r.1) (placed runs)
+first_place_by_run runs =
+    find-flat_map (applies runs) run_places (placed runs)
+    ∙ first_same_placed (λ r. find (applies runs) (run_places r)) (λ r. first_in_run runs r.0 r.1) runs (λ r run at. in_run runs r run at)

@@ -1,0 +1,12 @@
+use Rattle.std.proofs.Common.{ap, ◌∙◌}
+use Rattle.workflow_runs.specs.Fitting.{has_labels}
+use Rattle.workflow_runs.specs.LegContext.{LegFacts, context_of}
+use Rattle.workflow_runs.specs.Words.{label_texts}
+use Rattle.workflow_runs.proofs.leg_view.LegView.is_served.Goals as goal
+
+pub returns : goal.returns
+returns c =
+    c.has_labels.ensures
+    ∙ ap (λ wanted. has_labels c.args.labels.now (label_texts (context_of c.context-context.result) wanted))
+    (c.as_slice.ensures ∙ ap (λ (f : LegFacts). f.job.labels) c.self.view_is)
+    ∙ ap (λ (f : LegFacts). has_labels c.args.labels.now (label_texts (context_of f) c.args.self.now.job.labels)) c.context-context.ensures

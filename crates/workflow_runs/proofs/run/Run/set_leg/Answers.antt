@@ -1,0 +1,25 @@
+use Rattle.std.proofs.Common.{ap, ◌∙◌, rules}
+use Rattle.workflow_runs.specs.FirstOf.{changed_at}
+use Rattle.workflow_runs.specs.RunState.{JobState}
+use Rattle.workflow_runs.proofs.Doors.{rooms_kept, states_written, run_with_jobs, run_without_job}
+use Rattle.workflow_runs.proofs.run.Run.set_leg.Goals as goal
+
+pub invariant_of-self : goal.invariant_of-self
+invariant_of-self c =
+    rooms_kept c.self.inside.jobs.items c.args.j c.index_mut-job.result.now c.set_leg.new.self (search rules) c.index_mut-job.ensures.value
+    (ap (λ x. x.room) c.set_leg.ensures) ∙ c.self.invariant
+
+pub returns-then-j-len : goal.returns-then-j-len
+returns-then-j-len c =
+    let put : JobState → JobState = λ job. record job { legs = changed_at c.args.l (λ _. c.args.leg) job.legs } in
+    run_with_jobs c.self.inside.prepared c.self.inside.phase c.self.inside.stopping c.self.inside.jobs.items _ c.args.self.now
+    (λ a jobs. changed_at c.args.j put jobs)
+    c.self.view_is
+    (states_written put c.self.inside.jobs.items c.args.j c.index_mut-job.result.now c.set_leg.new.self
+    (search rules) c.index_mut-job.ensures.value (ap (λ x. x.state) c.set_leg.ensures))
+
+pub returns-else-j-len : goal.returns-else-j-len
+returns-else-j-len c =
+    let put : JobState → JobState = λ job. record job { legs = changed_at c.args.l (λ _. c.args.leg) job.legs } in
+    run_without_job c.self.inside.prepared c.self.inside.phase c.self.inside.stopping c.self.inside.jobs.items c.args.self.now c.args.j
+    (λ a. put) c.self.view_is (search rules)

@@ -1,0 +1,13 @@
+use Rattle.std.specs.Prelude.{◌≡◌, true, is_none, is_some}
+use Rattle.std.proofs.Common.{rules}
+use Rattle.workflow_runs.specs.GroupOf.{group_at}
+use Rattle.workflow_runs.specs.Holders.{holder_in_words}
+use Rattle.workflow_runs.proofs.Meant.{starts_where}
+use Rattle.workflow_runs.proofs.runs.Runs.may_start.Goals as goal
+
+pub returns-else-not-has_group : goal.returns-else-not-has_group
+returns-else-not-has_group c =
+    let h = holder_in_words c.args.holder.now in
+    let grouped : is_some (group_at c.args.self.now h) ≡ true = search rules in
+    let none : c.is_none.result ≡ is_none c.first_meant.result = search rules in
+    starts_where c.args.self.now h c.first_meant.result c.is_none.result grouped c.first_meant.ensures none

@@ -1,0 +1,67 @@
+use Rattle.std.specs.Prelude.{◌≡◌, ◌<◌, List, Option, Some, None, IfSome, is_some, option_map, if◌then◌else◌}
+use Rattle.std.proofs.Common.{ap, subst, sym, refl, ◌∙◌}
+use Rattle.workflow_runs.specs.Groups.{HasOneEach}
+use Rattle.workflow_runs.specs.LookAgain.{RestBefore}
+use Rattle.workflow_runs.specs.Moves.{Moved}
+use Rattle.workflow_runs.specs.Settling.{first_rule, left, settled}
+use Rattle.workflow_runs.specs.SoundRuns.{RunsAreSound}
+use Rattle.workflow_runs.specs.RunState.{RunState}
+use Rattle.workflow_runs.specs.declared.place.JobPlace.{JobPlace}
+use Rattle.workflow_runs.proofs.Lowered.{first_rule_lowers}
+use Rattle.workflow_runs.proofs.OneEachRules.{first_rule_one_each}
+use Rattle.workflow_runs.proofs.Optional.{from_map}
+use Rattle.workflow_runs.proofs.Rests.{settled_after_rule, settled_at_rest}
+use Rattle.workflow_runs.proofs.SettlingKeeps.{first_rule_settles}
+use Rattle.workflow_runs.proofs.SoundRuns.{runs_that_fit, sound_runs}
+use Rattle.workflow_runs.proofs.runs.Runs.settle_from.Goals as goal
+use Rattle.workflow_runs.proofs.runs.Runs.settle_from.Invariants.{Settling}
+
+taken_lowers : (runs new : List RunState) → option_map (λ (m : Moved). m.runs) (first_rule runs) ≡ Some new → left new < left runs
+taken_lowers runs new took =
+    let rule = from_map (λ (m : Moved). m.runs) (first_rule runs) new took in
+    subst (λ (xs : List RunState). left xs < left runs) rule.gives (first_rule_lowers runs rule.value rule.is)
+
+taken_goes_on : (start runs new : List RunState) (from again : JobPlace) → Settling start runs from
+    → option_map (λ (m : Moved). m.runs) (first_rule runs) ≡ Some new → RestBefore new again → Settling start new again
+taken_goes_on start runs new from again so_far took rest =
+    let rule = from_map (λ (m : Moved). m.runs) (first_rule runs) new took in
+    let fit = runs_that_fit runs so_far.sound in
+    record {
+      same_end = ap settled (sym rule.gives) ∙ sym (settled_after_rule runs rule.value rule.is) ∙ so_far.same_end;
+      sound = subst RunsAreSound rule.gives (sound_runs rule.value.runs (first_rule_settles runs rule.value fit rule.is).stay.fit);
+      one_each = subst HasOneEach rule.gives (first_rule_one_each runs rule.value fit rule.is so_far.one_each);
+      rest = rest;
+    }
+
+no_rule_left : (o : Option Moved) → option_map (λ (m : Moved). m.runs) o ≡ None → o ≡ None
+no_rule_left None e = refl
+no_rule_left (Some m) e = cc
+
+none_ends : (start runs new : List RunState) (from : JobPlace) → Settling start runs from
+    → option_map (λ (m : Moved). m.runs) (first_rule runs) ≡ None → new ≡ runs → new ≡ settled start
+none_ends start runs new from so_far none same = same ∙ sym (settled_at_rest runs (no_rule_left (first_rule runs) none)) ∙ so_far.same_end
+
+pub loop-next-init : goal.loop-next-init
+loop-next-init c = record {
+  same_end = refl;
+  sound = c.requires.sound;
+  one_each = c.requires.one_each;
+  rest = c.requires.rest;
+}
+
+pub loop-next-smaller : goal.loop-next-smaller
+loop-next-smaller c =
+    let took = c.take_first_rule.ensures.took ∙ ap (λ o. if is_some o then Some c.take_first_rule.new.self else None) c.in-Some.is in
+    taken_lowers c.loop-next.self c.take_first_rule.new.self took
+
+pub loop-next-preserved : goal.loop-next-preserved
+loop-next-preserved c =
+    let took = c.take_first_rule.ensures.took ∙ ap (λ o. if is_some o then Some c.take_first_rule.new.self else None) c.in-Some.is in
+    let rest = subst (λ o. IfSome o (λ next. RestBefore c.take_first_rule.new.self next)) c.in-Some.is c.take_first_rule.ensures.rest in
+    taken_goes_on c.args.self.now c.loop-next.self c.take_first_rule.new.self c.loop-next.from c.in-Some.next
+    c.loop-next.invariant took rest
+
+pub returns : goal.returns
+returns c =
+    none_ends c.args.self.now c.loop-next.self c.take_first_rule.new.self c.loop-next.from c.loop-next.invariant c.in_default.ensures.took
+    (c.in_default.ensures.kept refl)

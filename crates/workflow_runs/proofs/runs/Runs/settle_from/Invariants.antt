@@ -1,0 +1,21 @@
+use Rattle.std.proofs.Common.{◌≡◌, List}
+use Rattle.workflow_runs.specs.Groups.{HasOneEach}
+use Rattle.workflow_runs.specs.LookAgain.{RestBefore}
+use Rattle.workflow_runs.specs.Settling.{settled, left}
+use Rattle.workflow_runs.specs.SoundRuns.{RunsAreSound}
+use Rattle.workflow_runs.specs.RunState.{RunState}
+use Rattle.workflow_runs.specs.declared.place.JobPlace.{JobPlace}
+use Rattle.workflow_runs.proofs.runs.Runs.settle_from.Given as goal
+
+-- settling from here gives what settling from the start gives, and no rule applies before the place to look from
+pub record Settling (start runs : List RunState) (from : JobPlace) : Type 0 where
+  pub same_end : settled runs ≡ settled start
+  pub sound : RunsAreSound runs
+  pub one_each : HasOneEach runs
+  pub rest : RestBefore runs from
+
+abbrev pub invariant-loop-next : goal.invariant-loop-next
+invariant-loop-next l = Settling l.fn.self l.self l.from
+
+abbrev pub decreases-loop-next : goal.decreases-loop-next
+decreases-loop-next l = left l.self

@@ -1,0 +1,56 @@
+-- How a run or a leg comes to its concurrency group, and how it starts. GitHub Docs, "Control the concurrency of workflows
+-- and jobs": when a job or workflow is queued while another of its group is in progress, it is pending; one that was pending in
+-- the group is cancelled, and the new one takes its place; with cancel-in-progress the one in progress is cancelled too. That a leg whose
+-- group its own run holds is cancelled, and that what has no group waits for nobody, is own.
+use Rattle.std.specs.Prelude.{List, [], ◌∷◌, filter, Bool, false, ◌&&◌, not, if◌then◌else◌}
+use Rattle.std.specs.Option.{option_map_or}
+use Rattle.group_name.specs.Group.{Group}
+use Rattle.workflow_runs.specs.GroupOf.{cancels_in_progress, group_at}
+use Rattle.workflow_runs.specs.GroupWords.{same_holder}
+use Rattle.workflow_runs.specs.Groups.{all_holders, is_in, is_pending_in, running_in}
+use Rattle.workflow_runs.specs.Moves.{Holder, Move, Moved, and_then, at_each, without_moves}
+use Rattle.workflow_runs.specs.Places.{LegPlace}
+use Rattle.workflow_runs.specs.StopMoves.{displace, stop_holder}
+use Rattle.workflow_runs.specs.RunState.{RunState}
+
+-- ---- arrival
+
+-- every other one that is pending in the group
+abbrev pub others_pending : Group → Holder → List RunState → List Holder
+others_pending g newcomer runs = filter (λ h. is_pending_in runs g h && not (same_holder h newcomer)) (all_holders runs)
+
+-- they end as cancelled
+abbrev pub displaced : Group → Holder → List RunState → Moved
+displaced g newcomer runs = at_each displace (others_pending g newcomer runs) runs
+
+-- the running holder of the group is stopped
+abbrev pub in_progress_stopped : Group → List RunState → Moved
+in_progress_stopped g runs = at_each stop_holder (running_in runs g) runs
+
+abbrev pub stopped_where_asked : Bool → Group → List RunState → Moved
+stopped_where_asked cancels g runs = if cancels then in_progress_stopped g runs else without_moves runs
+
+-- whom the newcomer displaces and stops in a group
+abbrev pub room_made : Bool → Holder → List RunState → Group → Moved
+room_made cancels newcomer runs g = and_then (displaced g newcomer runs) (stopped_where_asked cancels g)
+
+-- and in its own group, where it has one
+abbrev pub room_made_for : Holder → List RunState → Moved
+room_made_for newcomer runs =
+    option_map_or (room_made (cancels_in_progress runs newcomer) newcomer runs) (group_at runs newcomer) (without_moves runs)
+
+-- A newcomer, which waits by now, has arrived.
+abbrev pub arrived : Holder → List RunState → Moved
+arrived newcomer runs =
+    let made = room_made_for newcomer runs in record { runs = made.runs; moves = Move.arrive newcomer ∷ made.moves }
+
+-- ---- a leg that does not arrive
+
+-- its group is the one that its own run has
+abbrev pub is_in_group_of_run : List RunState → LegPlace → Bool
+is_in_group_of_run runs p = option_map_or (λ g. is_in runs g (Holder.a_leg p)) (group_at runs (Holder.a_run p.run)) false
+
+-- ---- the start
+
+abbrev pub started : Holder → List RunState → Moved
+started h runs = record { runs = runs; moves = Move.start h ∷ [] }

@@ -1,0 +1,48 @@
+-- What a run and its legs ask, of concurrency groups and of runners, bound when the run is admitted (own).
+use Rattle.std.specs.Prelude.{◌≡◌, ℕ, List, length, Option, Some, option_and_then, slice_get}
+use Rattle.wf_reader.specs.Event.{event_of}
+use Rattle.run_plan.specs.PlanOf.{plan_of}
+use Rattle.run_plan.specs.declared.planned.PlannedJob.{PlannedJob}
+use Rattle.workflow_runs.specs.BoundGroups.{SaysSo, facts_by}
+use Rattle.workflow_runs.specs.GroupOf.{RunFacts, asked_of_leg, run_context, run_facts_at}
+use Rattle.workflow_runs.specs.KnownLabels.{Tells}
+use Rattle.workflow_runs.specs.LegContext.{context_of}
+use Rattle.workflow_runs.specs.Moves.{Holder}
+use Rattle.workflow_runs.specs.RunState.{RunState}
+use Rattle.workflow_runs.specs.declared.asks.JobAsks.{JobAsks}
+use Rattle.workflow_runs.specs.declared.asks.RunAsks.{RunAsks}
+use Rattle.workflow_runs.specs.declared.groups.Asked.{Asked}
+use Rattle.workflow_runs.specs.declared.wanted.Wanted.{Wanted}
+
+-- ---- what is kept
+
+-- what the run itself asks of a group, or one of its legs
+abbrev pub asked_of : RunAsks → Holder → Option Asked
+asked_of kept (Holder.a_run r) = kept.own
+asked_of kept (Holder.a_leg p) = option_and_then (λ job. slice_get job.groups p.leg) (slice_get kept.jobs p.job)
+
+-- what is kept of the labels of a leg
+abbrev pub wanted_for : RunAsks → ℕ → ℕ → Option Wanted
+wanted_for kept j l = option_and_then (λ job. slice_get job.labels l) (slice_get kept.jobs j)
+
+-- ---- what it says
+
+-- by any results of the run's jobs, what the legs of a job ask
+pub record JobSays (run : RunFacts) (j : ℕ) (job : PlannedJob) (kept : JobAsks) : Type 0 where
+  pub groups : (l : ℕ)
+      → SaysSo (event_of run.event.body).repo (λ results. context_of (facts_by run j job l results)) (asked_of_leg job l)
+      (slice_get kept.groups l)
+  pub labels : (l : ℕ) (wanted : Wanted) → slice_get kept.labels l ≡ Some wanted
+      → Tells (λ results. context_of (facts_by run j job l results)) job.labels wanted
+
+-- and what the run and its legs ask
+pub record RunSays (run : RunFacts) (kept : RunAsks) : Type 0 where
+  pub own : SaysSo (event_of run.event.body).repo (λ results. run_context run) (event_of run.event.body).workflow.concurrency kept.own
+  pub as_many : length kept.jobs ≡ length (plan_of run.event.body)
+  pub jobs : (j : ℕ) (asks : JobAsks) → slice_get kept.jobs j ≡ Some asks → (job : PlannedJob)
+      → slice_get (plan_of run.event.body) j ≡ Some job → JobSays run j job asks
+
+-- each run of a table is kept with what it asks
+pub record AreBound (runs : List RunState) (kept : List RunAsks) : Type 0 where
+  pub as_many : length kept ≡ length runs
+  pub each : (r : ℕ) (run : RunFacts) (asks : RunAsks) → run_facts_at runs r ≡ Some run → slice_get kept r ≡ Some asks → RunSays run asks

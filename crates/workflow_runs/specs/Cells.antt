@@ -1,0 +1,39 @@
+-- A job of a run with room for all legs of its plan from the start.
+use Rattle.std.specs.Prelude.{ℕ, List, [], length, map, Bool, Option, if◌then◌else◌}
+use Rattle.wf_value.specs.declared.outcome.JobResult.{JobResult}
+use Rattle.run_plan.specs.declared.planned.PlannedJob.{PlannedJob}
+use Rattle.workflow_runs.specs.JobResults.{settled_result}
+use Rattle.workflow_runs.specs.RunState.{LegState, JobState}
+use Rattle.workflow_runs.specs.declared.phases.JobPhase.{JobPhase}
+use Rattle.workflow_runs.specs.declared.phases.JobPhase.TheVariants as job
+
+-- the job as its run has it, and how many legs it has room for
+pub record JobCells : Type 0 where
+  pub state : JobState
+  pub room : ℕ
+
+-- a job that has not opened has no legs, whatever stands in its room
+abbrev pub cells_of : JobPhase → Bool → List LegState → JobCells
+cells_of phase has_legs legs = record { state = record { phase = phase; legs = if has_legs then legs else [] }; room = length legs }
+
+-- the same job in another state
+abbrev pub in_state : JobState → JobCells → JobCells
+in_state state cells = record cells { state = state }
+
+-- what a run has of its jobs
+abbrev pub states : List JobCells → List JobState
+states jobs = map (λ j. j.state) jobs
+
+abbrev pub rooms : List JobCells → List ℕ
+rooms jobs = map (λ j. j.room) jobs
+
+-- how many legs a plan has, job by job
+abbrev pub legs_planned : List PlannedJob → List ℕ
+legs_planned plan = map (λ planned. length planned.legs) plan
+
+-- a blocked job, with room for the legs of its plan
+abbrev pub blocked_cells : PlannedJob → JobCells
+blocked_cells planned = record { state = record { phase = job.Blocked; legs = [] }; room = length planned.legs }
+
+abbrev pub result_of : JobCells → Option JobResult
+result_of j = settled_result j.state.phase

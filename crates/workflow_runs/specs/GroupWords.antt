@@ -1,0 +1,86 @@
+-- What a list of moves of one concurrency group says of a holder. GitHub Docs, "Control the concurrency of workflows
+-- and jobs": a holder is pending once it has arrived, and in progress once it has started.
+use Rattle.std.specs.Prelude.{List, filter_map, Bool, false, ◌&&◌, not, nat_eq, Option, Some, None, option_and_then}
+use Rattle.std.specs.Prelude.{if◌then◌else◌}
+use Rattle.std.specs.List.{last_or, list_any}
+use Rattle.std.specs.Option.{option_map_or}
+use Rattle.workflow_runs.specs.Moves.{Holder, Move}
+use Rattle.workflow_runs.specs.Places.{LegPlace}
+
+-- ---- one holder, one move
+
+abbrev pub same_place : LegPlace → LegPlace → Bool
+same_place p q = nat_eq p.run q.run && (nat_eq p.job q.job && nat_eq p.leg q.leg)
+
+abbrev pub same_holder : Holder → Holder → Bool
+same_holder (Holder.a_run r) (Holder.a_run s) = nat_eq r s
+same_holder (Holder.a_run r) (Holder.a_leg p) = false
+same_holder (Holder.a_leg p) (Holder.a_run s) = false
+same_holder (Holder.a_leg p) (Holder.a_leg q) = same_place p q
+
+-- whether it is that one
+abbrev pub is_the : Option Holder → Holder → Bool
+is_the one h = option_map_or (same_holder h) one false
+
+abbrev pub holder_of : Move → Holder
+holder_of (Move.arrive h) = h
+holder_of (Move.start h) = h
+holder_of (Move.stop h) = h
+holder_of (Move.end_with r h) = h
+
+-- whose arrival a move is
+abbrev pub arrival_of : Move → Option Holder
+arrival_of (Move.arrive h) = Some h
+arrival_of (Move.start h) = None
+arrival_of (Move.stop h) = None
+arrival_of (Move.end_with r h) = None
+
+abbrev pub start_of : Move → Option Holder
+start_of (Move.arrive h) = None
+start_of (Move.start h) = Some h
+start_of (Move.stop h) = None
+start_of (Move.end_with r h) = None
+
+abbrev pub stop_of : Move → Option Holder
+stop_of (Move.arrive h) = None
+stop_of (Move.start h) = None
+stop_of (Move.stop h) = Some h
+stop_of (Move.end_with r h) = None
+
+abbrev pub end_of : Move → Option Holder
+end_of (Move.arrive h) = None
+end_of (Move.start h) = None
+end_of (Move.stop h) = None
+end_of (Move.end_with r h) = Some h
+
+-- ---- what has been
+
+abbrev pub has_arrived : Holder → List Move → Bool
+has_arrived h moves = list_any (λ m. is_the (arrival_of m) h) moves
+
+abbrev pub has_started : Holder → List Move → Bool
+has_started h moves = list_any (λ m. is_the (start_of m) h) moves
+
+abbrev pub was_stopped : Holder → List Move → Bool
+was_stopped h moves = list_any (λ m. is_the (stop_of m) h) moves
+
+abbrev pub has_ended : Holder → List Move → Bool
+has_ended h moves = list_any (λ m. is_the (end_of m) h) moves
+
+-- ---- in progress, and pending
+
+-- it has started, and not ended
+abbrev pub is_running : Holder → List Move → Bool
+is_running h moves = has_started h moves && not (has_ended h moves)
+
+-- it has arrived, and neither started nor ended
+abbrev pub is_pending : Holder → List Move → Bool
+is_pending h moves = has_arrived h moves && (not (has_started h moves) && not (has_ended h moves))
+
+-- the latest arrival
+abbrev pub latest : List Move → Option Holder
+latest moves = last_or None (filter_map arrival_of moves)
+
+-- whom the next arrival displaces: the latest arrival, where it is pending
+abbrev pub next_displaced : List Move → Option Holder
+next_displaced moves = option_and_then (λ h. if is_pending h moves then Some h else None) (latest moves)

@@ -1,0 +1,81 @@
+-- Settling: the first place of the table where a rule applies is taken, again and again until none applies.
+use Rattle.std.specs.Prelude.{ℕ, zero, suc, ◌+◌, ◌*◌, List, find, length, sum_by, Bool, is_some, slice_get, Option, option_and_then}
+use Rattle.std.specs.Option.{option_map_or}
+use Rattle.run_plan.specs.PlanOf.{plan_of}
+use Rattle.run_plan.specs.declared.planned.PlannedJob.{PlannedJob}
+use Rattle.workflow_runs.specs.FirstOf.{placed}
+use Rattle.workflow_runs.specs.Moves.{Move, Moved, and_then, without_moves}
+use Rattle.workflow_runs.specs.Rules.{places, rule_at}
+use Rattle.workflow_runs.specs.declared.place.Place.{Place}
+use Rattle.workflow_runs.specs.RunState.{LegState, JobState, RunState}
+use Rattle.workflow_runs.specs.declared.phases.LegPhase.{LegPhase}
+use Rattle.workflow_runs.specs.declared.phases.LegPhase.TheVariants as leg
+use Rattle.workflow_runs.specs.declared.phases.JobPhase.{JobPhase}
+use Rattle.workflow_runs.specs.declared.phases.JobPhase.TheVariants as job
+use Rattle.workflow_runs.specs.declared.phases.RunPhase.{RunPhase}
+use Rattle.workflow_runs.specs.declared.phases.RunPhase.TheVariants as run
+
+abbrev pub applies : List RunState → Place → Bool
+applies runs place = is_some (rule_at runs place)
+
+-- the first place where a rule applies
+abbrev pub first_place : List RunState → Option Place
+first_place runs = find (applies runs) (places runs)
+
+-- what the rule there makes of the runs
+abbrev pub first_rule : List RunState → Option Moved
+first_rule runs = option_and_then (rule_at runs) (first_place runs)
+
+-- ---- how much is left: each rule lowers it
+
+abbrev pub leg_phases_left : LegPhase → ℕ
+leg_phases_left leg.New = 5
+leg_phases_left leg.Waiting = 4
+leg_phases_left leg.Ready = 3
+leg_phases_left leg.Running = 2
+leg_phases_left leg.Stopping = 1
+leg_phases_left (leg.Ended r) = 0
+
+abbrev pub leg_left : LegState → ℕ
+leg_left l = leg_phases_left l.phase
+
+-- a blocked job has the legs of its plan before it
+abbrev pub job_phases_left : ℕ → JobPhase → ℕ
+job_phases_left planned job.Blocked = 2 + 5 * planned
+job_phases_left planned job.Open = 1
+job_phases_left planned (job.Settled r) = 0
+
+abbrev pub job_left : ℕ → JobState → ℕ
+job_left planned j = job_phases_left planned j.phase + sum_by leg_left j.legs
+
+-- how many legs a plan has for the job at a place
+abbrev pub legs_in_plan : List PlannedJob → ℕ → ℕ
+legs_in_plan plan j = option_map_or (λ planned. length planned.legs) (slice_get plan j) 0
+
+abbrev pub run_phases_left : RunPhase → ℕ
+run_phases_left run.Waiting = 2
+run_phases_left run.Live = 1
+run_phases_left run.Ended = 0
+
+abbrev pub run_left : RunState → ℕ
+run_left r = run_phases_left r.phase + sum_by (λ j. job_left (legs_in_plan (plan_of r.admitted.body) j.0) j.1) (placed r.jobs)
+
+-- how many phases are before the runs, their jobs and their legs
+abbrev pub left : List RunState → ℕ
+left runs = sum_by run_left runs
+
+-- ---- again and again
+
+-- the rule taken at most so often
+abbrev pub settled_within : ℕ → List RunState → Moved
+settled_within zero runs = without_moves runs
+settled_within (suc n) runs = option_map_or (λ m. and_then m (settled_within n)) (first_rule runs) (without_moves runs)
+
+abbrev pub settling : List RunState → Moved
+settling runs = settled_within (left runs) runs
+
+abbrev pub settled : List RunState → List RunState
+settled runs = (settling runs).runs
+
+abbrev pub settling_moves : List RunState → List Move
+settling_moves runs = (settling runs).moves

@@ -1,0 +1,77 @@
+-- How far runs, jobs and legs have come, and each of them set further by itself.
+use Rattle.std.specs.Prelude.{ℕ, ◌&&◌, replicate, Bool, true, false, is_some, Option, Some, None}
+use Rattle.std.specs.List.{list_all}
+use Rattle.wf_value.specs.declared.outcome.JobResult.{JobResult}
+use Rattle.wf_value.specs.declared.outcome.Outcome.{Outcome}
+use Rattle.workflow_runs.specs.JobResults.{settled_result}
+use Rattle.workflow_runs.specs.RunState.{LegState, JobState, RunState}
+use Rattle.workflow_runs.specs.declared.phases.LegPhase.{LegPhase}
+use Rattle.workflow_runs.specs.declared.phases.LegPhase.TheVariants as leg
+use Rattle.workflow_runs.specs.declared.phases.JobPhase.{JobPhase}
+use Rattle.workflow_runs.specs.declared.phases.JobPhase.TheVariants as job
+use Rattle.workflow_runs.specs.declared.phases.RunPhase.{RunPhase}
+use Rattle.workflow_runs.specs.declared.phases.RunPhase.TheVariants as run
+
+-- ---- a run
+
+abbrev pub is_live : RunPhase → Bool
+is_live run.Waiting = false
+is_live run.Live = true
+is_live run.Ended = false
+
+abbrev pub run_in_phase : RunPhase → RunState → RunState
+run_in_phase phase r = record r { phase = phase }
+
+-- ---- a leg
+
+abbrev pub new_leg : LegState
+new_leg = record { phase = leg.New; lease = None }
+
+abbrev pub leg_in_phase : LegPhase → LegState → LegState
+leg_in_phase phase l = record l { phase = phase }
+
+abbrev pub is_new : LegPhase → Bool
+is_new leg.New = true
+is_new leg.Waiting = false
+is_new leg.Ready = false
+is_new leg.Running = false
+is_new leg.Stopping = false
+is_new (leg.Ended r) = false
+
+-- how a leg ended, where it has
+abbrev pub outcome_of : LegPhase → Option Outcome
+outcome_of leg.New = None
+outcome_of leg.Waiting = None
+outcome_of leg.Ready = None
+outcome_of leg.Running = None
+outcome_of leg.Stopping = None
+outcome_of (leg.Ended r) = Some r
+
+abbrev pub has_ended : LegState → Bool
+has_ended l = is_some (outcome_of l.phase)
+
+-- ---- a job
+
+abbrev pub is_blocked : JobPhase → Bool
+is_blocked job.Blocked = true
+is_blocked job.Open = false
+is_blocked (job.Settled r) = false
+
+abbrev pub is_open : JobPhase → Bool
+is_open job.Blocked = false
+is_open job.Open = true
+is_open (job.Settled r) = false
+
+abbrev pub is_settled : JobState → Bool
+is_settled j = is_some (settled_result j.phase)
+
+-- an open job, all legs of which have ended
+abbrev pub is_done : JobState → Bool
+is_done j = is_open j.phase && list_all has_ended j.legs
+
+-- the job with all legs of its plan, new
+abbrev pub opened : ℕ → JobState → JobState
+opened planned j = record { phase = job.Open; legs = replicate planned new_leg }
+
+abbrev pub settled_as : JobResult → JobState → JobState
+settled_as r j = record j { phase = job.Settled r }

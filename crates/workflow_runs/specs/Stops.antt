@@ -1,0 +1,94 @@
+-- What a stop makes of legs and of runs, and which end of a leg stops the others of its job. GitHub Docs, "Workflow syntax for
+-- GitHub Actions", jobs.<job_id>.strategy.fail-fast; "Canceling a workflow". That a leg which is told to stop ends with what its
+-- runner reports, and that a run whose runner is lost goes on with a failure of its leg, is own.
+use Rattle.std.specs.Prelude.{◌&&◌, ℕ, List, map, Bool, true, false, not, slice_get, if◌then◌else◌}
+use Rattle.std.specs.Option.{option_map_or}
+use Rattle.wf_value.specs.declared.outcome.JobResult.TheVariants as result
+use Rattle.wf_value.specs.declared.outcome.Outcome.{Outcome}
+use Rattle.wf_value.specs.declared.outcome.Outcome.TheVariants as outcome
+use Rattle.needs_graph.specs.Results.{is_failure}
+use Rattle.workflow_runs.specs.Places.{LegPlace, plan_at, with_job, with_leg}
+use Rattle.workflow_runs.specs.FirstOf.{changed_at, placed}
+use Rattle.workflow_runs.specs.Fitting.{is_told_to_stop}
+use Rattle.workflow_runs.specs.RunConditions.{may_run_in}
+use Rattle.workflow_runs.specs.StateWords.{is_open, leg_in_phase, settled_as}
+use Rattle.workflow_runs.specs.RunState.{LegState, JobState, RunState}
+use Rattle.workflow_runs.specs.Words.{passes_over}
+use Rattle.workflow_runs.specs.declared.phases.LegPhase.{LegPhase}
+use Rattle.workflow_runs.specs.declared.phases.LegPhase.TheVariants as leg
+use Rattle.workflow_runs.specs.declared.phases.RunPhase.{RunPhase}
+use Rattle.workflow_runs.specs.declared.phases.RunPhase.TheVariants as run
+
+-- ---- a leg is stopped
+
+-- one that no runner has ends as cancelled, and one that runs is told to stop
+abbrev pub stopped_phase : LegPhase → LegPhase
+stopped_phase leg.New = leg.Ended outcome.Cancelled
+stopped_phase leg.Waiting = leg.Ended outcome.Cancelled
+stopped_phase leg.Ready = leg.Ended outcome.Cancelled
+stopped_phase leg.Running = leg.Stopping
+stopped_phase leg.Stopping = leg.Stopping
+stopped_phase (leg.Ended r) = leg.Ended r
+
+abbrev pub stopped : LegState → LegState
+stopped l = leg_in_phase (stopped_phase l.phase) l
+
+-- all legs of a job
+abbrev pub with_stopped_legs : JobState → JobState
+with_stopped_legs job = record job { legs = map stopped job.legs }
+
+-- ---- a run is stopped
+
+abbrev pub is_open_at : RunState → ℕ → Bool
+is_open_at run j = option_map_or (λ job. is_open job.phase) (slice_get run.jobs j) false
+
+-- the legs of a job, stopped where it is open though its condition is false
+abbrev pub stopped_where : Bool → JobState → JobState
+stopped_where false_now job = if is_open job.phase && false_now then with_stopped_legs job else job
+
+-- the legs of all open jobs whose conditions are false
+abbrev pub with_jobs_stopped : RunState → RunState
+with_jobs_stopped run = record run { jobs = map (λ j. stopped_where (not (may_run_in run j.0)) j.1) (placed run.jobs) }
+
+-- a live run is told to stop, and so are those legs
+abbrev pub told_to_stop : RunState → RunState
+told_to_stop run = with_jobs_stopped (record run { stopping = true })
+
+-- one job of it
+abbrev pub with_job_stopped : ℕ → RunState → RunState
+with_job_stopped j run = record run { jobs = changed_at j (stopped_where (not (may_run_in run j))) run.jobs }
+
+-- a waiting one ends, and all its jobs settle as cancelled
+abbrev pub cancelled : RunState → RunState
+cancelled r = record r { phase = run.Ended; jobs = map (settled_as result.Cancelled) r.jobs }
+
+-- one that is stopping already, or has ended, stays
+abbrev pub stopped_in : RunPhase → RunState → RunState
+stopped_in run.Waiting r = cancelled r
+stopped_in run.Live r = if r.stopping then r else told_to_stop r
+stopped_in run.Ended r = r
+
+abbrev pub stopped_run : RunState → RunState
+stopped_run run = stopped_in run.phase run
+
+-- ---- a leg ends
+
+-- whether the job ends its legs once one has failed
+abbrev pub fails_fast : List RunState → ℕ → ℕ → Bool
+fails_fast runs r j = option_map_or (λ planned. planned.fail_fast) (plan_at runs r j) false
+
+-- a failure that is not passed over stops the other legs of a job that fails fast
+abbrev pub stops_others : List RunState → LegPlace → Outcome → Bool
+stops_others runs p outcome = is_failure outcome && (fails_fast runs p.run p.job && not (passes_over runs p))
+
+-- the runs with the leg ended, and with the others of its job stopped where its end stops them
+abbrev pub after_end : LegPlace → Outcome → List RunState → List RunState
+after_end p outcome runs =
+    let ended = with_leg p (leg_in_phase (leg.Ended outcome)) runs in
+    if stops_others runs p outcome then with_job p.run p.job with_stopped_legs ended else ended
+
+-- ---- a runner is lost
+
+-- its leg ends as a failure, and as cancelled where it was told to stop
+abbrev pub outcome_of_loss : List RunState → ℕ → Outcome
+outcome_of_loss runs lease = if is_told_to_stop runs lease then outcome.Cancelled else outcome.Failure

@@ -1,0 +1,94 @@
+-- The first place with a rule, and the first leg that is sought, run by run and job by job. Of the rules those of a waiting
+-- run and of a waiting leg look beyond their run, at who runs in their group, and a leg's labels ask for the events alone.
+use Rattle.std.specs.Prelude.{ℕ, ◌&&◌, List, Bool, true, false, Option, Some, None, option_map, if◌then◌else◌}
+use Rattle.std.specs.List.{list_all, position}
+use Rattle.std.specs.Option.{option_or, option_map_or}
+use Rattle.needs_graph.specs.Results.{fails_job}
+use Rattle.workflow_runs.specs.FirstOf.{placed, first_some}
+use Rattle.workflow_runs.specs.Fitting.{is_ready, is_served, has_lease}
+use Rattle.workflow_runs.specs.Groups.{may_start}
+use Rattle.workflow_runs.specs.Moves.{Holder}
+use Rattle.workflow_runs.specs.Parallel.{has_room}
+pub use Rattle.workflow_runs.specs.Places.{LegPlace, leg_place}
+pub use Rattle.workflow_runs.specs.RunConditions.{condition_in, may_run_in, needs_settled_in}
+use Rattle.workflow_runs.specs.Rules.{leg_end}
+use Rattle.workflow_runs.specs.StateWords.{is_live, is_blocked, is_done, is_settled}
+use Rattle.workflow_runs.specs.RunState.{LegState, JobState, RunState}
+use Rattle.workflow_runs.specs.declared.place.Place.{Place}
+use Rattle.workflow_runs.specs.declared.place.Place.TheVariants.{Opening, AtLeg, Closing, Whole}
+use Rattle.workflow_runs.specs.declared.phases.LegPhase.{LegPhase}
+use Rattle.workflow_runs.specs.declared.phases.LegPhase.TheVariants as leg
+use Rattle.workflow_runs.specs.declared.phases.RunPhase.{RunPhase}
+use Rattle.workflow_runs.specs.declared.phases.RunPhase.TheVariants as run
+
+-- ---- the first place with a rule
+
+-- whether the leg there has a rule
+abbrev pub goes_on_in : LegPhase → List RunState → LegPlace → Bool
+goes_on_in leg.New runs p = true
+goes_on_in leg.Waiting runs p = may_start runs (Holder.a_leg p)
+goes_on_in leg.Ready runs p = false
+goes_on_in leg.Running runs p = false
+goes_on_in leg.Stopping runs p = false
+goes_on_in (leg.Ended r) runs p = false
+
+abbrev pub goes_on : List RunState → LegPlace → LegState → Bool
+goes_on runs p l = goes_on_in l.phase runs p
+
+abbrev pub first_of_legs : List RunState → ℕ → ℕ → List LegState → Option Place
+first_of_legs runs r j legs =
+    first_some (λ l. if goes_on runs (leg_place r j l.0) l.1 then Some (AtLeg (leg_place r j l.0)) else None) (placed legs)
+
+-- of a job that does not open: its first leg with a rule, else where it settles
+abbrev pub first_of_open : List RunState → ℕ → ℕ → JobState → Option Place
+first_of_open runs r j job = option_or (first_of_legs runs r j job.legs) (if is_done job then Some (Closing r j) else None)
+
+abbrev pub first_in_job : List RunState → ℕ → RunState → ℕ → JobState → Option Place
+first_in_job runs r run j job =
+    if is_blocked job.phase && needs_settled_in run j then Some (Opening r j) else first_of_open runs r j job
+
+abbrev pub first_in_jobs : List RunState → ℕ → RunState → List JobState → Option Place
+first_in_jobs runs r run jobs = first_some (λ j. first_in_job runs r run j.0 j.1) (placed jobs)
+
+-- whether the run itself has a rule
+abbrev pub whole_goes_on_in : RunPhase → List RunState → ℕ → RunState → Bool
+whole_goes_on_in run.Waiting runs r x = may_start runs (Holder.a_run r)
+whole_goes_on_in run.Live runs r x = list_all is_settled x.jobs
+whole_goes_on_in run.Ended runs r x = false
+
+abbrev pub first_of_whole : List RunState → ℕ → RunState → Option Place
+first_of_whole runs r x = if whole_goes_on_in x.phase runs r x then Some (Whole r) else None
+
+abbrev pub first_in_run : List RunState → ℕ → RunState → Option Place
+first_in_run runs r x = option_or (if is_live x.phase then first_in_jobs runs r x x.jobs else None) (first_of_whole runs r x)
+
+-- ---- the first leg that fits
+
+-- the first ready one that is served
+abbrev pub served_in_job : List (List ℕ) → List RunState → ℕ → ℕ → JobState → Option LegPlace
+served_in_job labels runs r j job =
+    first_some (λ l. if is_ready l.1.phase && is_served labels runs (leg_place r j l.0) then Some (leg_place r j l.0) else None)
+    (placed job.legs)
+
+abbrev pub fit_in_job : List (List ℕ) → List RunState → ℕ → ℕ → JobState → Option LegPlace
+fit_in_job labels runs r j job = if has_room runs r j job then served_in_job labels runs r j job else None
+
+abbrev pub fit_in_jobs : List (List ℕ) → List RunState → ℕ → List JobState → Option LegPlace
+fit_in_jobs labels runs r jobs = first_some (λ j. fit_in_job labels runs r j.0 j.1) (placed jobs)
+
+-- ---- the first leg that fails its job
+
+-- its number, where the leg does
+abbrev pub failing : List RunState → ℕ → ℕ → ℕ × LegState → Option ℕ
+failing runs r j l = if option_map_or fails_job (leg_end runs r j l) false then Some l.0 else None
+
+-- ---- the leg of a lease
+
+abbrev pub lease_in_job : ℕ → ℕ → ℕ → JobState → Option LegPlace
+lease_in_job lease r j job = option_map (leg_place r j) (position (has_lease lease) job.legs)
+
+abbrev pub lease_in_jobs : ℕ → ℕ → List JobState → Option LegPlace
+lease_in_jobs lease r jobs = first_some (λ j. lease_in_job lease r j.0 j.1) (placed jobs)
+
+abbrev pub lease_in_run : ℕ → ℕ → RunState → Option LegPlace
+lease_in_run lease r run = lease_in_jobs lease r run.jobs

@@ -1,0 +1,142 @@
+//! What a run and its legs ask, of concurrency groups and of runners. All that their templates use is known when the run is admitted, but
+//! for the results of the jobs that a leg's job needs: so it is bound then. Groups are compared without memory from then on, and labels
+//! without looking them up.
+
+ghost use Rattle.std.specs.Prelude.{◌≡◌, ℕ, IfOk, Some, length, option_map, slice_get};
+ghost use Rattle.std.specs.Fmt.{decimal};
+ghost use Rattle.std.specs.Option.{option_copied};
+ghost use Rattle.run_plan.specs.PlanOf.{plan_of};
+ghost use Rattle.run_plan.specs.declared.planned.PlannedJob.{PlannedJob as Planned};
+ghost use Rattle.workflow_runs.specs.Asks.{JobSays, RunSays, asked_of, wanted_for};
+ghost use Rattle.workflow_runs.specs.BoundGroups.{ErrsOnlyByMemory};
+ghost use Rattle.workflow_runs.specs.Holders.{holder_in_words};
+ghost use Rattle.workflow_runs.specs.declared.asks.JobAsks.{JobAsks as AsksOfJob};
+
+use crate::groups::{Asked, bind_groups, bind_own};
+use crate::holder::Holder;
+use crate::run::Run;
+use crate::told::Told;
+use crate::wanted::{Wanted, bind_labels};
+use itoa::Buffer;
+use run_plan::PlannedJob;
+use std::alloc::Global;
+use wf_value::{Refusal, Sequence, TryCopy};
+
+/// What the legs of a job ask.
+#[derive(Drop)]
+pub struct JobAsks {
+    /// What each asks of a concurrency group: nothing where the job has no `concurrency`.
+    pub groups: Sequence<Asked>,
+    /// The labels that each asks for, where they are worth keeping.
+    pub labels: Sequence<Wanted>,
+}
+
+/// What a run asks, and what its legs ask, job by job.
+#[derive(Drop)]
+pub struct RunAsks {
+    /// What the run itself asks of a concurrency group.
+    pub own: Option<Asked>,
+    pub jobs: Sequence<JobAsks>,
+}
+
+impl RunAsks {
+    /// What the run itself asks of a group, or one of its legs.
+    pub(crate) fn asked(&self, holder: &Holder) -> Option<&Asked>
+        ensures { option_map (λ asked. asked.now) result ≡ asked_of self.now (holder_in_words holder.now) }
+    {
+        match holder {
+            Holder::Run(_) => self.own.as_ref(),
+            Holder::Leg(leg) => {
+                let job = self.jobs.as_slice().get(leg.job)?;
+                job.groups.as_slice().get(leg.leg)
+            }
+        }
+    }
+
+    /// What is kept of the labels of a leg.
+    pub(crate) fn wanted(&self, j: usize, l: usize) -> Option<&Wanted>
+        ensures { option_copied result ≡ wanted_for self.now j l }
+    {
+        let job = self.jobs.as_slice().get(j)?;
+        job.labels.as_slice().get(l)
+    }
+
+    /// What the run asks, and its legs, where it has this id and this number.
+    pub(crate) fn bind(alloc: Global, run: &Run, id: usize, number: usize) -> Result<Self, Refusal>
+        ensures err { ErrsOnlyByMemory result }
+        ensures says { IfOk result
+            (RunSays (record { event = run.now.admitted; run_id = decimal id; run_number = decimal number })) }
+    {
+        let mut id_digits = Buffer::new();
+        let mut number_digits = Buffer::new();
+        let told = Told {
+            run,
+            run_id: id_digits.format(id),
+            run_number: number_digits.format(number),
+        };
+        bind_told(alloc, &told)
+    }
+}
+
+fn bind_told(alloc: Global, told: &Told<'_>) -> Result<RunAsks, Refusal>
+    ensures err { ErrsOnlyByMemory result }
+    ensures says { IfOk result (RunSays told.now) }
+{
+    let own = bind_own(alloc, told)?;
+    let jobs = bind_jobs(alloc, told)?;
+    Ok(RunAsks {
+        own,
+        jobs: Sequence::new(jobs),
+    })
+}
+
+fn bind_jobs(alloc: Global, told: &Told<'_>) -> Result<Vec<JobAsks>, Refusal>
+    ensures err { ErrsOnlyByMemory result }
+    ensures many { IfOk result (λ jobs. length jobs.items ≡ length (plan_of told.now.event.body)) }
+    ensures says { IfOk result (λ jobs. (j : ℕ) (asks : AsksOfJob) → slice_get jobs.items j ≡ Some asks → (job : Planned)
+        → slice_get (plan_of told.now.event.body) j ≡ Some job → JobSays told.now j job asks) }
+{
+    let plan = told.prepared().plan().as_slice();
+    let mut jobs = Vec::with_capacity(alloc, plan.len())?;
+    for j in 0..plan.len() {
+        let asks = bind_job(alloc, told, j, &plan[j])?;
+        jobs.push(asks)?;
+    }
+    Ok(jobs)
+}
+
+fn bind_job<'x>(
+    alloc: Global,
+    told: &'x Told<'_>,
+    j: usize,
+    job: &'x PlannedJob,
+) -> Result<JobAsks, Refusal>
+    ensures err { ErrsOnlyByMemory result }
+    ensures says { IfOk result (JobSays told.now j job.now) }
+{
+    let groups = bind_groups(alloc, told, j, job)?;
+    let labels = bind_labels(alloc, told, j, job)?;
+    Ok(JobAsks { groups, labels })
+}
+
+impl TryCopy for JobAsks {
+    fn copy(&self, alloc: Global) -> Result<Self, Refusal> {
+        Ok(JobAsks {
+            groups: self.groups.copy(alloc)?,
+            labels: self.labels.copy(alloc)?,
+        })
+    }
+}
+
+impl TryCopy for RunAsks {
+    fn copy(&self, alloc: Global) -> Result<Self, Refusal> {
+        let own = match &self.own {
+            Some(asked) => Some(asked.copy(alloc)?),
+            None => None,
+        };
+        Ok(RunAsks {
+            own,
+            jobs: self.jobs.copy(alloc)?,
+        })
+    }
+}

@@ -1,0 +1,190 @@
+//! Which leg a claim gets, and which leg has a lease: each the first one in the order of run, job and leg.
+
+ghost use Rattle.std.specs.Prelude.{◌≡◌, ◌<◌, ◌^◌, ◌&&◌, IfSome, false};
+ghost use Rattle.std.specs.List.{position};
+ghost use Rattle.std.specs.Option.{option_map_or};
+ghost use Rattle.workflow_runs.specs.Cells.{states};
+ghost use Rattle.workflow_runs.specs.Fitting.{first_fit, has_lease, is_ready, is_served, is_stopping_leg, is_told_to_stop, place_of_lease};
+ghost use Rattle.workflow_runs.specs.Parallel.{has_room};
+ghost use Rattle.workflow_runs.specs.Places.{leg_at};
+ghost use Rattle.workflow_runs.specs.Stops.{outcome_of_loss};
+ghost use Rattle.workflow_runs.specs.WithinRun.{fit_in_job, fit_in_jobs, lease_in_job, lease_in_jobs, lease_in_run, served_in_job};
+
+use crate::job::Job;
+use crate::leg::Leg;
+use crate::place::LegPlace;
+use crate::run::Run;
+use crate::runs::Runs;
+use run_plan::{Label, Number};
+use wf_value::Outcome;
+
+/// Whether the leg is ready and asks for no label that these lack.
+fn fits(labels: &[Label], runs: &Runs, place: LegPlace, leg: &Leg) -> bool
+    requires leg { place.leg < 2 ^ 63 }
+    ensures { result ≡ (is_ready leg.now.phase && is_served labels.now runs.now place) }
+{
+    leg.is_ready() && runs.is_served(labels, place)
+}
+
+/// The first ready leg of the job that asks for no label that these lack.
+fn served_in_job(labels: &[Label], runs: &Runs, r: usize, j: usize, job: &Job) -> Option<LegPlace>
+    ensures found { result ≡ served_in_job labels.now runs.now r j job.now.state }
+    ensures run { IfSome result (λ p. p.run ≡ r) }
+{
+    let legs = job.legs();
+    for l in 0..legs.len() {
+        let place = LegPlace {
+            run: r,
+            job: j,
+            leg: l,
+        };
+        let leg = &legs[l];
+        if fits(labels, runs, place, leg) {
+            return Some(place);
+        }
+    }
+    None
+}
+
+/// Whether one more leg of the job may run.
+fn has_room(runs: &Runs, r: usize, j: usize, job: &Job) -> bool
+    ensures { result ≡ has_room runs.now r j job.now.state }
+{
+    match runs.most_at_work(r, j) {
+        Some(most) => job.legs_at_work() < usize::from(most),
+        None => true,
+    }
+}
+
+fn fit_in_job(labels: &[Label], runs: &Runs, r: usize, j: usize, job: &Job) -> Option<LegPlace>
+    ensures found { result ≡ fit_in_job labels.now runs.now r j job.now.state }
+    ensures run { IfSome result (λ p. p.run ≡ r) }
+{
+    if has_room(runs, r, j, job) {
+        served_in_job(labels, runs, r, j, job)
+    } else {
+        None
+    }
+}
+
+fn fit_in_jobs(labels: &[Label], runs: &Runs, r: usize, jobs: &[Job]) -> Option<LegPlace>
+    ensures found { result ≡ fit_in_jobs labels.now runs.now r (states jobs.now) }
+    ensures run { IfSome result (λ p. p.run ≡ r) }
+{
+    for j in 0..jobs.len() {
+        let job = &jobs[j];
+        let place = fit_in_job(labels, runs, r, j, job);
+        if place.is_some() {
+            return place;
+        }
+    }
+    None
+}
+
+fn fit_in_run(labels: &[Label], runs: &Runs, r: usize, run: &Run) -> Option<LegPlace>
+    ensures found { result ≡ fit_in_jobs labels.now runs.now r run.now.jobs }
+    ensures run { IfSome result (λ p. p.run ≡ r) }
+{
+    fit_in_jobs(labels, runs, r, run.jobs())
+}
+
+/// The first ready leg that asks for no label that these lack, in a job of which one more leg may run. It takes no memory.
+pub fn first_fit(labels: &[Label], runs: &Runs) -> Option<LegPlace>
+    ensures found { result ≡ first_fit labels.now runs.now }
+    ensures run { IfSome result (λ p. p.run < 100000) }
+{
+    let all = runs.as_slice();
+    for r in 0..all.len() {
+        let run = &all[r];
+        let place = fit_in_run(labels, runs, r, run);
+        if place.is_some() {
+            return place;
+        }
+    }
+    None
+}
+
+fn leg_of_lease(lease: Number, legs: &[Leg]) -> Option<usize>
+    ensures found { result ≡ position (has_lease lease) legs.now }
+    ensures most { IfSome result (λ l. l < 2 ^ 63) }
+{
+    legs.iter().position(|leg| leg.has_lease(lease))
+}
+
+fn lease_in_job(lease: Number, r: usize, j: usize, job: &Job) -> Option<LegPlace>
+    ensures found { result ≡ lease_in_job lease r j job.now.state }
+    ensures leg { IfSome result (λ p. p.leg < 2 ^ 63) }
+{
+    let leg = leg_of_lease(lease, job.legs())?;
+    Some(LegPlace {
+        run: r,
+        job: j,
+        leg,
+    })
+}
+
+fn lease_in_jobs(lease: Number, r: usize, jobs: &[Job]) -> Option<LegPlace>
+    ensures found { result ≡ lease_in_jobs lease r (states jobs.now) }
+    ensures leg { IfSome result (λ p. p.leg < 2 ^ 63) }
+{
+    for j in 0..jobs.len() {
+        let job = &jobs[j];
+        let place = lease_in_job(lease, r, j, job);
+        if place.is_some() {
+            return place;
+        }
+    }
+    None
+}
+
+fn lease_in_run(lease: Number, r: usize, run: &Run) -> Option<LegPlace>
+    ensures found { result ≡ lease_in_run lease r run.now }
+    ensures leg { IfSome result (λ p. p.leg < 2 ^ 63) }
+{
+    lease_in_jobs(lease, r, run.jobs())
+}
+
+/// The leg that has a lease.
+pub fn place_of_lease(lease: Number, runs: &[Run]) -> Option<LegPlace>
+    ensures found { result ≡ place_of_lease runs.now lease }
+    ensures leg { IfSome result (λ p. p.leg < 2 ^ 63) }
+{
+    for r in 0..runs.len() {
+        let run = &runs[r];
+        let place = lease_in_run(lease, r, run);
+        if place.is_some() {
+            return place;
+        }
+    }
+    None
+}
+
+/// Whether the leg of a lease is told to stop.
+pub fn is_told_to_stop(lease: Number, runs: &Runs) -> bool
+    ensures { result ≡ is_told_to_stop runs.now lease }
+{
+    match place_of_lease(lease, runs.as_slice()) {
+        Some(place) => is_stopping_at(runs, place),
+        None => false,
+    }
+}
+
+/// How the leg of a lease ends whose runner is lost.
+pub fn outcome_of_loss(lease: Number, runs: &Runs) -> Outcome
+    ensures { result ≡ outcome_of_loss runs.now lease }
+{
+    if is_told_to_stop(lease, runs) {
+        Outcome::Cancelled
+    } else {
+        Outcome::Failure
+    }
+}
+
+fn is_stopping_at(runs: &Runs, place: LegPlace) -> bool
+    ensures { result ≡ option_map_or (λ l. is_stopping_leg l.phase) (leg_at runs.now place) false }
+{
+    match runs.leg(place) {
+        Some(leg) => leg.is_stopping(),
+        None => false,
+    }
+}

@@ -1,0 +1,153 @@
+ghost use Rattle.std.specs.Prelude.{◌≡◌, Ok, count_by, map};
+ghost use Rattle.std.specs.List.{list_all};
+ghost use Rattle.wf_value.specs.Gives.{Gives};
+ghost use Rattle.workflow_runs.specs.Cells.{in_state};
+ghost use Rattle.workflow_runs.specs.FirstOf.{changed_at};
+ghost use Rattle.workflow_runs.specs.Parallel.{is_at_work, legs_at_work};
+ghost use Rattle.workflow_runs.specs.Rules.{has_ended, is_done, is_settled, opened, settled_as};
+ghost use Rattle.workflow_runs.specs.NewRun.{blocked_job};
+ghost use Rattle.workflow_runs.specs.Stops.{stopped, with_stopped_legs};
+
+mod of;
+
+use crate::leg::Leg;
+use crate::phases::JobPhase;
+use needs_graph::HasResult;
+use std::alloc::Global;
+use std::marker::Model;
+use wf_value::{JobResult, Refusal, TryCopy};
+
+/// One job of a run, at its place in the plan, with room for all its legs from the start.
+#[derive(Drop)]
+pub struct Job {
+    phase: JobPhase,
+    /// Whether the legs in its room are the job's: it has none until it opens.
+    has_legs: bool,
+    room: Vec<Leg>,
+}
+
+impl Model for Job {
+    ghost use Rattle.workflow_runs.specs.Cells.{JobCells, cells_of};
+
+    ghost Value = { JobCells };
+
+    ghost view = { λ j. cells_of j.phase j.has_legs j.room.items };
+}
+
+impl Job {
+    /// A blocked job, with room for so many legs.
+    pub(crate) fn blocked(alloc: Global, room: usize) -> Result<Self, Refusal>
+        ensures { Gives (λ j. j) result (Ok (record { state = blocked_job; room = room })) }
+    {
+        Ok(Job {
+            phase: JobPhase::Blocked,
+            has_legs: false,
+            room: vec![in alloc; Leg::new(); room]?,
+        })
+    }
+
+    pub fn phase(&self) -> JobPhase
+        ensures { result ≡ self.now.state.phase }
+    {
+        self.phase
+    }
+
+    pub fn legs(&self) -> &[Leg]
+        ensures { result.now ≡ self.now.state.legs }
+    {
+        let count = if self.has_legs { self.room.len() } else { 0 };
+        &self.room[..count]
+    }
+
+    /// The job opens: all its legs are there, new.
+    pub(crate) fn open(&mut self)
+        ensures { self.new ≡ in_state (opened self.old.room self.old.state) self.old }
+    {
+        self.room.fill(Leg::new());
+        self.has_legs = true;
+        self.phase = JobPhase::Open;
+    }
+
+    pub fn settle(&mut self, settled: JobResult)
+        ensures { self.new ≡ in_state (settled_as settled self.old.state) self.old }
+    {
+        self.phase = JobPhase::Settled(settled);
+    }
+
+    /// Puts the leg in the place of the one that is there, if one is.
+    pub(crate) fn set_leg(&mut self, l: usize, leg: Leg)
+        ensures { self.new ≡ in_state (record self.old.state { legs = changed_at l (λ _. leg) self.old.state.legs }) self.old }
+    {
+        if self.has_legs && l < self.room.len() {
+            self.room[l] = leg;
+        }
+    }
+
+    /// All legs of the job are stopped.
+    pub(crate) fn stop_legs(&mut self)
+        ensures { self.new ≡ in_state (with_stopped_legs self.old.state) self.old }
+    {
+        stop_all(&mut self.room);
+    }
+
+    /// How many legs runners are at work on.
+    pub fn legs_at_work(&self) -> usize
+        ensures { result ≡ legs_at_work self.now.state }
+    {
+        count_at_work(self.legs())
+    }
+
+    pub(crate) fn is_settled(&self) -> bool
+        ensures { result ≡ is_settled self.now.state }
+    {
+        self.phase.result().is_some()
+    }
+
+    pub fn have_legs_ended(&self) -> bool
+        ensures { result ≡ list_all has_ended self.now.state.legs }
+    {
+        self.legs().iter().all(|leg| leg.has_ended())
+    }
+
+    /// Whether the job is open and all its legs have ended.
+    pub fn is_done(&self) -> bool
+        ensures { result ≡ is_done self.now.state }
+    {
+        self.phase.is_open() && self.have_legs_ended()
+    }
+}
+
+impl HasResult for Job {
+    ghost use Rattle.workflow_runs.specs.Cells.{result_of};
+
+    ghost job_result = { result_of };
+
+    fn job_result(&self) -> Option<JobResult> {
+        self.phase.result()
+    }
+}
+
+impl TryCopy for Job {
+    fn copy(&self, alloc: Global) -> Result<Self, Refusal> {
+        Ok(Job {
+            phase: self.phase,
+            has_legs: self.has_legs,
+            room: Vec::from_slice(alloc, self.room.as_slice())?,
+        })
+    }
+}
+
+/// Stops each of the legs.
+fn stop_all(legs: &mut [Leg])
+    ensures { legs.new ≡ map stopped legs.old }
+{
+    for leg in legs.iter_mut() {
+        *leg = leg.stopped();
+    }
+}
+
+fn count_at_work(legs: &[Leg]) -> usize
+    ensures { result ≡ count_by (λ leg. is_at_work leg.phase) legs.now }
+{
+    legs.iter().filter(|leg| leg.is_at_work()).count()
+}

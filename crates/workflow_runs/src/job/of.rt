@@ -1,0 +1,41 @@
+//! A job of its parts.
+
+ghost use Rattle.std.specs.Prelude.{◌≡◌, IfOk, MatchOption};
+ghost use Rattle.workflow_runs.specs.BoundGroups.{ErrsOnlyByMemory};
+ghost use Rattle.workflow_runs.specs.AsPlanned.{HasRoom};
+
+use crate::job::Job;
+use crate::leg::Leg;
+use crate::run_parts::JobParts;
+use std::alloc::Global;
+use wf_value::Refusal;
+
+impl Job {
+    /// The job of these parts, with room for so many legs, where it has none of them or all.
+    pub(crate) fn of_parts(
+        alloc: Global,
+        parts: &JobParts,
+        room: usize,
+    ) -> Result<Option<Self>, Refusal>
+        ensures err { ErrsOnlyByMemory result }
+        ensures of { IfOk result (λ found. MatchOption found (HasRoom room parts.now.legs → ⊥)
+            (λ job. (job ≡ record { state = parts.now; room = room }) × HasRoom room parts.now.legs)) }
+    {
+        let legs = parts.legs.as_slice();
+        if legs.len() == room {
+            return Ok(Some(Job {
+                phase: parts.phase,
+                has_legs: true,
+                room: Vec::from_slice(alloc, legs)?,
+            }));
+        }
+        if !legs.is_empty() {
+            return Ok(None);
+        }
+        Ok(Some(Job {
+            phase: parts.phase,
+            has_legs: false,
+            room: vec![in alloc; Leg::new(); room]?,
+        }))
+    }
+}

@@ -1,0 +1,31 @@
+//! The runs of a table: what each is made of, how it settles, who holds a concurrency group, and which leg fits a runner.
+#![tactic(auto)]
+
+mod asks;
+mod direct_needs;
+pub mod first_place;
+pub mod fit;
+mod github_context;
+mod groups;
+pub mod holder;
+pub mod job;
+pub mod leg;
+mod leg_context;
+mod leg_needs;
+mod leg_view;
+mod named_group;
+pub mod phases;
+pub mod place;
+pub mod run;
+mod run_context;
+pub mod run_parts;
+pub mod runs;
+mod told;
+mod wanted;
+
+pub use job::Job;
+pub use leg::Leg;
+pub use phases::{JobPhase, LegPhase, RunPhase};
+pub use run::Run;
+pub use run_parts::{JobParts, RunParts};
+pub use runs::Runs;

@@ -1,0 +1,321 @@
+ghost use Rattle.std.specs.Prelude.{◌≡◌, ◌&&◌, None, Ok, is_some, length, map, not, option_map, slice_get, true};
+ghost use Rattle.std.specs.List.{slice_index_or};
+ghost use Rattle.wf_value.specs.Gives.{Gives};
+ghost use Rattle.run_plan.specs.PlanOf.{plan_of};
+ghost use Rattle.workflow_runs.specs.Cells.{blocked_cells, states};
+ghost use Rattle.workflow_runs.specs.FirstOf.{changed_at};
+ghost use Rattle.workflow_runs.specs.LookAgain.{job_again};
+ghost use Rattle.workflow_runs.specs.Rules.{opened, settled_as, run_in_phase};
+ghost use Rattle.workflow_runs.specs.Settling.{legs_in_plan};
+ghost use Rattle.workflow_runs.specs.NewRun.{is_delivered_as, new_run};
+ghost use Rattle.workflow_runs.specs.JobResults.{results_so_far};
+ghost use Rattle.workflow_runs.specs.Stops.{cancelled, is_open_at, stopped_run, told_to_stop, with_job_stopped};
+ghost use Rattle.workflow_runs.specs.Stops.{with_jobs_stopped, with_stopped_legs};
+ghost use Rattle.workflow_runs.specs.WithinRun.{condition_in, may_run_in, needs_settled_in};
+ghost use Rattle.workflow_runs.specs.Words.{all_have_results};
+
+mod of;
+
+use crate::job::Job;
+use crate::leg::Leg;
+use crate::phases::RunPhase;
+use run_plan::{DeliveryId, PlannedJob, Prepared};
+use std::alloc::Global;
+use std::marker::Model;
+use wf_value::{Condition, JobResult, Refusal, TryCopy, copy_items};
+
+/// A run: what was admitted, and how far it has come.
+#[derive(Drop)]
+pub struct Run {
+    prepared: Prepared,
+    phase: RunPhase,
+    /// Whether the run has been told to stop.
+    stopping: bool,
+    jobs: Vec<Job>,
+}
+
+impl Model for Run {
+    ghost use Rattle.std.specs.Prelude.{◌≡◌, map};
+    ghost use Rattle.run_plan.specs.PlanOf.{plan_of};
+    ghost use Rattle.workflow_runs.specs.RunState.{RunState};
+    ghost use Rattle.workflow_runs.specs.Cells.{rooms, legs_planned, states};
+
+    ghost Value = { RunState };
+
+    ghost view = { λ r. record { admitted = r.prepared; phase = r.phase; stopping = r.stopping; jobs = states r.jobs.items } };
+
+    ghost invariant = { λ r. rooms r.jobs.items ≡ legs_planned (plan_of r.prepared.body) };
+}
+
+impl Run {
+    /// A run that is waiting, with all its jobs blocked.
+    pub fn of_event(alloc: Global, prepared: &Prepared) -> Result<Self, Refusal>
+        ensures { Gives (λ r. r) result (Ok (new_run prepared.now)) }
+    {
+        let jobs = blocked_jobs(alloc, prepared.plan().as_slice())?;
+        Ok(Run {
+            prepared: prepared.share()?,
+            phase: RunPhase::Waiting,
+            stopping: false,
+            jobs,
+        })
+    }
+
+    pub fn prepared(&self) -> &Prepared
+        ensures { result.now ≡ self.now.admitted }
+    {
+        &self.prepared
+    }
+
+    pub(crate) fn is_delivered_as(&self, delivery: &DeliveryId) -> bool
+        ensures { result ≡ is_delivered_as delivery.now self.now }
+    {
+        self.prepared.delivery().as_str() == delivery.as_str()
+    }
+
+    pub fn phase(&self) -> RunPhase
+        ensures { result ≡ self.now.phase }
+    {
+        self.phase
+    }
+
+    pub fn is_stopping(&self) -> bool
+        ensures { result ≡ self.now.stopping }
+    {
+        self.stopping
+    }
+
+    pub fn jobs(&self) -> &[Job]
+        ensures { states result.now ≡ self.now.jobs }
+    {
+        self.jobs.as_slice()
+    }
+
+    pub fn job_count(&self) -> usize
+        ensures { result ≡ length self.now.jobs }
+    {
+        self.jobs.len()
+    }
+
+    pub(crate) fn job(&self, j: usize) -> Option<&Job>
+        ensures { option_map (λ job. job.now.state) result ≡ slice_get self.now.jobs j }
+    {
+        self.jobs.get(j)
+    }
+
+    /// Whether all jobs that the job at a place needs directly have settled.
+    pub fn needs_have_settled(&self, j: usize) -> bool
+        ensures { result ≡ needs_settled_in self.now j }
+    {
+        let graph = self.prepared.plan().graph();
+        j >= graph.job_count() || have_settled(self.jobs(), graph.needs(j))
+    }
+
+    /// Where settling looks again after a rule at the job: at the job itself, or once it has settled at the first that needs it.
+    pub(crate) fn job_again(&self, j: usize) -> usize
+        ensures { result ≡ job_again self.now j }
+    {
+        if !is_settled_at(self.jobs(), j) {
+            return j;
+        }
+        match self.prepared.plan().graph().first_dependent(j) {
+            Some(first) => j.min(first),
+            None => j,
+        }
+    }
+
+    fn planned(&self, j: usize) -> Option<&PlannedJob>
+        ensures { option_map (λ p. p.now) result ≡ slice_get (plan_of self.now.admitted.body) j }
+    {
+        self.prepared.plan().as_slice().get(j)
+    }
+
+    fn condition(&self, j: usize) -> Condition
+        ensures { result ≡ condition_in self.now j }
+    {
+        match self.planned(j) {
+            Some(job) => job.condition,
+            None => Condition::Never,
+        }
+    }
+
+    /// Whether the condition of the job at a place holds, from the results of all its ancestors.
+    pub(crate) fn may_run(&self, j: usize) -> bool
+        ensures { result ≡ may_run_in self.now j }
+    {
+        let condition = self.condition(j);
+        let graph = self.prepared.plan().graph();
+        graph.decide(j, condition, self.jobs(), self.stopping)
+    }
+
+    // ---- the changes of a run
+
+    pub(crate) fn set_phase(&mut self, phase: RunPhase)
+        ensures { self.new ≡ run_in_phase phase self.old }
+    {
+        self.phase = phase;
+    }
+
+    /// The job at a place opens, with all legs of its plan.
+    pub(crate) fn open_job(&mut self, j: usize)
+        ensures { self.new ≡ record self.old {
+          jobs = changed_at j (opened (legs_in_plan (plan_of self.old.admitted.body) j)) self.old.jobs;
+        } }
+    {
+        if j < self.jobs.len() {
+            let job = &mut self.jobs[j];
+            job.open();
+        }
+    }
+
+    /// The job at a place settles.
+    pub(crate) fn settle_job(&mut self, j: usize, settled: JobResult)
+        ensures { self.new ≡ record self.old { jobs = changed_at j (settled_as settled) self.old.jobs } }
+    {
+        if j < self.jobs.len() {
+            let job = &mut self.jobs[j];
+            job.settle(settled);
+        }
+    }
+
+    /// All legs of the job at a place are stopped.
+    pub(crate) fn stop_legs(&mut self, j: usize)
+        ensures { self.new ≡ record self.old { jobs = changed_at j with_stopped_legs self.old.jobs } }
+    {
+        if j < self.jobs.len() {
+            let job = &mut self.jobs[j];
+            job.stop_legs();
+        }
+    }
+
+    /// The run is stopped: a waiting one ends, and a live one is told to stop.
+    pub(crate) fn stop(&mut self)
+        ensures { self.new ≡ stopped_run self.old }
+    {
+        match self.phase() {
+            RunPhase::Waiting => self.cancel(),
+            RunPhase::Live => {
+                if !self.is_stopping() {
+                    self.tell_to_stop();
+                }
+            }
+            RunPhase::Ended => {}
+        }
+    }
+
+    /// A run that has not begun ends, and all its jobs settle as cancelled.
+    fn cancel(&mut self)
+        ensures { self.new ≡ cancelled self.old }
+    {
+        self.settle_all(JobResult::Cancelled);
+        self.set_phase(RunPhase::Ended);
+    }
+
+    /// All jobs settle with the same result.
+    fn settle_all(&mut self, settled: JobResult)
+        ensures { self.new ≡ record self.old { jobs = map (settled_as settled) self.old.jobs } }
+    {
+        for j in 0..self.job_count() {
+            self.settle_job(j, settled);
+        }
+    }
+
+    fn tell_to_stop(&mut self)
+        ensures { self.new ≡ told_to_stop self.old }
+    {
+        self.set_stopping();
+        self.stop_jobs();
+    }
+
+    fn set_stopping(&mut self)
+        ensures { self.new ≡ record self.old { stopping = true } }
+    {
+        self.stopping = true;
+    }
+
+    /// The legs of each open job whose condition is false are stopped.
+    fn stop_jobs(&mut self)
+        ensures { self.new ≡ with_jobs_stopped self.old }
+    {
+        for j in 0..self.job_count() {
+            self.stop_job(j);
+        }
+    }
+
+    /// The legs of the job at a place are stopped, where it is open though its condition is false.
+    fn stop_job(&mut self, j: usize)
+        ensures { self.new ≡ with_job_stopped j self.old }
+    {
+        if self.is_to_stop(j) {
+            self.stop_legs(j);
+        }
+    }
+
+    /// Whether the job at a place is open though its condition is false.
+    fn is_to_stop(&self, j: usize) -> bool
+        ensures { result ≡ (is_open_at self.now j && not (may_run_in self.now j)) }
+    {
+        self.is_open_at(j) && !self.may_run(j)
+    }
+
+    fn is_open_at(&self, j: usize) -> bool
+        ensures { result ≡ is_open_at self.now j }
+    {
+        match self.job(j) {
+            Some(job) => job.phase().is_open(),
+            None => false,
+        }
+    }
+
+    /// Puts the leg in the place of the one that is there, if one is.
+    pub(crate) fn set_leg(&mut self, j: usize, l: usize, leg: Leg)
+        ensures { self.new ≡ record self.old {
+          jobs = changed_at j (λ job. record job { legs = changed_at l (λ _. leg) job.legs }) self.old.jobs;
+        } }
+    {
+        if j < self.jobs.len() {
+            let job = &mut self.jobs[j];
+            job.set_leg(l, leg);
+        }
+    }
+}
+
+impl TryCopy for Run {
+    /// The event is shared, and its jobs are copied.
+    fn copy(&self, alloc: Global) -> Result<Self, Refusal> {
+        Ok(Run {
+            prepared: self.prepared.share()?,
+            phase: self.phase,
+            stopping: self.stopping,
+            jobs: copy_items(alloc, &self.jobs)?,
+        })
+    }
+}
+
+/// The jobs of a plan, all blocked, each with room for its legs.
+fn blocked_jobs(alloc: Global, plan: &[PlannedJob]) -> Result<Vec<Job>, Refusal>
+    ensures { Gives (λ jobs. jobs.items) result (Ok (map blocked_cells plan.now)) }
+{
+    let mut jobs = Vec::with_capacity(alloc, plan.len())?;
+    for planned in plan {
+        jobs.push(Job::blocked(alloc, planned.legs.as_slice().len())?)?;
+    }
+    Ok(jobs)
+}
+
+/// Whether the jobs at these places have all settled.
+fn have_settled(jobs: &[Job], places: &[usize]) -> bool
+    ensures { result ≡ all_have_results (results_so_far (states jobs.now)) places.now }
+{
+    places.iter().all(|place| is_settled_at(jobs, *place))
+}
+
+/// Whether the job at a place has settled.
+fn is_settled_at(jobs: &[Job], place: usize) -> bool
+    ensures { result ≡ is_some (slice_index_or (results_so_far (states jobs.now)) place None) }
+{
+    match jobs.get(place) {
+        Some(job) => job.is_settled(),
+        None => false,
+    }
+}

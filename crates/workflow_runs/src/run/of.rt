@@ -1,0 +1,61 @@
+//! A run of its parts.
+
+ghost use Rattle.std.specs.Prelude.{◌≡◌, IfOk, MatchOption, length};
+ghost use Rattle.run_plan.specs.PlanOf.{plan_of};
+ghost use Rattle.workflow_runs.specs.BoundGroups.{ErrsOnlyByMemory};
+ghost use Rattle.workflow_runs.specs.Cells.{legs_planned, rooms, states};
+ghost use Rattle.workflow_runs.specs.AsPlanned.{HaveRoom, IsAsPlanned};
+
+use crate::job::Job;
+use crate::run::Run;
+use crate::run_parts::{JobParts, RunParts};
+use run_plan::PlannedJob;
+use std::alloc::Global;
+use wf_value::Refusal;
+
+impl Run {
+    /// The run of these parts, where it has the jobs of its plan, and each has none of its legs or all.
+    pub(crate) fn of_parts(alloc: Global, parts: &RunParts) -> Result<Option<Self>, Refusal>
+        ensures err { ErrsOnlyByMemory result }
+        ensures of { IfOk result (λ found. MatchOption found (IsAsPlanned (plan_of parts.now.admitted.body) parts.now.jobs → ⊥)
+            (λ run. (run ≡ parts.now) × IsAsPlanned (plan_of parts.now.admitted.body) parts.now.jobs)) }
+    {
+        let plan = parts.prepared.plan().as_slice();
+        let of_jobs = parts.jobs.as_slice();
+        if of_jobs.len() != plan.len() {
+            return Ok(None);
+        }
+        let Some(jobs) = jobs_of_parts(alloc, of_jobs, plan)? else {
+            return Ok(None);
+        };
+        Ok(Some(Run {
+            prepared: parts.prepared.share()?,
+            phase: parts.phase,
+            stopping: parts.stopping,
+            jobs,
+        }))
+    }
+}
+
+/// The jobs of these parts, as many as the plan has.
+fn jobs_of_parts(
+    alloc: Global,
+    parts: &[JobParts],
+    plan: &[PlannedJob],
+) -> Result<Option<Vec<Job>>, Refusal>
+    requires { length parts.now ≡ length plan.now }
+    ensures err { ErrsOnlyByMemory result }
+    ensures of { IfOk result (λ found. MatchOption found (HaveRoom plan.now parts.now → ⊥)
+        (λ jobs. (states jobs.items ≡ parts.now) × (rooms jobs.items ≡ legs_planned plan.now) × HaveRoom plan.now parts.now)) }
+{
+    let mut jobs = Vec::with_capacity(alloc, plan.len())?;
+    for j in 0..parts.len() {
+        let part = &parts[j];
+        let planned = &plan[j];
+        match Job::of_parts(alloc, part, planned.legs.as_slice().len())? {
+            Some(job) => jobs.push(job)?,
+            None => return Ok(None),
+        }
+    }
+    Ok(Some(jobs))
+}

@@ -1,0 +1,316 @@
+ghost use Rattle.std.specs.Prelude.{◌≡◌, ◌+◌, ◌≤◌, ◌<◌, ◌∷◌, ◌++◌, [], length, IfSome, OnErr, OnOk};
+ghost use Rattle.std.specs.Prelude.{option_map, option_copied, slice_get, Ok, ◌^◌, false, true};
+ghost use Rattle.std.specs.List.{position};
+ghost use Rattle.std.specs.Option.{option_map_or};
+ghost use Rattle.wf_value.specs.Gives.{Gives};
+ghost use Rattle.workflow_runs.specs.LegContext.{facts_at};
+ghost use Rattle.workflow_runs.specs.Places.{job_at, leg_at, plan_at};
+ghost use Rattle.workflow_runs.specs.Counted.{IsOf};
+ghost use Rattle.workflow_runs.specs.RunNumber.{events, run_number};
+ghost use Rattle.workflow_runs.specs.Parallel.{most_at_work};
+ghost use Rattle.workflow_runs.specs.NewRun.{is_delivered_as};
+ghost use Rattle.workflow_runs.specs.Words.{combo_at, job_id, passes_over};
+
+mod changes;
+mod counts;
+mod ending;
+mod group_keys;
+mod groups;
+mod index;
+mod labels;
+mod of;
+mod places;
+mod settling;
+
+use crate::asks::RunAsks;
+use crate::job::Job;
+use crate::leg::Leg;
+use crate::leg_view::LegView;
+use crate::place::LegPlace;
+use crate::run::Run;
+use crate::runs::counts::{Workflow, workflow_of};
+use crate::runs::index::Index;
+use run_plan::{DeliveryId, PlannedJob};
+use std::alloc::Global;
+use std::marker::Model;
+use wf_value::{Chars, Combo, Refusal, TryCopy, copy_items};
+
+/// The most runs of a table.
+pub const MOST_RUNS: usize = 100_000;
+
+/// The runs of a table, in the order of their ids, which count from 1. A contract sees the list of them.
+#[derive(Drop)]
+pub struct Runs {
+    runs: Vec<Run>,
+    /// The number of each, among the runs of its workflow.
+    numbers: Vec<usize>,
+    /// What each, and its legs, ask of concurrency groups and of runners.
+    asks: Vec<RunAsks>,
+    index: Index,
+}
+
+impl Model for Runs {
+    ghost use Rattle.std.specs.Prelude.{List};
+    ghost use Rattle.workflow_runs.specs.Asks.{AreBound};
+    ghost use Rattle.workflow_runs.specs.Counted.{AreCounted};
+    ghost use Rattle.workflow_runs.specs.Delivered.{FindsFirst};
+    ghost use Rattle.workflow_runs.specs.RunNumber.{AreNumbered, events};
+    ghost use Rattle.workflow_runs.specs.RunState.{RunState};
+
+    ghost Value = { List RunState };
+
+    ghost view = { λ r. r.runs.items };
+
+    ghost invariant = { λ r. AreNumbered r.runs.items r.numbers.items × AreBound r.runs.items r.asks.items
+        × FindsFirst (events r.runs.items) r.index.places.places × AreCounted (events r.runs.items) r.index.counts.counts };
+}
+
+impl Runs {
+    pub fn new(alloc: Global) -> Self
+        ensures { result ≡ [] }
+    {
+        Runs {
+            runs: Vec::new(alloc),
+            numbers: Vec::new(alloc),
+            asks: Vec::new(alloc),
+            index: Index::new(alloc),
+        }
+    }
+
+    pub fn as_slice(&self) -> &[Run]
+        ensures runs { result.now ≡ self.now }
+        ensures most { length self.now ≤ 100000 }
+    {
+        self.runs.as_slice()
+    }
+
+    pub fn len(&self) -> usize
+        ensures len { result ≡ length self.now }
+        ensures most { result ≤ 100000 }
+    {
+        self.runs.len()
+    }
+
+    /// What the plan of its run says of a job.
+    pub fn planned(&self, r: usize, j: usize) -> Option<&PlannedJob>
+        ensures { option_map (λ p. p.now) result ≡ plan_at self.now r j }
+    {
+        let run = self.runs.get(r)?;
+        run.prepared().plan().as_slice().get(j)
+    }
+
+    pub fn job_id(&self, alloc: Global, r: usize, j: usize) -> Result<Chars, Refusal>
+        ensures { Gives (λ id. id) result (Ok (job_id self.now r j)) }
+    {
+        match self.planned(r, j) {
+            Some(planned) => planned.id.copy(alloc),
+            None => Chars::from_str(alloc, ""),
+        }
+    }
+
+    pub fn combo(&self, alloc: Global, place: LegPlace) -> Result<Combo, Refusal>
+        ensures { Gives (λ combo. combo) result (Ok (combo_at self.now place)) }
+    {
+        match self.planned(place.run, place.job) {
+            Some(planned) => combo_of(alloc, planned, place.leg),
+            None => Ok(Combo::new(alloc)),
+        }
+    }
+
+    /// The most legs of a job on which runners are at work, where its plan sets a bound.
+    pub fn most_at_work(&self, r: usize, j: usize) -> Option<u16>
+        ensures { result ≡ most_at_work self.now r j }
+    {
+        self.planned(r, j)?.max_parallel
+    }
+
+    /// The number of a run among the runs of its workflow.
+    pub fn number(&self, r: usize) -> Option<usize>
+        ensures { result ≡ option_map (run_number (events self.now) r) (slice_get (events self.now) r) }
+    {
+        number_at(&self.numbers, r)
+    }
+
+    /// The leg at a place, as it is planned.
+    #[tactic(auto, unfolding(crate::specs::LegContext::facts_at))]
+    fn leg_view(&self, place: LegPlace) -> Option<LegView<'_>>
+        requires leg { place.leg < 2 ^ 63 }
+        ensures { result ≡ facts_at self.now place }
+    {
+        let run = self.runs.get(place.run)?;
+        let run_number = self.number(place.run)?;
+        let job = run.prepared().plan().as_slice().get(place.job)?;
+        Some(LegView {
+            run,
+            run_id: place.run + 1,
+            run_number,
+            job,
+            place: place.job,
+            leg: place.leg,
+        })
+    }
+
+    /// Whether a failure of the leg is passed over. It takes no memory.
+    fn passes_over(&self, place: LegPlace) -> bool
+        requires leg { place.leg < 2 ^ 63 }
+        ensures { result ≡ passes_over self.now place }
+    {
+        match self.leg_view(place) {
+            Some(leg) => leg.passes_over(),
+            None => false,
+        }
+    }
+
+    /// The place of the run of a delivery.
+    pub fn position(&self, delivery: &DeliveryId) -> Option<usize>
+        ensures found { result ≡ position (is_delivered_as delivery.now) self.now }
+        ensures most { IfSome result (λ i. i < 100000) }
+    {
+        let place = self.index.places.place(delivery)?;
+        if self.is_delivered_at(place, delivery) {
+            Some(place)
+        } else {
+            None
+        }
+    }
+
+    /// Whether the run of the delivery stands at the place.
+    fn is_delivered_at(&self, place: usize, delivery: &DeliveryId) -> bool
+        ensures is { result ≡ option_map_or (is_delivered_as delivery.now) (slice_get self.now place) false }
+        ensures within { result ≡ true → place < 100000 }
+    {
+        match self.as_slice().get(place) {
+            Some(run) => run.is_delivered_as(delivery),
+            None => false,
+        }
+    }
+
+    /// A job at a place.
+    fn job(&self, r: usize, j: usize) -> Option<&Job>
+        ensures { option_map (λ job. job.now.state) result ≡ job_at self.now r j }
+    {
+        let run = self.runs.get(r)?;
+        run.job(j)
+    }
+
+    /// A leg at a place.
+    pub fn leg(&self, place: LegPlace) -> Option<&Leg>
+        ensures { option_copied result ≡ leg_at self.now place }
+    {
+        let job = self.job(place.run, place.job)?;
+        job.legs().get(place.leg)
+    }
+
+    /// Adds a run at the end, with its number and with what it and its legs ask. At an error it is not added.
+    pub fn add(&mut self, alloc: Global, run: Run) -> Result<(), Refusal>
+        requires { length self.old < 100000 }
+        ensures added { Gives (λ _. self.new) result (Ok (self.old ++ run ∷ [])) }
+        ensures err { OnErr result (self.new ≡ self.old) }
+    {
+        let found = self.position(run.prepared().delivery());
+        let workflow = workflow_of(alloc, run.prepared())?;
+        self.add_counted(alloc, run, found, workflow)
+    }
+
+    /// The same, of a run of this workflow, whose delivery is found there in the runs so far.
+    fn add_counted(
+        &mut self,
+        alloc: Global,
+        run: Run,
+        found: Option<usize>,
+        workflow: Workflow,
+    ) -> Result<(), Refusal>
+        requires room { length self.old < 100000 }
+        requires found { found ≡ position (is_delivered_as run.admitted.delivery) self.old }
+        requires workflow { IsOf workflow run.admitted }
+        ensures added { Gives (λ _. self.new) result (Ok (self.old ++ run ∷ [])) }
+        ensures err { OnErr result (self.new ≡ self.old) }
+    {
+        let place = self.runs.len();
+        let number = self
+            .index
+            .make_room(alloc, run.prepared(), &workflow, place, found)?;
+        let asked = RunAsks::bind(alloc, &run, place + 1, number)?;
+        let numbers = &mut self.numbers;
+        push_all(&mut self.runs, numbers, &mut self.asks, run, number, asked)?;
+        self.index.counts.add(workflow, number);
+        Ok(())
+    }
+}
+
+impl TryCopy for Runs {
+    fn copy(&self, alloc: Global) -> Result<Self, Refusal> {
+        Ok(Runs {
+            runs: copy_items(alloc, &self.runs)?,
+            numbers: Vec::from_slice(alloc, self.numbers.as_slice())?,
+            asks: copy_items(alloc, &self.asks)?,
+            index: self.index.copy()?,
+        })
+    }
+}
+
+fn combo_of(alloc: Global, planned: &PlannedJob, l: usize) -> Result<Combo, Refusal>
+    ensures { Gives (λ combo. combo) result (Ok (option_map_or (λ leg. leg.combo) (slice_get planned.now.legs l) [])) }
+{
+    match planned.legs.as_slice().get(l) {
+        Some(leg) => leg.combo.copy(alloc),
+        None => Ok(Combo::new(alloc)),
+    }
+}
+
+fn number_at(numbers: &[usize], r: usize) -> Option<usize>
+    ensures { result ≡ slice_get numbers.now r }
+{
+    match numbers.get(r) {
+        Some(number) => Some(*number),
+        None => None,
+    }
+}
+
+/// Adds a run and its number, or neither.
+fn push_both(
+    runs: &mut Vec<Run>,
+    numbers: &mut Vec<usize>,
+    run: Run,
+    number: usize,
+) -> Result<(), Refusal>
+    ensures run { Gives (λ _. runs.new.items) result (Ok (runs.old.items ++ run ∷ [])) }
+    ensures number { OnOk result (numbers.new.items ≡ numbers.old.items ++ number ∷ []) }
+    ensures same_runs { OnErr result (runs.new.items ≡ runs.old.items) }
+    ensures same_numbers { OnErr result (numbers.new.items ≡ numbers.old.items) }
+{
+    numbers.push(number)?;
+    match runs.push(run) {
+        Ok(()) => Ok(()),
+        Err(error) => {
+            let _ = numbers.pop();
+            Err(Refusal::from(error))
+        }
+    }
+}
+
+/// Adds a run with its number and what it asks, or none of these.
+fn push_all(
+    runs: &mut Vec<Run>,
+    numbers: &mut Vec<usize>,
+    asks: &mut Vec<RunAsks>,
+    run: Run,
+    number: usize,
+    asked: RunAsks,
+) -> Result<(), Refusal>
+    ensures run { Gives (λ _. runs.new.items) result (Ok (runs.old.items ++ run ∷ [])) }
+    ensures number { OnOk result (numbers.new.items ≡ numbers.old.items ++ number ∷ []) }
+    ensures asked { OnOk result (asks.new.items ≡ asks.old.items ++ asked ∷ []) }
+    ensures same_runs { OnErr result (runs.new.items ≡ runs.old.items) }
+    ensures same_numbers { OnErr result (numbers.new.items ≡ numbers.old.items) }
+    ensures same_asks { OnErr result (asks.new.items ≡ asks.old.items) }
+{
+    asks.push(asked)?;
+    match push_both(runs, numbers, run, number) {
+        Ok(()) => Ok(()),
+        Err(refusal) => {
+            let _ = asks.pop();
+            Err(refusal)
+        }
+    }
+}

@@ -1,0 +1,73 @@
+//! The changes of a table's runs, each at its place.
+
+ghost use Rattle.std.specs.Prelude.{◌≡◌};
+ghost use Rattle.workflow_runs.specs.Places.{with_job, with_leg, with_run};
+ghost use Rattle.workflow_runs.specs.Rules.{opened, run_in_phase, settled_as};
+ghost use Rattle.workflow_runs.specs.Stops.{stopped_run, with_stopped_legs};
+ghost use Rattle.workflow_runs.specs.WithinRun.{leg_place};
+ghost use Rattle.workflow_runs.specs.Words.{planned_legs};
+
+use crate::leg::Leg;
+use crate::phases::RunPhase;
+use crate::runs::Runs;
+use wf_value::JobResult;
+
+impl Runs {
+    pub(crate) fn set_run_phase(&mut self, r: usize, phase: RunPhase)
+        ensures { self.new ≡ with_run r (run_in_phase phase) self.old }
+    {
+        if r < self.runs.len() {
+            let run = &mut self.runs[r];
+            run.set_phase(phase);
+        }
+    }
+
+    /// The job opens, with all legs of its plan.
+    pub(crate) fn open_job(&mut self, r: usize, j: usize)
+        ensures { self.new ≡ with_job r j (opened (planned_legs self.old r j)) self.old }
+    {
+        if r < self.runs.len() {
+            let run = &mut self.runs[r];
+            run.open_job(j);
+        }
+    }
+
+    pub(crate) fn settle_job(&mut self, r: usize, j: usize, settled: JobResult)
+        ensures { self.new ≡ with_job r j (settled_as settled) self.old }
+    {
+        if r < self.runs.len() {
+            let run = &mut self.runs[r];
+            run.settle_job(j, settled);
+        }
+    }
+
+    /// The run is stopped, if there is one at the place.
+    pub fn stop(&mut self, r: usize)
+        ensures { self.new ≡ with_run r stopped_run self.old }
+    {
+        if r < self.runs.len() {
+            let run = &mut self.runs[r];
+            run.stop();
+        }
+    }
+
+    /// All legs of the job are stopped.
+    pub(crate) fn stop_legs(&mut self, r: usize, j: usize)
+        ensures { self.new ≡ with_job r j with_stopped_legs self.old }
+    {
+        if r < self.runs.len() {
+            let run = &mut self.runs[r];
+            run.stop_legs(j);
+        }
+    }
+
+    /// Puts the leg in the place of the one that is there, if one is.
+    pub fn set_leg(&mut self, r: usize, j: usize, l: usize, leg: Leg)
+        ensures { self.new ≡ with_leg (leg_place r j l) (λ _. leg) self.old }
+    {
+        if r < self.runs.len() {
+            let run = &mut self.runs[r];
+            run.set_leg(j, l, leg);
+        }
+    }
+}

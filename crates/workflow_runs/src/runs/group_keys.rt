@@ -1,0 +1,101 @@
+//! The concurrency group of a run or of a leg as a key, by which it can be looked up among others.
+
+ghost use Rattle.std.specs.Fmt.{decimal};
+ghost use Rattle.std.specs.Option.{option_copied, option_map_or};
+ghost use Rattle.std.specs.Prelude.{◌≡◌, ◌<◌, ◌^◌, IfSome, Ok, false, length, nat_lt, true};
+ghost use Rattle.wf_value.specs.Gives.{Gives};
+ghost use Rattle.workflow_runs.specs.GroupOf.{group_at, run_group};
+ghost use Rattle.workflow_runs.specs.Holders.{holder_in_words};
+ghost use Rattle.workflow_runs.specs.Moves.{Holder as HolderOfGroup};
+ghost use Rattle.workflow_runs.specs.Places.{plan_at, run_at};
+
+use crate::holder::Holder;
+use crate::named_group::named_group;
+use crate::place::LegPlace;
+use crate::run::Run;
+use crate::run_context::RunContext;
+use crate::runs::Runs;
+use group_name::GroupKey;
+use itoa::Buffer;
+use run_plan::Prepared;
+use std::alloc::Global;
+use wf_value::Refusal;
+
+impl Runs {
+    /// The group of a run or of a leg, where it has one.
+    pub fn group(&self, alloc: Global, holder: &Holder) -> Result<Option<GroupKey>, Refusal>
+        ensures { Gives (λ group. group) result (Ok (group_at self.now (holder_in_words holder.now))) }
+    {
+        match holder {
+            Holder::Run(r) => self.group_of_run(alloc, *r),
+            Holder::Leg(place) => self.group_of_leg(alloc, *place),
+        }
+    }
+
+    /// A run at a place.
+    fn run(&self, r: usize) -> Option<&Run>
+        ensures run { option_copied result ≡ run_at self.now r }
+        ensures within { IfSome result (λ run. r < 100000) }
+    {
+        self.as_slice().get(r)
+    }
+
+    fn group_of_run(&self, alloc: Global, r: usize) -> Result<Option<GroupKey>, Refusal>
+        ensures { Gives (λ group. group) result (Ok (group_at self.now (HolderOfGroup.a_run r))) }
+    {
+        let Some(run) = self.run(r) else {
+            return Ok(None);
+        };
+        match self.number(r) {
+            Some(number) => group_of_event(alloc, run.prepared(), r + 1, number),
+            None => Ok(None),
+        }
+    }
+
+    #[tactic(auto, unfolding(crate::specs::GroupOf::group_at))]
+    fn group_of_leg(&self, alloc: Global, place: LegPlace) -> Result<Option<GroupKey>, Refusal>
+        ensures { Gives (λ group. group) result (Ok (group_at self.now (HolderOfGroup.a_leg place))) }
+    {
+        if !self.is_planned(place) {
+            return Ok(None);
+        }
+        match self.leg_view(place) {
+            Some(leg) => leg.group(alloc),
+            None => Ok(None),
+        }
+    }
+
+    /// Whether the plan of its run has the leg.
+    fn is_planned(&self, place: LegPlace) -> bool
+        ensures is { result ≡ option_map_or (λ job. nat_lt place.leg (length job.legs)) (plan_at self.now place.run place.job) false }
+        ensures small { result ≡ true → place.leg < 2 ^ 63 }
+    {
+        match self.planned(place.run, place.job) {
+            Some(job) => place.leg < job.legs.as_slice().len(),
+            None => false,
+        }
+    }
+}
+
+/// The group of the run of an event that has this id and this number.
+fn group_of_event(
+    alloc: Global,
+    event: &Prepared,
+    id: usize,
+    number: usize,
+) -> Result<Option<GroupKey>, Refusal>
+    ensures { Gives (λ group. group) result
+        (Ok (run_group (record { event = event.now; run_id = decimal id; run_number = decimal number }))) }
+{
+    let Some(asked) = event.concurrency() else {
+        return Ok(None);
+    };
+    let mut id_digits = Buffer::new();
+    let mut number_digits = Buffer::new();
+    let context = RunContext {
+        event,
+        run_id: id_digits.format(id),
+        run_number: number_digits.format(number),
+    };
+    named_group(alloc, event.repo().as_str(), asked, &context)
+}

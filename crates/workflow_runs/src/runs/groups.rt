@@ -1,0 +1,267 @@
+//! Who holds a concurrency group: found by going over all runs and legs. It takes no memory.
+
+ghost use Rattle.std.specs.Prelude.{◌≡◌, false, true, find, is_some, length, map, option_and_then, option_map};
+ghost use Rattle.std.specs.Option.{option_map_or};
+ghost use Rattle.group_name.specs.BoundGroup.{group_at as bound_group_at};
+ghost use Rattle.workflow_runs.specs.Arrivals.{arrived, is_in_group_of_run};
+ghost use Rattle.workflow_runs.specs.BoundGroups.{is_set_by, results_by_place};
+ghost use Rattle.workflow_runs.specs.FirstOf.{placed};
+ghost use Rattle.workflow_runs.specs.GroupOf.{cancels_in_progress, group_at};
+ghost use Rattle.workflow_runs.specs.Groups.{HasOneBeside, holds, is_in, may_start, waits};
+ghost use Rattle.workflow_runs.specs.Holders.{first_meant, holder_in_words, is_meant};
+ghost use Rattle.workflow_runs.specs.Moves.{Holder as HolderOfGroup};
+ghost use Rattle.workflow_runs.specs.Places.{job_at, leg_places, leg_places_of_job, leg_places_of_run, run_at, with_leg};
+ghost use Rattle.workflow_runs.specs.SoundRuns.{RunsAreSound};
+ghost use Rattle.workflow_runs.specs.StopMoves.{stop_holder};
+ghost use Rattle.workflow_runs.specs.Stops.{stopped};
+
+use crate::groups::Asked;
+use crate::holder::{Holder, Whom};
+use crate::place::LegPlace;
+use crate::run::Run;
+use crate::runs::Runs;
+
+impl Runs {
+    /// What a run or a leg asks of a group, and the run by the results of whose jobs.
+    fn asked(&self, holder: &Holder) -> Option<(&Asked, &Run)>
+        ensures group { option_and_then (λ a. bound_group_at (results_by_place a.1.now) a.0.now.group) result
+            ≡ group_at self.now (holder_in_words holder.now) }
+        ensures cancels { option_map_or (λ a. is_set_by (results_by_place a.1.now) a.0.now.cancels) result false
+            ≡ cancels_in_progress self.now (holder_in_words holder.now) }
+    {
+        let run = self.runs.get(holder.run())?;
+        let kept = self.asks.get(holder.run())?;
+        Some((kept.asked(holder)?, run))
+    }
+
+    /// Whether the holder has a group.
+    pub(crate) fn has_group(&self, holder: &Holder) -> bool
+        ensures { result ≡ is_some (group_at self.now (holder_in_words holder.now)) }
+    {
+        match self.asked(holder) {
+            Some((asked, run)) => asked.group.has_group(run),
+            None => false,
+        }
+    }
+
+    /// Whether the other one is in the group of the first.
+    fn is_in_group_of(&self, holder: &Holder, other: &Holder) -> bool
+        ensures { result ≡ option_map_or (λ g. is_in self.now g (holder_in_words other.now))
+            (group_at self.now (holder_in_words holder.now)) false }
+    {
+        match (self.asked(holder), self.asked(other)) {
+            (Some((one, run)), Some((another, other_run))) => {
+                one.group.same(run, &another.group, other_run)
+            }
+            _ => false,
+        }
+    }
+
+    /// Whether the coming of the holder cancels what is in progress.
+    fn cancels_in_progress(&self, holder: &Holder) -> bool
+        ensures { result ≡ cancels_in_progress self.now (holder_in_words holder.now) }
+    {
+        match self.asked(holder) {
+            Some((asked, run)) => asked.cancels.is_set(run),
+            None => false,
+        }
+    }
+
+    pub fn waits(&self, holder: &Holder) -> bool
+        ensures { result ≡ waits self.now (holder_in_words holder.now) }
+    {
+        match holder {
+            Holder::Run(r) => match self.runs.get(*r) {
+                Some(run) => run.phase().waits(),
+                None => false,
+            },
+            Holder::Leg(place) => match self.leg(*place) {
+                Some(leg) => leg.phase.waits(),
+                None => false,
+            },
+        }
+    }
+
+    pub fn holds(&self, holder: &Holder) -> bool
+        ensures { result ≡ holds self.now (holder_in_words holder.now) }
+    {
+        match holder {
+            Holder::Run(r) => match self.runs.get(*r) {
+                Some(run) => run.phase().is_live(),
+                None => false,
+            },
+            Holder::Leg(place) => match self.leg(*place) {
+                Some(leg) => leg.phase.holds(),
+                None => false,
+            },
+        }
+    }
+
+    /// Whether the leg's group is the one that its own run has.
+    pub(crate) fn is_in_group_of_run(&self, leg: LegPlace) -> bool
+        ensures { result ≡ is_in_group_of_run self.now leg }
+    {
+        self.is_in_group_of(&Holder::Run(leg.run), &Holder::Leg(leg))
+    }
+
+    /// Whether nobody runs in the group of the holder: nothing keeps back one that has none.
+    pub(crate) fn may_start(&self, holder: &Holder) -> bool
+        ensures { result ≡ may_start self.now (holder_in_words holder.now) }
+    {
+        !self.has_group(holder) || self.first_meant(holder, Whom::Running).is_none()
+    }
+
+    // ---- over all runs and legs
+
+    /// Whether the other one is among those that are meant in the group of the holder.
+    fn is_meant(&self, holder: &Holder, whom: Whom, other: &Holder) -> bool
+        ensures { result ≡ is_meant self.now (holder_in_words holder.now) whom (holder_in_words other.now) }
+    {
+        match whom {
+            Whom::OthersPending => {
+                self.waits(other) && !other.is(holder) && self.is_in_group_of(holder, other)
+            }
+            Whom::Running => self.holds(other) && self.is_in_group_of(holder, other),
+        }
+    }
+
+    /// The first of those that are meant, the runs before the legs.
+    pub(crate) fn first_meant(&self, holder: &Holder, whom: Whom) -> Option<Holder>
+        ensures { option_map holder_in_words result ≡ first_meant self.now (holder_in_words holder.now) whom }
+    {
+        match self.first_run_meant(holder, whom) {
+            Some(r) => Some(Holder::Run(r)),
+            None => Some(Holder::Leg(self.first_leg_meant(holder, whom)?)),
+        }
+    }
+
+    fn first_run_meant(&self, holder: &Holder, whom: Whom) -> Option<usize>
+        ensures { result ≡ find (λ r. is_meant self.now (holder_in_words holder.now) whom (HolderOfGroup.a_run r))
+            (map (λ r. r.0) (placed self.now)) }
+    {
+        for r in 0..self.len() {
+            if self.is_meant(holder, whom, &Holder::Run(r)) {
+                return Some(r);
+            }
+        }
+        None
+    }
+
+    fn first_leg_meant(&self, holder: &Holder, whom: Whom) -> Option<LegPlace>
+        ensures { result ≡ find (λ p. is_meant self.now (holder_in_words holder.now) whom (HolderOfGroup.a_leg p)) (leg_places self.now) }
+    {
+        for r in 0..self.len() {
+            let leg = self.first_leg_meant_of_run(holder, whom, r);
+            if leg.is_some() {
+                return leg;
+            }
+        }
+        None
+    }
+
+    fn first_leg_meant_of_run(&self, holder: &Holder, whom: Whom, r: usize) -> Option<LegPlace>
+        ensures { result ≡ option_and_then
+            (λ run. find (λ p. is_meant self.now (holder_in_words holder.now) whom (HolderOfGroup.a_leg p)) (leg_places_of_run (r, run)))
+            (run_at self.now r) }
+    {
+        for j in 0..self.job_count(r) {
+            let leg = self.first_leg_meant_of_job(holder, whom, r, j);
+            if leg.is_some() {
+                return leg;
+            }
+        }
+        None
+    }
+
+    fn first_leg_meant_of_job(
+        &self,
+        holder: &Holder,
+        whom: Whom,
+        r: usize,
+        j: usize,
+    ) -> Option<LegPlace>
+        ensures { result ≡ option_and_then
+            (λ job. find (λ p. is_meant self.now (holder_in_words holder.now) whom (HolderOfGroup.a_leg p)) (leg_places_of_job r (j, job)))
+            (job_at self.now r j) }
+    {
+        for l in 0..self.leg_count(r, j) {
+            let leg = LegPlace {
+                run: r,
+                job: j,
+                leg: l,
+            };
+            if self.is_meant(holder, whom, &Holder::Leg(leg)) {
+                return Some(leg);
+            }
+        }
+        None
+    }
+
+    pub fn job_count(&self, r: usize) -> usize
+        ensures { result ≡ option_map_or (λ run. length run.jobs) (run_at self.now r) 0 }
+    {
+        match self.runs.get(r) {
+            Some(run) => run.job_count(),
+            None => 0,
+        }
+    }
+
+    pub fn leg_count(&self, r: usize, j: usize) -> usize
+        ensures { result ≡ option_map_or (λ job. length job.legs) (job_at self.now r j) 0 }
+    {
+        match self.job(r, j) {
+            Some(job) => job.legs().len(),
+            None => 0,
+        }
+    }
+
+    // ---- an arrival
+
+    /// The run or the leg, which waits by now, arrives in its group: the other one that is pending there, if one is, ends as cancelled,
+    /// and with cancel-in-progress the running one is stopped. It takes no memory.
+    pub fn arrive(&mut self, newcomer: &Holder)
+        requires waits { waits self.old (holder_in_words newcomer.now) ≡ true }
+        requires sound { RunsAreSound self.old }
+        requires one_beside { HasOneBeside self.old (holder_in_words newcomer.now) }
+        ensures { self.new ≡ (arrived (holder_in_words newcomer.now) self.old).runs }
+    {
+        if !self.has_group(newcomer) {
+            return;
+        }
+        let cancels = self.cancels_in_progress(newcomer);
+        self.stop_meant(newcomer, Whom::OthersPending);
+        if cancels {
+            self.stop_meant(newcomer, Whom::Running);
+        }
+    }
+
+    /// The first of those that are meant is stopped, if there is one.
+    fn stop_meant(&mut self, newcomer: &Holder, whom: Whom)
+        ensures { self.new ≡ option_map_or (λ h. (stop_holder h self.old).runs)
+            (first_meant self.old (holder_in_words newcomer.now) whom) self.old }
+    {
+        if let Some(other) = self.first_meant(newcomer, whom) {
+            self.stop_holder(&other);
+        }
+    }
+
+    /// The run or the leg is stopped.
+    fn stop_holder(&mut self, holder: &Holder)
+        ensures { self.new ≡ (stop_holder (holder_in_words holder.now) self.old).runs }
+    {
+        match holder {
+            Holder::Run(r) => self.stop(*r),
+            Holder::Leg(place) => self.stop_leg(*place),
+        }
+    }
+
+    /// The leg is stopped, if there is one at the place.
+    fn stop_leg(&mut self, place: LegPlace)
+        ensures { self.new ≡ with_leg place stopped self.old }
+    {
+        if let Some(leg) = self.leg(place) {
+            let leg = leg.stopped();
+            self.set_leg(place.run, place.job, place.leg, leg);
+        }
+    }
+}

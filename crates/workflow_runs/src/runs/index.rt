@@ -1,0 +1,75 @@
+//! By what the runs of a table are looked up and counted.
+
+ghost use Rattle.std.specs.BTreeMap.{get_by_text};
+ghost use Rattle.std.specs.Prelude.{◌≡◌, ◌+◌, ◌<◌, ◌&&◌, ℕ, [], IfOk, List, OnErr, OnOk, Some, if◌then◌else◌, is_none, true};
+ghost use Rattle.std.specs.Str.{bytes_eq};
+ghost use Rattle.run_plan.specs.Admitted.{Admitted};
+ghost use Rattle.workflow_runs.specs.BoundGroups.{ErrsOnlyByMemory};
+ghost use Rattle.workflow_runs.specs.Counted.{AreCounted, IsOf, count_of, is_counted};
+ghost use Rattle.workflow_runs.specs.Delivered.{FindsFirst};
+
+use crate::runs::counts::{Counts, Workflow};
+use crate::runs::places::Places;
+use run_plan::Prepared;
+use std::alloc::Global;
+use wf_value::Refusal;
+
+/// Where the run of each delivery stands, and how many runs there are of each workflow.
+#[derive(Drop)]
+pub(crate) struct Index {
+    pub places: Places,
+    pub counts: Counts,
+}
+
+impl Index {
+    pub(crate) fn new(alloc: Global) -> Self
+        ensures places { FindsFirst [] result.places.places }
+        ensures counts { AreCounted [] result.counts.counts }
+    {
+        Index {
+            places: Places::new(alloc),
+            counts: Counts::new(alloc),
+        }
+    }
+
+    /// Takes the memory for the run of an event of this workflow, which is to stand at the place, and answers its number. The place is kept
+    /// for its delivery unless one of its runs was found before; the run is not counted yet.
+    pub(crate) fn make_room(
+        &mut self,
+        alloc: Global,
+        event: &Prepared,
+        workflow: &Workflow,
+        place: usize,
+        found: Option<usize>,
+    ) -> Result<usize, Refusal>
+        requires few { count_of self.old.counts.counts event.now < 100000 }
+        requires workflow { IsOf workflow.now event.now }
+        ensures err { ErrsOnlyByMemory result }
+        ensures number { IfOk result (λ number. number ≡ count_of self.old.counts.counts event.now + 1) }
+        ensures kept { OnOk result ((other : List ℕ) → get_by_text self.new.places.places other
+            ≡ (if is_none found && bytes_eq event.now.delivery other then Some place else get_by_text self.old.places.places other)) }
+        ensures same { OnErr result ((other : List ℕ)
+            → get_by_text self.new.places.places other ≡ get_by_text self.old.places.places other) }
+        ensures uncounted { (other : Admitted) → count_of self.new.counts.counts other ≡ count_of self.old.counts.counts other }
+        ensures room { OnOk result (is_counted self.new.counts.counts event.now ≡ true) }
+    {
+        let number = self.counts.count(workflow) + 1;
+        self.counts.make_room(alloc, workflow)?;
+        self.places.keep(alloc, event.delivery(), place, found)?;
+        Ok(number)
+    }
+
+    /// One in which the same is found.
+    pub(crate) fn copy(&self) -> Result<Self, Refusal>
+        ensures err { ErrsOnlyByMemory result }
+        ensures places { IfOk result (λ index. (delivery : List ℕ)
+            → get_by_text index.places.places delivery ≡ get_by_text self.now.places.places delivery) }
+        ensures counts { IfOk result (λ index. (event : Admitted)
+            → count_of index.counts.counts event ≡ count_of self.now.counts.counts event) }
+    {
+        Ok(Index {
+            places: self.places.copy()?,
+            counts: self.counts.copy()?,
+        })
+    }
+}

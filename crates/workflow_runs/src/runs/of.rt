@@ -1,0 +1,33 @@
+//! The runs of their parts.
+
+ghost use Rattle.std.specs.Prelude.{◌≡◌, IfOk, MatchOption};
+ghost use Rattle.workflow_runs.specs.BoundGroups.{ErrsOnlyByMemory};
+ghost use Rattle.workflow_runs.specs.AsPlanned.{AreAsPlanned};
+
+use crate::run::Run;
+use crate::run_parts::RunParts;
+use crate::runs::{MOST_RUNS, Runs};
+use std::alloc::Global;
+use wf_value::Refusal;
+
+impl Runs {
+    /// The runs of these parts, where they are not too many and each is as its plan.
+    pub fn of_parts(alloc: Global, parts: &[RunParts]) -> Result<Option<Self>, Refusal>
+        ensures err { ErrsOnlyByMemory result }
+        ensures of { IfOk result (λ found. MatchOption found (AreAsPlanned parts.now → ⊥)
+            (λ runs. (runs ≡ parts.now) × AreAsPlanned parts.now)) }
+    {
+        if parts.len() > MOST_RUNS {
+            return Ok(None);
+        }
+        let mut runs = Runs::new(alloc);
+        for r in 0..parts.len() {
+            let part = &parts[r];
+            match Run::of_parts(alloc, part)? {
+                Some(run) => runs.add(alloc, run)?,
+                None => return Ok(None),
+            }
+        }
+        Ok(Some(runs))
+    }
+}

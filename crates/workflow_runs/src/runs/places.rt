@@ -1,0 +1,78 @@
+//! Where the run of each delivery stands, so that a delivery that comes again is found without a look at all runs.
+
+ghost use Rattle.std.specs.BTreeMap.{get_by_text};
+ghost use Rattle.std.specs.Prelude.{◌≡◌, ◌&&◌, ℕ, IfOk, List, None, OnErr, OnOk, Some, if◌then◌else◌, is_none};
+ghost use Rattle.std.specs.Str.{bytes_eq};
+ghost use Rattle.workflow_runs.specs.BoundGroups.{ErrsOnlyByMemory};
+
+use crate::runs::counts::text_of;
+use run_plan::DeliveryId;
+use std::alloc::Global;
+use std::collections::BTreeMap;
+use wf_value::Refusal;
+
+/// A place for each delivery. One may be kept where its run could not be added, so whoever asks looks whether the run stands there.
+#[derive(Drop)]
+pub(crate) struct Places {
+    pub places: BTreeMap<String, usize>,
+}
+
+impl Places {
+    pub(crate) fn new(alloc: Global) -> Self
+        ensures { (delivery : List ℕ) → get_by_text result.places delivery ≡ None }
+    {
+        Places {
+            places: BTreeMap::new(alloc),
+        }
+    }
+
+    /// The place that is kept for a delivery.
+    pub(crate) fn place(&self, delivery: &DeliveryId) -> Option<usize>
+        ensures { result ≡ get_by_text self.now.places delivery.now }
+    {
+        match self.places.get(delivery.as_str()) {
+            Some(place) => Some(*place),
+            None => None,
+        }
+    }
+
+    /// Keeps the place for a delivery, unless its run was found before.
+    pub(crate) fn keep(
+        &mut self,
+        alloc: Global,
+        delivery: &DeliveryId,
+        place: usize,
+        found: Option<usize>,
+    ) -> Result<(), Refusal>
+        ensures err { ErrsOnlyByMemory result }
+        ensures kept { OnOk result ((other : List ℕ) → get_by_text self.new.places other
+            ≡ (if is_none found && bytes_eq delivery.now other then Some place else get_by_text self.old.places other)) }
+        ensures same { OnErr result ((other : List ℕ) → get_by_text self.new.places other ≡ get_by_text self.old.places other) }
+    {
+        match found {
+            Some(_) => Ok(()),
+            None => self.put(alloc, delivery, place),
+        }
+    }
+
+    fn put(&mut self, alloc: Global, delivery: &DeliveryId, place: usize) -> Result<(), Refusal>
+        ensures err { ErrsOnlyByMemory result }
+        ensures put { OnOk result ((other : List ℕ) → get_by_text self.new.places other
+            ≡ (if bytes_eq delivery.now other then Some place else get_by_text self.old.places other)) }
+        ensures same { OnErr result ((other : List ℕ) → get_by_text self.new.places other ≡ get_by_text self.old.places other) }
+    {
+        let key = text_of(alloc, delivery.as_str())?;
+        self.places.insert(key, place)?;
+        Ok(())
+    }
+
+    /// The same places.
+    pub(crate) fn copy(&self) -> Result<Self, Refusal>
+        ensures err { ErrsOnlyByMemory result }
+        ensures same { IfOk result (λ copy. (delivery : List ℕ) → get_by_text copy.places delivery ≡ get_by_text self.now.places delivery) }
+    {
+        Ok(Places {
+            places: self.places.clone()?,
+        })
+    }
+}

@@ -1,0 +1,291 @@
+//! Settling: one rule after another, until none applies.
+
+ghost use Rattle.std.specs.Prelude.{◌≡◌, ◌<◌, ◌^◌, true, false, if◌then◌else◌, is_some, Some, None, IfSome, option_map, option_and_then};
+ghost use Rattle.std.specs.Prelude.{filter_map};
+ghost use Rattle.std.specs.List.{list_any};
+ghost use Rattle.std.specs.Option.{option_map_or};
+ghost use Rattle.needs_graph.specs.Results.{fails_job, gathered, is_cancelled};
+ghost use Rattle.workflow_runs.specs.FirstOf.{first_some, placed};
+ghost use Rattle.workflow_runs.specs.LookAgain.{RestBefore, at_job_again, frees, is_new_at, look_again, look_first};
+ghost use Rattle.workflow_runs.specs.Groups.{HasOneEach};
+ghost use Rattle.workflow_runs.specs.Places.{job_at, leg_at, run_at, with_job};
+ghost use Rattle.workflow_runs.specs.Rules.{closing_rule, decided, leg_end, leg_rule, may_run, newcomer_rule, rule_at, whole_rule};
+ghost use Rattle.workflow_runs.specs.Rules.{with_leg_in};
+ghost use Rattle.workflow_runs.specs.Settling.{first_rule, settled};
+ghost use Rattle.workflow_runs.specs.SoundRuns.{RunsAreSound};
+ghost use Rattle.workflow_runs.specs.StateWords.{outcome_of};
+ghost use Rattle.workflow_runs.specs.WithinRun.{failing};
+ghost use Rattle.workflow_runs.specs.Words.{is_stopping};
+
+use crate::first_place::first_place;
+use crate::holder::Holder;
+use crate::leg::Leg;
+use crate::phases::{LegPhase, RunPhase};
+use crate::place::{JobPlace, LegPlace, Place};
+use crate::runs::Runs;
+use wf_value::{JobResult, Outcome};
+
+impl Runs {
+    /// Takes one rule after another, until none applies.
+    pub fn settle(&mut self)
+        requires sound { RunsAreSound self.old }
+        requires one_each { HasOneEach self.old }
+        ensures { self.new ≡ settled self.old }
+    {
+        self.settle_from(JobPlace { run: 0, job: 0 });
+    }
+
+    /// The same, where no rule applies before a place.
+    pub fn settle_from(&mut self, start: JobPlace)
+        requires sound { RunsAreSound self.old }
+        requires one_each { HasOneEach self.old }
+        requires rest { RestBefore self.old start }
+        ensures { self.new ≡ settled self.old }
+    {
+        let mut from = start;
+        while let Some(next) = self.take_first_rule(from) {
+            from = next;
+        }
+    }
+
+    /// Takes the rule at the first place where one applies, and says from where the next is to be looked for.
+    fn take_first_rule(&mut self, from: JobPlace) -> Option<JobPlace>
+        requires sound { RunsAreSound self.old }
+        requires one_each { HasOneEach self.old }
+        requires rest { RestBefore self.old from }
+        ensures took { option_map (λ next. next.runs) (first_rule self.old) ≡ (if is_some result then Some self.new else None) }
+        ensures kept { is_some result ≡ false → self.new ≡ self.old }
+        ensures rest { IfSome result (λ next. RestBefore self.new next) }
+    {
+        match first_place(self, from) {
+            Some(place) => {
+                let frees = self.frees(&place);
+                self.take_rule(place);
+                Some(self.look_again(&place, frees))
+            }
+            None => None,
+        }
+    }
+
+    /// From where to look for the next rule, after the one at the place: none has become due before.
+    fn look_again(&self, place: &Place, freed: bool) -> JobPlace
+        ensures { result ≡ look_again freed self.now place.now }
+    {
+        if freed {
+            return JobPlace { run: 0, job: 0 };
+        }
+        match place {
+            Place::Opening(r, j) => self.at_job_again(*r, *j),
+            Place::AtLeg(leg) => self.at_job_again(leg.run, leg.job),
+            Place::Closing(r, j) => self.at_job_again(*r, *j),
+            Place::Whole(r) => JobPlace { run: *r, job: 0 },
+        }
+    }
+
+    /// From where settling looks once a new run has arrived.
+    pub fn look_first(&self, newcomer: usize) -> JobPlace
+        ensures { result ≡ look_first self.now newcomer }
+    {
+        let run = if self.has_group(&Holder::Run(newcomer)) {
+            0
+        } else {
+            newcomer
+        };
+        JobPlace { run, job: 0 }
+    }
+
+    /// Whether the rule there may set a run or a leg of another run on its way: a leg arrives there in a group, and so may end or stop
+    /// others, or a live run of a group ends.
+    fn frees(&self, place: &Place) -> bool
+        ensures { result ≡ frees self.now place.now }
+    {
+        match place {
+            Place::AtLeg(leg) => self.is_new(*leg) && self.has_group(&Holder::Leg(*leg)),
+            Place::Whole(r) => self.holds(&Holder::Run(*r)) && self.has_group(&Holder::Run(*r)),
+            Place::Opening(_, _) | Place::Closing(_, _) => false,
+        }
+    }
+
+    fn is_new(&self, leg: LegPlace) -> bool
+        ensures { result ≡ is_new_at self.now leg }
+    {
+        match self.leg(leg) {
+            Some(leg) => leg.phase.is_new(),
+            None => false,
+        }
+    }
+
+    fn at_job_again(&self, r: usize, j: usize) -> JobPlace
+        ensures { result ≡ at_job_again self.now r j }
+    {
+        match self.runs.get(r) {
+            Some(run) => JobPlace {
+                run: r,
+                job: run.job_again(j),
+            },
+            None => JobPlace { run: r, job: j },
+        }
+    }
+
+    /// Takes the rule at a place, where one applies.
+    fn take_rule(&mut self, place: Place)
+        requires sound { RunsAreSound self.old }
+        requires one_each { HasOneEach self.old }
+        ensures { IfSome (rule_at self.old place) (λ next. self.new ≡ next.runs) }
+    {
+        match place {
+            Place::Opening(r, j) => self.decide(r, j),
+            Place::AtLeg(leg) => self.move_leg(leg),
+            Place::Closing(r, j) => self.close(r, j),
+            Place::Whole(r) => self.move_run(r),
+        }
+    }
+
+    /// Opens the job where its condition holds, else settles it.
+    fn decide(&mut self, r: usize, j: usize)
+        ensures { self.new ≡ with_job r j (decided self.old r j) self.old }
+    {
+        let stopping = self.is_stopping(r);
+        if self.may_run(r, j) {
+            self.open_job(r, j);
+        } else if stopping {
+            self.settle_job(r, j, JobResult::Cancelled);
+        } else {
+            self.settle_job(r, j, JobResult::Skipped);
+        }
+    }
+
+    /// Whether the condition of the job holds.
+    fn may_run(&self, r: usize, j: usize) -> bool
+        ensures { result ≡ may_run self.now r j }
+    {
+        match self.runs.get(r) {
+            Some(run) => run.may_run(j),
+            None => false,
+        }
+    }
+
+    fn is_stopping(&self, r: usize) -> bool
+        ensures { result ≡ is_stopping self.now r }
+    {
+        match self.runs.get(r) {
+            Some(run) => run.is_stopping(),
+            None => false,
+        }
+    }
+
+    /// A new leg arrives, and a waiting one becomes ready where it may start.
+    fn move_leg(&mut self, place: LegPlace)
+        requires sound { RunsAreSound self.old }
+        requires one_each { HasOneEach self.old }
+        ensures { IfSome (option_and_then (leg_rule self.old place) (leg_at self.old place)) (λ next. self.new ≡ next.runs) }
+    {
+        match self.leg_phase(place) {
+            Some(LegPhase::New) => self.begin_leg(place),
+            Some(LegPhase::Waiting) => self.set_leg_phase(place, LegPhase::Ready),
+            _ => {}
+        }
+    }
+
+    fn leg_phase(&self, place: LegPlace) -> Option<LegPhase>
+        ensures { result ≡ option_map (λ leg. leg.phase) (leg_at self.now place) }
+    {
+        Some(self.leg(place)?.phase)
+    }
+
+    fn set_leg_phase(&mut self, place: LegPlace, phase: LegPhase)
+        ensures { self.new ≡ with_leg_in phase place self.old }
+    {
+        match self.leg(place) {
+            Some(leg) => {
+                let leg = leg.in_phase(phase);
+                self.set_leg(place.run, place.job, place.leg, leg);
+            }
+            None => {}
+        }
+    }
+
+    /// The leg arrives in its group and waits. One whose group is its own run's is cancelled instead.
+    fn begin_leg(&mut self, place: LegPlace)
+        requires new { is_new_at self.old place ≡ true }
+        requires sound { RunsAreSound self.old }
+        requires one_each { HasOneEach self.old }
+        ensures { self.new ≡ (newcomer_rule self.old place).runs }
+    {
+        if self.is_in_group_of_run(place) {
+            self.set_leg_phase(place, LegPhase::Ended(Outcome::Cancelled));
+        } else {
+            self.set_leg_phase(place, LegPhase::Waiting);
+            self.arrive(&Holder::Leg(place));
+        }
+    }
+
+    /// The open job settles with its result, where its legs have ended.
+    fn close(&mut self, r: usize, j: usize)
+        ensures { IfSome (option_and_then (closing_rule self.old r j) (job_at self.old r j)) (λ next. self.new ≡ next.runs) }
+    {
+        if let Some(job) = self.job(r, j) {
+            let settled = self.result(r, j, job.legs());
+            self.settle_job(r, j, settled);
+        }
+    }
+
+    /// The result of a job from its legs, as far as they have ended: a failure where a leg failed and is
+    /// not passed over, else cancelled where a leg was, else a success.
+    pub fn result(&self, r: usize, j: usize, legs: &[Leg]) -> JobResult
+        ensures { result ≡ gathered (filter_map (leg_end self.now r j) (placed legs.now)) }
+    {
+        if self.failing_leg(r, j, legs).is_some() {
+            JobResult::Failure
+        } else if any_was_cancelled(legs) {
+            JobResult::Cancelled
+        } else {
+            JobResult::Success
+        }
+    }
+
+    /// Whether the leg fails its job.
+    fn fails_job(&self, place: LegPlace, leg: &Leg) -> bool
+        requires leg { place.leg < 2 ^ 63 }
+        ensures { result ≡ option_map_or fails_job (leg_end self.now place.run place.job (place.leg, leg.now)) false }
+    {
+        leg.has_failed() && !self.passes_over(place)
+    }
+
+    /// The first leg that fails its job.
+    fn failing_leg(&self, r: usize, j: usize, legs: &[Leg]) -> Option<usize>
+        ensures { result ≡ first_some (failing self.now r j) (placed legs.now) }
+    {
+        for l in 0..legs.len() {
+            let place = LegPlace {
+                run: r,
+                job: j,
+                leg: l,
+            };
+            let leg = &legs[l];
+            if self.fails_job(place, leg) {
+                return Some(l);
+            }
+        }
+        None
+    }
+
+    /// A waiting run becomes live, and a live one ends.
+    fn move_run(&mut self, r: usize)
+        ensures { IfSome (option_and_then (whole_rule self.old r) (run_at self.old r)) (λ next. self.new ≡ next.runs) }
+    {
+        if let Some(run) = self.runs.get(r) {
+            match run.phase() {
+                RunPhase::Waiting => self.set_run_phase(r, RunPhase::Live),
+                RunPhase::Live => self.set_run_phase(r, RunPhase::Ended),
+                RunPhase::Ended => {}
+            }
+        }
+    }
+}
+
+fn any_was_cancelled(legs: &[Leg]) -> bool
+    ensures { result ≡ list_any (λ leg. option_map_or is_cancelled (outcome_of leg.phase) false) legs.now }
+{
+    legs.iter().any(|leg| leg.was_cancelled())
+}

@@ -1,0 +1,178 @@
+//! The labels that a leg asks for, where they are known when its run is admitted: a claim compares them then and looks nothing up. GitHub
+//! Docs, "Workflow syntax for GitHub Actions", `jobs.<job_id>.runs-on`.
+
+ghost use Rattle.std.specs.Prelude.{◌≡◌, ℕ, IfOk, IfSome, Ok, Some, slice_get};
+ghost use Rattle.std.specs.List.{flat_map, list_all};
+ghost use Rattle.wf_expr.specs.Bound.{HasResults, Results, bound_text};
+ghost use Rattle.wf_expr.specs.ContextValue.{Values};
+ghost use Rattle.wf_value.specs.Gives.{Gives};
+ghost use Rattle.workflow_runs.specs.BoundGroups.{ErrsOnlyByMemory, facts_by};
+ghost use Rattle.workflow_runs.specs.KnownLabels.{Tells, are_as_they_stand, are_kept, asks_nothing, is_as_it_stands};
+ghost use Rattle.workflow_runs.specs.LegContext.{context_of};
+ghost use Rattle.workflow_runs.specs.declared.wanted.Wanted.{Wanted as WantedLabels};
+
+use crate::told::Told;
+use run_plan::PlannedJob;
+use std::alloc::Global;
+use wf_expr::{BoundPiece, Context, Needs, Piece, Template};
+use wf_value::{Chars, Refusal, Sequence, TryCopy};
+
+/// The most labels that are kept of a leg: a runner has no more.
+const MOST_LABELS: usize = 16;
+
+/// The most bytes that are kept of a label: one of a runner has no more.
+const MOST_BYTES: usize = 64;
+
+/// What is kept of the labels that a leg asks for.
+#[derive(Drop)]
+pub enum Wanted {
+    /// Their texts, whatever results the run's jobs will have.
+    Known(Sequence<Chars>),
+    /// Nothing: each claim looks them up.
+    LookedUp,
+}
+
+impl Wanted {
+    /// The labels in a context that lacks the results of needs alone.
+    fn bind<C: Context, N: Needs>(
+        alloc: Global,
+        labels: &[Template],
+        known: &C,
+        needs: &N,
+    ) -> Result<Self, Refusal>
+        ensures err { ErrsOnlyByMemory result }
+        ensures tells { IfOk result
+            (λ wanted. (values : Results → Values)
+            → ((results : Results) → HasResults (C.values known.now) (N.need_of needs.now) results (values results))
+            → Tells values labels.now wanted) }
+    {
+        let mut texts = Vec::with_capacity(alloc, labels.len())?;
+        for label in labels {
+            let bound = label.bind(alloc, known, needs)?;
+            match known_text(alloc, bound.pieces())? {
+                Some(text) => texts.push(text)?,
+                None => return Ok(Wanted::LookedUp),
+            }
+        }
+        Ok(Wanted::Known(Sequence::new(texts)))
+    }
+}
+
+impl TryCopy for Wanted {
+    fn copy(&self, alloc: Global) -> Result<Self, Refusal> {
+        match self {
+            Wanted::Known(texts) => Ok(Wanted::Known(texts.copy(alloc)?)),
+            Wanted::LookedUp => Ok(Wanted::LookedUp),
+        }
+    }
+}
+
+/// The text of what was bound, where it asks for no result and is no longer than a runner's label.
+fn known_text(alloc: Global, pieces: &[BoundPiece]) -> Result<Option<Chars>, Refusal>
+    ensures err { ErrsOnlyByMemory result }
+    ensures text { IfOk result (λ known. IfSome known (λ text. (results : Results) → bound_text results pieces.now ≡ text)) }
+{
+    if !ask_nothing(pieces) {
+        return Ok(None);
+    }
+    let text = text_of(alloc, pieces)?;
+    if text.as_str().len() <= MOST_BYTES {
+        Ok(Some(text))
+    } else {
+        Ok(None)
+    }
+}
+
+fn asks_nothing(piece: &BoundPiece) -> bool
+    ensures { result ≡ asks_nothing piece.now }
+{
+    piece.needs.len() == 0
+}
+
+fn ask_nothing(pieces: &[BoundPiece]) -> bool
+    ensures { result ≡ list_all asks_nothing pieces.now }
+{
+    pieces.iter().all(|piece| asks_nothing(piece))
+}
+
+/// What the pieces say where no need has a result.
+fn text_of(alloc: Global, pieces: &[BoundPiece]) -> Result<Chars, Refusal>
+    ensures { Gives (λ t. t) result (Ok (flat_map (λ piece. piece.otherwise) pieces.now)) }
+{
+    let mut text = String::new(alloc);
+    for piece in pieces {
+        text.push_str(piece.otherwise.as_str())?;
+    }
+    Ok(Chars::new(text))
+}
+
+// ---- which labels are worth keeping
+
+fn is_as_it_stands(piece: &Piece) -> bool
+    ensures { result ≡ is_as_it_stands piece.now }
+{
+    match piece {
+        Piece::Plain(_) => true,
+        Piece::Braced(_) => false,
+    }
+}
+
+fn stands_so(label: &Template) -> bool
+    ensures { result ≡ list_all is_as_it_stands label.now }
+{
+    label.pieces().iter().all(|piece| is_as_it_stands(piece))
+}
+
+fn are_as_they_stand(labels: &[Template]) -> bool
+    ensures { result ≡ are_as_they_stand labels.now }
+{
+    labels.iter().all(|label| stands_so(label))
+}
+
+/// Whether something is looked up for the labels, and they are no more than a runner's.
+fn are_kept(labels: &[Template]) -> bool
+    ensures { result ≡ are_kept labels.now }
+{
+    labels.len() <= MOST_LABELS && !are_as_they_stand(labels)
+}
+
+// ---- those of a job's legs
+
+/// What is kept for each leg of a job, where its labels are worth keeping.
+pub(crate) fn bind_labels<'x>(
+    alloc: Global,
+    told: &'x Told<'_>,
+    j: usize,
+    job: &'x PlannedJob,
+) -> Result<Sequence<Wanted>, Refusal>
+    ensures err { ErrsOnlyByMemory result }
+    ensures tells { IfOk result (λ legs. (l : ℕ) (wanted : WantedLabels) → slice_get legs l ≡ Some wanted
+        → Tells (λ results. context_of (facts_by told.now j job.now l results)) job.now.labels wanted) }
+{
+    if !are_kept(job.labels.as_slice()) {
+        return Ok(Sequence::new(Vec::new(alloc)));
+    }
+    let legs = bind_each(alloc, told, j, job)?;
+    Ok(Sequence::new(legs))
+}
+
+fn bind_each<'x>(
+    alloc: Global,
+    told: &'x Told<'_>,
+    j: usize,
+    job: &'x PlannedJob,
+) -> Result<Vec<Wanted>, Refusal>
+    ensures err { ErrsOnlyByMemory result }
+    ensures tells { IfOk result (λ legs. (l : ℕ) (wanted : WantedLabels) → slice_get legs.items l ≡ Some wanted
+        → Tells (λ results. context_of (facts_by told.now j job.now l results)) job.now.labels wanted) }
+{
+    let needs = told.leg_needs(j);
+    let count = job.legs.as_slice().len();
+    let mut legs = Vec::with_capacity(alloc, count)?;
+    for leg in 0..count {
+        let context = told.leg_context(j, job, leg);
+        let wanted = Wanted::bind(alloc, job.labels.as_slice(), &context, &needs)?;
+        legs.push(wanted)?;
+    }
+    Ok(legs)
+}
