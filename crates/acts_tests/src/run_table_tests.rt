@@ -51,6 +51,18 @@ pub fn played(rt: &impl Abort, alloc: Global, rows: &[Row<'_>]) -> Table {
     table
 }
 
+/// Carries out commands from the empty table, and compares each printed reply.
+pub fn expect_replies(rt: &impl Abort, alloc: Global, rows: &[Row<'_>]) {
+    let mut table = Table::new(alloc);
+    play(rt, alloc, &mut table, rows);
+}
+
+/// The same, and looks at a run then.
+pub fn expect_shown(rt: &impl Abort, alloc: Global, rows: &[Row<'_>], id: &str, want: &str) {
+    let table = played(rt, alloc, rows);
+    expect_view(rt, alloc, &table, id, want);
+}
+
 /// Looks at a run, and compares its printed view.
 pub fn expect_view(rt: &impl Abort, alloc: Global, table: &Table, id: &str, want: &str) {
     let id = number(id).expect(rt, "a number");

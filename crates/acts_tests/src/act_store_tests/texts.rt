@@ -94,8 +94,7 @@ fn goes_on(rt: &impl Abort, alloc: Global) -> Result<(), Refusal> {
 
 fn goes_on_over(rt: &impl Abort, alloc: Global, disk: MemoryDisk) -> Result<MemoryDisk, Refusal> {
     let mut store = opening(rt, alloc, disk)?;
-    expect_leased(rt, alloc, &store)?;
-    go_on(rt, alloc, &mut store)?;
+    go_on_from_leased(rt, alloc, &mut store)?;
     Ok(store.into_disk())
 }
 
@@ -105,6 +104,15 @@ fn expect_leased(rt: &impl Abort, alloc: Global, store: &Store<MemoryDisk>) -> R
         expect_seen(rt, alloc, store, id, want)?;
     }
     Ok(())
+}
+
+fn go_on_from_leased(
+    rt: &impl Abort,
+    alloc: Global,
+    store: &mut Store<MemoryDisk>,
+) -> Result<(), Refusal> {
+    expect_leased(rt, alloc, store)?;
+    go_on(rt, alloc, store)
 }
 
 fn go_on(rt: &impl Abort, alloc: Global, store: &mut Store<MemoryDisk>) -> Result<(), Refusal> {
@@ -119,8 +127,16 @@ fn go_on(rt: &impl Abort, alloc: Global, store: &mut Store<MemoryDisk>) -> Resul
 /// What is committed stands in what opens.
 fn opens_after(rt: &impl Abort, alloc: Global, disk: MemoryDisk) -> Result<(), Refusal> {
     let again = opening(rt, alloc, disk)?;
+    expect_gone_on(rt, alloc, &again)
+}
+
+fn expect_gone_on(
+    rt: &impl Abort,
+    alloc: Global,
+    store: &Store<MemoryDisk>,
+) -> Result<(), Refusal> {
     for &(id, want) in &GONE_ON_RUNS {
-        expect_seen(rt, alloc, &again, id, want)?;
+        expect_seen(rt, alloc, store, id, want)?;
     }
     Ok(())
 }

@@ -61,12 +61,22 @@ fn play(
     let mut moments = Vec::new(alloc);
     for _ in 0..STEPS {
         moments.push(now(alloc, disk, &journal)?)?;
-        let step = journal.roll(alloc, &mut dice)?;
-        journal.make(rt, disk, &step)?;
-        journal.note(alloc, &step)?;
+        take_step(rt, alloc, &mut journal, &mut dice, disk)?;
     }
     moments.push(now(alloc, disk, &journal)?)?;
     Ok(moments)
+}
+
+fn take_step(
+    rt: &impl Abort,
+    alloc: Global,
+    journal: &mut Journal,
+    dice: &mut Dice,
+    disk: &mut MemoryDisk,
+) -> Result<(), Fail> {
+    let step = journal.roll(alloc, dice)?;
+    journal.make(rt, disk, &step)?;
+    Ok(journal.note(alloc, &step)?)
 }
 
 /// What stands now.

@@ -2,7 +2,8 @@
 
 use crate::holds::{expect_text, holds};
 use crate::run_plan_tests::expect_twice;
-use run_plan::plan;
+use needs_graph::Graph;
+use run_plan::{PlannedJob, plan};
 use std::alloc::Global;
 use std::process::Abort;
 use wf_reader::read_workflow;
@@ -97,10 +98,7 @@ const DIAMOND: &str =
     \"c\":{\"runs-on\":\"x\",\"needs\":\"a\"},\
     \"b\":{\"runs-on\":\"x\",\"needs\":[\"a\"],\"if\":\"failure()\"},\"a\":{\"runs-on\":\"x\"}}}";
 
-fn plans(rt: &impl Abort, alloc: Global) -> Result<(), Refusal> {
-    let plan = plan(alloc, read_workflow(alloc, DIAMOND.as_bytes())?)?;
-    holds!(rt; plan.as_slice().len() == 4);
-    let graph = plan.graph();
+fn expect_diamond(rt: &impl Abort, graph: &Graph) {
     holds!(rt; graph.job_count() == 4);
     let none: [usize; 0] = [];
     holds!(rt; graph.needs(0) == none.as_slice());
@@ -109,12 +107,21 @@ fn plans(rt: &impl Abort, alloc: Global) -> Result<(), Refusal> {
     holds!(rt; graph.needs(3) == [1, 2].as_slice());
     holds!(rt; graph.has_ancestor(3, 0));
     holds!(rt; !graph.has_ancestor(2, 1));
-    let jobs = plan.as_slice();
+}
+
+fn expect_conditions(rt: &impl Abort, jobs: &[PlannedJob]) {
+    holds!(rt; jobs.len() == 4);
     holds!(rt; jobs[0].condition == Condition::Success);
     holds!(rt; jobs[1].condition == Condition::Failure);
     holds!(rt; jobs[2].condition == Condition::Success);
     holds!(rt; jobs[3].condition == Condition::Always);
     holds!(rt; jobs[3].needs.len() == 3);
+}
+
+fn plans(rt: &impl Abort, alloc: Global) -> Result<(), Refusal> {
+    let plan = plan(alloc, read_workflow(alloc, DIAMOND.as_bytes())?)?;
+    expect_diamond(rt, plan.graph());
+    expect_conditions(rt, plan.as_slice());
     Ok(())
 }
 

@@ -1,6 +1,8 @@
 use crate::commands::Words;
 use crate::holds::holds;
-use crate::run_table_tests::{BUILD, BUILD_ELSEWHERE, Row, THREE, expect_view, play, played};
+use crate::run_table_tests::{
+    BUILD, BUILD_ELSEWHERE, Row, THREE, expect_replies, expect_shown, expect_view, play, played,
+};
 use run_plan::Number;
 use wf_value::{Outcome, TryCopy};
 
@@ -59,9 +61,8 @@ const REPEATED: [Row; 12] = [
 
 #[test]
 fn repeats_are_answered_again(rt: HostRuntime) {
-    let table = played(&rt, rt.alloc(), &REPEATED);
     let want = "run 1 1 completed failure build:failure(failure)";
-    expect_view(&rt, rt.alloc(), &table, "1", want);
+    expect_shown(&rt, rt.alloc(), &REPEATED, "1", want);
 }
 
 /// Each refusal of the table but 48, which takes a hundred thousand runs, with a lease out: the lease
@@ -93,7 +94,7 @@ const WITH_A_LEASE: [Row; 13] = [
 
 #[test]
 fn refusals_leave_a_lease(rt: HostRuntime) {
-    played(&rt, rt.alloc(), &WITH_A_LEASE);
+    expect_replies(&rt, rt.alloc(), &WITH_A_LEASE);
 }
 
 /// The run goes on when one of its jobs has failed, and ends as a failure.
@@ -117,5 +118,5 @@ const ONE_OF_THREE: [Row; 9] = [
 
 #[test]
 fn one_job_of_three_fails(rt: HostRuntime) {
-    played(&rt, rt.alloc(), &ONE_OF_THREE);
+    expect_replies(&rt, rt.alloc(), &ONE_OF_THREE);
 }

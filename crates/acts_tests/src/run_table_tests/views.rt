@@ -1,5 +1,5 @@
 use crate::commands::Words;
-use crate::run_table_tests::{BUILD, BUILD_ELSEWHERE, Row, THREE, play, played};
+use crate::run_table_tests::{BUILD, BUILD_ELSEWHERE, Row, THREE, expect_replies, play, played};
 use wf_value::Outcome;
 
 /// As `BUILD`, with another label.
@@ -58,5 +58,5 @@ const IN_ORDER: [Row; 8] = [
 
 #[test]
 fn prints_jobs_in_order_of_their_ids(rt: HostRuntime) {
-    played(&rt, rt.alloc(), &IN_ORDER);
+    expect_replies(&rt, rt.alloc(), &IN_ORDER);
 }

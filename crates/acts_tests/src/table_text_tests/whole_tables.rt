@@ -39,11 +39,16 @@ fn written_again(rt: &impl Abort, alloc: Global, bytes: &[u8]) -> Result<Vec<u8>
     Ok(out)
 }
 
-fn reads_whole_tables(rt: &impl Abort, alloc: Global) -> Result<(), Refusal> {
+fn expect_empty(rt: &impl Abort, alloc: Global) -> Result<(), Refusal> {
     let (empty, left) = table_of(rt, alloc, &[0; 14])?;
     holds!(rt; left == 2);
     holds!(rt; empty.last_lease() == 0);
     holds!(rt; empty.runs().is_empty() && empty.runners().is_empty());
+    Ok(())
+}
+
+fn reads_whole_tables(rt: &impl Abort, alloc: Global) -> Result<(), Refusal> {
+    expect_empty(rt, alloc)?;
     for row in &ROWS {
         expect_row(rt, alloc, row)?;
     }
@@ -81,12 +86,20 @@ const CHANGES: [(usize, usize, u8); 12] = [
     (1, 165, 0),
 ];
 
+fn has_parts(alloc: Global, bytes: &[u8]) -> Result<bool, Refusal> {
+    Ok(read_parts(alloc, bytes)?.is_some())
+}
+
+fn is_table(alloc: Global, bytes: &[u8]) -> Result<bool, Refusal> {
+    Ok(read_table(alloc, bytes)?.is_some())
+}
+
 fn reads_no_unsound_table(rt: &impl Abort, alloc: Global) -> Result<(), Refusal> {
     for &(row, offset, byte) in &CHANGES {
         holds!(rt; row < 7);
         let bytes = changed(alloc, &ROWS[row], offset, byte)?;
-        holds!(rt; read_parts(alloc, bytes.as_slice())?.is_some(), offset);
-        holds!(rt; read_table(alloc, bytes.as_slice())?.is_none(), offset);
+        holds!(rt; has_parts(alloc, bytes.as_slice())?, offset);
+        holds!(rt; !is_table(alloc, bytes.as_slice())?, offset);
     }
     Ok(())
 }
