@@ -1,17 +1,12 @@
 -- What is kept of the labels of a leg are their texts in the leg's context, whatever the results.
-use Rattle.std.specs.Prelude.{◌≡◌, ◌+◌, ◌<◌, ℕ, List, [], ◌∷◌, ◌++◌, Some, nat_eq, option_map, length, true, slice_get, refl}
+use Rattle.std.specs.Prelude.{◌≡◌, ℕ, List, [], ◌∷◌, ◌++◌, Some, nat_eq, option_map, length, true, slice_get, refl}
 use Rattle.std.specs.List.{flat_map, list_all}
 use Rattle.std.specs.Option.{option_map_or}
-use Rattle.std.proofs.Common.{arith, ap, get_or, sym, take, ◌∙◌}
+use Rattle.std.proofs.Common.{arith, ap, sym, ◌∙◌}
 use Rattle.std.proofs.lemmas.Bool.{and_parts, eqb-true}
-use Rattle.std.proofs.lemmas.Grind.{take_at_read}
-use Rattle.std.proofs.lemmas.List.{map-append}
-use Rattle.wf_value.specs.ScalarValue.{scalar_text}
 use Rattle.wf_expr.specs.Bound.{Results, bound_piece_text, bound_text}
 use Rattle.wf_expr.specs.ContextValue.{Values}
-use Rattle.wf_expr.specs.TemplateValue.{template_value}
 use Rattle.wf_expr.specs.declared.bound.BoundPiece.{BoundPiece}
-use Rattle.wf_expr.specs.declared.piece.Piece.{Piece}
 use Rattle.run_plan.specs.PlanOf.{plan_of}
 use Rattle.run_plan.specs.declared.planned.PlannedJob.{PlannedJob}
 use Rattle.workflow_runs.specs.Asks.{AreBound, wanted_for}
@@ -44,19 +39,6 @@ text_whatever_results results (piece ∷ pieces) none =
     let parts = and_parts (asks_nothing piece) (list_all asks_nothing pieces) none in
     ap (λ text. text ++ bound_text results pieces) (says_otherwise results piece parts.0)
     ∙ ap (λ text. piece.otherwise ++ text) (text_whatever_results results pieces parts.1)
-
--- ---- the labels, one after another
-
-pub one_label_more : (values : Values) (labels : List (List Piece)) (i : ℕ) (label : List Piece) (texts : List (List ℕ)) (text : List ℕ)
-    → i < length labels → label ≡ get_or labels i label → texts ≡ label_texts values (take i labels)
-    → scalar_text (template_value values label) ≡ text → texts ++ text ∷ [] ≡ label_texts values (take (i + 1) labels)
-one_label_more values labels i label texts text within is so_far says =
-    let more : take (i + 1) labels ≡ take i labels ++ label ∷ [] =
-    (take_at_read labels i label within).1 ∙ ap (λ l. take i labels ++ l ∷ []) (sym is) in
-    ap (λ ts. ts ++ text ∷ []) so_far
-    ∙ ap (λ t. label_texts values (take i labels) ++ t ∷ []) (sym says)
-    ∙ sym (map-append (λ l. scalar_text (template_value values l)) (take i labels) (label ∷ []))
-    ∙ ap (label_texts values) (sym more)
 
 -- ---- the labels of a leg of a table
 

@@ -20,6 +20,7 @@ pub mod JobPhases
 pub mod JobResult
 pub mod KnownSays
 pub mod KeptBack
+pub mod KeptLabels
 pub mod LeaseReads
 pub mod LegFacts
 pub mod LegReads

@@ -34,6 +34,10 @@ pub if_some : {Y : Type 0} (b : Bool) (x y : Y) → (if b then Some x else None)
 if_some true x y h = (refl, cc)
 if_some false x y h = cc
 
+pub if_none : {Y : Type 0} (b : Bool) (x : Y) → (if b then Some x else None) ≡ None → b ≡ false
+if_none true x h = cc
+if_none false x h = refl
+
 -- an element of a list of which all pass a test
 pub each_passes : {X : Type 0} (p : X → Bool) (xs : List X) (k : ℕ) (x : X) → list_all p xs ≡ true → slice_get xs k ≡ Some x → p x ≡ true
 each_passes p [] k x h e = cc

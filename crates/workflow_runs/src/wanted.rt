@@ -1,13 +1,14 @@
 //! The labels that a leg asks for, where they are known when its run is admitted: a claim compares them then and looks nothing up. GitHub
 //! Docs, "Workflow syntax for GitHub Actions", `jobs.<job_id>.runs-on`.
 
-ghost use Rattle.std.specs.Prelude.{◌≡◌, ℕ, IfOk, IfSome, Ok, Some, slice_get};
+ghost use Rattle.std.specs.Prelude.{◌≡◌, ℕ, IfOk, Ok, Some, length, slice_get};
 ghost use Rattle.std.specs.List.{flat_map, list_all};
-ghost use Rattle.wf_expr.specs.Bound.{HasResults, Results, bound_text};
+ghost use Rattle.wf_expr.specs.Bound.{HasResults, Results};
 ghost use Rattle.wf_expr.specs.ContextValue.{Values};
 ghost use Rattle.wf_value.specs.Gives.{Gives};
 ghost use Rattle.workflow_runs.specs.BoundGroups.{ErrsOnlyByMemory, facts_by};
-ghost use Rattle.workflow_runs.specs.KnownLabels.{Tells, are_as_they_stand, are_kept, asks_nothing, is_as_it_stands};
+ghost use Rattle.workflow_runs.specs.KnownLabels.{AreKept, Tells, are_as_they_stand, are_kept, asks_nothing};
+ghost use Rattle.workflow_runs.specs.KnownLabels.{is_as_it_stands, kept_of, kept_of_leg, known_text};
 ghost use Rattle.workflow_runs.specs.LegContext.{context_of};
 ghost use Rattle.workflow_runs.specs.declared.wanted.Wanted.{Wanted as WantedLabels};
 
@@ -33,14 +34,14 @@ pub enum Wanted {
 }
 
 impl Wanted {
-    /// The labels in a context that lacks the results of needs alone.
+    /// The labels in a context that lacks the results of needs alone. They are kept where each is known by then.
     fn bind<C: Context, N: Needs>(
         alloc: Global,
         labels: &[Template],
         known: &C,
         needs: &N,
     ) -> Result<Self, Refusal>
-        ensures err { ErrsOnlyByMemory result }
+        ensures kept { Gives (λ w. w) result (Ok (kept_of (C.values known.now) (N.need_of needs.now) labels.now)) }
         ensures tells { IfOk result
             (λ wanted. (values : Results → Values)
             → ((results : Results) → HasResults (C.values known.now) (N.need_of needs.now) results (values results))
@@ -69,8 +70,7 @@ impl TryCopy for Wanted {
 
 /// The text of what was bound, where it asks for no result and is no longer than a runner's label.
 fn known_text(alloc: Global, pieces: &[BoundPiece]) -> Result<Option<Chars>, Refusal>
-    ensures err { ErrsOnlyByMemory result }
-    ensures text { IfOk result (λ known. IfSome known (λ text. (results : Results) → bound_text results pieces.now ≡ text)) }
+    ensures { Gives (λ t. t) result (Ok (known_text pieces.now)) }
 {
     if !ask_nothing(pieces) {
         return Ok(None);
@@ -146,6 +146,7 @@ pub(crate) fn bind_labels<'x>(
     job: &'x PlannedJob,
 ) -> Result<Sequence<Wanted>, Refusal>
     ensures err { ErrsOnlyByMemory result }
+    ensures kept { IfOk result (AreKept told.now j job.now) }
     ensures tells { IfOk result (λ legs. (l : ℕ) (wanted : WantedLabels) → slice_get legs l ≡ Some wanted
         → Tells (λ results. context_of (facts_by told.now j job.now l results)) job.now.labels wanted) }
 {
@@ -163,6 +164,9 @@ fn bind_each<'x>(
     job: &'x PlannedJob,
 ) -> Result<Vec<Wanted>, Refusal>
     ensures err { ErrsOnlyByMemory result }
+    ensures many { IfOk result (λ legs. length legs.items ≡ length job.now.legs) }
+    ensures kept { IfOk result (λ legs. (l : ℕ) (wanted : WantedLabels) → slice_get legs.items l ≡ Some wanted
+        → wanted ≡ kept_of_leg told.now j job.now l) }
     ensures tells { IfOk result (λ legs. (l : ℕ) (wanted : WantedLabels) → slice_get legs.items l ≡ Some wanted
         → Tells (λ results. context_of (facts_by told.now j job.now l results)) job.now.labels wanted) }
 {

@@ -1,32 +1,75 @@
-use Rattle.std.specs.Prelude.{◌≡◌, ℕ, List, Option, Some, None, IfSome}
-use Rattle.std.proofs.Common.{ap, rules, subst, ◌∙◌}
+use Rattle.std.specs.Prelude.{◌≡◌, ◌+◌, ◌++◌, ◌∷◌, [], Result, Ok, Some, None, map, true, take}
+use Rattle.std.specs.List.{list_all}
+use Rattle.std.proofs.Common.{ap, rules, sym, ◌∙◌}
 use Rattle.std.proofs.lemmas.List.{take_all}
-use Rattle.wf_value.specs.ScalarValue.{scalar_text}
-use Rattle.wf_expr.specs.Bound.{Results, bound_text}
-use Rattle.wf_expr.specs.TemplateValue.{template_value}
-use Rattle.workflow_runs.specs.Words.{label_texts}
-use Rattle.workflow_runs.proofs.KnownSays.{one_label_more}
+use Rattle.wf_value.specs.declared.refusal.Refusal.{Refusal}
+use Rattle.wf_expr.specs.Bound.{bound_of}
+use Rattle.workflow_runs.specs.KnownLabels.{is_known, kept_of, known_text, text_without_results}
+use Rattle.workflow_runs.specs.declared.wanted.Wanted.{Wanted}
+use Rattle.workflow_runs.specs.declared.wanted.Wanted.TheVariants as wanted
+use Rattle.workflow_runs.proofs.Doors.{given}
+use Rattle.workflow_runs.proofs.KeptLabels.{all_kept, all_whatever, known_when_bound, none_kept, one_more_known, one_text_more}
+use Rattle.workflow_runs.proofs.Optional.{if_none, if_some}
 use Rattle.workflow_runs.proofs.wanted.Wanted.bind.Goals as goal
 
-where_some : (P : List ℕ → Type 0) (o : Option (List ℕ)) (text : List ℕ) → o ≡ Some text → IfSome o P → P text
-where_some P None text is holds = cc
-where_some P (Some t) text is holds = let same : t ≡ text = cc in subst P same holds
+is_ok : (x y : Wanted) → x ≡ y → ◌≡◌ {A = Result Wanted Refusal} (Ok x) (Ok y)
+is_ok x y is = ap Ok is
 
 pub loop-label-preserved : goal.loop-label-preserved
-loop-label-preserved g c = λ values has results.
+loop-label-preserved g c =
+    let known = g.C.Context.values c.args.known.now in
+    let need_of = g.N.Needs.need_of c.args.needs.now in
+    let labels = c.args.labels.now in
+    let i = c.loop-label.label-index in
     let label = c.label-item.result in
     let text = c.in-Some.text in
     let is : c.in_ok-text.field-0 ≡ Some text = cc in
     let pieces : c.in_ok-bound.bound ≡ c.pieces.result.now = search rules in
-    let known = where_some (λ t. (r : Results) → bound_text r c.pieces.result.now ≡ t) c.in_ok-text.field-0 text is
-    c.in_ok-text.ensures.text in
-    let says : scalar_text (template_value (values results) label) ≡ text =
-    c.in_ok-bound.ensures.text results (values results) (has results) ∙ ap (bound_text results) pieces ∙ known results in
-    c.in_ok-push-in-Some.ensures.items
-    ∙ one_label_more (values results) c.args.labels.now c.loop-label.label-index label c.loop-label.texts.items text c.loop-label-test.true
-    c.label-item.is (c.loop-label.invariant values has results) says
+    let its : known_text (bound_of known need_of label) ≡ Some text =
+    ap known_text (given _ _ c.in_ok-bound.ensures.gives ∙ pieces) ∙ given _ _ c.in_ok-text.ensures ∙ is in
+    let so = if_some (is_known known need_of label) (text_without_results known need_of label) text
+    (sym (known_when_bound known need_of label) ∙ its) in
+    let texts : c.loop-label.texts.items ++ text ∷ [] ≡ map (text_without_results known need_of) (take (i + 1) labels) =
+    one_text_more (text_without_results known need_of) labels i label c.loop-label.texts.items text c.loop-label-test.true
+    c.label-item.is c.loop-label.invariant.1 so.1 in (
+      one_more_known known need_of labels i label c.loop-label-test.true c.label-item.is so.0 c.loop-label.invariant.0,
+      c.in_ok-push-in-Some.ensures.items ∙ texts,
+    )
+
+pub returns-in-None-clause-kept : goal.returns-in-None-clause-kept
+returns-in-None-clause-kept g c =
+    let known = g.C.Context.values c.args.known.now in
+    let need_of = g.N.Needs.need_of c.args.needs.now in
+    let labels = c.args.labels.now in
+    let label = c.label-item.result in
+    let is : c.in_ok-text.field-0 ≡ None = cc in
+    let pieces : c.in_ok-bound.bound ≡ c.pieces.result.now = search rules in
+    let its : known_text (bound_of known need_of label) ≡ None =
+    ap known_text (given _ _ c.in_ok-bound.ensures.gives ∙ pieces) ∙ given _ _ c.in_ok-text.ensures ∙ is in
+    let none = if_none (is_known known need_of label) (text_without_results known need_of label)
+    (sym (known_when_bound known need_of label) ∙ its) in
+    is_ok (kept_of known need_of labels) wanted.LookedUp
+    (none_kept known need_of labels c.loop-label.label-index label c.loop-label-test.true c.label-item.is none)
 
 pub returns-clause-tells : goal.returns-clause-tells
 returns-clause-tells g c = λ values has results.
-    c.new.ensures ∙ c.loop-label.invariant values has results
-    ∙ ap (label_texts (values results)) (take_all c.loop-label.label-index c.args.labels.now c.loop-label-test.false)
+    let known = g.C.Context.values c.args.known.now in
+    let need_of = g.N.Needs.need_of c.args.needs.now in
+    let labels = c.args.labels.now in
+    let whole : take c.loop-label.label-index labels ≡ labels = take_all c.loop-label.label-index labels c.loop-label-test.false in
+    let all : list_all (is_known known need_of) labels ≡ true =
+    ap (list_all (is_known known need_of)) (sym whole) ∙ c.loop-label.invariant.0 in
+    c.new.ensures ∙ c.loop-label.invariant.1 ∙ ap (map (text_without_results known need_of)) whole
+    ∙ all_whatever known need_of labels all results (values results) (has results)
+
+pub returns-clause-kept : goal.returns-clause-kept
+returns-clause-kept g c =
+    let known = g.C.Context.values c.args.known.now in
+    let need_of = g.N.Needs.need_of c.args.needs.now in
+    let labels = c.args.labels.now in
+    let whole : take c.loop-label.label-index labels ≡ labels = take_all c.loop-label.label-index labels c.loop-label-test.false in
+    let all : list_all (is_known known need_of) labels ≡ true =
+    ap (list_all (is_known known need_of)) (sym whole) ∙ c.loop-label.invariant.0 in
+    let texts : c.new.result ≡ map (text_without_results known need_of) labels =
+    c.new.ensures ∙ c.loop-label.invariant.1 ∙ ap (map (text_without_results known need_of)) whole in
+    is_ok (kept_of known need_of labels) (wanted.Known c.new.result) (all_kept known need_of labels all ∙ ap wanted.Known (sym texts))

@@ -1,12 +1,13 @@
 use Rattle.std.proofs.Common.{◌≡◌, take}
-use Rattle.wf_expr.specs.Bound.{HasResults, Results}
-use Rattle.wf_expr.specs.ContextValue.{Values}
-use Rattle.workflow_runs.specs.Words.{label_texts}
+use Rattle.std.specs.Prelude.{map, true}
+use Rattle.std.specs.List.{list_all}
+use Rattle.workflow_runs.specs.KnownLabels.{is_known, text_without_results}
 use Rattle.workflow_runs.proofs.wanted.Wanted.bind.Given as goal
 
--- the labels so far have these texts, whatever the results
+-- the labels so far are known, and these are their texts
 abbrev pub invariant-loop-label : goal.invariant-loop-label
 invariant-loop-label g l =
-    (values : Results → Values)
-    → ((results : Results) → HasResults (g.C.Context.values l.known) (g.N.Needs.need_of l.needs) results (values results))
-    → (results : Results) → l.texts.items ≡ label_texts (values results) (take l.label-index l.labels)
+    let known = g.C.Context.values l.known in
+    let need_of = g.N.Needs.need_of l.needs in
+    (list_all (is_known known need_of) (take l.label-index l.labels) ≡ true)
+    × (l.texts.items ≡ map (text_without_results known need_of) (take l.label-index l.labels))
