@@ -95,12 +95,18 @@ const BOUND: [(Named, Named, Ended, bool); 8] = [
     (("o/r", "${{ needs.a.result }}"), ("o/r", ""), NONE, false),
 ];
 
+/// Whether two bound names are one group, by these results of the first.
+fn is_one_group(alloc: Global, named: Named, other: Named, ended: &Ended) -> Result<bool, Refusal> {
+    let group = bound_group(alloc, named)?;
+    let other = bound_group(alloc, other)?;
+    Ok(group.same(ended, &other, &NONE))
+}
+
 #[test]
 fn compares_bound_groups(rt: HostRuntime) {
     for (named, other, ended, same) in &BOUND {
-        let group = bound_group(rt.alloc(), *named).expect(&rt, named.1);
-        let other = bound_group(rt.alloc(), *other).expect(&rt, named.1);
-        holds!(rt; group.same(ended, &other, &NONE) == *same, named.1);
+        let is_one = is_one_group(rt.alloc(), *named, *other, ended).expect(&rt, named.1);
+        holds!(rt; is_one == *same, named.1);
     }
 }
 

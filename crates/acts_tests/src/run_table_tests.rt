@@ -6,7 +6,7 @@ mod steps;
 pub mod tables;
 mod views;
 
-use crate::commands::{Words, command_of, number};
+use crate::commands::{Words, number, stepped};
 use crate::holds::expect_text;
 use run_table::Table;
 use std::alloc::Global;
@@ -32,8 +32,7 @@ pub type Row<'a> = (Words<'a>, &'a str);
 
 /// Carries out a command, and prints the reply.
 fn reply_text(alloc: Global, table: &mut Table, words: &Words<'_>) -> Result<Chars, Refusal> {
-    let command = command_of(alloc, words)?;
-    table.step(alloc, &command)?.text(alloc)
+    stepped(alloc, table, words)?.text(alloc)
 }
 
 /// Carries out commands in turn, and compares each printed reply.

@@ -122,11 +122,16 @@ fn expect_not_made(rt: &impl Abort, alloc: Global, call: u64) {
     }
 }
 
+/// The entries of a store that is made where the call behind its last would fail.
+fn entries_where_spared(rt: &impl Abort, alloc: Global) -> u64 {
+    let store = made(rt, alloc, FuseDisk::once(MemoryDisk::new(alloc), 6), LEAST);
+    store.entries()
+}
+
 #[test]
 fn faults_of_the_making_are_told(rt: HostRuntime) {
     for call in 0..6 {
         expect_not_made(&rt, rt.alloc(), call);
     }
-    let spared = FuseDisk::once(MemoryDisk::new(rt.alloc()), 6);
-    holds!(rt; made(&rt, rt.alloc(), spared, LEAST).entries() == 0);
+    holds!(rt; entries_where_spared(&rt, rt.alloc()) == 0);
 }

@@ -147,13 +147,18 @@ const AFTER_THE_FAULT: [Row; 1] = [(
     0,
 )];
 
+/// What both disks hold after the fault.
+fn plays_to_the_fault(rt: &impl Abort, alloc: Global) -> MemoryDisk {
+    let disks = (fused(alloc), fused(alloc));
+    let (disk, other) = expect_alike(rt, alloc, disks, &FAILING);
+    let disk = disk.into_inner();
+    expect_same(rt, &disk, &other.into_inner());
+    disk
+}
+
 #[test]
 fn steps_after_a_fault_are_refused(rt: HostRuntime) {
-    let alloc = rt.alloc();
-    let disks = (fused(alloc), fused(alloc));
-    let (disk, other) = expect_alike(&rt, alloc, disks, &FAILING);
-    let disk = disk.into_inner();
-    expect_same(&rt, &disk, &other.into_inner());
-    let mut store = opened(&rt, alloc, disk);
-    play(&rt, alloc, &mut store, &AFTER_THE_FAULT);
+    let disk = plays_to_the_fault(&rt, rt.alloc());
+    let mut store = opened(&rt, rt.alloc(), disk);
+    play(&rt, rt.alloc(), &mut store, &AFTER_THE_FAULT);
 }

@@ -140,20 +140,37 @@ fn expect_seen(rt: &impl Abort, alloc: Global, store: &Store<MemoryDisk>, id: &s
     }
 }
 
+fn plays_first(rt: &impl Abort, alloc: Global) -> MemoryDisk {
+    let mut store = made(rt, alloc, MemoryDisk::new(alloc), LEAST);
+    play(rt, alloc, &mut store, &FIRST);
+    expect_entries(rt, &store);
+    store.into_disk()
+}
+
+fn expect_covered(rt: &impl Abort, alloc: Global, store: &Store<MemoryDisk>) {
+    holds!(rt; store.entries() == 0 && store.covered() == 0);
+    let running = "run 1 1 in_progress - build:open(running)";
+    expect_seen(rt, alloc, store, "1", running);
+    expect_seen(rt, alloc, store, "2", "");
+}
+
+fn plays_again(rt: &impl Abort, alloc: Global, disk: MemoryDisk) -> MemoryDisk {
+    let mut store = opened(rt, alloc, disk);
+    expect_covered(rt, alloc, &store);
+    play(rt, alloc, &mut store, &AGAIN);
+    let success = "run 1 1 completed success build:success(success)";
+    expect_seen(rt, alloc, &store, "1", success);
+    store.into_disk()
+}
+
+fn plays_after_that(rt: &impl Abort, alloc: Global, disk: MemoryDisk) {
+    let mut store = opened(rt, alloc, disk);
+    play(rt, alloc, &mut store, &AFTER_THAT);
+}
+
 #[test]
 fn what_is_covered_opens_again(rt: HostRuntime) {
-    let alloc = rt.alloc();
-    let mut first = made(&rt, alloc, MemoryDisk::new(alloc), LEAST);
-    play(&rt, alloc, &mut first, &FIRST);
-    expect_entries(&rt, &first);
-    let mut again = opened(&rt, alloc, first.into_disk());
-    holds!(rt; again.entries() == 0 && again.covered() == 0);
-    let running = "run 1 1 in_progress - build:open(running)";
-    expect_seen(&rt, alloc, &again, "1", running);
-    expect_seen(&rt, alloc, &again, "2", "");
-    play(&rt, alloc, &mut again, &AGAIN);
-    let success = "run 1 1 completed success build:success(success)";
-    expect_seen(&rt, alloc, &again, "1", success);
-    let mut last = opened(&rt, alloc, again.into_disk());
-    play(&rt, alloc, &mut last, &AFTER_THAT);
+    let first = plays_first(&rt, rt.alloc());
+    let again = plays_again(&rt, rt.alloc(), first);
+    plays_after_that(&rt, rt.alloc(), again);
 }

@@ -196,6 +196,12 @@ fn is_told(tables: &[String], count: u64, found: &str) -> bool {
     }
 }
 
+/// What the store of a disk that opens answers the probes.
+fn found_in<D: Disk + Drop>(rt: &impl Abort, alloc: Global, disk: D) -> String {
+    let mut store = opened(rt, alloc, disk);
+    told_by(alloc, &mut store).expect(rt, "answers")
+}
+
 /// That a disk opens to the table of the entries that were covered, or of all.
 pub fn expect_either<D: Disk + Drop>(
     rt: &impl Abort,
@@ -204,8 +210,7 @@ pub fn expect_either<D: Disk + Drop>(
     tables: &[String],
     span: Span,
 ) {
-    let mut store = opened(rt, alloc, disk);
-    let found = told_by(alloc, &mut store).expect(rt, "answers");
+    let found = found_in(rt, alloc, disk);
     let found = found.as_str();
     holds!(rt; is_told(tables, span.from, found) || is_told(tables, span.to, found), span.to);
 }

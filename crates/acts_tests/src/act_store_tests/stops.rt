@@ -64,20 +64,40 @@ fn expect_calls(
     }
 }
 
-/// The images of each commit of a script, and the disk at its end.
-fn expect_script(rt: &impl Abort, alloc: Global, seed: u64) -> Result<(), Refusal> {
-    let tables = tables_of(alloc, seed)?;
+/// The commits of a script that wrote, the entries that are covered at its end, and the disk.
+fn played(
+    rt: &impl Abort,
+    alloc: Global,
+    seed: u64,
+) -> Result<(Vec<Span>, u64, MemoryDisk), Refusal> {
     let mut store = made(rt, alloc, MemoryDisk::new(alloc), LEAST);
     let spans = play(alloc, seed, &mut store)?;
     let last = store.covered();
-    let disk = store.into_disk();
+    Ok((spans, last, store.into_disk()))
+}
+
+/// The images of a stop inside each call of these commits, which are all that there are.
+fn expect_commits(
+    rt: &impl Abort,
+    alloc: Global,
+    disk: &MemoryDisk,
+    spans: &[Span],
+    tables: &[String],
+) {
     let mut next = MAKES;
-    for span in &spans {
+    for span in spans {
         let first = next;
         next = next.saturating_add(COMMITS);
-        expect_calls(rt, alloc, &disk, first..next, tables.as_slice(), *span);
+        expect_calls(rt, alloc, disk, first..next, tables, *span);
     }
     holds!(rt; next == disk.calls().len());
+}
+
+/// The images of each commit of a script, and the disk at its end.
+fn expect_script(rt: &impl Abort, alloc: Global, seed: u64) -> Result<(), Refusal> {
+    let tables = tables_of(alloc, seed)?;
+    let (spans, last, disk) = played(rt, alloc, seed)?;
+    expect_commits(rt, alloc, &disk, spans.as_slice(), tables.as_slice());
     let end = Span {
         from: last,
         to: last,

@@ -161,8 +161,16 @@ const SIXTH: [Row; 2] = [
 
 fn counts_on(rt: &impl Abort, alloc: Global) -> Result<(), Refusal> {
     let mut store = opening(rt, alloc, disk_of(alloc, &AFTER_FIVE)?)?;
+    gives_the_sixth(rt, alloc, &mut store)
+}
+
+fn gives_the_sixth(
+    rt: &impl Abort,
+    alloc: Global,
+    store: &mut Store<MemoryDisk>,
+) -> Result<(), Refusal> {
     for (words, want) in &SIXTH {
-        expect_reply(rt, alloc, &mut store, words, want)?;
+        expect_reply(rt, alloc, store, words, want)?;
     }
     Ok(())
 }

@@ -40,26 +40,42 @@ fn expect_claim(
     Ok(())
 }
 
+/// Of a copy of a claim, what `expect_claim` wants.
+fn expect_copied(
+    rt: &impl Abort,
+    alloc: Global,
+    last: &LastCommand,
+    reply: &str,
+) -> Result<(), Refusal> {
+    let copy = last.copy(alloc)?;
+    expect_claim(rt, alloc, &copy, reply)
+}
+
 fn keeps_nothing(rt: &impl Abort, alloc: Global) -> Result<(), Refusal> {
     let claim = claim(alloc, "r1", "1", "linux")?;
     let last = LastCommand::Claim(claim, ClaimReply::Nothing);
-    expect_claim(rt, alloc, &last.copy(alloc)?, "nothing")
+    expect_copied(rt, alloc, &last, "nothing")
 }
 
 fn keeps_a_lease(rt: &impl Abort, alloc: Global) -> Result<(), Refusal> {
     let lease = first_lease(alloc)?;
     let claim = claim(alloc, "r1", "1", "linux")?;
     let last = LastCommand::Claim(claim, ClaimReply::Lease(lease));
-    expect_claim(rt, alloc, &last.copy(alloc)?, "lease 1 2 b 0 {}")
+    expect_copied(rt, alloc, &last, "lease 1 2 b 0 {}")
 }
 
 fn keeps_a_report(rt: &impl Abort, alloc: Global) -> Result<(), Refusal> {
     let done = done(alloc, "r1", "2", "1", Outcome::Success)?;
     let last = LastCommand::Done(done).copy(alloc)?;
-    expect_reply(rt, alloc, &last, "ok")?;
-    holds!(rt; is_report(alloc, &last, Outcome::Success)?);
-    holds!(rt; !is_report(alloc, &last, Outcome::Failure)?);
-    holds!(rt; !is_claim(alloc, &last, "2", "linux")?);
+    expect_report(rt, alloc, &last)
+}
+
+/// The report of success under lease 1 with number 2 is kept.
+fn expect_report(rt: &impl Abort, alloc: Global, last: &LastCommand) -> Result<(), Refusal> {
+    expect_reply(rt, alloc, last, "ok")?;
+    holds!(rt; is_report(alloc, last, Outcome::Success)?);
+    holds!(rt; !is_report(alloc, last, Outcome::Failure)?);
+    holds!(rt; !is_claim(alloc, last, "2", "linux")?);
     Ok(())
 }
 

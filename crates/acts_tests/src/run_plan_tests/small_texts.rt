@@ -122,6 +122,11 @@ fn reads_labels(rt: &impl Abort, alloc: Global) -> Result<(), Refusal> {
     for &(text, want) in &LABELS {
         holds!(rt; count_of_labels(alloc, text)? == want, text);
     }
+    expect_two(rt, alloc)
+}
+
+/// Labels stand as they were read, and in that order.
+fn expect_two(rt: &impl Abort, alloc: Global) -> Result<(), Refusal> {
     let two = labels(alloc, "X64,linux")?;
     holds!(rt; two.as_slice().len() == 2);
     holds!(rt; two.as_slice()[0].as_str() == "X64" && two.as_slice()[1].as_str() == "linux");

@@ -1,5 +1,4 @@
-use crate::run_table_tests::{BUILD_ELSEWHERE, Words, play};
-use run_table::Table;
+use crate::run_table_tests::{BUILD_ELSEWHERE, Words, expect_replies};
 use std::alloc::Global;
 use std::process::Abort;
 use std::test::Fail;
@@ -29,8 +28,7 @@ fn expect_claim(
         (Words::Admit("d1", body.as_str()), "created 1"),
         (Words::Claim("r1", "1", labels), want),
     ];
-    let mut table = Table::new(alloc);
-    play(rt, alloc, &mut table, &rows);
+    expect_replies(rt, alloc, &rows);
     Ok(())
 }
 
@@ -57,8 +55,7 @@ fn expect_failed(
         (Words::Done("r1", "2", "1", Outcome::Failure), "ok"),
         (Words::Look("1"), want),
     ];
-    let mut table = Table::new(alloc);
-    play(rt, alloc, &mut table, &rows);
+    expect_replies(rt, alloc, &rows);
     Ok(())
 }
 
@@ -164,7 +161,7 @@ fn labels_that_do_not_fit(rt: HostRuntime) -> Result<(), Fail> {
 }
 
 #[test]
-fn a_workflow_goes_by_its_name(rt: HostRuntime) -> Result<(), Fail> {
+fn a_workflow_goes_by_its_name(rt: HostRuntime) {
     let body =
         "{\"repo\":\"o/r\",\"path\":\"ci.json\",\"workflow\":{\"name\":\"CI\",\"jobs\":{\"j\":{\"runs-on\":\"${{ github.workflow }}\"}}}}";
     let rows = [
@@ -172,9 +169,7 @@ fn a_workflow_goes_by_its_name(rt: HostRuntime) -> Result<(), Fail> {
         (Words::Claim("r1", "1", "ci.json"), "nothing"),
         (Words::Claim("r1", "2", "ci"), "lease 1 1 j 0 {}"),
     ];
-    let mut table = Table::new(rt.alloc());
-    play(&rt, rt.alloc(), &mut table, &rows);
-    Ok(())
+    expect_replies(&rt, rt.alloc(), &rows);
 }
 
 /// The number of a run counts those of its repository and path.
@@ -188,8 +183,7 @@ fn the_second_run_of_a_workflow(rt: HostRuntime) -> Result<(), Fail> {
         (Words::Claim("r1", "1", "n3"), "nothing"),
         (Words::Claim("r1", "2", "n2"), "lease 1 3 j 0 {}"),
     ];
-    let mut table = Table::new(rt.alloc());
-    play(&rt, rt.alloc(), &mut table, &rows);
+    expect_replies(&rt, rt.alloc(), &rows);
     Ok(())
 }
 
