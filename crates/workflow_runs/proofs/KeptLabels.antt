@@ -1,5 +1,5 @@
 -- Which labels are known before any job has a result, and that what is kept of them is their texts whatever the results.
-use Rattle.std.specs.Prelude.{◌≡◌, ◌+◌, ◌<◌, ℕ, List, [], ◌∷◌, ◌++◌, map, length, Bool, true, false, nat_le, ◌&&◌, Option, Some, None}
+use Rattle.std.specs.Prelude.{◌≡◌, ◌+◌, ◌<◌, ◌≤◌, ℕ, List, [], ◌∷◌, ◌++◌, map, length, Bool, true, false, nat_le, ◌&&◌, Option, Some, None}
 use Rattle.std.specs.Prelude.{filter_map, if◌then◌else◌, refl}
 use Rattle.std.specs.List.{flat_map, list_all}
 use Rattle.std.specs.Option.{option_map_or}
@@ -7,7 +7,7 @@ use Rattle.std.proofs.Common.{ap, get_or, sym, take, ◌∙◌}
 use Rattle.std.proofs.Math.Path.{fun_ext}
 use Rattle.std.proofs.lemmas.Bool.{and_parts}
 use Rattle.std.proofs.lemmas.Grind.{take_at_read}
-use Rattle.std.proofs.lemmas.List.{map-append}
+use Rattle.std.proofs.lemmas.List.{map-append, take_all}
 use Rattle.std.proofs.lemmas.List.Folds.{list_all_at, list_all_more}
 use Rattle.wf_value.specs.ScalarValue.{scalar_text}
 use Rattle.wf_value.specs.Words.{result_word}
@@ -94,6 +94,16 @@ one_text_more f labels i label texts text within at so_far says =
     ∙ ap (λ t. map f (take i labels) ++ t ∷ []) (sym says)
     ∙ sym (map-append f (take i labels) (label ∷ []))
     ∙ ap (map f) (sym more)
+
+-- at the end all are
+pub all_known : (known : Values) (need_of : NeedOf) (labels : List (List Piece)) (i : ℕ) (texts : List (List ℕ)) → length labels ≤ i
+    → list_all (is_known known need_of) (take i labels) ≡ true → texts ≡ map (text_without_results known need_of) (take i labels)
+    → (list_all (is_known known need_of) labels ≡ true) × (texts ≡ map (text_without_results known need_of) labels)
+all_known known need_of labels i texts ended known_so_far texts_so_far =
+    let whole : take i labels ≡ labels = take_all i labels ended in (
+      ap (list_all (is_known known need_of)) (sym whole) ∙ known_so_far,
+      texts_so_far ∙ ap (map (text_without_results known need_of)) whole,
+    )
 
 -- nothing is kept where one is not known
 pub none_kept : (known : Values) (need_of : NeedOf) (labels : List (List Piece)) (i : ℕ) (label : List Piece) → i < length labels

@@ -3,7 +3,7 @@
 
 ghost use Rattle.std.specs.Prelude.{◌≡◌, ℕ, IfOk, Ok, Some, length, slice_get};
 ghost use Rattle.std.specs.List.{flat_map, list_all};
-ghost use Rattle.wf_expr.specs.Bound.{HasResults, Results};
+ghost use Rattle.wf_expr.specs.Bound.{HasResults, Results, bound_of};
 ghost use Rattle.wf_expr.specs.ContextValue.{Values};
 ghost use Rattle.wf_value.specs.Gives.{Gives};
 ghost use Rattle.workflow_runs.specs.BoundGroups.{ErrsOnlyByMemory, facts_by};
@@ -49,8 +49,8 @@ impl Wanted {
     {
         let mut texts = Vec::with_capacity(alloc, labels.len())?;
         for label in labels {
-            let bound = label.bind(alloc, known, needs)?;
-            match known_text(alloc, bound.pieces())? {
+            let text = known_label(alloc, label, known, needs)?;
+            match text {
                 Some(text) => texts.push(text)?,
                 None => return Ok(Wanted::LookedUp),
             }
@@ -66,6 +66,19 @@ impl TryCopy for Wanted {
             Wanted::LookedUp => Ok(Wanted::LookedUp),
         }
     }
+}
+
+/// The text of a label, where it is known.
+fn known_label<C: Context, N: Needs>(
+    alloc: Global,
+    label: &Template,
+    known: &C,
+    needs: &N,
+) -> Result<Option<Chars>, Refusal>
+    ensures { Gives (λ t. t) result (Ok (known_text (bound_of (C.values known.now) (N.need_of needs.now) label.now))) }
+{
+    let bound = label.bind(alloc, known, needs)?;
+    known_text(alloc, bound.pieces())
 }
 
 /// The text of what was bound, where it asks for no result and is no longer than a runner's label.

@@ -1,14 +1,12 @@
-use Rattle.std.specs.Prelude.{◌≡◌, ◌+◌, ◌++◌, ◌∷◌, [], Result, Ok, Some, None, map, true, take}
-use Rattle.std.specs.List.{list_all}
-use Rattle.std.proofs.Common.{ap, rules, sym, ◌∙◌}
-use Rattle.std.proofs.lemmas.List.{take_all}
+use Rattle.std.specs.Prelude.{◌≡◌, ◌+◌, ◌++◌, ◌∷◌, [], Result, Ok, Some, None, map, take}
+use Rattle.std.proofs.Common.{ap, sym, ◌∙◌}
 use Rattle.wf_value.specs.declared.refusal.Refusal.{Refusal}
 use Rattle.wf_expr.specs.Bound.{bound_of}
 use Rattle.workflow_runs.specs.KnownLabels.{is_known, kept_of, known_text, text_without_results}
 use Rattle.workflow_runs.specs.declared.wanted.Wanted.{Wanted}
 use Rattle.workflow_runs.specs.declared.wanted.Wanted.TheVariants as wanted
 use Rattle.workflow_runs.proofs.Doors.{given}
-use Rattle.workflow_runs.proofs.KeptLabels.{all_kept, all_whatever, known_when_bound, none_kept, one_more_known, one_text_more}
+use Rattle.workflow_runs.proofs.KeptLabels.{all_known, all_kept, all_whatever, known_when_bound, none_kept, one_more_known, one_text_more}
 use Rattle.workflow_runs.proofs.Optional.{if_none, if_some}
 use Rattle.workflow_runs.proofs.wanted.Wanted.bind.Goals as goal
 
@@ -23,10 +21,8 @@ loop-label-preserved g c =
     let i = c.loop-label.label-index in
     let label = c.label-item.result in
     let text = c.in-Some.text in
-    let is : c.in_ok-text.field-0 ≡ Some text = cc in
-    let pieces : c.in_ok-bound.bound ≡ c.pieces.result.now = search rules in
-    let its : known_text (bound_of known need_of label) ≡ Some text =
-    ap known_text (given _ _ c.in_ok-bound.ensures.gives ∙ pieces) ∙ given _ _ c.in_ok-text.ensures ∙ is in
+    let is : c.in_ok-text.text ≡ Some text = cc in
+    let its : known_text (bound_of known need_of label) ≡ Some text = given _ _ c.in_ok-text.ensures ∙ is in
     let so = if_some (is_known known need_of label) (text_without_results known need_of label) text
     (sym (known_when_bound known need_of label) ∙ its) in
     let texts : c.loop-label.texts.items ++ text ∷ [] ≡ map (text_without_results known need_of) (take (i + 1) labels) =
@@ -42,10 +38,8 @@ returns-in-None-clause-kept g c =
     let need_of = g.N.Needs.need_of c.args.needs.now in
     let labels = c.args.labels.now in
     let label = c.label-item.result in
-    let is : c.in_ok-text.field-0 ≡ None = cc in
-    let pieces : c.in_ok-bound.bound ≡ c.pieces.result.now = search rules in
-    let its : known_text (bound_of known need_of label) ≡ None =
-    ap known_text (given _ _ c.in_ok-bound.ensures.gives ∙ pieces) ∙ given _ _ c.in_ok-text.ensures ∙ is in
+    let is : c.in_ok-text.text ≡ None = cc in
+    let its : known_text (bound_of known need_of label) ≡ None = given _ _ c.in_ok-text.ensures ∙ is in
     let none = if_none (is_known known need_of label) (text_without_results known need_of label)
     (sym (known_when_bound known need_of label) ∙ its) in
     is_ok (kept_of known need_of labels) wanted.LookedUp
@@ -56,20 +50,18 @@ returns-clause-tells g c = λ values has results.
     let known = g.C.Context.values c.args.known.now in
     let need_of = g.N.Needs.need_of c.args.needs.now in
     let labels = c.args.labels.now in
-    let whole : take c.loop-label.label-index labels ≡ labels = take_all c.loop-label.label-index labels c.loop-label-test.false in
-    let all : list_all (is_known known need_of) labels ≡ true =
-    ap (list_all (is_known known need_of)) (sym whole) ∙ c.loop-label.invariant.0 in
-    c.new.ensures ∙ c.loop-label.invariant.1 ∙ ap (map (text_without_results known need_of)) whole
-    ∙ all_whatever known need_of labels all results (values results) (has results)
+    let all =
+    all_known known need_of labels c.loop-label.label-index c.loop-label.texts.items c.loop-label-test.false c.loop-label.invariant.0
+    c.loop-label.invariant.1 in
+    c.new.ensures ∙ all.1 ∙ all_whatever known need_of labels all.0 results (values results) (has results)
 
 pub returns-clause-kept : goal.returns-clause-kept
 returns-clause-kept g c =
     let known = g.C.Context.values c.args.known.now in
     let need_of = g.N.Needs.need_of c.args.needs.now in
     let labels = c.args.labels.now in
-    let whole : take c.loop-label.label-index labels ≡ labels = take_all c.loop-label.label-index labels c.loop-label-test.false in
-    let all : list_all (is_known known need_of) labels ≡ true =
-    ap (list_all (is_known known need_of)) (sym whole) ∙ c.loop-label.invariant.0 in
-    let texts : c.new.result ≡ map (text_without_results known need_of) labels =
-    c.new.ensures ∙ c.loop-label.invariant.1 ∙ ap (map (text_without_results known need_of)) whole in
-    is_ok (kept_of known need_of labels) (wanted.Known c.new.result) (all_kept known need_of labels all ∙ ap wanted.Known (sym texts))
+    let all =
+    all_known known need_of labels c.loop-label.label-index c.loop-label.texts.items c.loop-label-test.false c.loop-label.invariant.0
+    c.loop-label.invariant.1 in
+    is_ok (kept_of known need_of labels) (wanted.Known c.new.result)
+    (all_kept known need_of labels all.0 ∙ ap wanted.Known (sym (c.new.ensures ∙ all.1)))
