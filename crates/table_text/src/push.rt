@@ -1,8 +1,8 @@
 #![tactic(auto, using(crate::proofs::Keeping::unchanged, crate::proofs::Keeping::longer))]
 
 ghost use Rattle.std.specs.Prelude.{◌≡◌, [], ◌∷◌, ◌++◌, ◌<◌, ◌^◌, length, OnErr, OnOk};
-ghost use Rattle.table_text.specs.Commands.{IsSpelled, admit, beat, body, claim, command_bytes, done, kind_of, labels, number};
-ghost use Rattle.table_text.specs.Commands.{outcome_byte, small_text};
+ghost use Rattle.table_text.specs.Commands.{IsSpelled, admit, beat, body, claim, command_bytes, done, fields_of, kind_of, labels};
+ghost use Rattle.table_text.specs.Commands.{number, outcome_byte, small_text};
 ghost use Rattle.table_text.specs.Format.{text_bytes, word_bytes};
 ghost use Rattle.table_text.specs.Writing.{Keeps};
 
@@ -154,6 +154,22 @@ fn push_kind(out: &mut Vec<u8>, asked: &Command) -> Result<(), AllocError>
     }
 }
 
+/// Appends what stands behind that byte.
+fn push_fields(out: &mut Vec<u8>, asked: &Command) -> Result<(), AllocError>
+    ensures takes { OnOk result (IsSpelled asked.now) }
+    ensures bytes { OnOk result (out.new.items ≡ out.old.items ++ fields_of asked.now) }
+    ensures kept { OnErr result (Keeps out.old.items out.new.items) }
+{
+    match asked {
+        Command::Admit(event) => push_admit(out, event),
+        Command::Claim(asks) => push_claim(out, asks),
+        Command::Done(report) => push_done(out, report),
+        Command::Beat(asks) => push_beat(out, asks),
+        Command::Lost(runner) => push_small_text(out, runner),
+        Command::Cancel(run) | Command::Look(run) | Command::Fetch(run) => push_number(out, *run),
+    }
+}
+
 /// Appends the spelling of a command.
 pub(crate) fn push_command(out: &mut Vec<u8>, asked: &Command) -> Result<(), AllocError>
     ensures takes { OnOk result (IsSpelled asked.now) }
@@ -161,32 +177,7 @@ pub(crate) fn push_command(out: &mut Vec<u8>, asked: &Command) -> Result<(), All
     ensures kept { OnErr result (Keeps out.old.items out.new.items) }
 {
     push_kind(out, asked)?;
-    match asked {
-        Command::Admit(event) => {
-            push_admit(out, event)?;
-            Ok(())
-        }
-        Command::Claim(asks) => {
-            push_claim(out, asks)?;
-            Ok(())
-        }
-        Command::Done(report) => {
-            push_done(out, report)?;
-            Ok(())
-        }
-        Command::Beat(asks) => {
-            push_beat(out, asks)?;
-            Ok(())
-        }
-        Command::Lost(runner) => {
-            push_small_text(out, runner)?;
-            Ok(())
-        }
-        Command::Cancel(run) | Command::Look(run) | Command::Fetch(run) => {
-            push_number(out, *run)?;
-            Ok(())
-        }
-    }
+    push_fields(out, asked)
 }
 
 impl Push for Command {

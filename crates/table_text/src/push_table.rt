@@ -2,6 +2,7 @@
 #![tactic(auto, using(crate::proofs::Keeping::unchanged, crate::proofs::Keeping::longer))]
 
 ghost use Rattle.std.specs.Prelude.{◌≡◌, [], ◌∷◌, ◌++◌, ◌≤◌, length, OnErr, OnOk};
+ghost use Rattle.run_plan.specs.declared.last_command.LastCommand.TheVariants as last;
 ghost use Rattle.run_table.specs.Stored.{is_new, stored_last, stored_runner, stored_table};
 ghost use Rattle.run_table.specs.TableState.{RunnerState};
 ghost use Rattle.workflow_runs.specs.RunState.{JobState, RunState};
@@ -11,7 +12,7 @@ ghost use Rattle.table_text.specs.Writing.{HasByte, JobHasBytes, Keeps, RunHasBy
 
 use crate::push::{push_admit, push_claim, push_done, push_number, push_small_text, push_word};
 use crate::push_list::{Push, push_list};
-use run_plan::{ClaimReply, LastCommand, Number};
+use run_plan::{Claim, ClaimReply, Done, LastCommand, Number};
 use run_table::{Runner, Table};
 use std::alloc::AllocError;
 use wf_value::{JobResult, Outcome};
@@ -141,30 +142,38 @@ fn push_kept(out: &mut Vec<u8>, reply: u8, given: Option<Number>) -> Result<(), 
     Ok(())
 }
 
+fn push_last_claim(out: &mut Vec<u8>, claim: &Claim, reply: &ClaimReply) -> Result<(), AllocError>
+    ensures takes { OnOk result (last_command.Takes (stored_last (last.Claim claim.now reply.now))) }
+    ensures bytes { OnOk result
+        (out.new.items ≡ out.old.items ++ last_command.spelling (stored_last (last.Claim claim.now reply.now))) }
+    ensures kept { OnErr result (Keeps out.old.items out.new.items) }
+{
+    push_byte(out, 2)?;
+    push_claim(out, claim)?;
+    match reply {
+        ClaimReply::Nothing => push_kept(out, 0, None),
+        ClaimReply::Lease(given) => push_kept(out, 1, Some(given.lease)),
+    }
+}
+
+fn push_last_report(out: &mut Vec<u8>, report: &Done) -> Result<(), AllocError>
+    ensures takes { OnOk result (last_command.Takes (stored_last (last.Done report.now))) }
+    ensures bytes { OnOk result (out.new.items ≡ out.old.items ++ last_command.spelling (stored_last (last.Done report.now))) }
+    ensures kept { OnErr result (Keeps out.old.items out.new.items) }
+{
+    push_byte(out, 3)?;
+    push_done(out, report)?;
+    push_kept(out, 2, None)
+}
+
 fn push_last(out: &mut Vec<u8>, value: &LastCommand) -> Result<(), AllocError>
     ensures takes { OnOk result (last_command.Takes (stored_last value.now)) }
     ensures bytes { OnOk result (out.new.items ≡ out.old.items ++ last_command.spelling (stored_last value.now)) }
     ensures kept { OnErr result (Keeps out.old.items out.new.items) }
 {
     match value {
-        LastCommand::Claim(claim, ClaimReply::Nothing) => {
-            push_byte(out, 2)?;
-            push_claim(out, claim)?;
-            push_kept(out, 0, None)?;
-            Ok(())
-        }
-        LastCommand::Claim(claim, ClaimReply::Lease(given)) => {
-            push_byte(out, 2)?;
-            push_claim(out, claim)?;
-            push_kept(out, 1, Some(given.lease))?;
-            Ok(())
-        }
-        LastCommand::Done(report) => {
-            push_byte(out, 3)?;
-            push_done(out, report)?;
-            push_kept(out, 2, None)?;
-            Ok(())
-        }
+        LastCommand::Claim(claim, reply) => push_last_claim(out, claim, reply),
+        LastCommand::Done(report) => push_last_report(out, report),
     }
 }
 
