@@ -29,14 +29,18 @@ pub no_batch : (body : List ℕ) → ((x : List Command) (rest : List ℕ) → B
     → Spells batch body commands → ⊥
 no_batch body none commands spells = none_whole batch body none commands spells
 
-pub carried_whole : (body rest : List ℕ) (table last : TableState) (commands : List Command) → BeginsWith batch body commands rest
-    → length rest ≤ 0 → last ≡ after table commands → IsCarried body table (Some last)
-carried_whole body rest table last commands begins none is = (commands, whole batch body rest commands begins none, sym is)
+pub whole_batch : (body rest : List ℕ) (commands : List Command) → BeginsWith batch body commands rest → length rest ≤ 0
+    → Spells batch body commands
+whole_batch body rest commands begins none = whole batch body rest commands begins none
 
-pub left_over : (body rest : List ℕ) (table : TableState) (found : List Command) → BeginsWith batch body found rest → 0 < length rest
-    → IsCarried body table None
-left_over body rest table found begins some commands spells =
+pub left_over : (body rest : List ℕ) (found : List Command) → BeginsWith batch body found rest → 0 < length rest → (commands : List Command)
+    → Spells batch body commands → ⊥
+left_over body rest found begins some commands spells =
     none_longer batch (none_begins batch batch_at batch_reads) body rest found begins some commands spells
+
+pub carried_whole : (body : List ℕ) (table last : TableState) (commands : List Command) → Spells batch body commands
+    → last ≡ after table commands → IsCarried body table (Some last)
+carried_whole body table last commands spells is = (commands, spells, sym is)
 
 -- ---- the records so far
 

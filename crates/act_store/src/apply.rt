@@ -94,23 +94,40 @@ fn enter(
     history.reserve(1)?;
     let (count, spelled) = (waiting.count(), waiting.spelled_len());
     waiting.add(alloc, &command)?;
-    match table.step_with_copy(alloc, &command) {
+    match step_and_push(alloc, table, history, seat, command) {
+        Ok(reply) => Ok(reply),
         Err(refusal) => {
             waiting.keep(count, spelled);
             Err(refusal)
         }
-        Ok((reply, told)) => {
-            push_within(
-                history,
-                Entry {
-                    seat,
-                    command,
-                    reply,
-                },
-            );
-            Ok(told)
-        }
     }
+}
+
+/// Carries out a command, and enters it at the end of a history that has room for it.
+fn step_and_push(
+    alloc: Global,
+    table: &mut Table,
+    history: &mut Vec<Entry>,
+    seat: u64,
+    command: Command,
+) -> Result<Reply, Refusal>
+    requires { vec_len history.old < vec_capacity history.old }
+    ensures reply { IfOk result (λ reply. reply ≡ (stepped table.old command).reply) }
+    ensures table { IfOk result (λ _. table.new ≡ (stepped table.old command).table) }
+    ensures history { IfOk result (λ _. history.new.items ≡ history.old.items
+        ++ record { seat = seat; command = command; reply = (stepped table.old command).reply } ∷ []) }
+    ensures same_table { OnErr result (table.new ≡ table.old) }
+    ensures same_history { OnErr result (history.new.items ≡ history.old.items) }
+    ensures refused { IfErr result (λ e. e ≡ no_memory) }
+{
+    let (reply, told) = table.step_with_copy(alloc, &command)?;
+    let entry = Entry {
+        seat,
+        command,
+        reply,
+    };
+    push_within(history, entry);
+    Ok(told)
 }
 
 /// Adds an entry for which there is room.

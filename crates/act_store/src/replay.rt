@@ -1,6 +1,9 @@
-ghost use Rattle.std.specs.Prelude.{◌≡◌, IfErr, IfOk};
+ghost use Rattle.std.specs.Prelude.{◌≡◌, IfErr, IfOk, List, MatchOption};
 ghost use Rattle.wf_value.specs.Gives.{no_memory};
+ghost use Rattle.run_plan.specs.declared.command.Command.{Command};
 ghost use Rattle.run_table.specs.Histories.{after};
+ghost use Rattle.table_text.specs.Commands.{batch};
+ghost use Rattle.table_text.specs.Format.{Spells};
 ghost use Rattle.act_store.specs.Replayed.{IsCarried, IsReplayed};
 
 use gated_journal::record_at;
@@ -28,10 +31,11 @@ pub(crate) fn replay(alloc: Global, first: Table, records: &[u8]) -> Result<Opti
     Ok(Some(table))
 }
 
-/// Carries out the commands of a body. `None` where it spells no batch.
-#[tactic(auto, using(crate::proofs::Replaying::carried_whole, crate::proofs::Replaying::left_over, crate::proofs::Replaying::no_batch))]
-fn carry_body(alloc: Global, table: Table, body: &[u8]) -> Result<Option<Table>, Refusal>
-    ensures carried { IfOk result (λ next. IsCarried body.now table next) }
+/// The commands of a body. `None` where it spells no batch.
+#[tactic(auto, using(crate::proofs::Replaying::whole_batch, crate::proofs::Replaying::left_over, crate::proofs::Replaying::no_batch))]
+fn batch_of(alloc: Global, body: &[u8]) -> Result<Option<Vec<Command>>, Refusal>
+    ensures batch { IfOk result (λ found. MatchOption found ((commands : List Command) → Spells batch body.now commands → ⊥)
+        (λ commands. Spells batch body.now commands.items)) }
     ensures refused { IfErr result (λ e. e ≡ no_memory) }
 {
     let Some((commands, rest)) = read_batch(alloc, body)? else {
@@ -40,6 +44,18 @@ fn carry_body(alloc: Global, table: Table, body: &[u8]) -> Result<Option<Table>,
     if rest.len() > 0 {
         return Ok(None);
     }
+    Ok(Some(commands))
+}
+
+/// Carries out the commands of a body. `None` where it spells no batch.
+#[tactic(auto, using(crate::proofs::Replaying::carried_whole))]
+fn carry_body(alloc: Global, table: Table, body: &[u8]) -> Result<Option<Table>, Refusal>
+    ensures carried { IfOk result (λ next. IsCarried body.now table next) }
+    ensures refused { IfErr result (λ e. e ≡ no_memory) }
+{
+    let Some(commands) = batch_of(alloc, body)? else {
+        return Ok(None);
+    };
     let next = carry_all(alloc, table, commands.as_slice())?;
     Ok(Some(next))
 }
