@@ -69,7 +69,13 @@ fn expect_held(rt: &impl Abort, disk: &MemoryDisk, bytes: &[u8], calls: usize) {
     holds!(rt; disk.calls().len() == calls);
 }
 
-const KEPT: [Row; 4] = [
+/// The same of a disk of which no call has failed.
+fn expect_held_soundly(rt: &impl Abort, disk: &MemoryDisk, bytes: &[u8], calls: usize) {
+    holds!(rt; disk.faults() == 0);
+    expect_held(rt, disk, bytes, calls);
+}
+
+const KEPT: &[Row] = &[
     (Ask::Write(0, b"abcdef"), true, 0, 6),
     (Ask::Sync, true, 0, 6),
     (Ask::Write(2, b"XY"), true, 0, 6),
@@ -80,7 +86,7 @@ const KEPT: [Row; 4] = [
 fn memory_keeps_bytes_and_calls(rt: HostRuntime) {
     let mut disk = MemoryDisk::new(rt.alloc());
     holds!(rt; disk.len() == 0 && disk.faults() == 0);
-    play(&rt, &mut disk, &KEPT);
+    play(&rt, &mut disk, KEPT);
     expect_held(&rt, &disk, b"abXYef", 3);
     expect_calls(&rt, disk.calls());
 }
@@ -99,19 +105,19 @@ fn expect_calls(rt: &impl Abort, calls: &[Call]) {
     holds!(rt; is_write(&calls[2], 2, b"XY"));
 }
 
-const REFUSED_A_GROWTH: [Row; 2] = [
+const REFUSED_A_GROWTH: &[Row] = &[
     (Ask::Write(u64::MAX, b"yz"), false, 1, 4),
     (Ask::Write(1 << 62, b"z"), false, 2, 4),
 ];
 
-const GROWN_AFTER_THAT: [Row; 1] = [(Ask::Write(3, b"z"), true, 2, 4)];
+const GROWN_AFTER_THAT: &[Row] = &[(Ask::Write(3, b"z"), true, 2, 4)];
 
 #[test]
 fn memory_refused_a_growth_fails(rt: HostRuntime) {
     let mut disk = holding(&rt, rt.alloc(), b"abcd");
-    play(&rt, &mut disk, &REFUSED_A_GROWTH);
+    play(&rt, &mut disk, REFUSED_A_GROWTH);
     expect_held(&rt, &disk, b"abcd", 0);
-    play(&rt, &mut disk, &GROWN_AFTER_THAT);
+    play(&rt, &mut disk, GROWN_AFTER_THAT);
     expect_held(&rt, &disk, b"abcz", 1);
 }
 
@@ -120,7 +126,7 @@ const FIRST: &[u8] = &[1, 2, 3, 4, 5, 6];
 const SYNCED: &[u8] = &[1, 11, 12, 13, 5, 21, 22];
 
 /// Two writes, the second past the end, a sync, two writes, the second behind a hole, and a sync.
-const WRITTEN: [Row; 6] = [
+const WRITTEN: &[Row] = &[
     (Ask::Write(1, &[11, 12, 13]), true, 0, 6),
     (Ask::Write(5, &[21, 22]), true, 0, 7),
     (Ask::Sync, true, 0, 7),
@@ -129,8 +135,11 @@ const WRITTEN: [Row; 6] = [
     (Ask::Sync, true, 0, 11),
 ];
 
-/// A call of `WRITTEN`, a fill, and the image by hand.
-const IMAGES: [(u64, Fill, &[u8]); 24] = [
+/// A call of a disk, a fill, and the image of a stop inside the call.
+type ImageRow = (u64, Fill, &'static [u8]);
+
+/// The images of `WRITTEN` by hand.
+const IMAGES: &[ImageRow] = &[
     (0, Fill::Old, FIRST),
     (0, Fill::New, &[1, 11, 12, 13, 5, 6]),
     (0, Fill::Half, &[1, 11, 3, 4, 5, 6]),
@@ -165,32 +174,40 @@ const IMAGES: [(u64, Fill, &[u8]); 24] = [
     ),
 ];
 
-fn expect_image(rt: &impl Abort, alloc: Global, disk: &MemoryDisk, row: (u64, Fill, &[u8])) {
+fn expect_image(rt: &impl Abort, alloc: Global, disk: &MemoryDisk, row: &ImageRow) {
     let (call, fill, want) = row;
-    holds!(rt; (call as usize) < disk.calls().len());
-    let image = disk.image(alloc, call, fill).expect(rt, "an image");
-    holds!(rt; image.faults() == 0);
-    expect_held(rt, &image, want, 0);
+    holds!(rt; (*call as usize) < disk.calls().len());
+    let image = disk.image(alloc, *call, *fill).expect(rt, "an image");
+    expect_held_soundly(rt, &image, want, 0);
+}
+
+fn expect_images(rt: &impl Abort, alloc: Global, disk: &MemoryDisk, rows: &[ImageRow]) {
+    for row in rows {
+        expect_image(rt, alloc, disk, row);
+    }
+}
+
+/// The disk that `WRITTEN` leaves.
+fn written_disk(rt: &impl Abort, alloc: Global) -> MemoryDisk {
+    let mut disk = holding(rt, alloc, FIRST);
+    play(rt, &mut disk, WRITTEN);
+    holds!(rt; disk.calls().len() == 6);
+    disk
 }
 
 #[test]
 fn images_are_those_by_hand(rt: HostRuntime) {
-    let mut disk = holding(&rt, rt.alloc(), FIRST);
-    play(&rt, &mut disk, &WRITTEN);
-    holds!(rt; disk.calls().len() == 6);
-    for &row in &IMAGES {
-        expect_image(&rt, rt.alloc(), &disk, row);
-    }
+    expect_images(&rt, rt.alloc(), &written_disk(&rt, rt.alloc()), IMAGES);
 }
 
-const FAILED_ONCE: [Row; 4] = [
+const FAILED_ONCE: &[Row] = &[
     (Ask::Read(0, b"abcd"), true, 0, 4),
     (Ask::Write(0, b"A"), true, 0, 4),
     (Ask::Write(1, b"B"), false, 1, 4),
     (Ask::Sync, true, 1, 4),
 ];
 
-const FAILED_FROM_THE_SECOND_ON: [Row; 4] = [
+const FAILED_FROM_THE_SECOND_ON: &[Row] = &[
     (Ask::Write(0, b"A"), true, 0, 4),
     (Ask::Sync, false, 1, 4),
     (Ask::Read(0, b"Ab"), false, 2, 4),
@@ -206,25 +223,23 @@ fn expect_inside(
     calls: usize,
 ) {
     play(rt, &mut disk, rows);
-    let inner = disk.into_inner();
-    holds!(rt; inner.faults() == 0);
-    expect_held(rt, &inner, bytes, calls);
+    expect_held_soundly(rt, &disk.into_inner(), bytes, calls);
 }
 
 #[test]
 fn fuse_fails_one_call(rt: HostRuntime) {
     let disk = FuseDisk::once(holding(&rt, rt.alloc(), b"abcd"), 2);
-    expect_inside(&rt, disk, &FAILED_ONCE, b"ABcd", 3);
+    expect_inside(&rt, disk, FAILED_ONCE, b"ABcd", 3);
 }
 
 #[test]
 fn fuse_fails_from_a_call_on(rt: HostRuntime) {
     let disk = FuseDisk::from(holding(&rt, rt.alloc(), b"abcd"), 1);
-    expect_inside(&rt, disk, &FAILED_FROM_THE_SECOND_ON, b"AbcD", 2);
+    expect_inside(&rt, disk, FAILED_FROM_THE_SECOND_ON, b"AbcD", 2);
 }
 
 /// A write with its sync, and the image of a stop inside each of the two calls.
-const WRITE_SYNCED: [(u64, Fill, &[u8]); 2] = [
+const WRITE_SYNCED: &[ImageRow] = &[
     (0, Fill::Half, &[0, 97, 0, 0, 0, 0]),
     (1, Fill::Gates, &[0, 0xA5, 0xA5, 0xA5, 0, 0]),
 ];
@@ -232,12 +247,15 @@ const WRITE_SYNCED: [(u64, Fill, &[u8]); 2] = [
 #[test]
 fn write_and_sync_are_two_calls(rt: HostRuntime) {
     let mut disk = holding(&rt, rt.alloc(), &[0; 6]);
-    holds!(rt; disk.faults() == 0);
-    holds!(rt; write_synced(&mut disk, 1, b"abc").is_ok());
+    write_abc(&rt, &mut disk);
     expect_held(&rt, &disk, &[0, 97, 98, 99, 0, 0], 2);
-    for &row in &WRITE_SYNCED {
-        expect_image(&rt, rt.alloc(), &disk, row);
-    }
+    expect_images(&rt, rt.alloc(), &disk, WRITE_SYNCED);
+}
+
+/// Writes three letters and syncs, by one call of the crate.
+fn write_abc(rt: &impl Abort, disk: &mut MemoryDisk) {
+    holds!(rt; disk.faults() == 0);
+    holds!(rt; write_synced(disk, 1, b"abc").is_ok());
 }
 
 #[test]
@@ -249,8 +267,12 @@ fn fault_is_refusal_51(rt: HostRuntime) {
 /// Grows the disk, whose length is 5,000 then, with zeros at its end.
 fn expect_grown(rt: &impl Abort, disk: &mut MemoryDisk, len: u64) {
     holds!(rt; disk.faults() == 0);
-    holds!(rt; grow_to(disk, len).is_ok());
+    holds!(rt; is_grown(disk, len));
     expect_zero_at_last(rt, disk.bytes());
+}
+
+fn is_grown(disk: &mut MemoryDisk, len: u64) -> bool {
+    disk.faults() < u64::MAX && grow_to(disk, len).is_ok()
 }
 
 fn expect_zero_at_last(rt: &impl Abort, bytes: &[u8]) {
@@ -260,8 +282,12 @@ fn expect_zero_at_last(rt: &impl Abort, bytes: &[u8]) {
 
 #[test]
 fn disk_grows_by_zeros(rt: HostRuntime) {
-    let mut disk = holding(&rt, rt.alloc(), b"abc");
-    expect_grown(&rt, &mut disk, 5000);
+    grow_twice(&rt, &mut holding(&rt, rt.alloc(), b"abc"));
+}
+
+/// Grows the disk, and then not, as it is longer.
+fn grow_twice(rt: &impl Abort, disk: &mut MemoryDisk) {
+    expect_grown(rt, disk, 5000);
     holds!(rt; disk.calls().len() == 2);
-    expect_grown(&rt, &mut disk, 4);
+    expect_grown(rt, disk, 4);
 }

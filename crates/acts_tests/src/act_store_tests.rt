@@ -14,13 +14,13 @@ mod texts;
 use crate::commands::{Words, command_of};
 use crate::holds::holds;
 use act_disk::Disk;
-use act_store::Store;
+use act_store::{Receipt, Store};
 use std::alloc::Global;
 use std::process::Abort;
 use wf_value::{Chars, Refusal};
 
 /// The least length of an area.
-const LEAST: u64 = 4_096;
+pub const LEAST: u64 = 4_096;
 
 /// What a store is asked.
 enum Ask {
@@ -39,11 +39,27 @@ fn number_of<T: Drop>(outcome: Result<T, Refusal>) -> u64 {
     }
 }
 
-/// A new store on an empty disk.
-fn made<D: Disk>(rt: &impl Abort, alloc: Global, disk: D, area: u64) -> Store<D> {
+/// A new store on a disk, or the disk and why none is made.
+fn try_make<D: Disk>(
+    rt: &impl Abort,
+    alloc: Global,
+    disk: D,
+    area: u64,
+) -> Result<Store<D>, (D, Refusal)> {
     holds!(rt; disk.faults() < u64::MAX);
     holds!(rt; LEAST <= area && area <= 1_073_741_824);
-    match Store::init(alloc, disk, area) {
+    Store::init(alloc, disk, area)
+}
+
+/// The store of a disk, or the disk and why it does not open.
+fn try_open<D: Disk>(rt: &impl Abort, alloc: Global, disk: D) -> Result<Store<D>, (D, Refusal)> {
+    holds!(rt; disk.faults() < u64::MAX);
+    Store::open(alloc, disk)
+}
+
+/// A new store on an empty disk.
+pub fn made<D: Disk>(rt: &impl Abort, alloc: Global, disk: D, area: u64) -> Store<D> {
+    match try_make(rt, alloc, disk, area) {
         Ok(store) => store,
         Err((_, refusal)) => panic!(rt; "not made: {refusal}"),
     }
@@ -51,8 +67,7 @@ fn made<D: Disk>(rt: &impl Abort, alloc: Global, disk: D, area: u64) -> Store<D>
 
 /// The number with which a disk is refused, and 0 where it opens.
 fn number_of_opening<D: Disk + Drop>(rt: &impl Abort, alloc: Global, disk: D) -> u64 {
-    holds!(rt; disk.faults() < u64::MAX);
-    match Store::open(alloc, disk) {
+    match try_open(rt, alloc, disk) {
         Ok(_) => 0,
         Err((_, refusal)) => refusal.number(),
     }
@@ -60,11 +75,31 @@ fn number_of_opening<D: Disk + Drop>(rt: &impl Abort, alloc: Global, disk: D) ->
 
 /// The store of a disk that opens.
 fn opened<D: Disk>(rt: &impl Abort, alloc: Global, disk: D) -> Store<D> {
-    holds!(rt; disk.faults() < u64::MAX);
-    match Store::open(alloc, disk) {
+    match try_open(rt, alloc, disk) {
         Ok(store) => store,
         Err((_, refusal)) => panic!(rt; "not opened: {refusal}"),
     }
+}
+
+/// Applies a command of a seat.
+pub fn apply<D: Disk>(
+    alloc: Global,
+    store: &mut Store<D>,
+    seat: u64,
+    words: &Words<'_>,
+) -> Result<Receipt, Refusal> {
+    let command = command_of(alloc, words)?;
+    store.apply(alloc, seat, command)
+}
+
+/// Covers all entries, and says how many they are.
+pub fn commit<D: Disk>(store: &mut Store<D>) -> Result<u64, Refusal> {
+    store.commit()
+}
+
+/// How many entries are covered.
+fn covered<D: Disk>(store: &Store<D>) -> u64 {
+    store.covered()
 }
 
 /// Applies a command, and prints the reply. The place that is told is that of the last entry.
@@ -74,8 +109,7 @@ fn applied<D: Disk>(
     store: &mut Store<D>,
     words: &Words<'_>,
 ) -> Result<Chars, Refusal> {
-    let command = command_of(alloc, words)?;
-    let receipt = store.apply(alloc, 7, command)?;
+    let receipt = apply(alloc, store, 7, words)?;
     holds!(rt; receipt.place == store.entries());
     receipt.reply.text(alloc)
 }
@@ -86,7 +120,7 @@ fn covered_text(alloc: Global, count: u64) -> Result<Chars, Refusal> {
 
 /// Commits, and prints how many entries are covered.
 fn committed<D: Disk>(alloc: Global, store: &mut Store<D>) -> Result<Chars, Refusal> {
-    let count = store.commit()?;
+    let count = commit(store)?;
     covered_text(alloc, count)
 }
 
@@ -109,10 +143,10 @@ fn answer<D: Disk>(
 
 /// Asks a store in turn, and compares each answer.
 fn play<D: Disk>(rt: &impl Abort, alloc: Global, store: &mut Store<D>, rows: &[Row]) {
-    for (place, (ask, want, entries, covered)) in rows.iter().enumerate() {
+    for (place, (ask, want, entries, count)) in rows.iter().enumerate() {
         let text = answer(rt, alloc, store, ask).expect(rt, "an answer");
         holds!(rt; text.as_str() == *want, place);
         holds!(rt; store.entries() == *entries, place);
-        holds!(rt; store.covered() == *covered, place);
+        holds!(rt; covered(store) == *count, place);
     }
 }

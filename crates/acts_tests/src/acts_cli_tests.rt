@@ -79,7 +79,7 @@ const BODY: &str =
     "{\"repo\":\"o/r\",\"path\":\"ci.json\",\"workflow\":{\"jobs\":{\"build\":{\"runs-on\":\"linux\"}}}}";
 
 /// Scripts, and what each prints.
-const ROWS: [(&str, &str); 12] = [
+const ROWS: &[(&str, &str)] = &[
     (FIRST, FIRST_ANSWERS),
     (SECOND, SECOND_ANSWERS),
     (THIRD, THIRD_ANSWERS),
@@ -117,18 +117,23 @@ fn number_of(ended: Result<(), Refusal>) -> u64 {
     }
 }
 
+/// Plays what a reader gives, and prints the answers to a writer.
+fn play<R: Read, W: Write>(alloc: Global, script: &mut R, printed: &mut W) -> Result<(), Refusal> {
+    run_script(alloc, script, printed)
+}
+
 /// Plays a script, and compares what it prints.
 fn expect_played(rt: &impl Abort, alloc: Global, script: &[u8], answers: &str) {
     let mut reader = script;
     let mut printed = Vec::new(alloc);
-    let number = number_of(run_script(alloc, &mut reader, &mut printed));
+    let number = number_of(play(alloc, &mut reader, &mut printed));
     holds!(rt; number == 0);
     holds!(rt; printed.as_slice() == answers.as_bytes(), answers);
 }
 
 #[test]
 fn plays_the_rows(rt: HostRuntime) {
-    for &(script, answers) in &ROWS {
+    for &(script, answers) in ROWS {
         expect_played(&rt, rt.alloc(), script.as_bytes(), answers);
     }
 }
@@ -147,14 +152,14 @@ fn expect_long_played(rt: &impl Abort, alloc: Global, pieces: &[(&str, usize)], 
 }
 
 /// Spaces behind a body, and the answer.
-const SPACES: [(usize, &str); 2] = [
+const SPACES: &[(usize, &str)] = &[
     (65_536 - BODY.len(), "created 1\n"),
     (65_537 - BODY.len(), "refused 24\n"),
 ];
 
 #[test]
 fn bounds_a_body(rt: HostRuntime) {
-    for &(spaces, answer) in &SPACES {
+    for &(spaces, answer) in SPACES {
         let pieces = [("admit d1 push ", 1), (BODY, 1), (" ", spaces)];
         expect_long_played(&rt, rt.alloc(), &pieces, answer);
     }
@@ -175,7 +180,7 @@ fn refuses_a_script_that_is_too_long(rt: HostRuntime) {
     let script = spelled(rt.alloc(), &pieces).expect(&rt, "a script");
     let mut reader = script.as_bytes();
     let mut printed = Vec::new(rt.alloc());
-    let number = number_of(run_script(rt.alloc(), &mut reader, &mut printed));
+    let number = number_of(play(rt.alloc(), &mut reader, &mut printed));
     holds!(rt; number == 76);
     holds!(rt; printed.is_empty());
     holds!(rt; reader.len() == 8, "no more than 1,048,577 bytes are read");
@@ -208,7 +213,7 @@ fn fails_with_its_reader(rt: HostRuntime) {
             left,
         };
         let mut printed = Vec::new(rt.alloc());
-        let number = number_of(run_script(rt.alloc(), &mut reader, &mut printed));
+        let number = number_of(play(rt.alloc(), &mut reader, &mut printed));
         holds!(rt; number == 61 && printed.is_empty(), left);
     }
 }
@@ -249,7 +254,7 @@ fn expect_61(rt: &impl Abort, alloc: Global, left: usize, holds_back: bool, writ
         left,
         holds_back,
     };
-    let number = number_of(run_script(alloc, &mut reader, &mut writer));
+    let number = number_of(play(alloc, &mut reader, &mut writer));
     holds!(rt; number == 61, left);
     holds!(rt; writer.bytes.as_slice() == written, left);
 }

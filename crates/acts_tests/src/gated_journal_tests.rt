@@ -4,11 +4,12 @@ mod sweep;
 mod torn;
 
 use crate::holds::holds;
-use act_disk::{Call, Disk, DiskFault, MemoryDisk};
+use act_disk::{Call, Disk, DiskFault, Fill, MemoryDisk};
 use gated_journal::{Area, scan};
 use std::alloc::Global;
 use std::process::Abort;
 use std::test::Fail;
+use wf_value::Refusal;
 
 /// The first half of a disk of 8,192 bytes.
 const FIRST: Area = Area {
@@ -25,11 +26,30 @@ const FRONT: [u8; 31] = [
 const RECORD: [u8; 14] = [0, 0, 0, 9, 0, 0, 0, 1, 7, 0, 0, 0, 1, 0];
 
 /// A disk with that front; all behind it is FF, but for a closed gate at the other half.
-fn fresh_disk(alloc: Global) -> Result<MemoryDisk, Fail> {
-    let mut bytes = vec![in alloc; 0xFF_u8; 8192]?;
+fn fresh_disk(alloc: Global) -> Result<MemoryDisk, Refusal> {
+    let mut bytes = [0xFF; 8192];
     bytes[..31].copy_from_slice(&FRONT);
     bytes[4096] = 0;
-    Ok(MemoryDisk::from_slice(alloc, &bytes)?)
+    MemoryDisk::from_slice(alloc, &bytes)
+}
+
+/// A fresh disk with the record behind its first gate.
+fn appended_disk(rt: &impl Abort, alloc: Global) -> Result<MemoryDisk, Fail> {
+    let mut disk = fresh_disk(alloc)?;
+    append(rt, FIRST, &mut disk, 30, &RECORD)?;
+    Ok(disk)
+}
+
+/// The disk that a stop inside a call of this one leaves.
+fn image_of(
+    rt: &impl Abort,
+    alloc: Global,
+    disk: &MemoryDisk,
+    call: u64,
+    fill: Fill,
+) -> Result<MemoryDisk, Refusal> {
+    holds!(rt; (call as usize) < disk.calls().len());
+    disk.image(alloc, call, fill)
 }
 
 /// Appends to an area of a disk.
@@ -45,6 +65,21 @@ fn append<D: Disk>(
     let len = bytes.len() as u64;
     holds!(rt; at <= 1 << 32 && len <= 1 << 32 && at + len + 1 <= area.len);
     area.append(disk, at, bytes)
+}
+
+/// Writes bytes of an area of a disk, behind its gate.
+fn put<D: Disk>(
+    rt: &impl Abort,
+    area: Area,
+    disk: &mut D,
+    at: u64,
+    bytes: &[u8],
+) -> Result<(), DiskFault> {
+    holds!(rt; disk.faults() < u64::MAX);
+    holds!(rt; area.start <= 1 << 32 && area.len <= 1 << 32);
+    let len = bytes.len() as u64;
+    holds!(rt; 0 < at && at <= 1 << 32 && len <= 1 << 32 && at + len <= area.len);
+    area.put(disk, at, bytes)
 }
 
 /// The offset of an area's first closed gate, where it reads as something.

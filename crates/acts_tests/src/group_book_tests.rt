@@ -19,8 +19,10 @@ const LEG: Holder = Holder::Leg(0, 0, 0);
 const NEXT_LEG: Holder = Holder::Leg(0, 0, 1);
 
 fn group(rt: &impl Abort, alloc: Global, name: &str) -> GroupKey {
-    let made = GroupKey::of(alloc, "o/r", name).expect(rt, "memory");
-    made.expect(rt, "a group")
+    match GroupKey::of(alloc, "o/r", name) {
+        Ok(Some(group)) => group,
+        _ => panic!(rt; "no group"),
+    }
 }
 
 fn is(found: Option<Holder>, expected: Option<Holder>) -> bool {
@@ -114,7 +116,7 @@ fn play(rt: &impl Abort, alloc: Global, book: &mut Book, steps: &[Step]) {
     }
 }
 
-const NEWEST: [Step; 10] = [
+const NEWEST: &[Step] = &[
     Step::Arrive("deploy", FIRST, false, None, None),
     Step::Start(FIRST),
     Step::See("deploy", Some(FIRST), None),
@@ -129,10 +131,10 @@ const NEWEST: [Step; 10] = [
 
 #[test]
 fn newest_one_is_pending(rt: HostRuntime) {
-    play(&rt, rt.alloc(), &mut Book::new(rt.alloc()), &NEWEST);
+    play(&rt, rt.alloc(), &mut Book::new(rt.alloc()), NEWEST);
 }
 
-const CANCELLING: [Step; 9] = [
+const CANCELLING: &[Step] = &[
     Step::Arrive("Prod", FIRST, false, None, None),
     Step::Start(FIRST),
     Step::Arrive("prod", SECOND, true, None, Some(FIRST)),
@@ -146,10 +148,10 @@ const CANCELLING: [Step; 9] = [
 
 #[test]
 fn cancel_in_progress_stops_the_running_one_once(rt: HostRuntime) {
-    play(&rt, rt.alloc(), &mut Book::new(rt.alloc()), &CANCELLING);
+    play(&rt, rt.alloc(), &mut Book::new(rt.alloc()), CANCELLING);
 }
 
-const STOPPED: [Step; 5] = [
+const STOPPED: &[Step] = &[
     Step::Arrive("g", LEG, false, None, None),
     Step::Start(LEG),
     Step::Stop(LEG),
@@ -159,10 +161,10 @@ const STOPPED: [Step; 5] = [
 
 #[test]
 fn a_stopped_one_is_not_stopped_again(rt: HostRuntime) {
-    play(&rt, rt.alloc(), &mut Book::new(rt.alloc()), &STOPPED);
+    play(&rt, rt.alloc(), &mut Book::new(rt.alloc()), STOPPED);
 }
 
-const TWO_GROUPS: [Step; 9] = [
+const TWO_GROUPS: &[Step] = &[
     Step::Arrive("a", LEG, false, None, None),
     Step::Arrive("b", NEXT_LEG, true, None, None),
     Step::IsIn("a", LEG, true),
@@ -176,29 +178,29 @@ const TWO_GROUPS: [Step; 9] = [
 
 #[test]
 fn groups_are_apart(rt: HostRuntime) {
-    play(&rt, rt.alloc(), &mut Book::new(rt.alloc()), &TWO_GROUPS);
+    play(&rt, rt.alloc(), &mut Book::new(rt.alloc()), TWO_GROUPS);
 }
 
-const RUNNING_AND_PENDING: [Step; 3] = [
+const RUNNING_AND_PENDING: &[Step] = &[
     Step::Arrive("a", FIRST, false, None, None),
     Step::Start(FIRST),
     Step::Arrive("a", SECOND, false, None, None),
 ];
 
-const BOTH_LEAVE: [Step; 3] = [
+const BOTH_LEAVE: &[Step] = &[
     Step::Leave(FIRST),
     Step::Leave(SECOND),
     Step::See("a", None, None),
 ];
 
-const BOTH_ARE_THERE: [Step; 1] = [Step::See("a", Some(FIRST), Some(SECOND))];
+const BOTH_ARE_THERE: &[Step] = &[Step::See("a", Some(FIRST), Some(SECOND))];
 
 #[test]
 fn a_copy_has_the_same_holders(rt: HostRuntime) {
     let mut book = Book::new(rt.alloc());
     book.reserve(2).expect(&rt, "memory");
-    play(&rt, rt.alloc(), &mut book, &RUNNING_AND_PENDING);
+    play(&rt, rt.alloc(), &mut book, RUNNING_AND_PENDING);
     let mut copy = book.copy(rt.alloc()).expect(&rt, "memory");
-    play(&rt, rt.alloc(), &mut book, &BOTH_LEAVE);
-    play(&rt, rt.alloc(), &mut copy, &BOTH_ARE_THERE);
+    play(&rt, rt.alloc(), &mut book, BOTH_LEAVE);
+    play(&rt, rt.alloc(), &mut copy, BOTH_ARE_THERE);
 }

@@ -11,7 +11,7 @@ use wf_value::{Refusal, Same, TryCopy};
 /// A repository and a name.
 type Named = (&'static str, &'static str);
 
-const ONE_GROUP: [(Named, Named); 7] = [
+static ONE_GROUP: [(Named, Named); 7] = [
     (("o/r", "deploy"), ("o/r", "deploy")),
     (("o/r", "Prod"), ("o/r", "prod")),
     (("o/r", "Straße"), ("o/r", "STRASSE")),
@@ -22,7 +22,7 @@ const ONE_GROUP: [(Named, Named); 7] = [
 ];
 
 /// A repository of another case, a dotless i, an é in one character and in two, and a space more.
-const TWO_GROUPS: [(Named, Named); 6] = [
+static TWO_GROUPS: [(Named, Named); 6] = [
     (("o/r", "prod"), ("o/s", "prod")),
     (("o/r", "prod"), ("O/R", "prod")),
     (("o/r", "prod"), ("o/r", "prod2")),
@@ -55,11 +55,19 @@ fn empty_name_is_no_group(rt: HostRuntime) {
     holds!(rt; made.is_none());
 }
 
+fn copied(rt: &impl Abort, alloc: Global, group: &GroupKey) -> GroupKey {
+    group.copy(alloc).expect(rt, "memory")
+}
+
+/// Whether a group is the same as its copy.
+fn is_its_copy(rt: &impl Abort, alloc: Global, group: &GroupKey) -> bool {
+    copied(rt, alloc, group).same(group)
+}
+
 #[test]
 fn copies_a_group(rt: HostRuntime) {
-    let made = group(&rt, rt.alloc(), ("o/r", "Prod"));
-    let copy = made.copy(rt.alloc()).expect(&rt, "memory");
-    holds!(rt; copy.same(&made));
+    let is_copy = is_its_copy(&rt, rt.alloc(), &group(&rt, rt.alloc(), ("o/r", "Prod")));
+    holds!(rt; is_copy);
 }
 
 /// The group of a template in a repository, as it is bound.
@@ -69,7 +77,7 @@ fn bound_group(alloc: Global, named: Named) -> Result<BoundGroup, Refusal> {
 }
 
 /// Two names, the results of the first, and whether it names the group that the second names without results.
-const BOUND: [(Named, Named, Ended, bool); 8] = [
+static BOUND: [(Named, Named, Ended, bool); 8] = [
     (("o/r", "Straße"), ("o/r", "STRASSE"), NONE, true),
     (("o/r", "A${{ 'bc' }}"), ("o/r", "${{ 'aB' }}C"), NONE, true),
     (
@@ -95,34 +103,63 @@ const BOUND: [(Named, Named, Ended, bool); 8] = [
     (("o/r", "${{ needs.a.result }}"), ("o/r", ""), NONE, false),
 ];
 
+/// The group of a template that is not refused.
+fn bound(rt: &impl Abort, alloc: Global, named: Named) -> BoundGroup {
+    bound_group(alloc, named).expect(rt, named.1)
+}
+
+/// Whether a bound name is by its results the group that another is by its own.
+fn is_same(one: &BoundGroup, ended: &Ended, other: &BoundGroup, other_ended: &Ended) -> bool {
+    one.same(ended, other, other_ended)
+}
+
+/// Whether a group is by these results the one that a name means without any.
+fn is_group_of(
+    rt: &impl Abort,
+    alloc: Global,
+    group: &BoundGroup,
+    ended: &Ended,
+    named: Named,
+) -> bool {
+    is_same(group, ended, &bound(rt, alloc, named), &NONE)
+}
+
 /// Whether two bound names are one group, by these results of the first.
-fn is_one_group(alloc: Global, named: Named, other: Named, ended: &Ended) -> Result<bool, Refusal> {
-    let group = bound_group(alloc, named)?;
-    let other = bound_group(alloc, other)?;
-    Ok(group.same(ended, &other, &NONE))
+fn is_one_group(rt: &impl Abort, alloc: Global, named: Named, other: Named, ended: &Ended) -> bool {
+    is_group_of(rt, alloc, &bound(rt, alloc, named), ended, other)
 }
 
 #[test]
 fn compares_bound_groups(rt: HostRuntime) {
     for (named, other, ended, same) in &BOUND {
-        let is_one = is_one_group(rt.alloc(), *named, *other, ended).expect(&rt, named.1);
+        let is_one = is_one_group(&rt, rt.alloc(), *named, *other, ended);
         holds!(rt; is_one == *same, named.1);
     }
 }
 
 #[test]
 fn bound_name_has_a_group_where_it_has_a_text(rt: HostRuntime) {
-    let name = "${{ needs.a.result }}";
-    let group = bound_group(rt.alloc(), ("o/r", name)).expect(&rt, name);
+    let group = bound(&rt, rt.alloc(), ("o/r", "${{ needs.a.result }}"));
     holds!(rt; group.has_group(&FAILED));
     holds!(rt; !group.has_group(&NONE));
 }
 
+/// That a copy is the group of its template by the results of a failure, and no other.
+fn expect_copy(rt: &impl Abort, copy: &BoundGroup, group: &BoundGroup) {
+    holds!(rt; is_same(copy, &FAILED, group, &FAILED));
+    holds!(rt; !is_same(copy, &FAILED, group, &NONE));
+}
+
+fn copied_bound(rt: &impl Abort, alloc: Global, group: &BoundGroup) -> BoundGroup {
+    group.copy(alloc).expect(rt, "memory")
+}
+
+fn expect_copied(rt: &impl Abort, alloc: Global, group: &BoundGroup) {
+    expect_copy(rt, &copied_bound(rt, alloc, group), group);
+}
+
 #[test]
 fn copies_a_bound_group(rt: HostRuntime) {
-    let name = "D-${{ needs.a.result }}";
-    let group = bound_group(rt.alloc(), ("o/r", name)).expect(&rt, name);
-    let copy = group.copy(rt.alloc()).expect(&rt, name);
-    holds!(rt; copy.same(&FAILED, &group, &FAILED));
-    holds!(rt; !copy.same(&FAILED, &group, &NONE));
+    let named = ("o/r", "D-${{ needs.a.result }}");
+    expect_copied(&rt, rt.alloc(), &bound(&rt, rt.alloc(), named));
 }

@@ -39,58 +39,93 @@ fn combos(alloc: Global, objects: &[Object]) -> Result<Vec<Combo>, Refusal> {
 }
 
 /// Variables whose names do not rise are refused 75.
+fn matrix_of(
+    variables: Vec<Variable>,
+    include: Vec<Combo>,
+    exclude: Vec<Combo>,
+) -> Result<Matrix, Refusal> {
+    if !Matrix::names_rise(variables.as_slice()) {
+        return Err(Refusal::Numbered(Code::Line));
+    }
+    Ok(Matrix::new(variables, include, exclude))
+}
+
+/// The matrix of these variables and objects.
 fn matrix(
     alloc: Global,
     variables: Vec<Variable>,
     include: &[Object],
     exclude: &[Object],
 ) -> Result<Matrix, Refusal> {
-    if !Matrix::names_rise(variables.as_slice()) {
-        return Err(Refusal::Numbered(Code::Line));
-    }
     let include = combos(alloc, include)?;
     let exclude = combos(alloc, exclude)?;
-    Ok(Matrix::new(variables, include, exclude))
+    matrix_of(variables, include, exclude)
 }
 
 /// The pairs in order, a text in quotes.
 fn shown(alloc: Global, combos: &[Combo]) -> Result<String, Refusal> {
     let mut shown = String::new(alloc);
-    for combo in combos {
-        shown.push_str("{")?;
-        show(alloc, &mut shown, combo.as_slice())?;
-        shown.push_str("}")?;
-    }
+    show_all(alloc, &mut shown, combos)?;
     Ok(shown)
 }
 
-fn show(alloc: Global, shown: &mut String, pairs: &[(Chars, Scalar)]) -> Result<(), Refusal> {
-    for (name, value) in pairs {
-        shown.push_str(" ")?;
-        shown.push_str(name.as_str())?;
-        let quote = match value {
-            Scalar::Text(_) => "'",
-            Scalar::Null => "null",
-            _ => "",
-        };
-        shown.push_str(quote)?;
-        shown.push_str(":")?;
-        shown.push_str(value.text(alloc)?.as_str())?;
+fn show_all(alloc: Global, shown: &mut String, combos: &[Combo]) -> Result<(), Refusal> {
+    for combo in combos {
+        show(alloc, shown, combo.as_slice())?;
     }
     Ok(())
 }
 
+fn show(alloc: Global, shown: &mut String, pairs: &[(Chars, Scalar)]) -> Result<(), Refusal> {
+    push(shown, "{")?;
+    for (name, value) in pairs {
+        show_pair(alloc, shown, name.as_str(), value)?;
+    }
+    push(shown, "}")
+}
+
+fn show_pair(alloc: Global, shown: &mut String, name: &str, value: &Scalar) -> Result<(), Refusal> {
+    push(shown, " ")?;
+    push(shown, name)?;
+    push(shown, quote(value))?;
+    push(shown, ":")?;
+    push(shown, value.text(alloc)?.as_str())
+}
+
+/// What tells the value's kind, where its text alone does not.
+fn quote(value: &Scalar) -> &'static str {
+    match value {
+        Scalar::Text(_) => "'",
+        Scalar::Null => "null",
+        _ => "",
+    }
+}
+
+fn push(shown: &mut String, text: &str) -> Result<(), Refusal> {
+    shown.push_str(text)?;
+    Ok(())
+}
+
 /// The combinations of a matrix as they are shown.
-fn shown_combinations(rt: &impl Abort, alloc: Global, listed: &Listed) -> String {
+fn shown_of(alloc: Global, matrix: &Matrix) -> Result<String, Refusal> {
+    let combos = expand(alloc, matrix)?;
+    shown(alloc, combos.as_slice())
+}
+
+/// The matrix that is listed.
+fn listed_matrix(alloc: Global, listed: &Listed) -> Result<Matrix, Refusal> {
     let (listed, include, exclude) = listed;
-    let variables = variables(alloc, listed).expect(rt, "variables");
-    let matrix = matrix(alloc, variables, include, exclude).expect(rt, "a matrix");
-    let combos = expand(alloc, &matrix).expect(rt, "combinations");
-    shown(alloc, combos.as_slice()).expect(rt, "a text")
+    matrix(alloc, variables(alloc, listed)?, include, exclude)
+}
+
+/// The combinations of the matrix that is listed, as they are shown.
+fn shown_combinations(rt: &impl Abort, alloc: Global, listed: &Listed) -> String {
+    let matrix = listed_matrix(alloc, listed).expect(rt, "a matrix");
+    shown_of(alloc, &matrix).expect(rt, "combinations")
 }
 
 /// The matrix of fruits and animals of the documentation.
-const DOCUMENTED: Listed = (
+static DOCUMENTED: Listed = (
     &[
         ("animal", &[Given::Text("cat"), Given::Text("dog")]),
         ("fruit", &[Given::Text("apple"), Given::Text("pear")]),
@@ -128,7 +163,7 @@ fn gives_the_combinations_of_the_documentation(rt: HostRuntime) {
     expect_text(&rt, shown.as_str(), DOCUMENTED_COMBINATIONS);
 }
 
-const INCLUDED_ALONE: Listed = (
+static INCLUDED_ALONE: Listed = (
     &[],
     &[&[("a", Given::Whole(1))], &[("a", Given::Whole(2))]],
     &[],
@@ -140,7 +175,7 @@ fn gives_a_leg_for_each_include_object_alone(rt: HostRuntime) {
     expect_text(&rt, shown.as_str(), "{ a:1}{ a:2}");
 }
 
-const OF_EACH_KIND: Listed = (
+static OF_EACH_KIND: Listed = (
     &[(
         "a",
         &[
@@ -188,7 +223,7 @@ const ORIGIN: &[Object] = &[&[("x", Given::Whole(0)), ("y", Given::Whole(0))]];
 
 /// How many values `x` and `y` have, what is included and excluded, and 1,000 more than the number of
 /// combinations, or the number of the refusal.
-const GRIDS: [(i64, i64, &[Object], &[Object], u64); 6] = [
+static GRIDS: [(i64, i64, &[Object], &[Object], u64); 6] = [
     (16, 16, &[], &[], 1256),
     (16, 16, SIXTEEN, &[], 22),
     (16, 16, SIXTEEN, ORIGIN, 1256),
@@ -229,14 +264,13 @@ fn counts_legs_after_exclude(rt: HostRuntime) {
 #[test]
 fn puts_the_new_combination_last(rt: HostRuntime) {
     let matrix = grid(&rt, rt.alloc(), (16, 16), SIXTEEN, ORIGIN);
-    let combos = expand(rt.alloc(), &matrix).expect(&rt, "combinations");
-    let shown = shown(rt.alloc(), combos.as_slice()).expect(&rt, "a text");
+    let shown = shown_of(rt.alloc(), &matrix).expect(&rt, "combinations");
     holds!(rt; shown.as_str().starts_with("{ x:0 y:1}{ x:0 y:2}"));
     holds!(rt; shown.as_str().ends_with("{ x:15 y:15}{ x:16}"));
 }
 
 /// Seventeen variables of two values each: 131,072 choices.
-const SEVENTEEN_OF_TWO: [(&str, i64); 17] = [
+static SEVENTEEN_OF_TWO: [(&str, i64); 17] = [
     ("a", 2),
     ("b", 2),
     ("c", 2),

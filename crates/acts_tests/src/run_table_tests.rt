@@ -35,11 +35,16 @@ fn reply_text(alloc: Global, table: &mut Table, words: &Words<'_>) -> Result<Cha
     stepped(alloc, table, words)?.text(alloc)
 }
 
+/// Carries out a command, and compares the printed reply.
+pub fn play_one(rt: &impl Abort, alloc: Global, table: &mut Table, words: &Words<'_>, want: &str) {
+    let text = reply_text(alloc, table, words).expect(rt, "a reply");
+    expect_text(rt, text.as_str(), want);
+}
+
 /// Carries out commands in turn, and compares each printed reply.
 pub fn play(rt: &impl Abort, alloc: Global, table: &mut Table, rows: &[Row<'_>]) {
     for (words, want) in rows {
-        let text = reply_text(alloc, table, words).expect(rt, "a reply");
-        expect_text(rt, text.as_str(), want);
+        play_one(rt, alloc, table, words, want);
     }
 }
 

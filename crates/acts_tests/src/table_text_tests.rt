@@ -15,7 +15,7 @@ use table_text::{read_batch, read_command, write_batch, write_command};
 use wf_value::{Outcome, Refusal, Same, same_items};
 
 /// Commands, and how many bytes each takes.
-const SIZES: [(Words<'static>, usize); 9] = [
+const SIZES: &[(Words<'static>, usize)] = &[
     (Words::Admit("d1", BODY), 100),
     (Words::Claim("r1", "1", "linux"), 24),
     (Words::Claim("r1", "999999999", "linux,x64"), 31),
@@ -28,7 +28,7 @@ const SIZES: [(Words<'static>, usize); 9] = [
 ];
 
 /// Commands, and the bytes of each. 999,999,999 is 3B 9A C9 FF, and 258 is 00 00 01 02.
-const BYTES: [(Words<'static>, &[u8]); 6] = [
+const BYTES: &[(Words<'static>, &[u8])] = &[
     (
         Words::Done("r1", "2", "1", Outcome::Failure),
         &[3, 0, 0, 0, 2, b'r', b'1', 0, 0, 0, 2, 0, 0, 0, 1, 2],
@@ -41,7 +41,7 @@ const BYTES: [(Words<'static>, &[u8]); 6] = [
 ];
 
 /// `cancel 1`, `lost r1` and `fetch 1`.
-const THREE: [Words<'static>; 3] = [Words::Cancel("1"), Words::Lost("r1"), Words::Fetch("1")];
+const THREE: &[Words<'static>] = &[Words::Cancel("1"), Words::Lost("r1"), Words::Fetch("1")];
 
 /// The batch of these three.
 const BATCH_OF_THREE: &[u8] = &[
@@ -49,7 +49,7 @@ const BATCH_OF_THREE: &[u8] = &[
 ];
 
 /// What no command is spelled as.
-const NO_COMMANDS: [&[u8]; 18] = [
+const NO_COMMANDS: &[&[u8]] = &[
     // nothing, commands of no kind, and too few bytes
     &[],
     &[0, 0, 0, 0, 1],
@@ -127,7 +127,7 @@ fn expect_size(
 }
 
 fn reads_what_is_written(rt: &impl Abort, alloc: Global) -> Result<(), Refusal> {
-    for (words, size) in &SIZES {
+    for (words, size) in SIZES {
         expect_size(rt, alloc, words, *size)?;
     }
     Ok(())
@@ -148,7 +148,7 @@ fn spelled_words(alloc: Global, words: &Words<'_>) -> Result<Vec<u8>, Refusal> {
 }
 
 fn writes_commands(rt: &impl Abort, alloc: Global) -> Result<(), Refusal> {
-    for (words, want) in &BYTES {
+    for (words, want) in BYTES {
         let bytes = spelled_words(alloc, words)?;
         expect_bytes(rt, bytes.as_slice(), want);
     }
@@ -157,7 +157,7 @@ fn writes_commands(rt: &impl Abort, alloc: Global) -> Result<(), Refusal> {
 
 fn three_commands(alloc: Global) -> Result<Vec<Command>, Refusal> {
     let mut commands = Vec::new(alloc);
-    for words in &THREE {
+    for words in THREE {
         commands.push(command_of(alloc, words)?)?;
     }
     Ok(commands)
@@ -214,7 +214,7 @@ fn claim_of_labels(alloc: Global, count: u8) -> Result<Vec<u8>, Refusal> {
 }
 
 /// What no batch is spelled as: a count of none, and a count of two with one command behind it.
-const NO_BATCHES: [&[u8]; 2] = [&[0, 0, 0, 0], &[0, 0, 0, 2, 7, 0, 0, 0, 1]];
+const NO_BATCHES: &[&[u8]] = &[&[0, 0, 0, 0], &[0, 0, 0, 2, 7, 0, 0, 0, 1]];
 
 fn reads_no_commands(rt: &impl Abort, alloc: Global) -> Result<(), Refusal> {
     for (place, &bytes) in NO_COMMANDS.iter().enumerate() {
@@ -224,7 +224,7 @@ fn reads_no_commands(rt: &impl Abort, alloc: Global) -> Result<(), Refusal> {
 }
 
 fn reads_no_batches(rt: &impl Abort, alloc: Global) -> Result<(), Refusal> {
-    for &bytes in &NO_BATCHES {
+    for &bytes in NO_BATCHES {
         holds!(rt; read_batch(alloc, bytes)?.is_none());
     }
     Ok(())

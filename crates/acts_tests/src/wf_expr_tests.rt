@@ -38,7 +38,7 @@ pub fn properties(alloc: Global, rows: &[(&str, Given)]) -> Result<Properties, R
 }
 
 /// The context of the rows.
-pub const EXAMPLE: [(&str, Given); 10] = [
+static EXAMPLE: [(&str, Given); 10] = [
     ("github.workflow", Given::Text("ci.json")),
     ("github.run_id", Given::Text("1")),
     ("inputs.none", Given::Null),
@@ -51,9 +51,22 @@ pub const EXAMPLE: [(&str, Given); 10] = [
     ("inputs.a-b_C9", Given::Whole(7)),
 ];
 
+/// The properties that are the context of the rows.
+pub fn example(alloc: Global) -> Result<Properties, Refusal> {
+    properties(alloc, &EXAMPLE)
+}
+
+/// The text as a job's template.
+pub fn template_of(alloc: Global, text: &str) -> Result<Template, Refusal> {
+    Template::parse(alloc, text, Place::Job)
+}
+
+/// The value of the text as a job's template in a context.
+fn value_in(alloc: Global, text: &str, context: &Properties) -> Result<Scalar, Refusal> {
+    template_of(alloc, text)?.eval(alloc, context)
+}
+
 /// The value of the text as a job's template, or its refusal.
 pub fn value_of(alloc: Global, text: &str) -> Result<Scalar, Refusal> {
-    let context = properties(alloc, &EXAMPLE)?;
-    let template = Template::parse(alloc, text, Place::Job)?;
-    template.eval(alloc, &context)
+    value_in(alloc, text, &example(alloc)?)
 }

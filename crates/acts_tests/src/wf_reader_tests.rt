@@ -11,7 +11,7 @@ use std::alloc::Global;
 use std::fmt::Write;
 use std::process::Abort;
 use wf_expr::{Place, Template};
-use wf_reader::{Flag, Job, Jobs, read_event, read_workflow};
+use wf_reader::{Flag, Job, Jobs, Workflow, read_event, read_workflow};
 use wf_value::{Chars, Condition, Refusal, Sequence, TryCopy};
 
 const ACCEPTED: u64 = 0;
@@ -49,6 +49,13 @@ const IN_JOB: Around = ("{\"jobs\":{\"a\":{", "}}}");
 /// The text is what stands behind the labels of that job.
 const BEHIND_LABELS: Around = ("{\"jobs\":{\"a\":{\"runs-on\":\"x\"", "}}}");
 
+/// The workflow of one job that has these members behind its labels.
+fn workflow_with(alloc: Global, members: &str) -> Result<Workflow, Refusal> {
+    let (before, behind) = BEHIND_LABELS;
+    let body = spelled(alloc, &[(before, 1), (members, 1), (behind, 1)])?;
+    read_workflow(alloc, body.as_bytes())
+}
+
 /// Texts, and what is answered to the workflow of each.
 fn expect_answers(rt: &impl Abort, alloc: Global, around: Around, rows: &[(&str, u64)]) {
     for &(text, want) in rows {
@@ -58,7 +65,7 @@ fn expect_answers(rt: &impl Abort, alloc: Global, around: Around, rows: &[(&str,
     }
 }
 
-const WORKFLOWS: [(&str, u64); 24] = [
+const WORKFLOWS: &[(&str, u64)] = &[
     ("[", 10),
     ("{\"jobs\":{\"a\":{\"runs-on\":\"x\"}}} 1", 10),
     ("{}", 11),
@@ -97,12 +104,12 @@ const WORKFLOWS: [(&str, u64); 24] = [
 
 #[test]
 fn refuses_workflows(rt: HostRuntime) {
-    expect_answers(&rt, rt.alloc(), WHOLE, &WORKFLOWS);
+    expect_answers(&rt, rt.alloc(), WHOLE, WORKFLOWS);
     let answer = answer_to_workflow(rt.alloc(), b"{\"jobs\":{\"\xff\":{}}}");
     holds!(rt; answer == 10, "no UTF-8");
 }
 
-const EVENTS: [(&str, u64); 10] = [
+const EVENTS: &[(&str, u64)] = &[
     ("{\"jobs\":{\"a\":{\"runs-on\":\"x\"}}}", 11),
     (
         "{\"repo\":\"\",\"path\":\"p\",\"workflow\":{\"jobs\":{\"a\":{}}}}",
@@ -138,13 +145,13 @@ const EVENTS: [(&str, u64); 10] = [
 
 #[test]
 fn refuses_events(rt: HostRuntime) {
-    for &(body, want) in &EVENTS {
+    for &(body, want) in EVENTS {
         let answer = answer_to_event(rt.alloc(), body.as_bytes());
         holds!(rt; answer == want, body);
     }
 }
 
-const LABELS: [(&str, u64); 9] = [
+const LABELS: &[(&str, u64)] = &[
     ("\"runs-on\":\"${{ vars.l || 'linux' }}\"", ACCEPTED),
     (
         "\"runs-on\":[\"a-${{ matrix.os }}\",\"${{ needs.b.result }}\"]",
@@ -161,10 +168,10 @@ const LABELS: [(&str, u64); 9] = [
 
 #[test]
 fn reads_templates_of_labels(rt: HostRuntime) {
-    expect_answers(&rt, rt.alloc(), IN_JOB, &LABELS);
+    expect_answers(&rt, rt.alloc(), IN_JOB, LABELS);
 }
 
-const CONTINUE_ON_ERROR: [(&str, u64); 9] = [
+const CONTINUE_ON_ERROR: &[(&str, u64)] = &[
     ("\"runs-on\":\"x\",\"continue-on-error\":true", ACCEPTED),
     ("\"runs-on\":\"x\",\"continue-on-error\":\"\"", ACCEPTED),
     (
@@ -187,11 +194,11 @@ const CONTINUE_ON_ERROR: [(&str, u64); 9] = [
 
 #[test]
 fn reads_continue_on_error(rt: HostRuntime) {
-    expect_answers(&rt, rt.alloc(), IN_JOB, &CONTINUE_ON_ERROR);
+    expect_answers(&rt, rt.alloc(), IN_JOB, CONTINUE_ON_ERROR);
 }
 
 /// Of two faults in neighbouring members the earlier one is answered, in whatever order they stand.
-const EARLIER_MEMBERS: [(&str, u64); 8] = [
+const EARLIER_MEMBERS: &[(&str, u64)] = &[
     ("\"runs-on\":5,\"uses\":\"./x.yml\"", 16),
     ("\"needs\":5,\"runs-on\":\"${{ x }}\"", 17),
     ("\"if\":\"b\",\"needs\":5,\"runs-on\":\"x\"", 11),
@@ -213,11 +220,11 @@ const EARLIER_MEMBERS: [(&str, u64); 8] = [
 
 #[test]
 fn answers_the_earlier_of_two_members(rt: HostRuntime) {
-    expect_answers(&rt, rt.alloc(), IN_JOB, &EARLIER_MEMBERS);
+    expect_answers(&rt, rt.alloc(), IN_JOB, EARLIER_MEMBERS);
 }
 
 /// And so outside the jobs.
-const EARLIER_FAULTS: [(&str, u64); 5] = [
+const EARLIER_FAULTS: &[(&str, u64)] = &[
     ("{\"jobs\":{\"1a\":[]}}", 12),
     ("{\"jobs\":{\"b\":{},\"a\":{\"runs-on\":\"${{ x }}\"}}}", 17),
     (
@@ -230,7 +237,7 @@ const EARLIER_FAULTS: [(&str, u64); 5] = [
 
 #[test]
 fn answers_the_earlier_of_two_faults(rt: HostRuntime) {
-    expect_answers(&rt, rt.alloc(), WHOLE, &EARLIER_FAULTS);
+    expect_answers(&rt, rt.alloc(), WHOLE, EARLIER_FAULTS);
 }
 
 /// A workflow of `count` jobs, and one more whose id is refused where `bad` says so.
@@ -251,7 +258,7 @@ fn of_jobs(rt: &impl Abort, alloc: Global, count: usize, bad: bool) -> String {
 }
 
 /// How many jobs there are, whether one has a bad id, and the number.
-const COUNTS: [(usize, bool, u64); 4] = [
+const COUNTS: &[(usize, bool, u64)] = &[
     (256, false, ACCEPTED),
     (257, false, 23),
     (256, true, 23),
@@ -260,7 +267,7 @@ const COUNTS: [(usize, bool, u64); 4] = [
 
 #[test]
 fn counts_jobs(rt: HostRuntime) {
-    for &(count, bad, want) in &COUNTS {
+    for &(count, bad, want) in COUNTS {
         let body = of_jobs(&rt, rt.alloc(), count, bad);
         let answer = answer_to_workflow(rt.alloc(), body.as_bytes());
         holds!(rt; answer == want, format_args!("{count} {bad}"));
@@ -279,14 +286,14 @@ const PADDED: &str = "{\"jobs\":{\"a\":{\"runs-on\":\"x\"}},\"env\":\"";
 
 /// How many letters an ignored member has, the length of that, and its number as a workflow and as an
 /// event.
-const LENGTHS: [(usize, usize, u64, u64); 2] = [
+const LENGTHS: &[(usize, usize, u64, u64)] = &[
     (65_534 - PADDED.len(), 65_536, ACCEPTED, 11),
     (65_535 - PADDED.len(), 65_537, 24, 24),
 ];
 
 #[test]
 fn counts_bytes(rt: HostRuntime) {
-    for &(letters, length, of_workflow, of_event) in &LENGTHS {
+    for &(letters, length, of_workflow, of_event) in LENGTHS {
         let body = long(&rt, rt.alloc(), &[(PADDED, 1), ("e", letters), ("\"}", 1)]);
         holds!(rt; body.len() == length);
         let answer = answer_to_workflow(rt.alloc(), body.as_bytes());
@@ -297,11 +304,11 @@ fn counts_bytes(rt: HostRuntime) {
 }
 
 /// How many bytes an id has, and the number.
-const ID_LENGTHS: [(usize, u64); 3] = [(1, ACCEPTED), (100, ACCEPTED), (101, 12)];
+const ID_LENGTHS: &[(usize, u64)] = &[(1, ACCEPTED), (100, ACCEPTED), (101, 12)];
 
 #[test]
 fn counts_bytes_of_an_id(rt: HostRuntime) {
-    for &(length, want) in &ID_LENGTHS {
+    for &(length, want) in ID_LENGTHS {
         let pieces = [
             ("{\"jobs\":{\"", 1),
             ("i", length),
@@ -317,11 +324,11 @@ const AFTER_LISTS: &str =
     ",\"repo\":\"r\",\"path\":\"p\",\"workflow\":{\"jobs\":{\"a\":{\"runs-on\":\"x\"}}}}";
 
 /// How many lists an ignored member nests, and the number.
-const DEPTHS: [(usize, u64); 2] = [(126, ACCEPTED), (127, 10)];
+const DEPTHS: &[(usize, u64)] = &[(126, ACCEPTED), (127, 10)];
 
 #[test]
 fn counts_nesting(rt: HostRuntime) {
-    for &(depth, want) in &DEPTHS {
+    for &(depth, want) in DEPTHS {
         let pieces = [("{\"x\":", 1), ("[", depth), ("]", depth), (AFTER_LISTS, 1)];
         let body = long(&rt, rt.alloc(), &pieces);
         let answer = answer_to_event(rt.alloc(), body.as_bytes());

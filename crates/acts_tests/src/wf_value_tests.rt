@@ -9,7 +9,7 @@ use wf_value::{
     Variable, copy_items, same_items,
 };
 
-const ALIKE: [Given; 6] = [
+static ALIKE: [Given; 6] = [
     Given::Null,
     Given::Truth(true),
     Given::Whole(1),
@@ -25,7 +25,7 @@ fn scalars_that_look_alike_differ(rt: HostRuntime) {
 }
 
 /// A scalar, whether it is true, and its text.
-const PRINTED: [(Given, bool, &str); 9] = [
+static PRINTED: [(Given, bool, &str); 9] = [
     (Given::Null, false, ""),
     (Given::Truth(false), false, "false"),
     (Given::Truth(true), true, "true"),
@@ -37,13 +37,17 @@ const PRINTED: [(Given, bool, &str); 9] = [
     (Given::Text("false"), true, "false"),
 ];
 
+fn expect_scalar(rt: &impl Abort, alloc: Global, scalar: &Scalar, truthy: bool, printed: &str) {
+    holds!(rt; scalar.truthy() == truthy, printed);
+    let text = scalar.text(alloc).expect(rt, "a text");
+    expect_text(rt, text.as_str(), printed);
+}
+
 #[test]
 fn truth_and_text(rt: HostRuntime) {
     for (given, truthy, printed) in &PRINTED {
         let scalar = scalar(rt.alloc(), given).expect(&rt, "a scalar");
-        holds!(rt; scalar.truthy() == *truthy, printed);
-        let text = scalar.text(rt.alloc()).expect(&rt, "a text");
-        expect_text(&rt, text.as_str(), printed);
+        expect_scalar(&rt, rt.alloc(), &scalar, *truthy, printed);
     }
 }
 
@@ -59,7 +63,7 @@ fn expect_printed(rt: &impl Abort, alloc: Global, refusal: &Refusal, number: u64
     expect_text(rt, shown.as_str(), printed);
 }
 
-const CODES: [(Code, u64, &str); 2] = [
+static CODES: [(Code, u64, &str); 2] = [
     (Code::NotJson, 10, "refused 10"),
     (Code::InputTooLong, 76, "refused 76"),
 ];
@@ -95,7 +99,7 @@ fn rise_in_pairs(alloc: Global, names: &[&str]) -> Result<bool, Refusal> {
 }
 
 /// Names, and whether they rise.
-const NAMES: [(&[&str], bool); 5] = [
+static NAMES: [(&[&str], bool); 5] = [
     (&[], true),
     (&["b"], true),
     (&["B", "a", "ab"], true),
@@ -131,7 +135,7 @@ fn lists_come_back(rt: HostRuntime) {
 }
 
 /// Lists, of which no two are the same.
-const LISTS: [&[&str]; 5] = [&[], &["a"], &["a", "b"], &["b", "a"], &["a", "b", ""]];
+static LISTS: [&[&str]; 5] = [&[], &["a"], &["a", "b"], &["b", "a"], &["a", "b", ""]];
 
 fn lists(alloc: Global) -> Result<Vec<Sequence<Chars>>, Refusal> {
     let mut lists = Vec::new(alloc);
@@ -158,7 +162,7 @@ fn lists_are_copied_and_compared(rt: HostRuntime) {
     }
 }
 
-const PAIRS: [(&str, Given); 2] = [("a", Given::Null), ("b", Given::Null)];
+static PAIRS: [(&str, Given); 2] = [("a", Given::Null), ("b", Given::Null)];
 
 #[test]
 fn pairs_are_copied(rt: HostRuntime) {
@@ -190,17 +194,16 @@ fn numbers_and_lists_of_lists_are_copied(rt: HostRuntime) {
 
 /// Refusals, of which no two are the same.
 fn refusals(alloc: Global) -> Result<Vec<Refusal>, Refusal> {
-    let mut refusals = Vec::new(alloc);
-    for code in [Code::Line, Code::NoRun] {
-        refusals.push(Refusal::Numbered(code))?;
-    }
-    for ids in [["a"].as_slice(), ["a", "b"].as_slice()] {
-        refusals.push(cycle(alloc, ids)?)?;
-    }
-    for last in 0..2 {
-        refusals.push(Refusal::Turn(last))?;
-    }
-    Ok(refusals)
+    let cycle_of_one = cycle(alloc, &["a"])?;
+    let cycle_of_two = cycle(alloc, &["a", "b"])?;
+    Ok(vec![in alloc;
+        Refusal::Numbered(Code::Line),
+        Refusal::Numbered(Code::NoRun),
+        cycle_of_one,
+        cycle_of_two,
+        Refusal::Turn(0),
+        Refusal::Turn(1),
+    ]?)
 }
 
 #[test]
@@ -209,13 +212,13 @@ fn refusals_are_copied_and_compared(rt: HostRuntime) {
     expect_apart(&rt, rt.alloc(), refusals.as_slice()).expect(&rt, "copies");
 }
 
-const OUTCOMES: [(Outcome, &str); 3] = [
+static OUTCOMES: [(Outcome, &str); 3] = [
     (Outcome::Success, "success"),
     (Outcome::Failure, "failure"),
     (Outcome::Cancelled, "cancelled"),
 ];
 
-const RESULTS: [(JobResult, &str); 4] = [
+static RESULTS: [(JobResult, &str); 4] = [
     (JobResult::Success, "success"),
     (JobResult::Failure, "failure"),
     (JobResult::Cancelled, "cancelled"),

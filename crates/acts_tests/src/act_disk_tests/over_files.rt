@@ -48,6 +48,14 @@ fn expect_61<R: Abort + Files<File = File>>(rt: &R, path: &str) {
     holds!(rt; is_61(&RealDisk::open(rt, path)));
 }
 
+fn expect_61_if_created<R: Abort + Files<File = File>>(rt: &R, path: &str) {
+    holds!(rt; is_61(&RealDisk::create(rt, path)));
+}
+
+fn play_reopened<R: Abort + Files<File = File>>(rt: &R, path: &str, len: u64, rows: &[Row]) {
+    play_opened(rt, RealDisk::open(rt, path), len, rows);
+}
+
 fn play_created<R: Abort + Files<File = File>>(rt: &R, path: &str, len: u64, rows: &[Row]) {
     play_opened(rt, RealDisk::create(rt, path), len, rows);
 }
@@ -56,7 +64,7 @@ const FOLDER: &str = "act_disk_test";
 
 const PATH: &str = "act_disk_test/disk";
 
-const CREATED: [Row; 6] = [
+const CREATED: &[Row] = &[
     (Ask::Write(0, b"abcdef"), true, 0, 6),
     (Ask::Sync, true, 0, 6),
     (Ask::Write(2, b"XY"), true, 0, 6),
@@ -65,21 +73,21 @@ const CREATED: [Row; 6] = [
     (Ask::Sync, true, 0, 9),
 ];
 
-const CREATED_AGAIN: [Row; 2] = [
+const CREATED_AGAIN: &[Row] = &[
     (Ask::Read(1, b"bXYe"), true, 0, 9),
     (Ask::Write(11, b""), true, 0, 11),
 ];
 
-const OPENED: [Row; 1] = [(Ask::Read(7, b"\0z\0\0"), true, 0, 11)];
+const OPENED: &[Row] = &[(Ask::Read(7, b"\0z\0\0"), true, 0, 11)];
 
 #[test]
 fn file_keeps_what_was_written(rt: HostRuntime) {
     make_folder(&rt, FOLDER);
     expect_61(&rt, PATH);
-    play_created(&rt, PATH, 0, &CREATED);
+    play_created(&rt, PATH, 0, CREATED);
     expect_file(&rt, PATH, b"abXYef\0\0z");
-    play_created(&rt, PATH, 9, &CREATED_AGAIN);
-    play_opened(&rt, RealDisk::open(&rt, PATH), 11, &OPENED);
+    play_created(&rt, PATH, 9, CREATED_AGAIN);
+    play_reopened(&rt, PATH, 11, OPENED);
     remove_folder(&rt, FOLDER);
 }
 
@@ -88,7 +96,7 @@ const FAULT_FOLDER: &str = "act_disk_fault_test";
 const FAULT_PATH: &str = "act_disk_fault_test/disk";
 
 /// No file is so long as the second write would make it.
-const WRITTEN_TOO_FAR: [Row; 4] = [
+const WRITTEN_TOO_FAR: &[Row] = &[
     (Ask::Write(0, b"abcd"), true, 0, 4),
     (Ask::Write((1 << 63) - 1, b"yz"), false, 1, 4),
     (Ask::Write(0, b"x"), false, 2, 4),
@@ -96,7 +104,7 @@ const WRITTEN_TOO_FAR: [Row; 4] = [
 ];
 
 /// Another program has cut the file: a read fails, and no more than that.
-const CUT: [Row; 3] = [
+const CUT: &[Row] = &[
     (Ask::Read(0, b"abcd"), false, 1, 4),
     (Ask::Write(0, b"wxyz"), true, 1, 4),
     (Ask::Read(0, b"wxyz"), true, 1, 4),
@@ -112,19 +120,19 @@ fn play_cut<R: Abort + Files<File = File>>(rt: &R, path: &str, len: u64, rows: &
 #[test]
 fn file_fails_from_a_failed_write_on(rt: HostRuntime) {
     make_folder(&rt, FAULT_FOLDER);
-    play_created(&rt, FAULT_PATH, 0, &WRITTEN_TOO_FAR);
+    play_created(&rt, FAULT_PATH, 0, WRITTEN_TOO_FAR);
     expect_file(&rt, FAULT_PATH, b"abcd");
-    play_cut(&rt, FAULT_PATH, 4, &CUT);
+    play_cut(&rt, FAULT_PATH, 4, CUT);
     remove_folder(&rt, FAULT_FOLDER);
 }
 
 /// A folder, a path below a file, and a file that nobody may write.
-const NO_FILES: [&str; 3] = ["/tmp", "/dev/null/disk", "/proc/sys/kernel/osrelease"];
+const NO_FILES: &[&str] = &["/tmp", "/dev/null/disk", "/proc/sys/kernel/osrelease"];
 
 #[test]
 fn file_that_cannot_be_opened_is_61(rt: HostRuntime) {
-    for path in &NO_FILES {
+    for path in NO_FILES {
         expect_61(&rt, path);
-        holds!(rt; is_61(&RealDisk::create(&rt, path)));
+        expect_61_if_created(&rt, path);
     }
 }

@@ -37,7 +37,7 @@ const TURNS: [Turn; 7] = [
     Turn::Whole,
 ];
 
-const WRITTEN_AND_READ: [Row; 3] = [
+const WRITTEN_AND_READ: &[Row] = &[
     (Ask::Write(0, b"abcdef"), true, 0, 6),
     (Ask::Sync, true, 0, 6),
     (Ask::Read(1, b"bcde"), true, 0, 6),
@@ -45,9 +45,13 @@ const WRITTEN_AND_READ: [Row; 3] = [
 
 #[test]
 fn short_calls_are_gone_on_from(rt: HostRuntime) {
-    let disk = scripted(&rt, rt.alloc(), &TURNS);
-    let file = expect_turns(&rt, disk, &WRITTEN_AND_READ, 7);
-    expect_bytes(&rt, file.bytes(), b"abcdef");
+    expect_written_and_read(&rt, scripted(&rt, rt.alloc(), &TURNS), 7);
+}
+
+/// Makes the calls, by so many calls of the file.
+fn expect_written_and_read(rt: &impl Abort, disk: FileDisk<ScriptedFile>, turns: usize) {
+    let file = expect_turns(rt, disk, WRITTEN_AND_READ, turns);
+    expect_bytes(rt, file.bytes(), b"abcdef");
 }
 
 /// The turns, with two more that are interrupted at this place.
@@ -63,9 +67,7 @@ fn interrupted_at(rt: &impl Abort, alloc: Global, place: usize) -> FileDisk<Scri
 #[test]
 fn interrupted_calls_are_made_again(rt: HostRuntime) {
     for place in 0..TURNS.len() {
-        let disk = interrupted_at(&rt, rt.alloc(), place);
-        let file = expect_turns(&rt, disk, &WRITTEN_AND_READ, 9);
-        expect_bytes(&rt, file.bytes(), b"abcdef");
+        expect_written_and_read(&rt, interrupted_at(&rt, rt.alloc(), place), 9);
     }
 }
 
@@ -75,6 +77,11 @@ fn failing_at(rt: &impl Abort, alloc: Global, place: usize) -> FileDisk<Scripted
     holds!(rt; place < script.len());
     script[place] = Turn::Failed;
     scripted(rt, alloc, &script)
+}
+
+/// Makes the calls with the turn at this place failing, and compares how many were made of the file then.
+fn expect_failing(rt: &impl Abort, alloc: Global, place: usize, rows: &[Row], turns: usize) {
+    expect_turns(rt, failing_at(rt, alloc, place), rows, turns);
 }
 
 #[test]
@@ -87,7 +94,7 @@ fn length_that_fails_is_61(rt: HostRuntime) {
 // A write that fails, with the file this long, and what is asked after it.
 macro_rules! unwritten {
     ($len:expr) => {
-        [
+        &[
             (Ask::Write(0, b"abcdef"), false, 1, $len),
             (Ask::Sync, false, 2, $len),
             (Ask::Read(0, b""), false, 3, $len),
@@ -98,7 +105,7 @@ macro_rules! unwritten {
 }
 
 /// Which call fails, how many calls are made then, and what is asked.
-const UNWRITTEN: [(usize, usize, [Row; 5]); 3] = [
+const UNWRITTEN: &[(usize, usize, &[Row])] = &[
     (1, 2, unwritten!(0)),
     (2, 3, unwritten!(2)),
     (3, 4, unwritten!(4)),
@@ -106,13 +113,12 @@ const UNWRITTEN: [(usize, usize, [Row; 5]); 3] = [
 
 #[test]
 fn nothing_is_asked_after_a_failed_write(rt: HostRuntime) {
-    for (place, turns, rows) in &UNWRITTEN {
-        let disk = failing_at(&rt, rt.alloc(), *place);
-        expect_turns(&rt, disk, rows, *turns);
+    for (place, turns, rows) in UNWRITTEN {
+        expect_failing(&rt, rt.alloc(), *place, rows, *turns);
     }
 }
 
-const UNSYNCED: [Row; 5] = [
+const UNSYNCED: &[Row] = &[
     (Ask::Write(0, b"abcdef"), true, 0, 6),
     (Ask::Sync, false, 1, 6),
     (Ask::Sync, false, 2, 6),
@@ -122,11 +128,10 @@ const UNSYNCED: [Row; 5] = [
 
 #[test]
 fn nothing_is_asked_after_a_failed_sync(rt: HostRuntime) {
-    let disk = failing_at(&rt, rt.alloc(), 4);
-    expect_turns(&rt, disk, &UNSYNCED, 5);
+    expect_failing(&rt, rt.alloc(), 4, UNSYNCED, 5);
 }
 
-const UNREAD: [Row; 6] = [
+const UNREAD: &[Row] = &[
     (Ask::Write(0, b"abcdef"), true, 0, 6),
     (Ask::Sync, true, 0, 6),
     (Ask::Read(1, b"bcde"), false, 1, 6),
@@ -138,22 +143,27 @@ const UNREAD: [Row; 6] = [
 #[test]
 fn failed_read_is_gone_on_from(rt: HostRuntime) {
     for place in [5, 6] {
-        play(&rt, &mut failing_at(&rt, rt.alloc(), place), &UNREAD);
+        play(&rt, &mut failing_at(&rt, rt.alloc(), place), UNREAD);
     }
 }
 
-const GROWN: [Row; 2] = [
+const GROWN: &[Row] = &[
     (Ask::Write(3, b""), true, 0, 3),
     (Ask::Write(1, b""), true, 0, 3),
 ];
 
-const NOT_GROWN: [Row; 1] = [(Ask::Write(3, b""), false, 1, 0)];
+const NOT_GROWN: &[Row] = &[(Ask::Write(3, b""), false, 1, 0)];
 
 #[test]
 fn write_of_no_bytes_past_the_end_grows(rt: HostRuntime) {
-    let mut disk = scripted(&rt, rt.alloc(), &[Turn::Whole, Turn::Interrupted]);
-    play(&rt, &mut disk, &GROWN);
-    holds!(rt; disk.into_file().bytes() == [0, 0, 0].as_slice());
-    let mut disk = scripted(&rt, rt.alloc(), &[Turn::Whole, Turn::Failed]);
-    play(&rt, &mut disk, &NOT_GROWN);
+    let file = played(&rt, rt.alloc(), &[Turn::Whole, Turn::Interrupted], GROWN);
+    expect_bytes(&rt, file.bytes(), &[0, 0, 0]);
+    let _not_grown = played(&rt, rt.alloc(), &[Turn::Whole, Turn::Failed], NOT_GROWN);
+}
+
+/// Makes the calls of a disk over a scripted file, and gives the file.
+fn played(rt: &impl Abort, alloc: Global, script: &[Turn], rows: &[Row]) -> ScriptedFile {
+    let mut disk = scripted(rt, alloc, script);
+    play(rt, &mut disk, rows);
+    disk.into_file()
 }

@@ -13,20 +13,24 @@ fn sent<D: Disk + Send>(disk: D) -> D {
 /// A value that threads may share.
 fn shared<T: Sync>(_value: &T) {}
 
+/// Sends a disk, and shares it behind a lock.
+fn share<D: Disk + Send + Drop>(disk: D) {
+    shared(&Mutex::new(sent(disk)));
+}
+
 #[test]
 fn disks_can_be_sent(rt: HostRuntime) {
     let alloc = rt.alloc();
     let disk = sent(FuseDisk::once(MemoryDisk::new(alloc), 0));
     let inner = sent(disk.into_inner());
     holds!(rt; inner.faults() == 0);
-    shared(&Mutex::new(inner));
+    share(inner);
 }
 
 #[test]
 fn disk_over_a_scripted_file_can_be_sent(rt: HostRuntime) {
     let alloc = rt.alloc();
-    let disk = FileDisk::over(ScriptedFile::new(alloc, Vec::new(alloc))).expect(&rt, "a disk");
-    shared(&Mutex::new(sent(disk)));
+    share(FileDisk::over(ScriptedFile::new(alloc, Vec::new(alloc))).expect(&rt, "a disk"));
 }
 
 #[test]
@@ -36,7 +40,7 @@ fn disk_over_a_file_can_be_sent(rt: HostRuntime) {
         "act_disk_no_such_folder/disk",
     );
     if let Ok(disk) = opened {
-        shared(&Mutex::new(sent(disk)));
+        share(disk);
         panic!(rt; "there is no such folder");
     }
 }

@@ -1,6 +1,6 @@
 //! The last entry that a history and an area take.
 
-use super::{LEAST, applied, made, number_of, number_of_opening};
+use super::{LEAST, applied, commit, made, number_of, number_of_opening};
 use crate::commands::Words;
 use crate::holds::holds;
 use act_disk::{Disk, MemoryDisk};
@@ -30,7 +30,7 @@ fn look_up<D: Disk>(rt: &impl Abort, alloc: Global, store: &mut Store<D>, from: 
 }
 
 fn expect_covered<D: Disk>(rt: &impl Abort, store: &mut Store<D>, count: u64) {
-    match store.commit() {
+    match commit(store) {
         Ok(covered) => holds!(rt; covered == count),
         Err(refusal) => panic!(rt; "not covered: {refusal}"),
     }

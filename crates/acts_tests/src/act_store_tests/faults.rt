@@ -1,8 +1,8 @@
 //! Each call of the disk fails in turn, by itself, and with all after it: 51, then 52, and what is covered opens.
 
 use super::scripts::{STEPS, Span, expect_either, make_step, tables_of};
-use super::{LEAST, made, number_of};
-use crate::commands::{Words, command_of};
+use super::{LEAST, apply, commit, covered, made, number_of, try_make, try_open};
+use crate::commands::Words;
 use crate::gated_journal_tests::steps::Dice;
 use crate::holds::holds;
 use act_disk::{Disk, FuseDisk, MemoryDisk};
@@ -23,7 +23,7 @@ fn play_to_fault<D: Disk>(
 ) -> Option<Span> {
     let mut dice = Dice::new(seed);
     for _ in 0..STEPS {
-        let from = store.covered();
+        let from = covered(store);
         let to = store.entries();
         if let Err(refusal) = make_step(alloc, store, &mut dice) {
             holds!(rt; refusal.number() == 51);
@@ -35,10 +35,9 @@ fn play_to_fault<D: Disk>(
 
 /// That a store that has failed is refused with 52, and has its entries still.
 fn expect_failed<D: Disk>(rt: &impl Abort, alloc: Global, store: &mut Store<D>, span: Span) {
-    let command = command_of(alloc, &Words::Look("1")).expect(rt, "a command");
-    holds!(rt; number_of(store.apply(alloc, 0, command)) == 52);
-    holds!(rt; number_of(store.commit()) == 52);
-    holds!(rt; store.entries() == span.to && store.covered() == span.from);
+    holds!(rt; number_of(apply(alloc, store, 0, &Words::Look("1"))) == 52);
+    holds!(rt; number_of(commit(store)) == 52);
+    holds!(rt; store.entries() == span.to && covered(store) == span.from);
 }
 
 /// Plays a script over a fuse. Says whether a call failed, and what the disk inside has to open to.
@@ -50,7 +49,7 @@ fn play_fused(
 ) -> (bool, Span, FuseDisk<MemoryDisk>) {
     let none = Span { from: 0, to: 0 };
     holds!(rt; disk.faults() == 0);
-    let mut store = match Store::open(alloc, disk) {
+    let mut store = match try_open(rt, alloc, disk) {
         Ok(store) => store,
         Err((disk, refusal)) => {
             holds!(rt; refusal.number() == 51);
@@ -63,10 +62,10 @@ fn play_fused(
             (true, span, store.into_disk())
         }
         None => {
-            let covered = store.covered();
+            let last = covered(&store);
             let span = Span {
-                from: covered,
-                to: covered,
+                from: last,
+                to: last,
             };
             (false, span, store.into_disk())
         }
@@ -116,7 +115,7 @@ fn faults_leave_what_was_covered_or_all(rt: HostRuntime) {
 fn expect_not_made(rt: &impl Abort, alloc: Global, call: u64) {
     let disk = FuseDisk::once(MemoryDisk::new(alloc), call);
     holds!(rt; disk.faults() == 0);
-    match Store::init(alloc, disk, LEAST) {
+    match try_make(rt, alloc, disk, LEAST) {
         Ok(_) => panic!(rt; "made though call {call} fails"),
         Err((disk, refusal)) => holds!(rt; refusal.number() == 51 && disk.faults() == 1, call),
     }

@@ -6,7 +6,7 @@ use crate::holds::holds;
 use act_disk::{Call, MemoryDisk};
 use std::process::Abort;
 
-const ASKED: [Row; 6] = [
+const ASKED: &[Row] = &[
     (Ask::Apply(Words::Look("1")), "refused 40", 1, 0),
     (Ask::Commit, "covered 1", 1, 1),
     (Ask::Apply(Words::Cancel("1")), "refused 40", 2, 1),
@@ -16,7 +16,7 @@ const ASKED: [Row; 6] = [
 ];
 
 /// The first bytes of the file; all others are zeros.
-const FILE: [u8; 71] = [
+const FILE: &[u8] = &[
     0xA5, 1, 0, 0, 0, 0, 0, 0, 0, 1, 0, 0, 0, 0, 0, 0, 0, 12, 0, 0, 0, 0, 0, 0, 0, 0, 0, 0, 0, 0,
     // from 30 on: an open gate, 9 bytes, a batch of one command, and run 1 is looked at
     0xA5, 0, 0, 0, 9, 0, 0, 0, 1, 7, 0, 0, 0, 1,
@@ -34,7 +34,7 @@ enum Did {
 }
 
 /// The front is written behind a closed gate, and the gate opened; so is each record.
-const CALLS: [Did; 14] = [
+const CALLS: &[Did] = &[
     Did::Wrote(
         0,
         &[
@@ -74,7 +74,7 @@ fn is_call(call: &Call, did: &Did) -> bool {
 
 fn expect_calls(rt: &impl Abort, calls: &[Call]) {
     holds!(rt; calls.len() == CALLS.len());
-    for (place, (call, did)) in calls.iter().zip(&CALLS).enumerate() {
+    for (place, (call, did)) in calls.iter().zip(CALLS).enumerate() {
         holds!(rt; is_call(call, did), place);
     }
 }
@@ -94,7 +94,7 @@ fn expect_file(rt: &impl Abort, bytes: &[u8]) {
 fn bytes_are_those_of_the_format(rt: HostRuntime) {
     let alloc = rt.alloc();
     let mut store = made(&rt, alloc, MemoryDisk::new(alloc), LEAST);
-    play(&rt, alloc, &mut store, &ASKED);
+    play(&rt, alloc, &mut store, ASKED);
     let disk = store.into_disk();
     expect_calls(&rt, disk.calls());
     expect_file(&rt, disk.bytes());

@@ -1,7 +1,7 @@
 //! Memory may be refused once, at any allocation: the answer is 50, nothing has changed, and asked again the call is done.
 
-use super::{LEAST, made};
-use crate::commands::{Words, command_of};
+use super::{LEAST, apply, commit, made, try_open};
+use crate::commands::Words;
 use crate::holds::{expect_text, holds};
 use crate::run_plan_tests::expect_twice;
 use crate::run_table_tests::BUILD;
@@ -25,15 +25,6 @@ const LAST: (Words<'static>, &str) = (
     "run 1 1 in_progress - build:open(running)",
 );
 
-fn asked(
-    alloc: Global,
-    store: &mut Store<MemoryDisk>,
-    words: &Words<'_>,
-) -> Result<Receipt, Refusal> {
-    let command = command_of(alloc, words)?;
-    store.apply(alloc, 0, command)
-}
-
 /// Asks, and asks again where memory was refused.
 fn asked_again(
     rt: &impl Abort,
@@ -42,12 +33,12 @@ fn asked_again(
     words: &Words<'_>,
 ) -> Result<Receipt, Refusal> {
     let entries = store.entries();
-    match asked(alloc, store, words) {
+    match apply(alloc, store, 0, words) {
         Ok(receipt) => Ok(receipt),
         Err(refusal) => {
             holds!(rt; refusal.number() == 50);
             holds!(rt; store.entries() == entries);
-            asked(alloc, store, words)
+            apply(alloc, store, 0, words)
         }
     }
 }
@@ -59,7 +50,7 @@ fn opened_again(
     disk: MemoryDisk,
 ) -> Result<Store<MemoryDisk>, Refusal> {
     holds!(rt; disk.faults() == 0);
-    match Store::open(alloc, disk) {
+    match try_open(rt, alloc, disk) {
         Ok(store) => Ok(store),
         Err((disk, refusal)) => {
             holds!(rt; refusal.number() == 50 && disk.faults() == 0);
@@ -100,7 +91,7 @@ fn plays_over(
     for row in ASKED {
         expect_reply(rt, alloc, store, row)?;
     }
-    let covered = store.commit()?;
+    let covered = commit(store)?;
     holds!(rt; covered == 5);
     Ok(())
 }

@@ -1,9 +1,8 @@
 //! Disks that are refused, and why.
 
-use super::{LEAST, number_of_opening};
+use super::{LEAST, number_of_opening, try_make};
 use crate::holds::holds;
 use act_disk::{Disk, MemoryDisk};
-use act_store::Store;
 use std::alloc::Global;
 use std::process::Abort;
 use wf_value::Refusal;
@@ -39,7 +38,7 @@ fn holding(
 }
 
 /// How long the disk is, its first area's gate, its version, the record, and the number of the refusal, or 0 where it opens.
-const ROWS: [(usize, u8, u8, &[u8], u64); 17] = [
+const ROWS: &[(usize, u8, u8, &[u8], u64)] = &[
     // no two areas, and an area that is too short
     (0, 0xA5, 1, &[], 53),
     (8_190, 0xA5, 1, &[], 53),
@@ -116,7 +115,7 @@ fn another_text_is_refused(rt: HostRuntime) {
 /// That no store is made on a disk that is not empty, which is given back as it was.
 fn expect_refused(rt: &impl Abort, alloc: Global, disk: MemoryDisk) {
     holds!(rt; disk.faults() == 0);
-    match Store::init(alloc, disk, LEAST) {
+    match try_make(rt, alloc, disk, LEAST) {
         Ok(_) => panic!(rt; "made on a disk that is not empty"),
         Err((disk, refusal)) => {
             holds!(rt; refusal.number() == 55);

@@ -2,7 +2,7 @@
 //! are the same byte by byte.
 
 use super::rows::FIRST;
-use super::{Ask, LEAST, Row, covered_text, made, opened, play};
+use super::{Ask, LEAST, Row, covered, covered_text, made, opened, play};
 use crate::commands::{Words, command_of};
 use crate::holds::{expect_bytes, expect_text, holds};
 use crate::run_table_tests::BUILD;
@@ -13,7 +13,7 @@ use std::process::Abort;
 use wf_value::{Chars, Outcome, Refusal};
 
 /// A run that is cancelled, and whose runner is lost.
-const CANCELLED: [Row; 11] = [
+const CANCELLED: &[Row] = &[
     (Ask::Apply(Words::Admit("d1", BUILD)), "created 1", 1, 0),
     (
         Ask::Apply(Words::Claim("r1", "1", "linux")),
@@ -43,7 +43,7 @@ const CANCELLED: [Row; 11] = [
 ];
 
 /// The sync behind the record of the second commit fails, and nothing after it is entered or covered.
-const FAILING: [Row; 6] = [
+const FAILING: &[Row] = &[
     (Ask::Apply(Words::Admit("d1", BUILD)), "created 1", 1, 0),
     (Ask::Commit, "covered 1", 1, 1),
     (
@@ -112,7 +112,7 @@ fn expect_alike<D: Disk>(
     let mut one_by_one = made(rt, alloc, other, LEAST);
     play(rt, alloc, &mut one_by_one, rows);
     holds!(rt; at_once.entries() == one_by_one.entries());
-    holds!(rt; at_once.covered() == one_by_one.covered());
+    holds!(rt; covered(&at_once) == covered(&one_by_one));
     (at_once.into_disk(), one_by_one.into_disk())
 }
 
@@ -122,12 +122,12 @@ fn expect_same(rt: &impl Abort, disk: &MemoryDisk, other: &MemoryDisk) {
     expect_bytes(rt, disk.bytes(), other.bytes());
 }
 
-const SCRIPTS: [&[Row]; 2] = [&FIRST, &CANCELLED];
+const SCRIPTS: &[&[Row]] = &[FIRST, CANCELLED];
 
 #[test]
 fn steps_are_answered_as_calls_by_themselves(rt: HostRuntime) {
     let alloc = rt.alloc();
-    for &rows in &SCRIPTS {
+    for &rows in SCRIPTS {
         let disks = (MemoryDisk::new(alloc), MemoryDisk::new(alloc));
         let (disk, other) = expect_alike(&rt, alloc, disks, rows);
         expect_same(&rt, &disk, &other);
@@ -140,7 +140,7 @@ fn fused(alloc: Global) -> FuseDisk<MemoryDisk> {
 }
 
 /// The record's gate is closed still, so that the claim is not there.
-const AFTER_THE_FAULT: [Row; 1] = [(
+const AFTER_THE_FAULT: &[Row] = &[(
     Ask::Apply(Words::Look("1")),
     "run 1 1 queued - build:open(ready)",
     1,
@@ -150,7 +150,7 @@ const AFTER_THE_FAULT: [Row; 1] = [(
 /// What both disks hold after the fault.
 fn plays_to_the_fault(rt: &impl Abort, alloc: Global) -> MemoryDisk {
     let disks = (fused(alloc), fused(alloc));
-    let (disk, other) = expect_alike(rt, alloc, disks, &FAILING);
+    let (disk, other) = expect_alike(rt, alloc, disks, FAILING);
     let disk = disk.into_inner();
     expect_same(rt, &disk, &other.into_inner());
     disk
@@ -160,5 +160,5 @@ fn plays_to_the_fault(rt: &impl Abort, alloc: Global) -> MemoryDisk {
 fn steps_after_a_fault_are_refused(rt: HostRuntime) {
     let disk = plays_to_the_fault(&rt, rt.alloc());
     let mut store = opened(&rt, rt.alloc(), disk);
-    play(&rt, rt.alloc(), &mut store, &AFTER_THE_FAULT);
+    play(&rt, rt.alloc(), &mut store, AFTER_THE_FAULT);
 }

@@ -1,6 +1,6 @@
 //! Scripts whose answers are worked out by hand, and what opens of their disks.
 
-use super::{Ask, LEAST, Row, made, opened, play};
+use super::{Ask, LEAST, Row, covered, made, opened, play};
 use crate::commands::{Words, number};
 use crate::holds::holds;
 use crate::run_table_tests::{BUILD, BUILD_ELSEWHERE};
@@ -12,7 +12,7 @@ use std::process::Abort;
 use wf_value::Outcome;
 
 /// A run is made and leased. Nothing is pending at the first commit and at the last.
-pub const FIRST: [Row; 9] = [
+pub const FIRST: &[Row] = &[
     (Ask::Commit, "covered 0", 0, 0),
     (Ask::Apply(Words::Look("1")), "refused 40", 1, 0),
     (Ask::Apply(Words::Admit("d1", BUILD)), "created 1", 2, 0),
@@ -36,7 +36,7 @@ pub const FIRST: [Row; 9] = [
 
 /// After an opening: the delivery has its run and no second one, and the runner's last number has the reply that was kept. An entry
 /// stays behind that is not covered.
-const AGAIN: [Row; 7] = [
+const AGAIN: &[Row] = &[
     (Ask::Apply(Words::Admit("d1", BUILD)), "created 1", 1, 0),
     (
         Ask::Apply(Words::Admit("d1", BUILD_ELSEWHERE)),
@@ -67,7 +67,7 @@ const AGAIN: [Row; 7] = [
 ];
 
 /// The report was not covered, so it counts for nothing.
-const AFTER_THAT: [Row; 5] = [
+const AFTER_THAT: &[Row] = &[
     (
         Ask::Apply(Words::Look("1")),
         "run 1 1 in_progress - build:open(running)",
@@ -142,13 +142,13 @@ fn expect_seen(rt: &impl Abort, alloc: Global, store: &Store<MemoryDisk>, id: &s
 
 fn plays_first(rt: &impl Abort, alloc: Global) -> MemoryDisk {
     let mut store = made(rt, alloc, MemoryDisk::new(alloc), LEAST);
-    play(rt, alloc, &mut store, &FIRST);
+    play(rt, alloc, &mut store, FIRST);
     expect_entries(rt, &store);
     store.into_disk()
 }
 
 fn expect_covered(rt: &impl Abort, alloc: Global, store: &Store<MemoryDisk>) {
-    holds!(rt; store.entries() == 0 && store.covered() == 0);
+    holds!(rt; store.entries() == 0 && covered(store) == 0);
     let running = "run 1 1 in_progress - build:open(running)";
     expect_seen(rt, alloc, store, "1", running);
     expect_seen(rt, alloc, store, "2", "");
@@ -157,7 +157,7 @@ fn expect_covered(rt: &impl Abort, alloc: Global, store: &Store<MemoryDisk>) {
 fn plays_again(rt: &impl Abort, alloc: Global, disk: MemoryDisk) -> MemoryDisk {
     let mut store = opened(rt, alloc, disk);
     expect_covered(rt, alloc, &store);
-    play(rt, alloc, &mut store, &AGAIN);
+    play(rt, alloc, &mut store, AGAIN);
     let success = "run 1 1 completed success build:success(success)";
     expect_seen(rt, alloc, &store, "1", success);
     store.into_disk()
@@ -165,7 +165,7 @@ fn plays_again(rt: &impl Abort, alloc: Global, disk: MemoryDisk) -> MemoryDisk {
 
 fn plays_after_that(rt: &impl Abort, alloc: Global, disk: MemoryDisk) {
     let mut store = opened(rt, alloc, disk);
-    play(rt, alloc, &mut store, &AFTER_THAT);
+    play(rt, alloc, &mut store, AFTER_THAT);
 }
 
 #[test]

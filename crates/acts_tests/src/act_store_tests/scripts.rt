@@ -1,7 +1,7 @@
 //! Random scripts, the tables that they lead to, and what tells these apart.
 
-use super::opened;
-use crate::commands::{Words, command_of, stepped};
+use super::{apply, commit, opened};
+use crate::commands::{Words, stepped};
 use crate::gated_journal_tests::steps::Dice;
 use crate::holds::holds;
 use crate::run_table_tests::{BUILD, BUILD_ELSEWHERE, THREE};
@@ -59,11 +59,10 @@ pub fn make_step<D: Disk>(
 ) -> Result<(), Refusal> {
     match next_step(dice) {
         Some(words) => {
-            let command = command_of(alloc, words)?;
-            let _receipt = store.apply(alloc, 0, command)?;
+            let _receipt = apply(alloc, store, 0, words)?;
         }
         None => {
-            let _count = store.commit()?;
+            let _count = commit(store)?;
         }
     }
     Ok(())
@@ -126,8 +125,7 @@ pub fn entered<D: Disk>(
     store: &mut Store<D>,
     words: &Words<'_>,
 ) -> Result<Reply, Refusal> {
-    let command = command_of(alloc, words)?;
-    Ok(store.apply(alloc, 0, command)?.reply)
+    Ok(apply(alloc, store, 0, words)?.reply)
 }
 
 fn push_told_by<D: Disk>(

@@ -2,7 +2,7 @@
 //! plays a part of them, so that it is short in a trial run too.
 
 use super::scripts::{STEPS, Span, expect_either, make_step, tables_of};
-use super::{LEAST, made, number_of_opening};
+use super::{LEAST, covered, made, number_of_opening};
 use crate::gated_journal_tests::steps::Dice;
 use crate::holds::holds;
 use act_disk::{Fill, MemoryDisk};
@@ -17,16 +17,16 @@ const MAKES: usize = 6;
 
 const COMMITS: usize = 4;
 
-const FILLS: [Fill; 4] = [Fill::Old, Fill::New, Fill::Half, Fill::Gates];
+const FILLS: &[Fill] = &[Fill::Old, Fill::New, Fill::Half, Fill::Gates];
 
 /// Plays a script, and keeps each commit that wrote.
 fn play(alloc: Global, seed: u64, store: &mut Store<MemoryDisk>) -> Result<Vec<Span>, Refusal> {
     let mut dice = Dice::new(seed);
     let mut spans = Vec::new(alloc);
     for _ in 0..STEPS {
-        let from = store.covered();
+        let from = covered(store);
         make_step(alloc, store, &mut dice)?;
-        let to = store.covered();
+        let to = covered(store);
         if from < to {
             spans.push(Span { from, to })?;
         }
@@ -44,7 +44,7 @@ fn expect_call(
     span: Span,
 ) {
     holds!(rt; call < disk.calls().len());
-    for &fill in &FILLS {
+    for &fill in FILLS {
         let image = disk.image(alloc, call as u64, fill).expect(rt, "an image");
         expect_either(rt, alloc, image, tables, span);
     }
@@ -72,7 +72,7 @@ fn played(
 ) -> Result<(Vec<Span>, u64, MemoryDisk), Refusal> {
     let mut store = made(rt, alloc, MemoryDisk::new(alloc), LEAST);
     let spans = play(alloc, seed, &mut store)?;
-    let last = store.covered();
+    let last = covered(&store);
     Ok((spans, last, store.into_disk()))
 }
 
@@ -163,7 +163,7 @@ fn stops_of_the_making_leave_no_store_or_an_empty_one(rt: HostRuntime) {
     let disk = made(&rt, rt.alloc(), MemoryDisk::new(rt.alloc()), LEAST).into_disk();
     holds!(rt; disk.calls().len() == MAKES);
     for call in 0..MAKES {
-        for &fill in &FILLS {
+        for &fill in FILLS {
             expect_none_or_empty(&rt, rt.alloc(), &disk, call, fill);
         }
     }

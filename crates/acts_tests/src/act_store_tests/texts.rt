@@ -2,6 +2,7 @@
 
 use super::openings::lay;
 use super::scripts::entered;
+use super::{commit, covered, try_open};
 use crate::commands::{Words, number, stepped};
 use crate::holds::{expect_text, holds};
 use crate::run_plan_tests::expect_twice;
@@ -28,15 +29,14 @@ fn disk_of(alloc: Global, text: &[u8]) -> Result<MemoryDisk, Refusal> {
 }
 
 fn opening(rt: &impl Abort, alloc: Global, disk: MemoryDisk) -> Result<Store<MemoryDisk>, Refusal> {
-    holds!(rt; disk.faults() < u64::MAX);
-    match Store::open(alloc, disk) {
+    match try_open(rt, alloc, disk) {
         Ok(store) => Ok(store),
         Err((_, refusal)) => Err(refusal),
     }
 }
 
 fn lease_all(alloc: Global, table: &mut Table) -> Result<(), Refusal> {
-    for (words, _) in &LEASED {
+    for (words, _) in LEASED {
         let _reply = stepped(alloc, table, words)?;
     }
     Ok(())
@@ -99,8 +99,8 @@ fn goes_on_over(rt: &impl Abort, alloc: Global, disk: MemoryDisk) -> Result<Memo
 }
 
 fn expect_leased(rt: &impl Abort, alloc: Global, store: &Store<MemoryDisk>) -> Result<(), Refusal> {
-    holds!(rt; store.entries() == 0 && store.covered() == 0);
-    for &(id, want) in &LEASED_RUNS {
+    holds!(rt; store.entries() == 0 && covered(store) == 0);
+    for &(id, want) in LEASED_RUNS {
         expect_seen(rt, alloc, store, id, want)?;
     }
     Ok(())
@@ -116,11 +116,11 @@ fn go_on_from_leased(
 }
 
 fn go_on(rt: &impl Abort, alloc: Global, store: &mut Store<MemoryDisk>) -> Result<(), Refusal> {
-    for (words, want) in &GONE_ON {
+    for (words, want) in GONE_ON {
         expect_reply(rt, alloc, store, words, want)?;
     }
-    let covered = store.commit()?;
-    holds!(rt; covered == 8);
+    let count = commit(store)?;
+    holds!(rt; count == 8);
     Ok(())
 }
 
@@ -135,13 +135,13 @@ fn expect_gone_on(
     alloc: Global,
     store: &Store<MemoryDisk>,
 ) -> Result<(), Refusal> {
-    for &(id, want) in &GONE_ON_RUNS {
+    for &(id, want) in GONE_ON_RUNS {
         expect_seen(rt, alloc, store, id, want)?;
     }
     Ok(())
 }
 
-const GONE_ON_RUNS: [(&str, &str); 2] = [
+const GONE_ON_RUNS: &[(&str, &str)] = &[
     ("1", "run 1 1 completed failure build:failure(failure)"),
     ("4", "run 4 3 in_progress - build:open(running)"),
 ];
@@ -152,15 +152,15 @@ fn steps_go_on_from_the_table_of_a_text(rt: HostRuntime) {
 }
 
 /// The empty table, but for its last lease, 5: no commands lead to it.
-const AFTER_FIVE: [u8; 12] = [0, 0, 0, 5, 0, 0, 0, 0, 0, 0, 0, 0];
+const AFTER_FIVE: &[u8] = &[0, 0, 0, 5, 0, 0, 0, 0, 0, 0, 0, 0];
 
-const SIXTH: [Row; 2] = [
+const SIXTH: &[Row] = &[
     (Words::Admit("d1", BUILD), "created 1"),
     (Words::Claim("r1", "1", "linux"), "lease 6 1 build 0 {}"),
 ];
 
 fn counts_on(rt: &impl Abort, alloc: Global) -> Result<(), Refusal> {
-    let mut store = opening(rt, alloc, disk_of(alloc, &AFTER_FIVE)?)?;
+    let mut store = opening(rt, alloc, disk_of(alloc, AFTER_FIVE)?)?;
     gives_the_sixth(rt, alloc, &mut store)
 }
 
@@ -169,7 +169,7 @@ fn gives_the_sixth(
     alloc: Global,
     store: &mut Store<MemoryDisk>,
 ) -> Result<(), Refusal> {
-    for (words, want) in &SIXTH {
+    for (words, want) in SIXTH {
         expect_reply(rt, alloc, store, words, want)?;
     }
     Ok(())

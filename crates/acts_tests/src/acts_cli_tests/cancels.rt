@@ -5,7 +5,7 @@ use std::test::Fail;
 
 const BUILD: &str = r#"{"jobs":{"build":{"runs-on":"linux"}}}"#;
 
-const CANCELLED: [Row; 10] = [
+const CANCELLED: &[Row] = &[
     ("cancel 2", "refused 40"),
     ("claim r1 1 linux", "lease 1 1 build 0 {}"),
     ("cancel 1", "ok"),
@@ -21,7 +21,7 @@ const CANCELLED: [Row; 10] = [
     ("claim r1 3 linux", "nothing"),
 ];
 
-const CANCELLED_BEFORE_A_CLAIM: [Row; 4] = [
+const CANCELLED_BEFORE_A_CLAIM: &[Row] = &[
     ("cancel 1", "ok"),
     (
         "look 1",
@@ -32,7 +32,7 @@ const CANCELLED_BEFORE_A_CLAIM: [Row; 4] = [
 ];
 
 /// A lost runner keeps its last command with the reply, and may go on.
-const LOST: [Row; 12] = [
+const LOST: &[Row] = &[
     ("lost r1", "refused 45"),
     ("claim r1 1 linux", "lease 1 1 build 0 {}"),
     ("claim r2 1 linux", "nothing"),
@@ -48,7 +48,7 @@ const LOST: [Row; 12] = [
 ];
 
 /// The leg of a lost runner that was told to stop is cancelled.
-const LOST_WHILE_STOPPING: [Row; 5] = [
+const LOST_WHILE_STOPPING: &[Row] = &[
     ("claim r1 1 linux", "lease 1 1 build 0 {}"),
     ("cancel 1", "ok"),
     ("lost r1", "ok"),
@@ -59,7 +59,7 @@ const LOST_WHILE_STOPPING: [Row; 5] = [
     ("lost r1", "refused 44"),
 ];
 
-const FETCHED: [Row; 2] = [
+const FETCHED: &[Row] = &[
     (
         "fetch 1",
         concat!(
@@ -72,27 +72,27 @@ const FETCHED: [Row; 2] = [
 
 #[test]
 fn a_run_is_cancelled(rt: HostRuntime) -> Result<(), Fail> {
-    expect_play(&rt, rt.alloc(), BUILD, &CANCELLED)
+    expect_play(&rt, rt.alloc(), BUILD, CANCELLED)
 }
 
 #[test]
 fn a_run_is_cancelled_before_a_claim(rt: HostRuntime) -> Result<(), Fail> {
-    expect_play(&rt, rt.alloc(), BUILD, &CANCELLED_BEFORE_A_CLAIM)
+    expect_play(&rt, rt.alloc(), BUILD, CANCELLED_BEFORE_A_CLAIM)
 }
 
 #[test]
 fn a_runner_is_lost(rt: HostRuntime) -> Result<(), Fail> {
-    expect_play(&rt, rt.alloc(), BUILD, &LOST)
+    expect_play(&rt, rt.alloc(), BUILD, LOST)
 }
 
 #[test]
 fn a_runner_is_lost_while_its_leg_stops(rt: HostRuntime) -> Result<(), Fail> {
-    expect_play(&rt, rt.alloc(), BUILD, &LOST_WHILE_STOPPING)
+    expect_play(&rt, rt.alloc(), BUILD, LOST_WHILE_STOPPING)
 }
 
 #[test]
 fn bodies_are_fetched(rt: HostRuntime) -> Result<(), Fail> {
-    expect_play(&rt, rt.alloc(), BUILD, &FETCHED)
+    expect_play(&rt, rt.alloc(), BUILD, FETCHED)
 }
 
 /// A job that runs under each condition, once the run has been told to stop.
@@ -115,7 +115,7 @@ const ALWAYS_AND_CANCELLED_GO_ON: &str = concat!(
 
 /// A leg whose condition still holds goes on. What is decided afterwards is cancelled where its condition does not hold. A
 /// second cancel changes nothing, and legs that are ready are claimed after it.
-const CONDITIONS_AFTER_A_CANCEL: [Row; 13] = [
+const CONDITIONS_AFTER_A_CANCEL: &[Row] = &[
     ("claim r1 1 linux", "lease 1 1 a 0 {}"),
     ("cancel 1", "ok"),
     ("beat r1 1", "go on"),
@@ -146,7 +146,7 @@ const AT_WORK: &str = concat!(
 
 /// The legs of the jobs whose conditions hold no more are stopped: the one at work is told so, and the one that no runner has
 /// ends. Another run goes on.
-const JOBS_AT_WORK: [Row; 12] = [
+const JOBS_AT_WORK: &[Row] = &[
     ("claim r1 1 a", r#"lease 1 1 always 0 {"n":0}"#),
     ("claim r2 1 n", r#"lease 2 1 none 0 {"n":0}"#),
     ("claim r3 1 c", r#"lease 3 1 not-cancelled 0 {"n":0}"#),
@@ -178,7 +178,7 @@ const JOBS_AT_WORK: [Row; 12] = [
 
 /// A leg that fails since its runner is lost stops the others of its job, as any failure does. What the leg of the next lost
 /// runner ends as goes by that leg's own phase, though nobody cancelled the run.
-const TWO_AND_A_LOST_ONE: [Row; 6] = [
+const TWO_AND_A_LOST_ONE: &[Row] = &[
     ("claim r0 1 linux", r#"lease 1 1 m 0 {"n":0}"#),
     ("claim r1 1 linux", r#"lease 2 1 m 1 {"n":1}"#),
     ("lost r0", "ok"),
@@ -193,7 +193,7 @@ const TWO_AND_A_LOST_ONE: [Row; 6] = [
 const THREE: &str = r#"{"jobs":{"m":{"runs-on":"linux","strategy":{"matrix":{"n":[0,1,2]}}}}}"#;
 
 /// The stop flag of the run is not what counts: this leg was not told to stop.
-const LOST_UNDER_ALWAYS: [Row; 4] = [
+const LOST_UNDER_ALWAYS: &[Row] = &[
     ("claim r1 1 linux", "lease 1 1 a 0 {}"),
     ("cancel 1", "ok"),
     ("lost r1", "ok"),
@@ -204,25 +204,25 @@ const ALWAYS: &str = r#"{"jobs":{"a":{"runs-on":"linux","if":"always()"}}}"#;
 
 #[test]
 fn each_condition_after_a_cancel(rt: HostRuntime) -> Result<(), Fail> {
-    expect_play(&rt, rt.alloc(), EACH_CONDITION, &CONDITIONS_AFTER_A_CANCEL)
+    expect_play(&rt, rt.alloc(), EACH_CONDITION, CONDITIONS_AFTER_A_CANCEL)
 }
 
 #[test]
 fn jobs_at_work_are_cancelled(rt: HostRuntime) -> Result<(), Fail> {
-    expect_play(&rt, rt.alloc(), AT_WORK, &JOBS_AT_WORK)
+    expect_play(&rt, rt.alloc(), AT_WORK, JOBS_AT_WORK)
 }
 
 #[test]
 fn one_runner_of_three_is_lost(rt: HostRuntime) -> Result<(), Fail> {
-    expect_play(&rt, rt.alloc(), THREE, &TWO_AND_A_LOST_ONE)
+    expect_play(&rt, rt.alloc(), THREE, TWO_AND_A_LOST_ONE)
 }
 
 #[test]
 fn a_runner_of_a_job_that_always_runs_is_lost(rt: HostRuntime) -> Result<(), Fail> {
-    expect_play(&rt, rt.alloc(), ALWAYS, &LOST_UNDER_ALWAYS)
+    expect_play(&rt, rt.alloc(), ALWAYS, LOST_UNDER_ALWAYS)
 }
 
-const NO_LINES: [Row; 14] = [
+const NO_LINES: &[Row] = &[
     ("cancel", "refused 75"),
     ("cancel ", "refused 75"),
     ("cancel 0", "refused 75"),
@@ -241,5 +241,5 @@ const NO_LINES: [Row; 14] = [
 
 #[test]
 fn lines_that_are_none(rt: HostRuntime) -> Result<(), Fail> {
-    expect_play(&rt, rt.alloc(), BUILD, &NO_LINES)
+    expect_play(&rt, rt.alloc(), BUILD, NO_LINES)
 }

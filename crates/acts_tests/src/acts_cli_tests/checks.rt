@@ -5,15 +5,25 @@ use crate::given::spelled;
 use crate::holds::{expect_bytes, holds};
 use acts_cli::{MOST_BYTES, run_check};
 use std::alloc::Global;
+use std::io::{Read, Write};
 use std::process::Abort;
 use std::test::Fail;
 use wf_value::Refusal;
+
+/// Checks the workflow that a reader gives, and prints its legs to a writer.
+fn check<R: Read, W: Write>(
+    alloc: Global,
+    workflow: &mut R,
+    printed: &mut W,
+) -> Result<(), Refusal> {
+    run_check(alloc, workflow, printed)
+}
 
 /// What is printed of a workflow.
 fn checked(alloc: Global, workflow: &[u8]) -> Result<Vec<u8>, Refusal> {
     let mut reader = workflow;
     let mut printed = Vec::new(alloc);
-    run_check(alloc, &mut reader, &mut printed)?;
+    check(alloc, &mut reader, &mut printed)?;
     Ok(printed)
 }
 
@@ -53,7 +63,7 @@ const SIX: &str =
     example_matrix 5 {\"animal\":\"cat\",\"fruit\":\"banana\"}\n";
 
 /// Workflows, and the lines of their legs.
-const LEGS: [(&str, &str); 7] = [
+const LEGS: &[(&str, &str)] = &[
     (EXCLUDE, NINE),
     (INCLUDE, SIX),
     (
@@ -81,7 +91,7 @@ const LEGS: [(&str, &str); 7] = [
 
 #[test]
 fn prints_the_legs(rt: HostRuntime) -> Result<(), Fail> {
-    for &(workflow, lines) in &LEGS {
+    for &(workflow, lines) in LEGS {
         let printed = checked(rt.alloc(), workflow.as_bytes())?;
         holds!(rt; printed.as_slice() == lines.as_bytes(), workflow);
     }
@@ -158,13 +168,13 @@ const NO_LEG_FIRST: &str =
 fn expect_refused(rt: &impl Abort, alloc: Global, workflow: &str, number: u64) {
     let mut reader = workflow.as_bytes();
     let mut printed = Vec::new(alloc);
-    let ended = number_of(run_check(alloc, &mut reader, &mut printed));
+    let ended = number_of(check(alloc, &mut reader, &mut printed));
     holds!(rt; ended == number, workflow);
     holds!(rt; printed.is_empty(), workflow);
 }
 
 /// Workflows, and the numbers of their first faults.
-const FAULTS: [(&str, u64); 16] = [
+const FAULTS: &[(&str, u64)] = &[
     ("[", 10),
     ("{}", 11),
     ("{\"jobs\":{\"1a\":{\"runs-on\":\"x\"}}}", 12),
@@ -209,14 +219,14 @@ const FAULTS: [(&str, u64); 16] = [
 
 #[test]
 fn refuses_with_the_first_fault(rt: HostRuntime) {
-    for &(workflow, number) in &FAULTS {
+    for &(workflow, number) in FAULTS {
         expect_refused(&rt, rt.alloc(), workflow, number);
     }
 }
 
 /// Two faults in each, of neighbouring checks: that of the earlier check is answered, wherever it stands.
 /// The checks of a workflow and of the members of a job:
-const NEIGHBOURS: [(&str, u64); 10] = [
+const NEIGHBOURS: &[(&str, u64)] = &[
     ("[] 1", 10),
     ("{\"concurrency\":\"${{ x }}\",\"name\":5}", 11),
     ("{\"jobs\":[],\"concurrency\":\"${{ matrix.os }}\"}", 18),
@@ -239,7 +249,7 @@ const NEIGHBOURS: [(&str, u64); 10] = [
 ];
 
 /// The checks inside a strategy, and those of the plan that follow all others.
-const NEIGHBOURS_IN_STRATEGY: [(&str, u64); 7] = [
+const NEIGHBOURS_IN_STRATEGY: &[(&str, u64)] = &[
     (
         "{\"jobs\":{\"a\":{\"runs-on\":\"x\",\"strategy\":{\"matrix\":{\"n\":[]},\"max-parallel\":0}}}}",
         25,
@@ -269,10 +279,10 @@ const NEIGHBOURS_IN_STRATEGY: [(&str, u64); 7] = [
 
 #[test]
 fn answers_the_earlier_of_two_checks(rt: HostRuntime) {
-    for &(workflow, number) in &NEIGHBOURS {
+    for &(workflow, number) in NEIGHBOURS {
         expect_refused(&rt, rt.alloc(), workflow, number);
     }
-    for &(workflow, number) in &NEIGHBOURS_IN_STRATEGY {
+    for &(workflow, number) in NEIGHBOURS_IN_STRATEGY {
         expect_refused(&rt, rt.alloc(), workflow, number);
     }
 }
@@ -297,7 +307,7 @@ fn workflow_of_length(alloc: Global, length: usize) -> Result<Vec<u8>, Refusal> 
 }
 
 /// Lengths, and the numbers with which workflows of these are refused.
-const LENGTHS: [(usize, u64); 4] = [
+const LENGTHS: &[(usize, u64)] = &[
     (65_536, 0),
     (65_537, 24),
     (MOST_BYTES, 24),
@@ -306,11 +316,11 @@ const LENGTHS: [(usize, u64); 4] = [
 
 #[test]
 fn bounds_a_workflow(rt: HostRuntime) -> Result<(), Fail> {
-    for &(length, number) in &LENGTHS {
+    for &(length, number) in LENGTHS {
         let workflow = workflow_of_length(rt.alloc(), length)?;
         let mut reader = workflow.as_slice();
         let mut printed = Vec::new(rt.alloc());
-        let ended = run_check(rt.alloc(), &mut reader, &mut printed);
+        let ended = check(rt.alloc(), &mut reader, &mut printed);
         holds!(rt; number_of(ended) == number, length);
         let left = if length > MOST_BYTES { 8 } else { 0 };
         holds!(rt; reader.len() == left, "no more than 1,048,577 bytes are read");
@@ -326,7 +336,7 @@ fn fails_with_its_reader(rt: HostRuntime) {
             left,
         };
         let mut printed = Vec::new(rt.alloc());
-        let number = number_of(run_check(rt.alloc(), &mut reader, &mut printed));
+        let number = number_of(check(rt.alloc(), &mut reader, &mut printed));
         holds!(rt; number == 61 && printed.is_empty(), left);
     }
 }
@@ -339,7 +349,7 @@ fn expect_61(rt: &impl Abort, alloc: Global, left: usize, holds_back: bool, line
         left,
         holds_back,
     };
-    let number = number_of(run_check(alloc, &mut reader, &mut writer));
+    let number = number_of(check(alloc, &mut reader, &mut writer));
     holds!(rt; number == 61, left);
     holds!(rt; writer.bytes.as_slice() == lines, left);
 }

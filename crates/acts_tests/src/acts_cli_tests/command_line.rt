@@ -234,7 +234,7 @@ const EXPLAINED: &str = concat!(
 
 /// Words, the room on standard output, and how that ends over the first script: with 0 where all is well
 /// and after a help text, and else with 1.
-const ROWS: [(&[&str], usize, Ended<'static>); 8] = [
+const ROWS: &[(&[&str], usize, Ended<'static>)] = &[
     (PLAY, 10_000, (0, Some(FIRST_ANSWERS), Some(""))),
     (HELP, 10_000, (0, None, Some(""))),
     (HELP, 0, FULL),
@@ -254,7 +254,7 @@ const ROWS: [(&[&str], usize, Ended<'static>); 8] = [
 ];
 
 /// Words that are no command line of `acts`.
-const FAULTS: [&[&str]; 14] = [
+const FAULTS: &[&[&str]] = &[
     &["acts"],
     &["acts", "serve"],
     &["acts", "play", "script"],
@@ -279,14 +279,14 @@ const FAULT: Ended<'static> = (2, Some(""), None);
 
 #[test]
 fn ends_with_its_status(rt: HostRuntime) {
-    for &(words, room, ended) in &ROWS {
+    for &(words, room, ended) in ROWS {
         expect(&rt, rt.alloc(), words, FIRST, room, ended);
     }
 }
 
 #[test]
 fn ends_a_fault_of_the_words_with_2(rt: HostRuntime) {
-    for words in &FAULTS {
+    for words in FAULTS {
         expect(&rt, rt.alloc(), words, "look 1\n", 10_000, FAULT);
     }
 }
@@ -295,7 +295,7 @@ const MATRIX: &str =
     "{\"jobs\":{\"b\":{\"runs-on\":\"linux\"},\"a\":{\"runs-on\":\"linux\",\"strategy\":{\"matrix\":{\"n\":[1,\"x\"]}}}}}";
 
 /// A workflow, the room on standard output, and how its check ends.
-const CHECKS: [(&str, usize, Ended<'static>); 4] = [
+const CHECKS: &[(&str, usize, Ended<'static>)] = &[
     (
         MATRIX,
         10_000,
@@ -316,13 +316,13 @@ const CHECKS: [(&str, usize, Ended<'static>); 4] = [
 
 #[test]
 fn ends_a_check_with_its_status(rt: HostRuntime) {
-    for &(workflow, room, ended) in &CHECKS {
+    for &(workflow, room, ended) in CHECKS {
         expect(&rt, rt.alloc(), &["acts", "check"], workflow, room, ended);
     }
 }
 
 /// The numbers that can be met.
-const NUMBERS: [&str; 34] = [
+const NUMBERS: &[&str] = &[
     "10", "11", "12", "13", "14", "15", "16", "17", "18", "19", "20", "21", "22", "23", "24", "25",
     "26", "40", "41", "42", "43", "44", "45", "46", "48", "50", "51", "52", "53", "54", "55", "61",
     "75", "76",
@@ -330,7 +330,7 @@ const NUMBERS: [&str; 34] = [
 
 #[test]
 fn explains_each_number_that_is_met(rt: HostRuntime) {
-    for &number in &NUMBERS {
+    for &number in NUMBERS {
         let words = ["acts", "explain", number];
         expect(&rt, rt.alloc(), &words, FIRST, 10_000, (0, None, Some("")));
         expect(&rt, rt.alloc(), &words, FIRST, 10, FULL);

@@ -88,7 +88,7 @@ fn states(alloc: Global, success: bool, failure: bool) -> Result<String, Refusal
 }
 
 /// The result of `a`, that of `b`, whether `success()` then holds of what is behind `b`, and whether `failure()` does.
-const CASES: [Case; 16] = [
+const CASES: &[Case] = &[
     ("success", "success", true, false),
     ("success", "failure", false, true),
     ("success", "cancelled", false, false),
@@ -153,7 +153,7 @@ fn expect_case(rt: &impl Abort, alloc: Global, case: &Case) -> Result<(), Refusa
 
 #[test]
 fn conditions_over_two_results(rt: HostRuntime) -> Result<(), Fail> {
-    for case in &CASES {
+    for case in CASES {
         expect_case(&rt, rt.alloc(), case)?;
     }
     Ok(())

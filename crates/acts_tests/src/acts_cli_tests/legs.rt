@@ -8,7 +8,7 @@ use std::test::Fail;
 const FOUR_BY_TWO: &str =
     r#"{"jobs":{"m":{"runs-on":"linux","strategy":{"max-parallel":2,"matrix":{"n":[0,1,2,3]}}}}}"#;
 
-const A_FAILURE_STOPS_THE_REST: [Row; 10] = [
+const A_FAILURE_STOPS_THE_REST: &[Row] = &[
     ("claim r0 1 linux", r#"lease 1 1 m 0 {"n":0}"#),
     ("claim r1 1 linux", r#"lease 2 1 m 1 {"n":1}"#),
     ("claim r2 1 linux", "nothing"),
@@ -33,7 +33,7 @@ const TWO: &str = concat!(
 );
 
 /// A leg that was told to stop and reports success has succeeded; other jobs go on.
-const A_STOPPING_LEG_SUCCEEDS: [Row; 8] = [
+const A_STOPPING_LEG_SUCCEEDS: &[Row] = &[
     ("claim r0 1 linux", r#"lease 1 1 m 0 {"n":0}"#),
     ("claim r1 1 linux", r#"lease 2 1 m 1 {"n":1}"#),
     ("claim r2 1 linux", "lease 3 1 other 0 {}"),
@@ -48,7 +48,7 @@ const A_STOPPING_LEG_SUCCEEDS: [Row; 8] = [
 ];
 
 /// A leg that its runner reports as cancelled stops no other.
-const A_CANCELLED_LEG_STOPS_NONE: [Row; 7] = [
+const A_CANCELLED_LEG_STOPS_NONE: &[Row] = &[
     ("claim r0 1 linux", r#"lease 1 1 m 0 {"n":0}"#),
     ("done r0 2 1 cancelled", "ok"),
     (
@@ -67,7 +67,7 @@ const A_CANCELLED_LEG_STOPS_NONE: [Row; 7] = [
 const WITHOUT_FAIL_FAST: &str =
     r#"{"jobs":{"m":{"runs-on":"linux","strategy":{"fail-fast":false,"matrix":{"n":[0,1,2]}}}}}"#;
 
-const THE_REST_GOES_ON: [Row; 8] = [
+const THE_REST_GOES_ON: &[Row] = &[
     ("claim r0 1 linux", r#"lease 1 1 m 0 {"n":0}"#),
     ("claim r1 1 linux", r#"lease 2 1 m 1 {"n":1}"#),
     ("done r0 2 1 failure", "ok"),
@@ -88,7 +88,7 @@ const TWO_OF_FOUR_PASSED_OVER: &str = concat!(
 );
 
 /// It is the failed leg whose `continue-on-error` counts, and not that of the legs that are stopped.
-const BESIDE_A_FAILURE_THAT_IS_PASSED_OVER: [Row; 11] = [
+const BESIDE_A_FAILURE_THAT_IS_PASSED_OVER: &[Row] = &[
     ("claim r0 1 linux", r#"lease 1 1 m 0 {"may":true,"n":0}"#),
     ("claim r1 1 linux", r#"lease 2 1 m 1 {"may":true,"n":1}"#),
     ("claim r2 1 linux", r#"lease 3 1 m 2 {"may":false,"n":0}"#),
@@ -113,22 +113,22 @@ const BESIDE_A_FAILURE_THAT_IS_PASSED_OVER: [Row; 11] = [
 
 #[test]
 fn a_failed_leg_stops_the_rest(rt: HostRuntime) -> Result<(), Fail> {
-    expect_play(&rt, rt.alloc(), FOUR_BY_TWO, &A_FAILURE_STOPS_THE_REST)
+    expect_play(&rt, rt.alloc(), FOUR_BY_TWO, A_FAILURE_STOPS_THE_REST)
 }
 
 #[test]
 fn a_leg_that_was_told_to_stop_succeeds(rt: HostRuntime) -> Result<(), Fail> {
-    expect_play(&rt, rt.alloc(), TWO, &A_STOPPING_LEG_SUCCEEDS)
+    expect_play(&rt, rt.alloc(), TWO, A_STOPPING_LEG_SUCCEEDS)
 }
 
 #[test]
 fn a_cancelled_leg_stops_no_other(rt: HostRuntime) -> Result<(), Fail> {
-    expect_play(&rt, rt.alloc(), TWO, &A_CANCELLED_LEG_STOPS_NONE)
+    expect_play(&rt, rt.alloc(), TWO, A_CANCELLED_LEG_STOPS_NONE)
 }
 
 #[test]
 fn the_rest_goes_on_without_fail_fast(rt: HostRuntime) -> Result<(), Fail> {
-    expect_play(&rt, rt.alloc(), WITHOUT_FAIL_FAST, &THE_REST_GOES_ON)
+    expect_play(&rt, rt.alloc(), WITHOUT_FAIL_FAST, THE_REST_GOES_ON)
 }
 
 #[test]
@@ -137,7 +137,7 @@ fn a_failure_is_passed_over(rt: HostRuntime) -> Result<(), Fail> {
         &rt,
         rt.alloc(),
         TWO_OF_FOUR_PASSED_OVER,
-        &BESIDE_A_FAILURE_THAT_IS_PASSED_OVER,
+        BESIDE_A_FAILURE_THAT_IS_PASSED_OVER,
     )
 }
 
@@ -147,7 +147,7 @@ const ONE_AT_A_TIME: &str = concat!(
 );
 
 /// The bound is the job's own: another job's leg runs beside.
-const ONE_LEG_AFTER_THE_OTHER: [Row; 15] = [
+const ONE_LEG_AFTER_THE_OTHER: &[Row] = &[
     ("claim r1 1 linux", r#"lease 1 1 m 0 {"n":0}"#),
     ("claim r2 1 linux", "nothing"),
     (
@@ -176,7 +176,7 @@ const LABELS_OF_THEIR_OWN: &str = concat!(
     r#""strategy":{"max-parallel":3,"matrix":{"os":["linux","windows"],"x":[5]}}}}}"#,
 );
 
-const EACH_ITS_RUNNER: [Row; 5] = [
+const EACH_ITS_RUNNER: &[Row] = &[
     ("claim r1 1 windows,n0-of-2", "nothing"),
     (
         "claim r1 2 windows,n1-of-2",
@@ -197,7 +197,7 @@ const LABELS_BY_STRATEGY: &str = concat!(
 );
 
 /// Where no bound is set, it is the number of legs.
-const STRATEGY_AS_LABELS: [Row; 3] = [
+const STRATEGY_AS_LABELS: &[Row] = &[
     ("claim r1 1 false-7", "lease 1 1 a 0 {}"),
     ("claim r2 1 true-256", "nothing"),
     ("claim r2 2 true-3", r#"lease 2 1 b 0 {"n":1}"#),
@@ -205,23 +205,23 @@ const STRATEGY_AS_LABELS: [Row; 3] = [
 
 #[test]
 fn one_leg_at_a_time(rt: HostRuntime) -> Result<(), Fail> {
-    expect_play(&rt, rt.alloc(), ONE_AT_A_TIME, &ONE_LEG_AFTER_THE_OTHER)
+    expect_play(&rt, rt.alloc(), ONE_AT_A_TIME, ONE_LEG_AFTER_THE_OTHER)
 }
 
 #[test]
 fn each_leg_finds_its_runner(rt: HostRuntime) -> Result<(), Fail> {
-    expect_play(&rt, rt.alloc(), LABELS_OF_THEIR_OWN, &EACH_ITS_RUNNER)
+    expect_play(&rt, rt.alloc(), LABELS_OF_THEIR_OWN, EACH_ITS_RUNNER)
 }
 
 #[test]
 fn labels_of_the_strategy(rt: HostRuntime) -> Result<(), Fail> {
-    expect_play(&rt, rt.alloc(), LABELS_BY_STRATEGY, &STRATEGY_AS_LABELS)
+    expect_play(&rt, rt.alloc(), LABELS_BY_STRATEGY, STRATEGY_AS_LABELS)
 }
 
 const BUILD: &str = r#"{"jobs":{"build":{"runs-on":"linux"}}}"#;
 
 /// A beat changes nothing, and takes no number of its runner's. Names of runners compare with their case.
-const BEATS: [Row; 12] = [
+const BEATS: &[Row] = &[
     ("beat r9 1", "refused 45"),
     ("claim r9 1 gpu", "nothing"),
     ("beat r9 1", "refused 44"),
@@ -236,7 +236,7 @@ const BEATS: [Row; 12] = [
     ("look 1", "run 1 1 completed success build:success(success)"),
 ];
 
-const NO_BEATS: [Row; 8] = [
+const NO_BEATS: &[Row] = &[
     ("beat", "refused 75"),
     ("beat r1", "refused 75"),
     ("beat r1 ", "refused 75"),
@@ -249,10 +249,10 @@ const NO_BEATS: [Row; 8] = [
 
 #[test]
 fn runners_beat(rt: HostRuntime) -> Result<(), Fail> {
-    expect_play(&rt, rt.alloc(), BUILD, &BEATS)
+    expect_play(&rt, rt.alloc(), BUILD, BEATS)
 }
 
 #[test]
 fn lines_that_are_no_beats(rt: HostRuntime) -> Result<(), Fail> {
-    expect_play(&rt, rt.alloc(), BUILD, &NO_BEATS)
+    expect_play(&rt, rt.alloc(), BUILD, NO_BEATS)
 }

@@ -12,7 +12,7 @@ const AFTER_ANY_END: &str = concat!(
 );
 
 /// A job whose direct need succeeded is skipped all the same, since one further up failed.
-const SKIPPED_FOR_ITS_ANCESTOR: [Row; 7] = [
+const SKIPPED_FOR_ITS_ANCESTOR: &[Row] = &[
     (
         "look 1",
         "run 1 1 queued - a:open(ready) b:blocked c:blocked",
@@ -34,7 +34,7 @@ const SKIPPED_FOR_ITS_ANCESTOR: [Row; 7] = [
 const AFTER_A_FAILURE: &str =
     r#"{"jobs":{"a":{"runs-on":"linux"},"b":{"runs-on":"linux","needs":"a","if":"failure()"}}}"#;
 
-const NO_FAILURE: [Row; 3] = [
+const NO_FAILURE: &[Row] = &[
     ("claim r1 1 linux", "lease 1 1 a 0 {}"),
     ("done r1 2 1 success", "ok"),
     (
@@ -43,7 +43,7 @@ const NO_FAILURE: [Row; 3] = [
     ),
 ];
 
-const A_FAILURE: [Row; 3] = [
+const A_FAILURE: &[Row] = &[
     ("claim r1 1 linux", "lease 1 1 a 0 {}"),
     ("done r1 2 1 failure", "ok"),
     (
@@ -58,7 +58,7 @@ const DIAMOND: &str = concat!(
     r#""c":{"runs-on":"c","needs":["a"]},"a":{"runs-on":"a","needs":[]}}}"#,
 );
 
-const THROUGH_THE_DIAMOND: [Row; 12] = [
+const THROUGH_THE_DIAMOND: &[Row] = &[
     ("claim r1 1 b,c,d", "nothing"),
     ("claim r1 2 a", "lease 1 1 a 0 {}"),
     ("claim r2 1 b,c,d", "nothing"),
@@ -85,7 +85,7 @@ const AFTER_A_MATRIX: &str = concat!(
     r#""b":{"runs-on":"linux","needs":"a"}}}"#,
 );
 
-const LEGS_AND_THEN_ANOTHER: [Row; 6] = [
+const LEGS_AND_THEN_ANOTHER: &[Row] = &[
     ("claim r1 1 linux", r#"lease 1 1 a 0 {"n":true}"#),
     ("claim r2 1 linux", r#"lease 2 1 a 1 {"n":false}"#),
     ("done r1 2 1 failure", "ok"),
@@ -102,27 +102,27 @@ const LEGS_AND_THEN_ANOTHER: [Row; 6] = [
 
 #[test]
 fn a_job_is_skipped_for_its_ancestor(rt: HostRuntime) -> Result<(), Fail> {
-    expect_play(&rt, rt.alloc(), AFTER_ANY_END, &SKIPPED_FOR_ITS_ANCESTOR)
+    expect_play(&rt, rt.alloc(), AFTER_ANY_END, SKIPPED_FOR_ITS_ANCESTOR)
 }
 
 #[test]
 fn a_job_after_no_failure(rt: HostRuntime) -> Result<(), Fail> {
-    expect_play(&rt, rt.alloc(), AFTER_A_FAILURE, &NO_FAILURE)
+    expect_play(&rt, rt.alloc(), AFTER_A_FAILURE, NO_FAILURE)
 }
 
 #[test]
 fn a_job_after_a_failure(rt: HostRuntime) -> Result<(), Fail> {
-    expect_play(&rt, rt.alloc(), AFTER_A_FAILURE, &A_FAILURE)
+    expect_play(&rt, rt.alloc(), AFTER_A_FAILURE, A_FAILURE)
 }
 
 #[test]
 fn a_diamond_of_jobs(rt: HostRuntime) -> Result<(), Fail> {
-    expect_play(&rt, rt.alloc(), DIAMOND, &THROUGH_THE_DIAMOND)
+    expect_play(&rt, rt.alloc(), DIAMOND, THROUGH_THE_DIAMOND)
 }
 
 #[test]
 fn a_job_after_the_legs_of_another(rt: HostRuntime) -> Result<(), Fail> {
-    expect_play(&rt, rt.alloc(), AFTER_A_MATRIX, &LEGS_AND_THEN_ANOTHER)
+    expect_play(&rt, rt.alloc(), AFTER_A_MATRIX, LEGS_AND_THEN_ANOTHER)
 }
 
 /// The result of a direct need is a text of the job's own templates. One that is further up has none.
@@ -131,7 +131,7 @@ const RESULT_AS_LABEL: &str = concat!(
     r#""c":{"runs-on":["${{ needs.a.result || 'far' }}","${{ needs.b.result }}"],"needs":"b","if":"always()"}}}"#,
 );
 
-const LABELS_BY_RESULTS: [Row; 9] = [
+const LABELS_BY_RESULTS: &[Row] = &[
     ("claim r1 1 linux", "lease 1 1 a 0 {}"),
     ("done r1 2 1 failure", "ok"),
     ("claim r1 3 x-success,x-,x-cancelled", "nothing"),
@@ -152,7 +152,7 @@ const OTHER_RESULTS: &str = concat!(
     r#""c":{"runs-on":"${{ needs.a.result }}-${{ needs.b.result }}","needs":["a","b"],"if":"always()"}}}"#,
 );
 
-const LABELS_BY_OTHER_RESULTS: [Row; 4] = [
+const LABELS_BY_OTHER_RESULTS: &[Row] = &[
     ("claim r1 1 linux", "lease 1 1 b 0 {}"),
     ("done r1 2 1 failure", "ok"),
     ("claim r1 3 skipped-success", "lease 2 1 c 0 {}"),
@@ -169,7 +169,7 @@ const RESULT_AS_FLAG: &str = concat!(
     r#""d":{"runs-on":"linux","needs":"a","continue-on-error":"${{ needs.a.result || 'true' }}"}}}"#,
 );
 
-const FLAGS_BY_RESULTS: [Row; 9] = [
+const FLAGS_BY_RESULTS: &[Row] = &[
     ("claim r1 1 linux", "lease 1 1 a 0 {}"),
     ("done r1 2 1 success", "ok"),
     ("claim r1 3 linux", "lease 2 1 b 0 {}"),
@@ -186,17 +186,17 @@ const FLAGS_BY_RESULTS: [Row; 9] = [
 
 #[test]
 fn a_result_as_a_label(rt: HostRuntime) -> Result<(), Fail> {
-    expect_play(&rt, rt.alloc(), RESULT_AS_LABEL, &LABELS_BY_RESULTS)
+    expect_play(&rt, rt.alloc(), RESULT_AS_LABEL, LABELS_BY_RESULTS)
 }
 
 #[test]
 fn results_that_are_not_seen(rt: HostRuntime) -> Result<(), Fail> {
-    expect_play(&rt, rt.alloc(), OTHER_RESULTS, &LABELS_BY_OTHER_RESULTS)
+    expect_play(&rt, rt.alloc(), OTHER_RESULTS, LABELS_BY_OTHER_RESULTS)
 }
 
 #[test]
 fn a_result_as_a_flag(rt: HostRuntime) -> Result<(), Fail> {
-    expect_play(&rt, rt.alloc(), RESULT_AS_FLAG, &FLAGS_BY_RESULTS)
+    expect_play(&rt, rt.alloc(), RESULT_AS_FLAG, FLAGS_BY_RESULTS)
 }
 
 /// A workflow of 256 jobs of which each but the last needs the one behind it; the last has this member too.

@@ -1,7 +1,8 @@
 //! Scripts over a store, and what is made and shown of disks.
 
 use super::{expect_played, number_of};
-use crate::commands::{Words, command_of};
+use crate::act_store_tests::{LEAST, apply, commit, made};
+use crate::commands::Words;
 use crate::given::spelled;
 use crate::holds::holds;
 use crate::run_table_tests::BUILD;
@@ -11,9 +12,6 @@ use acts_cli::{run_init, run_show};
 use std::alloc::Global;
 use std::process::Abort;
 use wf_value::Refusal;
-
-/// The least length of an area.
-const AREA: u64 = 4_096;
 
 /// The first script, with a commit behind each line.
 const COMMITTED: &str = concat!(
@@ -39,7 +37,7 @@ const COMMITTED_ANSWERS: &str = concat!(
 );
 
 /// Scripts, and what each prints. A command is an entry, also where the table refuses it, and a line that is refused before is none.
-const ROWS: [(&str, &str); 5] = [
+const ROWS: &[(&str, &str)] = &[
     (COMMITTED, COMMITTED_ANSWERS),
     ("commit\ncommit", "committed 0\ncommitted 0\n"),
     (
@@ -59,7 +57,7 @@ const ROWS: [(&str, &str); 5] = [
 
 #[test]
 fn plays_over_a_store(rt: HostRuntime) {
-    for &(script, answers) in &ROWS {
+    for &(script, answers) in ROWS {
         expect_played(&rt, rt.alloc(), script.as_bytes(), answers);
     }
 }
@@ -80,18 +78,26 @@ fn push_parts(alloc: Global, answers: &mut String) -> Result<(), Refusal> {
     Ok(())
 }
 
+/// So many look-ups and a commit, again and again, and then two look-ups more.
+fn long_script(alloc: Global) -> Result<String, Refusal> {
+    let part = spelled(alloc, &[("look 1\n", LOOKS), ("commit\n", 1)])?;
+    let last = "look 1\nlook 1\ncommit\nlook\n";
+    spelled(alloc, &[(part.as_str(), PARTS), (last, 1)])
+}
+
+fn long_answers(alloc: Global) -> Result<String, Refusal> {
+    let mut answers = String::new(alloc);
+    push_parts(alloc, &mut answers)?;
+    answers.push_str("refused 46\nrefused 46\ncommitted 100000\nrefused 75\n")?;
+    Ok(answers)
+}
+
 /// A history takes 100,000 entries, and no more.
 #[test]
 fn refuses_a_command_past_the_last_entry(rt: HostRuntime) {
-    let alloc = rt.alloc();
-    let part = spelled(alloc, &[("look 1\n", LOOKS), ("commit\n", 1)]).expect(&rt, "a part");
-    let last = "look 1\nlook 1\ncommit\nlook\n";
-    let script = spelled(alloc, &[(part.as_str(), PARTS), (last, 1)]).expect(&rt, "a script");
-    let mut answers = String::new(alloc);
-    push_parts(alloc, &mut answers).expect(&rt, "answers");
-    let refused = "refused 46\nrefused 46\ncommitted 100000\nrefused 75\n";
-    answers.push_str(refused).expect(&rt, "answers");
-    expect_played(&rt, alloc, script.as_bytes(), answers.as_str());
+    let script = long_script(rt.alloc()).expect(&rt, "a script");
+    let answers = long_answers(rt.alloc()).expect(&rt, "answers");
+    expect_played(&rt, rt.alloc(), script.as_bytes(), answers.as_str());
 }
 
 /// That a making prints this, and ends with this number.
@@ -104,7 +110,7 @@ fn expect_making<D: Disk + Drop>(
 ) {
     holds!(rt; disk.faults() < u64::MAX);
     let mut text = Vec::new(alloc);
-    holds!(rt; number_of(run_init(alloc, disk, AREA, &mut text)) == number, number);
+    holds!(rt; number_of(run_init(alloc, disk, LEAST, &mut text)) == number, number);
     holds!(rt; text.as_slice() == printed.as_bytes(), number);
 }
 
@@ -137,16 +143,6 @@ fn expect_showing<D: Disk + Drop>(
     holds!(rt; text.as_slice() == printed.as_bytes(), printed);
 }
 
-/// A new store on a disk in memory.
-fn made(rt: &impl Abort, alloc: Global) -> Store<MemoryDisk> {
-    let disk = MemoryDisk::new(alloc);
-    holds!(rt; disk.faults() < u64::MAX);
-    match Store::init(alloc, disk, AREA) {
-        Ok(store) => store,
-        Err((_, refusal)) => panic!(rt; "not made: {refusal}"),
-    }
-}
-
 /// Applies commands, and commits once.
 fn enter<D: Disk>(
     alloc: Global,
@@ -154,21 +150,29 @@ fn enter<D: Disk>(
     asked: &[Words<'_>],
 ) -> Result<u64, Refusal> {
     for words in asked {
-        let command = command_of(alloc, words)?;
-        let _ = store.apply(alloc, 0, command)?;
+        let _receipt = apply(alloc, store, 0, words)?;
     }
-    store.commit()
+    commit(store)
 }
 
 /// The disk of a new store on which these commands were committed at once.
 fn disk_after(rt: &impl Abort, alloc: Global, asked: &[Words<'_>]) -> MemoryDisk {
-    let mut store = made(rt, alloc);
+    let mut store = made(rt, alloc, MemoryDisk::new(alloc), LEAST);
     let covered = enter(alloc, &mut store, asked).expect(rt, "a commit");
     holds!(rt; covered == asked.len() as u64);
     store.into_disk()
 }
 
+const ONE_RUN: &[Words<'static>] = &[Words::Admit("d1", BUILD)];
+
 const QUEUED: &str = "run 1 1 queued - build:open(ready)\n";
+
+const ASKED_OF_TWO: &[Words<'static>] = &[
+    Words::Admit("d1", BUILD),
+    Words::Cancel("1"),
+    Words::Admit("d2", BUILD),
+    Words::Claim("r1", "1", "linux"),
+];
 
 const TWO_RUNS: &str = concat!(
     "run 1 1 completed cancelled build:cancelled(cancelled)\n",
@@ -179,19 +183,18 @@ const TWO_RUNS: &str = concat!(
 fn shows_the_runs_of_a_store(rt: HostRuntime) {
     let alloc = rt.alloc();
     expect_showing(&rt, alloc, disk_after(&rt, alloc, &[]), 0, "");
-    let one = [Words::Admit("d1", BUILD)];
-    expect_showing(&rt, alloc, disk_after(&rt, alloc, &one), 0, QUEUED);
-    let two = [
-        Words::Admit("d1", BUILD),
-        Words::Cancel("1"),
-        Words::Admit("d2", BUILD),
-        Words::Claim("r1", "1", "linux"),
-    ];
-    expect_showing(&rt, alloc, disk_after(&rt, alloc, &two), 0, TWO_RUNS);
+    expect_showing(&rt, alloc, disk_after(&rt, alloc, ONE_RUN), 0, QUEUED);
+    expect_showing(
+        &rt,
+        alloc,
+        disk_after(&rt, alloc, ASKED_OF_TWO),
+        0,
+        TWO_RUNS,
+    );
 }
 
 /// The bytes of a new store that are no zeros: an open gate, version 1, generation 1, and the length of the empty table's text.
-const FRONT: [(usize, u8); 4] = [(0, 0xA5), (1, 1), (9, 1), (17, 12)];
+const FRONT: &[(usize, u8)] = &[(0, 0xA5), (1, 1), (9, 1), (17, 12)];
 
 fn set(bytes: &mut [u8], place: usize, byte: u8) {
     if let Some(there) = bytes.get_mut(place) {
@@ -202,7 +205,7 @@ fn set(bytes: &mut [u8], place: usize, byte: u8) {
 /// The disk of a new store, of which a byte is another one.
 fn disk_with(alloc: Global, place: usize, byte: u8) -> Result<MemoryDisk, Refusal> {
     let mut bytes = vec![in alloc; 0; 8_192]?;
-    for &(at, value) in &FRONT {
+    for &(at, value) in FRONT {
         set(&mut bytes, at, value);
     }
     set(&mut bytes, place, byte);
@@ -216,7 +219,7 @@ fn zeros(alloc: Global) -> Result<MemoryDisk, Refusal> {
 
 /// A byte of a new store that is another one, and the number with which its showing ends: the area's gate, its version, a last lease out
 /// of range, and the gate of the first record, which is closed by any byte but one, and by that opens a record without a batch.
-const BYTES: [(usize, u8, u64); 5] = [
+const BYTES: &[(usize, u8, u64)] = &[
     (0, 0, 53),
     (1, 2, 54),
     (18, 0xFF, 54),
@@ -229,7 +232,7 @@ fn refuses_to_show_what_is_no_store(rt: HostRuntime) {
     let alloc = rt.alloc();
     expect_showing(&rt, alloc, zeros(alloc).expect(&rt, "a disk"), 53, "");
     expect_showing(&rt, alloc, MemoryDisk::new(alloc), 53, "");
-    for &(place, byte, number) in &BYTES {
+    for &(place, byte, number) in BYTES {
         let disk = disk_with(alloc, place, byte).expect(&rt, "a disk");
         expect_showing(&rt, alloc, disk, number, "");
     }
@@ -239,18 +242,17 @@ fn refuses_to_show_what_is_no_store(rt: HostRuntime) {
 #[test]
 fn tells_that_the_device_fails_in_a_showing(rt: HostRuntime) {
     let alloc = rt.alloc();
-    let one = [Words::Admit("d1", BUILD)];
     for call in 0..4 {
-        let disk = FuseDisk::once(disk_after(&rt, alloc, &one), call);
+        let disk = FuseDisk::once(disk_after(&rt, alloc, ONE_RUN), call);
         expect_showing(&rt, alloc, disk, 51, "");
     }
-    let spared = FuseDisk::once(disk_after(&rt, alloc, &one), 4);
+    let spared = FuseDisk::once(disk_after(&rt, alloc, ONE_RUN), 4);
     expect_showing(&rt, alloc, spared, 0, QUEUED);
 }
 
 /// A stop inside a call of the first commit, how it fills what was not synced, and what is shown then: inside the write of the record and
 /// its sync no run; inside the write of the gate and its sync none, or run 1.
-const STOPS: [(u64, Fill, &str); 8] = [
+const STOPS: &[(u64, Fill, &str)] = &[
     (6, Fill::Old, ""),
     (6, Fill::New, ""),
     (7, Fill::Old, ""),
@@ -264,32 +266,34 @@ const STOPS: [(u64, Fill, &str); 8] = [
 #[test]
 fn shows_what_a_stop_leaves(rt: HostRuntime) {
     let alloc = rt.alloc();
-    let disk = disk_after(&rt, alloc, &[Words::Admit("d1", BUILD)]);
+    let disk = disk_after(&rt, alloc, ONE_RUN);
     holds!(rt; disk.calls().len() == 10);
-    for &(call, fill, shown) in &STOPS {
+    for &(call, fill, shown) in STOPS {
         let image = disk.image(alloc, call, fill).expect(&rt, "an image");
         expect_showing(&rt, alloc, image, 0, shown);
     }
     expect_showing(&rt, alloc, disk, 0, QUEUED);
 }
 
+const RECORD_OF_THREE: &[u8] = &[
+    0xA5, 0, 0, 0, 19, 0, 0, 0, 3, 7, 0, 0, 0, 1, 7, 0, 0, 0, 1, 7, 0, 0, 0, 1, 0,
+];
+
+const THREE_LOOKS: &[Words<'static>] = &[Words::Look("1"), Words::Look("1"), Words::Look("1")];
+
 /// Three look-ups in one record: its length, their count, and a closed gate, which is at 54.
 #[test]
 fn commits_a_batch_of_three(rt: HostRuntime) {
     let alloc = rt.alloc();
-    let looks = [Words::Look("1"), Words::Look("1"), Words::Look("1")];
-    let disk = disk_after(&rt, alloc, &looks);
-    let record: [u8; 25] = [
-        0xA5, 0, 0, 0, 19, 0, 0, 0, 3, 7, 0, 0, 0, 1, 7, 0, 0, 0, 1, 7, 0, 0, 0, 1, 0,
-    ];
+    let disk = disk_after(&rt, alloc, THREE_LOOKS);
     match disk.bytes().get(30..55) {
-        Some(bytes) => holds!(rt; bytes == record.as_slice()),
+        Some(bytes) => holds!(rt; bytes == RECORD_OF_THREE),
         None => panic!(rt; "a short disk"),
     }
 }
 
 /// Look-ups, each with its commit, in an area of 4,096 bytes, and the number with which an `admit` is refused then, or 0.
-const FILLED: [(u64, u64); 2] = [(282, 0), (283, 47)];
+const FILLED: &[(u64, u64)] = &[(282, 0), (283, 47)];
 
 fn look_and_commit<D: Disk>(rt: &impl Abort, alloc: Global, store: &mut Store<D>, times: u64) {
     for place in 0..times {
@@ -305,8 +309,7 @@ fn number_of_admit<D: Disk>(
     store: &mut Store<D>,
     entries: u64,
 ) -> u64 {
-    let command = command_of(alloc, &Words::Admit("d1", BUILD)).expect(rt, "a command");
-    match store.apply(alloc, 0, command) {
+    match apply(alloc, store, 0, &Words::Admit("d1", BUILD)) {
         Ok(receipt) => {
             holds!(rt; receipt.place == entries.saturating_add(1), entries);
             0
@@ -316,7 +319,7 @@ fn number_of_admit<D: Disk>(
 }
 
 fn expect_filled(rt: &impl Abort, alloc: Global, times: u64, number: u64) {
-    let mut store = made(rt, alloc);
+    let mut store = made(rt, alloc, MemoryDisk::new(alloc), LEAST);
     look_and_commit(rt, alloc, &mut store, times);
     let told = number_of_admit(rt, alloc, &mut store, times);
     holds!(rt; told == number, times);
@@ -324,7 +327,7 @@ fn expect_filled(rt: &impl Abort, alloc: Global, times: u64, number: u64) {
 
 #[test]
 fn fills_an_area(rt: HostRuntime) {
-    for &(times, number) in &FILLED {
+    for &(times, number) in FILLED {
         expect_filled(&rt, rt.alloc(), times, number);
     }
 }

@@ -1,7 +1,7 @@
 //! Scripts that are put together from lines and their answers, and played through `run_script`.
 
+use super::play;
 use crate::holds::holds;
-use acts_cli::run_script;
 use std::alloc::Global;
 use std::process::Abort;
 use std::test::Fail;
@@ -85,7 +85,7 @@ impl Script {
     fn printed(&self, alloc: Global) -> Result<Vec<u8>, Refusal> {
         let mut reader = self.lines.as_bytes();
         let mut printed = Vec::new(alloc);
-        run_script(alloc, &mut reader, &mut printed)?;
+        play(alloc, &mut reader, &mut printed)?;
         Ok(printed)
     }
 

@@ -1,7 +1,8 @@
-use super::{FIRST, RECORD, append, fresh_disk, gate_in, gate_of, wrote};
+use super::{RECORD, appended_disk, fresh_disk, gate_in, gate_of, wrote};
 use crate::holds::{expect_bytes, holds};
-use act_disk::{Call, Disk};
-use gated_journal::{record_at, scan};
+use act_disk::{Call, Disk, MemoryDisk};
+use gated_journal::{ScannedArea, record_at, scan};
+use std::process::Abort;
 use std::test::Fail;
 
 #[test]
@@ -13,17 +14,24 @@ fn fresh_area_has_no_records(rt: HostRuntime) -> Result<(), Fail> {
 
 #[test]
 fn record_goes_behind_the_gate(rt: HostRuntime) -> Result<(), Fail> {
-    let mut disk = fresh_disk(rt.alloc())?;
-    append(&rt, FIRST, &mut disk, 30, &RECORD)?;
-    let calls = disk.calls();
+    expect_appended(&rt, &appended_disk(&rt, rt.alloc())?);
+    Ok(())
+}
+
+/// The record stands behind the gate, written by the calls of an append.
+fn expect_appended(rt: &impl Abort, disk: &MemoryDisk) {
+    expect_append_calls(rt, disk.calls());
+    holds!(rt; gate_of(disk) == Some(44));
+    holds!(rt; disk.faults() == 0);
+}
+
+/// The record, a sync, its gate, and a sync.
+fn expect_append_calls(rt: &impl Abort, calls: &[Call]) {
     holds!(rt; calls.len() == 4);
     holds!(rt; wrote(&calls[0], 31, &RECORD));
     holds!(rt; matches!(&calls[1], Call::Sync));
     holds!(rt; wrote(&calls[2], 30, &[0xA5]));
     holds!(rt; matches!(&calls[3], Call::Sync));
-    holds!(rt; gate_of(&disk) == Some(44));
-    holds!(rt; disk.faults() == 0);
-    Ok(())
 }
 
 /// An area of generation 7 with the text `ab` and the bodies `hey` and ``. The last three bytes may be any.
@@ -34,26 +42,30 @@ const SMALL: [u8; 37] = [
 
 #[test]
 fn scan_finds_head_and_records(rt: HostRuntime) {
-    let Some(found) = scan(&SMALL) else {
-        panic!(rt; "it reads");
-    };
+    let found = read_area(&rt, &SMALL);
     holds!(rt; found.head.version == 1);
     holds!(rt; found.head.generation == 7);
     expect_bytes(&rt, found.head.text, b"ab");
     holds!(rt; found.gate == 33);
-    let Some((body, behind)) = record_at(found.records) else {
-        panic!(rt; "it has a record");
-    };
-    expect_bytes(&rt, body, b"hey");
-    let Some((body, behind)) = record_at(behind) else {
-        panic!(rt; "it has two records");
-    };
-    expect_bytes(&rt, body, b"");
+    let behind = expect_record(&rt, found.records, b"hey");
+    let behind = expect_record(&rt, behind, b"");
     expect_bytes(&rt, behind, b"");
 }
 
+/// What an area reads as, which is something.
+fn read_area<'a>(rt: &impl Abort, area: &'a [u8]) -> ScannedArea<'a> {
+    scan(area).expect(rt, "an area that reads")
+}
+
+/// The first record has this body; what stands behind it.
+fn expect_record<'a>(rt: &impl Abort, records: &'a [u8], want: &[u8]) -> &'a [u8] {
+    let (body, behind) = record_at(records).expect(rt, "a record");
+    expect_bytes(rt, body, want);
+    behind
+}
+
 /// How many bytes of `SMALL` an area has, and the offset of its first closed gate.
-const ENDS: [(usize, Option<u64>); 6] = [
+const ENDS: &[(usize, Option<u64>)] = &[
     (37, Some(33)),
     // The last record ends one byte before the area's end, at it, and one past it.
     (34, Some(33)),
@@ -66,14 +78,14 @@ const ENDS: [(usize, Option<u64>); 6] = [
 
 #[test]
 fn area_ends_behind_its_gate(rt: HostRuntime) {
-    for &(len, want) in &ENDS {
+    for &(len, want) in ENDS {
         let gate = SMALL.get(..len).and_then(gate_in);
         holds!(rt; gate == want, len);
     }
 }
 
 /// A byte of `SMALL` that is another, and the offset of its first closed gate.
-const CHANGES: [(usize, u8, Option<u64>); 9] = [
+const CHANGES: &[(usize, u8, Option<u64>)] = &[
     // The area's gate.
     (0, 0, None),
     (0, 0xA4, None),
@@ -91,30 +103,41 @@ const CHANGES: [(usize, u8, Option<u64>); 9] = [
 
 #[test]
 fn changed_byte_changes_the_reading(rt: HostRuntime) {
-    for &(place, byte, want) in &CHANGES {
-        let mut area = SMALL;
-        if let Some(changed) = area.get_mut(place) {
-            *changed = byte;
-        }
-        let gate = gate_in(&area);
+    for &(place, byte, want) in CHANGES {
+        let gate = gate_with(place, byte);
         holds!(rt; gate == want, format_args!("with {byte} at {place}"));
     }
+}
+
+/// The offset of the first closed gate of `SMALL` where one byte is another.
+fn gate_with(place: usize, byte: u8) -> Option<u64> {
+    let mut area = SMALL;
+    if let Some(changed) = area.get_mut(place) {
+        *changed = byte;
+    }
+    gate_in(&area)
 }
 
 /// The second half of a disk of 8,192 bytes, of generation 2, with a text of 123 bytes and a record of
 /// 44 behind it.
 #[test]
-fn second_area_has_its_record_at_4237(rt: HostRuntime) -> Result<(), Fail> {
-    let mut disk = vec![in rt.alloc(); 0xFF_u8; 8192]?;
+fn second_area_has_its_record_at_4237(rt: HostRuntime) {
+    expect_second(&rt, &disk_with_second()[4096..]);
+}
+
+/// The bytes of that disk.
+fn disk_with_second() -> [u8; 8192] {
+    let mut disk = [0xFF; 8192];
     disk[4096..4114].copy_from_slice(&[0xA5, 1, 0, 0, 0, 0, 0, 0, 0, 2, 0, 0, 0, 0, 0, 0, 0, 123]);
     disk[4237..4242].copy_from_slice(&[0xA5, 0, 0, 0, 0x2C]);
     disk[4286] = 0;
-    let Some(found) = scan(&disk[4096..]) else {
-        panic!(rt; "it reads");
-    };
+    disk
+}
+
+fn expect_second(rt: &impl Abort, area: &[u8]) {
+    let found = read_area(rt, area);
     holds!(rt; found.head.generation == 2);
     holds!(rt; found.head.text.len() == 123);
     holds!(rt; found.records.len() == 49);
     holds!(rt; found.gate == 4286 - 4096);
-    Ok(())
 }

@@ -79,19 +79,41 @@ pub struct Journal {
 /// A gate, a version, a generation below 256, and a text behind its length.
 fn front(alloc: Global, generation: u8, text: &[u8]) -> Result<Vec<u8>, AllocError> {
     let mut bytes = Vec::new(alloc);
-    bytes.extend_from_slice(&[0xA5, 1, 0, 0, 0, 0, 0, 0, 0, generation])?;
-    bytes.extend_from_slice(&[0, 0, 0, 0, 0, 0, 0, (text.len() % 256) as u8])?;
-    bytes.extend_from_slice(text)?;
+    push_all(&mut bytes, &[0xA5, 1, 0, 0, 0, 0, 0, 0, 0, generation])?;
+    push_behind_length(&mut bytes, &[0, 0, 0, 0, 0, 0, 0], text)?;
     Ok(bytes)
 }
 
 /// A body behind its length, and a closed gate.
 fn record(alloc: Global, body: &[u8]) -> Result<Vec<u8>, AllocError> {
     let mut bytes = Vec::new(alloc);
-    bytes.extend_from_slice(&[0, 0, 0, (body.len() % 256) as u8])?;
-    bytes.extend_from_slice(body)?;
-    bytes.push(0)?;
+    push_record(&mut bytes, body)?;
     Ok(bytes)
+}
+
+fn push_record(bytes: &mut Vec<u8>, body: &[u8]) -> Result<(), AllocError> {
+    push_behind_length(bytes, &[0, 0, 0], body)?;
+    Ok(bytes.push(0)?)
+}
+
+/// A length below 256, whose upper bytes are these zeros, and so many bytes.
+fn push_behind_length(bytes: &mut Vec<u8>, zeros: &[u8], counted: &[u8]) -> Result<(), AllocError> {
+    push_all(bytes, zeros)?;
+    bytes.push((counted.len() % 256) as u8)?;
+    push_all(bytes, counted)
+}
+
+fn push_all(bytes: &mut Vec<u8>, more: &[u8]) -> Result<(), AllocError> {
+    bytes.extend_from_slice(more)
+}
+
+/// An open gate and a record, or a closed gate.
+fn push_gate(bytes: &mut Vec<u8>, is_open: bool, body: &[u8]) -> Result<(), AllocError> {
+    if !is_open {
+        return Ok(bytes.push(0)?);
+    }
+    bytes.push(0xA5)?;
+    push_record(bytes, body)
 }
 
 impl Journal {
@@ -132,13 +154,16 @@ impl Journal {
                 self.next = self.next_area(alloc, dice, body)?;
                 Ok(Step::Close)
             }
-            Progress::Writing(from) => {
-                let left = self.next.len().saturating_sub(from);
-                Ok(Step::Put(left.min(1 + dice.byte() as usize % 48)))
-            }
+            Progress::Writing(from) => Ok(Step::Put(self.portion(dice, from))),
             Progress::Written => Ok(Step::Sync),
             Progress::Synced => Ok(Step::Open),
         }
+    }
+
+    /// How many bytes are put next, of those that are left.
+    fn portion(&self, dice: &mut Dice, from: usize) -> usize {
+        let left = self.next.len().saturating_sub(from);
+        left.min(1 + dice.byte() as usize % 48)
     }
 
     /// A text, and behind it a closed gate, or a record and then one.
@@ -150,12 +175,7 @@ impl Journal {
     ) -> Result<Vec<u8>, AllocError> {
         let text = dice.bytes(alloc, 32)?;
         let mut next = front(alloc, self.generation.wrapping_add(1), &text)?;
-        if dice.byte() < 128 {
-            next.push(0xA5)?;
-            next.extend_from_slice(&record(alloc, body)?)?;
-        } else {
-            next.push(0)?;
-        }
+        push_gate(&mut next, dice.byte() < 128, body)?;
         Ok(next)
     }
 
@@ -187,13 +207,20 @@ impl Journal {
         let Progress::Writing(from) = self.progress else {
             return Ok(());
         };
-        let Some(bytes) = self.next.get(from..).and_then(|rest| rest.get(..count)) else {
-            panic!(rt; "no more than is left is put");
-        };
-        holds!(rt; disk.faults() < u64::MAX);
-        holds!(rt; self.other.start <= LEN && self.other.len == LEN);
-        holds!(rt; 0 < from && from < 200 && bytes.len() <= 200 - from);
-        self.other.put(disk, from as u64, bytes)
+        super::put(
+            rt,
+            self.other,
+            disk,
+            from as u64,
+            self.left(rt, from, count),
+        )
+    }
+
+    /// So many bytes of those of the other area that are left.
+    fn left(&self, rt: &impl Abort, from: usize, count: usize) -> &[u8] {
+        let next = self.next.as_slice();
+        holds!(rt; from <= next.len() && count <= next.len() - from);
+        &next[from..from + count]
     }
 
     /// The call was made.

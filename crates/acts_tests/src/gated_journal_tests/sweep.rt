@@ -1,5 +1,6 @@
 //! 1,000 random lists of calls. Each test plays a part of them, so that it is short in a trial run too.
 
+use super::image_of;
 use super::steps::{Dice, Journal, LEN};
 use crate::holds::holds;
 use act_disk::{Disk, Fill, FuseDisk, MemoryDisk};
@@ -8,11 +9,12 @@ use std::alloc::{AllocError, Global};
 use std::ops::Range;
 use std::process::Abort;
 use std::test::Fail;
+use wf_value::Refusal;
 
 /// How many calls a list has.
 const STEPS: usize = 12;
 
-const FILLS: [Fill; 4] = [Fill::Old, Fill::New, Fill::Half, Fill::Gates];
+const FILLS: &[Fill] = &[Fill::Old, Fill::New, Fill::Half, Fill::Gates];
 
 /// What stood, up to the first closed gate, when so many calls of the disk were done.
 #[derive(Drop)]
@@ -22,31 +24,42 @@ struct Moment {
 }
 
 /// A disk of two areas; the first has an open gate, and the other's bytes are those of the seed.
-fn two_areas(alloc: Global, journal: &Journal, seed: u64) -> Result<MemoryDisk, Fail> {
-    let mut bytes = vec![in alloc; (seed % 256) as u8; 400]?;
+fn two_areas(rt: &impl Abort, alloc: Global, seed: u64) -> Result<MemoryDisk, Refusal> {
+    let journal = Journal::new(alloc)?;
+    areas_with(rt, alloc, journal.opened(), seed)
+}
+
+/// Such a disk, whose first area opens with these bytes.
+fn areas_with(
+    rt: &impl Abort,
+    alloc: Global,
+    front: &[u8],
+    seed: u64,
+) -> Result<MemoryDisk, Refusal> {
+    let mut bytes = [(seed % 256) as u8; 400];
     bytes[20] = 0;
     bytes[200] = 0;
-    let front = journal.opened();
-    for (place, byte) in front.iter().enumerate() {
-        if let Some(there) = bytes.get_mut(place) {
-            *there = *byte;
-        }
-    }
-    Ok(MemoryDisk::from_slice(alloc, &bytes)?)
+    holds!(rt; front.len() <= 20);
+    bytes[..front.len()].copy_from_slice(front);
+    MemoryDisk::from_slice(alloc, &bytes)
 }
 
 /// Of the areas that read as something, the one of greater generation, up to its first closed gate.
 fn standing(disk: &MemoryDisk) -> Option<&[u8]> {
-    let first = disk.bytes().get(..LEN as usize)?;
-    let second = disk.bytes().get(LEN as usize..)?;
-    match (scan(first), scan(second)) {
-        (Some(one), Some(two)) if one.head.generation < two.head.generation => {
-            second.get(..two.gate as usize)
-        }
-        (Some(one), _) => first.get(..one.gate as usize),
-        (None, Some(two)) => second.get(..two.gate as usize),
+    let first = opened_in(disk.bytes().get(..LEN as usize)?);
+    let second = opened_in(disk.bytes().get(LEN as usize..)?);
+    match (first, second) {
+        (Some((one, _)), Some((two, opened))) if one < two => Some(opened),
+        (Some((_, opened)), _) => Some(opened),
+        (None, Some((_, opened))) => Some(opened),
         (None, None) => None,
     }
+}
+
+/// The generation of an area that reads as something, and its bytes up to its first closed gate.
+fn opened_in(area: &[u8]) -> Option<(u64, &[u8])> {
+    let found = scan(area)?;
+    Some((found.head.generation, area.get(..found.gate as usize)?))
 }
 
 /// Plays a list of calls, and keeps what stood before each and after the last.
@@ -55,28 +68,54 @@ fn play(
     alloc: Global,
     seed: u64,
     disk: &mut MemoryDisk,
-) -> Result<Vec<Moment>, Fail> {
+) -> Result<Vec<Moment>, AllocError> {
     let mut journal = Journal::new(alloc)?;
-    let mut dice = Dice::new(seed);
     let mut moments = Vec::new(alloc);
-    for _ in 0..STEPS {
-        moments.push(now(alloc, disk, &journal)?)?;
-        take_step(rt, alloc, &mut journal, &mut dice, disk)?;
-    }
-    moments.push(now(alloc, disk, &journal)?)?;
+    play_steps(rt, alloc, seed, &mut journal, disk, &mut moments)?;
     Ok(moments)
 }
 
-fn take_step(
+/// Plays a journal's calls, and keeps these moments.
+fn play_steps(
+    rt: &impl Abort,
+    alloc: Global,
+    seed: u64,
+    journal: &mut Journal,
+    disk: &mut MemoryDisk,
+    moments: &mut Vec<Moment>,
+) -> Result<(), AllocError> {
+    let mut dice = Dice::new(seed);
+    for step in 0..STEPS {
+        note_now(alloc, disk, journal, moments)?;
+        holds!(rt; is_taken(rt, alloc, journal, &mut dice, disk)?, step);
+    }
+    note_now(alloc, disk, journal, moments)
+}
+
+/// Makes the next call, and says whether it succeeded. One that failed is not noted.
+fn is_taken<D: Disk>(
     rt: &impl Abort,
     alloc: Global,
     journal: &mut Journal,
     dice: &mut Dice,
-    disk: &mut MemoryDisk,
-) -> Result<(), Fail> {
+    disk: &mut D,
+) -> Result<bool, AllocError> {
     let step = journal.roll(alloc, dice)?;
-    journal.make(rt, disk, &step)?;
-    Ok(journal.note(alloc, &step)?)
+    if journal.make(rt, disk, &step).is_err() {
+        return Ok(false);
+    }
+    journal.note(alloc, &step)?;
+    Ok(true)
+}
+
+/// Keeps what stands now.
+fn note_now(
+    alloc: Global,
+    disk: &MemoryDisk,
+    journal: &Journal,
+    moments: &mut Vec<Moment>,
+) -> Result<(), AllocError> {
+    Ok(moments.push(now(alloc, disk, journal)?)?)
 }
 
 /// What stands now.
@@ -95,13 +134,29 @@ fn check_image(
     call: usize,
     fill: Fill,
     allowed: (&[u8], &[u8]),
-) -> Result<(), Fail> {
-    holds!(rt; call < disk.calls().len());
-    let image = disk.image(alloc, call as u64, fill)?;
-    let Some(found) = standing(&image) else {
-        panic!(rt; "the image reads as nothing");
-    };
-    holds!(rt; found == allowed.0 || found == allowed.1, call);
+) -> Result<(), Refusal> {
+    let image = image_of(rt, alloc, disk, call as u64, fill)?;
+    expect_standing(rt, &image, allowed, call);
+    Ok(())
+}
+
+/// The disk, whose place in the sweep is this, reads as one of the two.
+fn expect_standing(rt: &impl Abort, disk: &MemoryDisk, allowed: (&[u8], &[u8]), place: usize) {
+    let found = standing(disk).expect(rt, "a disk that reads as something");
+    holds!(rt; found == allowed.0 || found == allowed.1, place);
+}
+
+/// The images of a stop inside the call, with each fill.
+fn check_fills(
+    rt: &impl Abort,
+    alloc: Global,
+    disk: &MemoryDisk,
+    call: usize,
+    allowed: (&[u8], &[u8]),
+) -> Result<(), Refusal> {
+    for &fill in FILLS {
+        check_image(rt, alloc, disk, call, fill, allowed)?;
+    }
     Ok(())
 }
 
@@ -112,22 +167,29 @@ fn check_images(
     disk: &MemoryDisk,
     calls: Range<usize>,
     allowed: (&[u8], &[u8]),
-) -> Result<(), Fail> {
+) -> Result<(), Refusal> {
     for call in calls {
-        for &fill in &FILLS {
-            check_image(rt, alloc, disk, call, fill, allowed)?;
-        }
+        check_fills(rt, alloc, disk, call, allowed)?;
     }
     Ok(())
 }
 
 /// The images of a stop inside each call of a list read as what stood before or after it.
-fn check_list(rt: &impl Abort, alloc: Global, seed: u64) -> Result<(), Fail> {
-    let mut disk = two_areas(alloc, &Journal::new(alloc)?, seed)?;
+fn check_list(rt: &impl Abort, alloc: Global, seed: u64) -> Result<(), Refusal> {
+    let mut disk = two_areas(rt, alloc, seed)?;
     let moments = play(rt, alloc, seed, &mut disk)?;
+    check_moments(rt, alloc, &disk, &moments)
+}
+
+fn check_moments(
+    rt: &impl Abort,
+    alloc: Global,
+    disk: &MemoryDisk,
+    moments: &[Moment],
+) -> Result<(), Refusal> {
     for (before, after) in moments.iter().zip(moments.iter().skip(1)) {
         let allowed = (before.opened.as_slice(), after.opened.as_slice());
-        check_images(rt, alloc, &disk, before.done..after.done, allowed)?;
+        check_images(rt, alloc, disk, before.done..after.done, allowed)?;
     }
     Ok(())
 }
@@ -165,15 +227,23 @@ fn play_to_fault(
     alloc: Global,
     seed: u64,
     disk: &mut FuseDisk<MemoryDisk>,
-) -> Result<usize, Fail> {
+) -> Result<usize, AllocError> {
     let mut journal = Journal::new(alloc)?;
+    play_steps_to_fault(rt, alloc, seed, &mut journal, disk)
+}
+
+fn play_steps_to_fault(
+    rt: &impl Abort,
+    alloc: Global,
+    seed: u64,
+    journal: &mut Journal,
+    disk: &mut FuseDisk<MemoryDisk>,
+) -> Result<usize, AllocError> {
     let mut dice = Dice::new(seed);
     for made in 0..STEPS {
-        let step = journal.roll(alloc, &mut dice)?;
-        if journal.make(rt, disk, &step).is_err() {
+        if !is_taken(rt, alloc, journal, &mut dice, disk)? {
             return Ok(made);
         }
-        journal.note(alloc, &step)?;
     }
     panic!(rt; "a call of the disk fails")
 }
@@ -185,21 +255,33 @@ fn check_fault(
     alloc: Global,
     seed: u64,
     moments: &[Moment],
-    disk: FuseDisk<MemoryDisk>,
-) -> Result<(), Fail> {
-    let mut disk = disk;
+    mut disk: FuseDisk<MemoryDisk>,
+) -> Result<(), Refusal> {
     let made = play_to_fault(rt, alloc, seed, &mut disk)?;
-    holds!(rt; made < moments.len() && made + 1 < moments.len());
-    let (before, after) = (&moments[made], &moments[made + 1]);
+    sync_after_fault(rt, &mut disk);
+    check_stopped(rt, alloc, moments, made, &disk.into_inner())
+}
+
+/// A sync after the one fault, whether it fails too or not.
+fn sync_after_fault(rt: &impl Abort, disk: &mut FuseDisk<MemoryDisk>) {
     holds!(rt; disk.faults() == 1);
     let _outcome = disk.sync();
-    let inner = disk.into_inner();
-    let Some(found) = standing(&inner) else {
-        panic!(rt; "the disk reads as nothing");
-    };
+}
+
+/// The disk and the images of its last calls read as before the call that failed after so many, or as
+/// after it.
+fn check_stopped(
+    rt: &impl Abort,
+    alloc: Global,
+    moments: &[Moment],
+    made: usize,
+    disk: &MemoryDisk,
+) -> Result<(), Refusal> {
+    holds!(rt; made < moments.len() && made + 1 < moments.len());
+    let (before, after) = (&moments[made], &moments[made + 1]);
     let allowed = (before.opened.as_slice(), after.opened.as_slice());
-    holds!(rt; found == allowed.0 || found == allowed.1);
-    check_images(rt, alloc, &inner, before.done..inner.calls().len(), allowed)
+    expect_standing(rt, disk, allowed, made);
+    check_images(rt, alloc, disk, before.done..disk.calls().len(), allowed)
 }
 
 /// A call of the disk fails by itself, and with all after it.
@@ -208,22 +290,31 @@ fn check_call(
     alloc: Global,
     seed: u64,
     moments: &[Moment],
-    fresh: &Journal,
     call: u64,
-) -> Result<(), Fail> {
-    let once = FuseDisk::once(two_areas(alloc, fresh, seed)?, call);
+) -> Result<(), Refusal> {
+    let once = FuseDisk::once(two_areas(rt, alloc, seed)?, call);
     check_fault(rt, alloc, seed, moments, once)?;
-    let from = FuseDisk::from(two_areas(alloc, fresh, seed)?, call);
+    let from = FuseDisk::from(two_areas(rt, alloc, seed)?, call);
     check_fault(rt, alloc, seed, moments, from)
 }
 
 /// Each call of the disk fails in turn.
-fn check_faults(rt: &impl Abort, alloc: Global, seed: u64) -> Result<(), Fail> {
-    let fresh = Journal::new(alloc)?;
-    let mut disk = two_areas(alloc, &fresh, seed)?;
+fn check_faults(rt: &impl Abort, alloc: Global, seed: u64) -> Result<(), Refusal> {
+    let mut disk = two_areas(rt, alloc, seed)?;
     let moments = play(rt, alloc, seed, &mut disk)?;
-    for call in 0..disk.calls().len() as u64 {
-        check_call(rt, alloc, seed, &moments, &fresh, call)?;
+    check_calls(rt, alloc, seed, &moments, disk.calls().len() as u64)
+}
+
+/// Each of so many calls fails in turn.
+fn check_calls(
+    rt: &impl Abort,
+    alloc: Global,
+    seed: u64,
+    moments: &[Moment],
+    calls: u64,
+) -> Result<(), Refusal> {
+    for call in 0..calls {
+        check_call(rt, alloc, seed, moments, call)?;
     }
     Ok(())
 }

@@ -50,7 +50,7 @@ fn build(rt: &impl Abort, alloc: Global, rows: Rows<'_>) -> Result<Graph, Refusa
 }
 
 /// Jobs, and the refusal of their graph.
-const REFUSED: [(Rows<'static>, &str); 7] = [
+static REFUSED: [(Rows<'static>, &str); 7] = [
     (&[("a", &["b"])], "refused 13"),
     (&[("a", &["a"]), ("b", &["c"])], "refused 13"),
     (&[("a", &["b"]), ("b", &["a"])], "refused 14 a b"),
@@ -101,17 +101,27 @@ const DIAMOND: Rows<'static> = &[
 
 /// Of each job of the diamond: its needs, its dependents, and a mark for each ancestor, with one more
 /// for a job that is not there.
-const DIAMOND_ROWS: [(&[usize], &[usize], [bool; 5]); 4] = [
+static DIAMOND_ROWS: [(&[usize], &[usize], [bool; 5]); 4] = [
     (&[], &[1, 2], [false, false, false, false, false]),
     (&[0], &[3], [true, false, false, false, false]),
     (&[0], &[3], [true, false, false, false, false]),
     (&[1, 2], &[], [true, true, true, false, false]),
 ];
 
+/// Whether the second of two jobs is an ancestor of the first.
+fn has_ancestor(graph: &Graph, pair: (usize, usize)) -> bool {
+    graph.has_ancestor(pair.0, pair.1)
+}
+
+/// That the second of two jobs is an ancestor of the first, or that it is none.
+fn expect_ancestor(rt: &impl Abort, graph: &Graph, pair: (usize, usize), want: bool) {
+    holds!(rt; has_ancestor(graph, pair) == want, format_args!("{} {}", pair.0, pair.1));
+}
+
 /// The jobs that are ancestors of one, by a mark for each job in order.
 fn expect_ancestors(rt: &impl Abort, graph: &Graph, job: usize, ancestors: [bool; 5]) {
     for (other, want) in ancestors.iter().enumerate() {
-        holds!(rt; graph.has_ancestor(job, other) == *want, format_args!("{job} {other}"));
+        expect_ancestor(rt, graph, (job, other), *want);
     }
 }
 
@@ -135,11 +145,15 @@ fn copied(rt: &impl Abort, alloc: Global, graph: &Graph) -> Graph {
     graph.copy(alloc).expect(rt, "a copy")
 }
 
+/// That a graph is a diamond, and its copy too.
+fn expect_diamond_twice(rt: &impl Abort, alloc: Global, graph: &Graph) {
+    expect_diamond(rt, graph);
+    expect_diamond(rt, &copied(rt, alloc, graph));
+}
+
 #[test]
 fn builds_a_diamond(rt: HostRuntime) {
-    let graph = built(&rt, rt.alloc(), DIAMOND);
-    expect_diamond(&rt, &graph);
-    expect_diamond(&rt, &copied(&rt, rt.alloc(), &graph));
+    expect_diamond_twice(&rt, rt.alloc(), &built(&rt, rt.alloc(), DIAMOND));
 }
 
 /// The number with which a graph is refused, 0 where it is none. What is built is a diamond.
@@ -164,7 +178,7 @@ fn gives_its_answer_or_refuses_memory(rt: HostRuntime) {
 
 /// The result of a first job, and whether `success()` and `failure()` hold then of the last of three
 /// in a chain, of which the second succeeded.
-const FIRST_OF_A_CHAIN: [(Option<JobResult>, bool, bool); 5] = [
+static FIRST_OF_A_CHAIN: [(Option<JobResult>, bool, bool); 5] = [
     (Some(JobResult::Success), true, false),
     (Some(JobResult::Failure), false, true),
     (Some(JobResult::Cancelled), false, false),
@@ -190,27 +204,40 @@ fn expect_decided(
     holds!(rt; graph.decide(2, Condition::Always, &jobs, true), row);
 }
 
+fn expect_all_decided(rt: &impl Abort, graph: &Graph) {
+    for (row, wanted) in FIRST_OF_A_CHAIN.iter().enumerate() {
+        expect_decided(rt, graph, row, *wanted);
+    }
+}
+
+/// That the last job of a chain of three needs the one before it, and has the first as an ancestor.
+fn expect_last_of_three(rt: &impl Abort, graph: &Graph) {
+    holds!(rt; graph.job_count() == 3);
+    holds!(rt; graph.needs(2) == [1].as_slice());
+    holds!(rt; has_ancestor(graph, (2, 0)));
+}
+
 /// A chain of three, so that its last job has an ancestor that it does not need directly.
 #[test]
 fn sees_past_direct_needs(rt: HostRuntime) {
     let rows: Rows<'_> = &[("a", &[]), ("b", &["a"]), ("c", &["b"])];
     let graph = built(&rt, rt.alloc(), rows);
-    holds!(rt; graph.job_count() == 3);
-    holds!(rt; graph.needs(2) == [1].as_slice());
-    holds!(rt; graph.has_ancestor(2, 0));
-    for (row, wanted) in FIRST_OF_A_CHAIN.iter().enumerate() {
-        expect_decided(&rt, &graph, row, *wanted);
-    }
+    expect_last_of_three(&rt, &graph);
+    expect_all_decided(&rt, &graph);
+}
+
+/// The id of the job of this number.
+fn id_of(alloc: Global, job: u32) -> Result<Chars, Refusal> {
+    Ok(Chars::new(format!(in alloc; "j{job:02}")?))
 }
 
 /// The job of this number, which needs the one before it.
 fn link(alloc: Global, job: u32) -> Result<Listed, Refusal> {
     let mut needs = Vec::new(alloc);
     if job > 0 {
-        let before = job - 1;
-        needs.push(Chars::new(format!(in alloc; "j{before:02}")?))?;
+        needs.push(id_of(alloc, job - 1)?)?;
     }
-    let id = Chars::new(format!(in alloc; "j{job:02}")?);
+    let id = id_of(alloc, job)?;
     Ok(Listed { id, needs })
 }
 
@@ -222,15 +249,24 @@ fn chain(alloc: Global, length: u32) -> Result<Vec<Listed>, Refusal> {
     Ok(listed)
 }
 
+fn chained(rt: &impl Abort, alloc: Global, length: u32) -> Result<Graph, Refusal> {
+    let listed = chain(alloc, length)?;
+    graph(rt, alloc, listed.as_slice())
+}
+
+/// That the ancestors of a job are those before it, of 70 jobs.
+fn expect_all_before(rt: &impl Abort, graph: &Graph, job: usize) {
+    for other in 0..70 {
+        expect_ancestor(rt, graph, (job, other), other < job);
+    }
+}
+
 /// A chain of 70 jobs, whose places are more than the bits of a word.
 #[test]
 fn sees_along_a_long_chain(rt: HostRuntime) {
-    let listed = chain(rt.alloc(), 70).expect(&rt, "jobs");
-    let graph = graph(&rt, rt.alloc(), listed.as_slice()).expect(&rt, "a graph");
+    let graph = chained(&rt, rt.alloc(), 70).expect(&rt, "a graph");
     for job in 0..70 {
-        for other in 0..70 {
-            holds!(rt; graph.has_ancestor(job, other) == (other < job), format_args!("{job} {other}"));
-        }
+        expect_all_before(&rt, &graph, job);
     }
 }
 
@@ -240,7 +276,7 @@ fn builds_from_no_jobs(rt: HostRuntime) {
 }
 
 /// Jobs, and whether their ids rise.
-const IDS: [(Rows<'static>, bool); 5] = [
+static IDS: [(Rows<'static>, bool); 5] = [
     (&[], true),
     (&[("b", &[])], true),
     (&[("B", &[]), ("a", &[]), ("ab", &[])], true),
@@ -248,11 +284,21 @@ const IDS: [(Rows<'static>, bool); 5] = [
     (&[("a", &[]), ("c", &[]), ("b", &[])], false),
 ];
 
+fn rise_in_jobs(alloc: Global, listed: &[Listed]) -> Result<bool, Refusal> {
+    let jobs = jobs(alloc, listed)?;
+    Ok(ids_rise(jobs.as_slice()))
+}
+
+/// Whether the ids of jobs rise.
+fn rise(alloc: Global, rows: Rows<'_>) -> Result<bool, Refusal> {
+    let listed = texts_of(alloc, rows)?;
+    rise_in_jobs(alloc, listed.as_slice())
+}
+
 #[test]
 fn tells_the_order_of_ids(rt: HostRuntime) {
     for (row, (rows, want)) in IDS.iter().enumerate() {
-        let listed = texts_of(rt.alloc(), rows).expect(&rt, "texts");
-        let jobs = jobs(rt.alloc(), listed.as_slice()).expect(&rt, "jobs");
-        holds!(rt; ids_rise(jobs.as_slice()) == *want, row);
+        let rise = rise(rt.alloc(), rows).expect(&rt, "jobs");
+        holds!(rt; rise == *want, row);
     }
 }

@@ -6,7 +6,7 @@ use wf_value::{Condition, JobResult, Outcome};
 
 /// A leg's end, and how much it weighs in its job's result: 0 for nothing, 1 for cancelled and 2
 /// for a failure that counts.
-const LEGS: [(Outcome, bool, u8); 6] = [
+static LEGS: [(Outcome, bool, u8); 6] = [
     (Outcome::Success, false, 0),
     (Outcome::Success, true, 0),
     (Outcome::Failure, true, 0),
@@ -77,7 +77,7 @@ const CANCELLED: Option<JobResult> = Some(JobResult::Cancelled);
 const SKIPPED: Option<JobResult> = Some(JobResult::Skipped);
 
 /// The results of a run's jobs, and its conclusion.
-const CONCLUSIONS: [(&[Settled], Outcome); 7] = [
+static CONCLUSIONS: [(&[Settled], Outcome); 7] = [
     (&[], Outcome::Success),
     (&[Settled(SUCCEEDED), Settled(SKIPPED)], Outcome::Success),
     (&[Settled(SKIPPED)], Outcome::Success),
@@ -95,7 +95,7 @@ fn concludes_runs(rt: HostRuntime) {
 }
 
 /// `success()`, `failure()`, `always()`, `cancelled()`, `!cancelled()` and `false`.
-const CONDITIONS: [Condition; 6] = [
+static CONDITIONS: [Condition; 6] = [
     Condition::Success,
     Condition::Failure,
     Condition::Always,
@@ -124,7 +124,7 @@ const AFTER_FAILURE: [bool; 6] = [false, true, true, false, true, false];
 const AFTER_NEITHER: [bool; 6] = [false, false, true, false, true, false];
 
 /// The results of a job's ancestors, and which conditions hold then.
-const RUNNING: [(&[Option<JobResult>], [bool; 6]); 9] = [
+static RUNNING: [(&[Option<JobResult>], [bool; 6]); 9] = [
     (&[], AFTER_SUCCESS),
     (&[SUCCEEDED], AFTER_SUCCESS),
     (&[SUCCEEDED, SUCCEEDED], AFTER_SUCCESS),
@@ -146,7 +146,7 @@ fn decides_while_running(rt: HostRuntime) {
 const WHILE_STOPPING: [bool; 6] = [false, false, true, true, false, false];
 
 /// The results of a job's ancestors.
-const STOPPING: [&[Option<JobResult>]; 9] = [
+static STOPPING: [&[Option<JobResult>]; 9] = [
     &[],
     &[SUCCEEDED],
     &[SUCCEEDED, FAILED],

@@ -10,7 +10,7 @@ const OTHER_BODY: &str =
     "{\"repo\":\"o/r\",\"path\":\"ci.json\",\"workflow\":{\"jobs\":{\"build\":{\"runs-on\":\"gpu\"}}}}";
 
 /// Deliveries, events and bodies, of which no two are the same.
-const EVENTS: [(&str, &str, &str); 4] = [
+const EVENTS: &[(&str, &str, &str)] = &[
     ("d1", "push", BODY),
     ("d2", "push", BODY),
     ("d1", "fork", BODY),
@@ -18,7 +18,7 @@ const EVENTS: [(&str, &str, &str); 4] = [
 ];
 
 /// Other commands, of which no two are the same.
-const COMMANDS: [Words<'static>; 20] = [
+const COMMANDS: &[Words<'static>] = &[
     Words::Claim("r1", "1", "linux,x64"),
     Words::Claim("r2", "1", "linux,x64"),
     Words::Claim("r1", "2", "linux,x64"),
@@ -41,15 +41,19 @@ const COMMANDS: [Words<'static>; 20] = [
     Words::Fetch("2"),
 ];
 
+fn admit(alloc: Global, id: &str, name: &str, body: &str) -> Result<Command, Refusal> {
+    Ok(Command::Admit(prepared(alloc, id, name, body)?))
+}
+
 fn push_admits(alloc: Global, commands: &mut Vec<Command>) -> Result<(), Refusal> {
-    for &(id, name, body) in &EVENTS {
-        commands.push(Command::Admit(prepared(alloc, id, name, body)?))?;
+    for &(id, name, body) in EVENTS {
+        commands.push(admit(alloc, id, name, body)?)?;
     }
     Ok(())
 }
 
 fn push_others(alloc: Global, commands: &mut Vec<Command>) -> Result<(), Refusal> {
-    for words in &COMMANDS {
+    for words in COMMANDS {
         commands.push(command_of(alloc, words)?)?;
     }
     Ok(())

@@ -5,7 +5,11 @@ use crate::run_plan_tests::replies::first_lease;
 use run_plan::{ClaimReply, LastCommand};
 use std::alloc::Global;
 use std::process::Abort;
-use wf_value::{Outcome, Refusal, TryCopy};
+use wf_value::{Chars, Outcome, Refusal, TryCopy};
+
+fn reply_text(alloc: Global, last: &LastCommand) -> Result<Chars, Refusal> {
+    last.reply(alloc)?.text(alloc)
+}
 
 fn expect_reply(
     rt: &impl Abort,
@@ -13,7 +17,7 @@ fn expect_reply(
     last: &LastCommand,
     printed: &str,
 ) -> Result<(), Refusal> {
-    let text = last.reply(alloc)?.text(alloc)?;
+    let text = reply_text(alloc, last)?;
     expect_text(rt, text.as_str(), printed);
     Ok(())
 }

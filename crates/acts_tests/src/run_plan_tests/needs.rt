@@ -28,7 +28,7 @@ fn refused(alloc: Global, workflow: &str) -> Result<String, Refusal> {
 
 /// Where two checks fail the earlier one is answered: the matrices of all jobs, then ids of no job, then
 /// cycles. The ids of a cycle stand in the order of their bytes.
-const REFUSED: [(&str, &str); 12] = [
+const REFUSED: &[(&str, &str)] = &[
     (
         "{\"jobs\":{\"a\":{\"runs-on\":\"x\",\"needs\":\"b\"}}}",
         "refused 13",
@@ -80,7 +80,7 @@ const REFUSED: [(&str, &str); 12] = [
 ];
 
 fn refuses(rt: &impl Abort, alloc: Global) -> Result<(), Refusal> {
-    for &(workflow, want) in &REFUSED {
+    for &(workflow, want) in REFUSED {
         let text = refused(alloc, workflow)?;
         expect_text(rt, text.as_str(), want);
     }

@@ -33,12 +33,16 @@ fn expect_job(rt: &impl Abort, job: &PlannedJob, id: &str, labels: &[&str]) {
     expect_labels(rt, job.labels.as_slice(), labels);
 }
 
-/// That the event is that of `BODY`.
-fn expect_first(rt: &impl Abort, event: &Prepared) {
+fn expect_names(rt: &impl Abort, event: &Prepared) {
     expect_text(rt, event.delivery().as_str(), "d1");
     expect_text(rt, event.event().as_str(), "push");
     expect_text(rt, event.repo().as_str(), "o/r");
     expect_text(rt, event.path().as_str(), "ci.json");
+}
+
+/// That the event is that of `BODY`.
+fn expect_first(rt: &impl Abort, event: &Prepared) {
+    expect_names(rt, event);
     expect_bytes(rt, event.body(), BODY.as_bytes());
     expect_text(rt, event.body_text(), BODY);
     let jobs = event.plan().as_slice();
@@ -92,7 +96,7 @@ fn number_of_refusal(alloc: Global, body: &str) -> Result<u64, Refusal> {
 }
 
 /// Bodies and their first faults, 0 where there is none.
-const BODIES: [(&str, u64); 18] = [
+const BODIES: &[(&str, u64)] = &[
     (BODY, 0),
     ("[", 10),
     ("{}", 11),
@@ -160,7 +164,7 @@ const BODIES: [(&str, u64); 18] = [
 ];
 
 /// How many spaces stand after `BODY`, and the number with which that is refused.
-const SPACES: [(usize, u64); 2] = [(65_536 - BODY.len(), 0), (65_537 - BODY.len(), 24)];
+const SPACES: &[(usize, u64)] = &[(65_536 - BODY.len(), 0), (65_537 - BODY.len(), 24)];
 
 fn expect_spaces(rt: &impl Abort, alloc: Global, spaces: usize, want: u64) -> Result<(), Refusal> {
     let body = spelled(alloc, &[(BODY, 1), (" ", spaces)])?;
@@ -170,11 +174,11 @@ fn expect_spaces(rt: &impl Abort, alloc: Global, spaces: usize, want: u64) -> Re
 }
 
 fn refuses(rt: &impl Abort, alloc: Global) -> Result<(), Refusal> {
-    for &(body, want) in &BODIES {
+    for &(body, want) in BODIES {
         let number = number_of_refusal(alloc, body)?;
         holds!(rt; number == want, body);
     }
-    for &(spaces, want) in &SPACES {
+    for &(spaces, want) in SPACES {
         expect_spaces(rt, alloc, spaces, want)?;
     }
     Ok(())

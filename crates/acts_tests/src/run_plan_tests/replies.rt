@@ -15,7 +15,7 @@ type Pairs = &'static [(&'static str, Given)];
 const FIRST: Leased = ("1", "2", "b", 0, &[]);
 
 /// The printed text of each reply, of which no two are the same.
-const PRINTED: [&str; 27] = [
+const PRINTED: &[&str] = &[
     "created 1",
     "created 999999999",
     "lease 1 2 b 0 {}",
@@ -45,9 +45,9 @@ const PRINTED: [&str; 27] = [
     "refused 14 a c",
 ];
 
-const CREATED: [&str; 2] = ["1", "999999999"];
+const CREATED: &[&str] = &["1", "999999999"];
 
-const LEASES: [Leased; 10] = [
+const LEASES: &[Leased] = &[
     FIRST,
     ("2", "2", "b", 0, &[]),
     ("1", "1", "b", 0, &[]),
@@ -66,18 +66,18 @@ const LEASES: [Leased; 10] = [
     ),
 ];
 
-const VIEWS: [&str; 2] = [
+const VIEWS: &[&str] = &[
     "run 1 1 queued - build:open(ready)",
     "run 1 1 completed success build:success(success)",
 ];
 
 /// The second has eleven bytes, and ten characters. The third is one of the views.
-const BODIES: [&str; 3] = ["", "{\"a\":\n\"é\"}", "run 1 1 queued - build:open(ready)"];
+const BODIES: &[&str] = &["", "{\"a\":\n\"é\"}", "run 1 1 queued - build:open(ready)"];
 
-const CYCLES: [[&str; 2]; 2] = [["a", "b"], ["a", "c"]];
+const CYCLES: &[&[&str]] = &[&["a", "b"], &["a", "c"]];
 
 fn push_created(replies: &mut Vec<Reply>) -> Result<(), Refusal> {
-    for &run in &CREATED {
+    for &run in CREATED {
         replies.push(Reply::Created(number(run)?))?;
     }
     Ok(())
@@ -104,7 +104,7 @@ pub fn first_lease(alloc: Global) -> Result<Lease, Refusal> {
 }
 
 fn push_leases(alloc: Global, replies: &mut Vec<Reply>) -> Result<(), Refusal> {
-    for row in &LEASES {
+    for row in LEASES {
         let lease = BoxedLease::new(alloc, lease(alloc, row)?)?;
         replies.push(Reply::Lease(lease))?;
     }
@@ -112,14 +112,14 @@ fn push_leases(alloc: Global, replies: &mut Vec<Reply>) -> Result<(), Refusal> {
 }
 
 fn push_views(alloc: Global, replies: &mut Vec<Reply>) -> Result<(), Refusal> {
-    for &view in &VIEWS {
+    for &view in VIEWS {
         replies.push(Reply::Run(Chars::from_str(alloc, view)?))?;
     }
     Ok(())
 }
 
 fn push_bodies(alloc: Global, replies: &mut Vec<Reply>) -> Result<(), Refusal> {
-    for &body in &BODIES {
+    for &body in BODIES {
         replies.push(Reply::Body(Chars::from_str(alloc, body)?))?;
     }
     Ok(())
@@ -133,19 +133,24 @@ fn push_words(replies: &mut Vec<Reply>) -> Result<(), Refusal> {
     Ok(())
 }
 
+const CODES: &[Code] = &[Code::NoRun, Code::HasLease];
+
+/// The last numbers of runners.
+const LAST_NUMBERS: &[u64] = &[0, 999_999_999];
+
 fn push_refused(replies: &mut Vec<Reply>) -> Result<(), Refusal> {
-    for code in [Code::NoRun, Code::HasLease] {
+    for &code in CODES {
         replies.push(Reply::Refused(Refusal::Numbered(code)))?;
     }
-    for last in [0, 999_999_999] {
+    for &last in LAST_NUMBERS {
         replies.push(Reply::Refused(Refusal::Turn(last)))?;
     }
     Ok(())
 }
 
 fn push_cycles(alloc: Global, replies: &mut Vec<Reply>) -> Result<(), Refusal> {
-    for &ids in &CYCLES {
-        let ids = Sequence::new(texts(alloc, &ids)?);
+    for &ids in CYCLES {
+        let ids = Sequence::new(texts(alloc, ids)?);
         replies.push(Reply::Refused(Refusal::Cycle(ids)))?;
     }
     Ok(())
@@ -179,7 +184,7 @@ fn expect_printed(
 
 fn prints_replies(rt: &impl Abort, alloc: Global) -> Result<(), Refusal> {
     let replies = replies(alloc)?;
-    expect_printed(rt, alloc, replies.as_slice(), &PRINTED)
+    expect_printed(rt, alloc, replies.as_slice(), PRINTED)
 }
 
 #[test]

@@ -36,7 +36,7 @@ fn reads_runner(alloc: Global, text: &str) -> Result<bool, Refusal> {
 }
 
 /// A text, and whether it is a delivery id, an event name, a runner name.
-const NAMES: [(&str, bool, bool, bool); 21] = [
+const NAMES: &[(&str, bool, bool, bool)] = &[
     ("", false, false, false),
     ("d1", true, true, true),
     ("push", true, true, true),
@@ -73,7 +73,7 @@ fn expect_name(
 }
 
 fn reads_names(rt: &impl Abort, alloc: Global) -> Result<(), Refusal> {
-    for row in &NAMES {
+    for row in NAMES {
         expect_name(rt, alloc, row)?;
     }
     holds!(rt; RunnerName::of(alloc, b"r\xff")?.is_none());
@@ -90,7 +90,7 @@ fn reads_each_name_at_its_bounds(rt: HostRuntime) {
 }
 
 /// A text, and how many labels it has, or 0 where it is none.
-const LABELS: [(&str, usize); 18] = [
+const LABELS: &[(&str, usize)] = &[
     ("linux", 1),
     ("X64,linux", 2),
     ("!,~,$%&'()*+-./:;<=>?@[\\]^_`{|}", 3),
@@ -119,7 +119,7 @@ fn count_of_labels(alloc: Global, text: &str) -> Result<usize, Refusal> {
 }
 
 fn reads_labels(rt: &impl Abort, alloc: Global) -> Result<(), Refusal> {
-    for &(text, want) in &LABELS {
+    for &(text, want) in LABELS {
         holds!(rt; count_of_labels(alloc, text)? == want, text);
     }
     expect_two(rt, alloc)
@@ -143,7 +143,7 @@ fn reads_labels_at_their_bounds(rt: HostRuntime) {
 }
 
 /// A text, and its number, or 0 where it is none.
-const NUMBERS: [(&str, u32); 17] = [
+const NUMBERS: &[(&str, u32)] = &[
     ("1", 1),
     ("9", 9),
     ("10", 10),
@@ -165,7 +165,7 @@ const NUMBERS: [(&str, u32); 17] = [
 
 #[test]
 fn reads_numbers(rt: HostRuntime) {
-    for &(text, want) in &NUMBERS {
+    for &(text, want) in NUMBERS {
         let value = match Number::of(text.as_bytes()) {
             Some(number) => number.get(),
             None => 0,

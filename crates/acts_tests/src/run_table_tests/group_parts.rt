@@ -27,7 +27,7 @@ type Run = (&'static str, &'static str, bool);
 /// Runs, and whether there is a table of them.
 type Row = (&'static [Run], bool);
 
-const ROWS: [Row; 7] = [
+const ROWS: &[Row] = &[
     // one holds the group and one waits for it
     (&[("d1", UPPER, false), ("d2", LOWER, true)], true),
     // two wait, whose names differ in case
@@ -114,7 +114,7 @@ fn expect_row(rt: &impl Abort, alloc: Global, row: &Row) -> Result<(), Refusal> 
 
 #[test]
 fn parts_make_a_table_by_who_holds_a_group(rt: HostRuntime) {
-    for row in &ROWS {
+    for row in ROWS {
         expect_row(&rt, rt.alloc(), row).expect(&rt, "memory");
     }
 }

@@ -6,7 +6,7 @@ use crate::run_table_tests::{
 use run_plan::Number;
 use wf_value::{Outcome, TryCopy};
 
-const TO_ITS_END: [Row; 5] = [
+const TO_ITS_END: &[Row] = &[
     (Words::Admit("d1", BUILD), "created 1"),
     (Words::Admit("d1", BUILD), "created 1"),
     (Words::Claim("r1", "1", "gpu,LINUX"), "lease 1 1 build 0 {}"),
@@ -16,13 +16,13 @@ const TO_ITS_END: [Row; 5] = [
 
 #[test]
 fn one_run_to_its_end(rt: HostRuntime) {
-    let table = played(&rt, rt.alloc(), &TO_ITS_END);
+    let table = played(&rt, rt.alloc(), TO_ITS_END);
     let want = "run 1 1 completed success build:success(success)";
     expect_view(&rt, rt.alloc(), &table, "1", want);
     holds!(rt; table.look(Number::new(2)).is_none());
 }
 
-const REFUSED: [Row; 5] = [
+const REFUSED: &[Row] = &[
     (Words::Claim("r1", "2", "linux"), "refused 43 0"),
     (Words::Claim("r1", "1", "linux"), "nothing"),
     (Words::Claim("r1", "1", "gpu"), "refused 43 1"),
@@ -30,18 +30,18 @@ const REFUSED: [Row; 5] = [
     (Words::Look("1"), "refused 40"),
 ];
 
-const KEPT: [Row; 1] = [(Words::Claim("r1", "1", "linux"), "nothing")];
+const KEPT: &[Row] = &[(Words::Claim("r1", "1", "linux"), "nothing")];
 
 #[test]
 fn refusals_leave_the_table(rt: HostRuntime) {
-    let table = played(&rt, rt.alloc(), &REFUSED);
+    let table = played(&rt, rt.alloc(), REFUSED);
     let mut copy = table.copy(rt.alloc()).expect(&rt, "a copy");
-    play(&rt, rt.alloc(), &mut copy, &KEPT);
+    play(&rt, rt.alloc(), &mut copy, KEPT);
 }
 
 /// A claim, a report and a delivery that come again are answered as before, whatever has changed
 /// since, and another command of the same number is not.
-const REPEATED: [Row; 12] = [
+const REPEATED: &[Row] = &[
     (Words::Claim("r1", "1", "linux"), "nothing"),
     (Words::Admit("d1", BUILD), "created 1"),
     (Words::Claim("r1", "1", "linux"), "nothing"),
@@ -62,12 +62,12 @@ const REPEATED: [Row; 12] = [
 #[test]
 fn repeats_are_answered_again(rt: HostRuntime) {
     let want = "run 1 1 completed failure build:failure(failure)";
-    expect_shown(&rt, rt.alloc(), &REPEATED, "1", want);
+    expect_shown(&rt, rt.alloc(), REPEATED, "1", want);
 }
 
 /// Each refusal of the table but 48, which takes a hundred thousand runs, with a lease out: the lease
 /// stays with its runner, and each runner's number where it was.
-const WITH_A_LEASE: [Row; 13] = [
+const WITH_A_LEASE: &[Row] = &[
     (Words::Admit("d1", BUILD), "created 1"),
     (Words::Claim("r1", "1", "linux"), "lease 1 1 build 0 {}"),
     (Words::Look("2"), "refused 40"),
@@ -94,11 +94,11 @@ const WITH_A_LEASE: [Row; 13] = [
 
 #[test]
 fn refusals_leave_a_lease(rt: HostRuntime) {
-    expect_replies(&rt, rt.alloc(), &WITH_A_LEASE);
+    expect_replies(&rt, rt.alloc(), WITH_A_LEASE);
 }
 
 /// The run goes on when one of its jobs has failed, and ends as a failure.
-const ONE_OF_THREE: [Row; 9] = [
+const ONE_OF_THREE: &[Row] = &[
     (Words::Admit("d1", THREE), "created 1"),
     (Words::Claim("r1", "1", "x"), "lease 1 1 a 0 {}"),
     (Words::Claim("r2", "1", "x"), "lease 2 1 b 0 {}"),
@@ -118,5 +118,5 @@ const ONE_OF_THREE: [Row; 9] = [
 
 #[test]
 fn one_job_of_three_fails(rt: HostRuntime) {
-    expect_replies(&rt, rt.alloc(), &ONE_OF_THREE);
+    expect_replies(&rt, rt.alloc(), ONE_OF_THREE);
 }

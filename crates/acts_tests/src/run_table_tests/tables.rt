@@ -8,7 +8,7 @@ use std::process::Abort;
 use wf_value::{Outcome, TryCopy};
 
 /// Runs of two workflows, the third the second of its own, each of whose legs a runner has.
-pub const LEASED: [Row; 6] = [
+pub const LEASED: &[Row] = &[
     (Words::Admit("d1", BUILD), "created 1"),
     (Words::Claim("r1", "1", "linux"), "lease 1 1 build 0 {}"),
     (Words::Admit("d2", BUILD_ELSEWHERE), "created 2"),
@@ -17,7 +17,7 @@ pub const LEASED: [Row; 6] = [
     (Words::Claim("r3", "1", "linux"), "lease 3 3 build 0 {}"),
 ];
 
-pub const LEASED_RUNS: [(&str, &str); 3] = [
+pub const LEASED_RUNS: &[(&str, &str)] = &[
     ("1", "run 1 1 in_progress - build:open(running)"),
     ("2", "run 2 1 in_progress - build:open(running)"),
     ("3", "run 3 2 in_progress - build:open(running)"),
@@ -25,7 +25,7 @@ pub const LEASED_RUNS: [(&str, &str); 3] = [
 
 /// What is seen of the runs of `LEASED`.
 fn expect_runs(rt: &impl Abort, alloc: Global, table: &Table) {
-    for &(id, want) in &LEASED_RUNS {
+    for &(id, want) in LEASED_RUNS {
         expect_view(rt, alloc, table, id, want);
     }
     holds!(rt; table.look(Number::new(4)).is_none());
@@ -33,12 +33,12 @@ fn expect_runs(rt: &impl Abort, alloc: Global, table: &Table) {
 
 #[test]
 fn numbers_runs_by_workflow(rt: HostRuntime) {
-    expect_runs(&rt, rt.alloc(), &played(&rt, rt.alloc(), &LEASED));
+    expect_runs(&rt, rt.alloc(), &played(&rt, rt.alloc(), LEASED));
 }
 
 /// Runs, a runner's number, its last command with the reply, the lease that it holds, and the last
 /// lease of all.
-pub const GONE_ON: [Row; 8] = [
+pub const GONE_ON: &[Row] = &[
     (Words::Claim("r1", "1", "linux"), "lease 1 1 build 0 {}"),
     (Words::Claim("r1", "1", "gpu"), "refused 43 1"),
     (Words::Claim("r1", "2", "linux"), "refused 42"),
@@ -54,9 +54,9 @@ pub const GONE_ON: [Row; 8] = [
 
 #[test]
 fn copies_a_table(rt: HostRuntime) {
-    let table = played(&rt, rt.alloc(), &LEASED);
+    let table = played(&rt, rt.alloc(), LEASED);
     let mut copy = table.copy(rt.alloc()).expect(&rt, "a copy");
     expect_runs(&rt, rt.alloc(), &copy);
-    play(&rt, rt.alloc(), &mut copy, &GONE_ON);
+    play(&rt, rt.alloc(), &mut copy, GONE_ON);
     expect_runs(&rt, rt.alloc(), &table);
 }

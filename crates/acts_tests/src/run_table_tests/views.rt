@@ -7,7 +7,7 @@ const BUILD_ON_GPU: &str =
     "{\"repo\":\"o/r\",\"path\":\"ci.json\",\"workflow\":{\"jobs\":{\"build\":{\"runs-on\":\"gpu\"}}}}";
 
 /// Twelve runs, of which the last is the third of its workflow, and alone needs `gpu`.
-const TWELVE: [Row; 12] = [
+const TWELVE: &[Row] = &[
     (Words::Admit("d1", BUILD), "created 1"),
     (Words::Admit("d2", BUILD), "created 2"),
     (Words::Admit("d3", BUILD_ELSEWHERE), "created 3"),
@@ -22,7 +22,7 @@ const TWELVE: [Row; 12] = [
     (Words::Admit("d12", BUILD_ON_GPU), "created 12"),
 ];
 
-const THE_TWELFTH: [Row; 5] = [
+const THE_TWELFTH: &[Row] = &[
     (Words::Look("12"), "run 12 3 queued - build:open(ready)"),
     (Words::Claim("r1", "1", "gpu"), "lease 1 12 build 0 {}"),
     (
@@ -38,11 +38,11 @@ const THE_TWELFTH: [Row; 5] = [
 
 #[test]
 fn prints_a_run_as_it_goes_on(rt: HostRuntime) {
-    let mut table = played(&rt, rt.alloc(), &TWELVE);
-    play(&rt, rt.alloc(), &mut table, &THE_TWELFTH);
+    let mut table = played(&rt, rt.alloc(), TWELVE);
+    play(&rt, rt.alloc(), &mut table, THE_TWELFTH);
 }
 
-const IN_ORDER: [Row; 8] = [
+const IN_ORDER: &[Row] = &[
     (Words::Admit("d1", THREE), "created 1"),
     (Words::Claim("r1", "1", "x"), "lease 1 1 a 0 {}"),
     (Words::Done("r1", "2", "1", Outcome::Failure), "ok"),
@@ -58,5 +58,5 @@ const IN_ORDER: [Row; 8] = [
 
 #[test]
 fn prints_jobs_in_order_of_their_ids(rt: HostRuntime) {
-    expect_replies(&rt, rt.alloc(), &IN_ORDER);
+    expect_replies(&rt, rt.alloc(), IN_ORDER);
 }

@@ -10,7 +10,7 @@ use table_text::read_parts;
 use wf_value::Refusal;
 
 /// A row, the offset of the byte that is changed, and the byte that stands there then.
-const CHANGES: [(usize, usize, u8); 28] = [
+const CHANGES: &[(usize, usize, u8)] = &[
     // the last lease is above 999,999,999; a run more than there are; the body is none
     (0, 0, 0x3C),
     (0, 7, 2),
@@ -54,7 +54,7 @@ const CHANGES: [(usize, usize, u8); 28] = [
 ];
 
 /// The run of the first row without its job, and with its job twice: its plan has one.
-pub const OTHER_COUNTS: [&[u8]; 2] = [
+pub const OTHER_COUNTS: &[&[u8]] = &[
     &[1, 0, 0, 0, 0, 0],
     &[
         1, 0, 1, 0, 0, 0, 1, 2, 0, 0, 0, 0, 1, 0, 0, 0, 1, 2, 0, 0, 0, 0, 0, 0, 0, 0,
@@ -71,8 +71,8 @@ pub fn changed(alloc: Global, row: &Row<'_>, offset: usize, byte: u8) -> Result<
 }
 
 fn reads_no_change(rt: &impl Abort, alloc: Global) -> Result<(), Refusal> {
-    for &(row, offset, byte) in &CHANGES {
-        holds!(rt; row < 7);
+    for &(row, offset, byte) in CHANGES {
+        holds!(rt; row < ROWS.len());
         let bytes = changed(alloc, &ROWS[row], offset, byte)?;
         holds!(rt; read_parts(alloc, bytes.as_slice())?.is_none(), offset);
     }
@@ -80,7 +80,7 @@ fn reads_no_change(rt: &impl Abort, alloc: Global) -> Result<(), Refusal> {
 }
 
 fn reads_no_other_count(rt: &impl Abort, alloc: Global) -> Result<(), Refusal> {
-    for &behind in &OTHER_COUNTS {
+    for &behind in OTHER_COUNTS {
         let bytes = bytes_of(alloc, &(&[], 0, behind))?;
         holds!(rt; read_parts(alloc, bytes.as_slice())?.is_none());
     }

@@ -9,7 +9,7 @@ use std::alloc::Global;
 use std::process::Abort;
 use table_text::read_parts;
 use wf_value::Refusal;
-use workflow_runs::{JobParts, JobPhase, LegPhase, RunParts, RunPhase};
+use workflow_runs::{JobParts, JobPhase, Leg, LegPhase, RunParts, RunPhase};
 
 /// A run: its phase, whether it has been told to stop, the phase of its one job, that of its leg, and the lease of the leg, 0 where it has
 /// none.
@@ -23,7 +23,7 @@ type RunnerSeen = (&'static str, u32, &'static str, u32, u32);
 type Seen = (RunSeen, &'static [RunnerSeen]);
 
 /// What the rows have.
-const SEEN: [Seen; 7] = [
+const SEEN: &[Seen] = &[
     (("live", false, "open", "ready", 0), &[]),
     (
         ("live", false, "open", "running", 1),
@@ -87,7 +87,11 @@ fn expect_job(rt: &impl Abort, jobs: &[JobParts], seen: &RunSeen) {
     holds!(rt; jobs.len() == 1);
     let job = &jobs[0];
     holds!(rt; job_word(job.phase) == seen.2);
-    let legs = job.legs.as_slice();
+    expect_leg(rt, job.legs.as_slice(), seen);
+}
+
+/// That the legs are one, and that it is as this says.
+fn expect_leg(rt: &impl Abort, legs: &[Leg], seen: &RunSeen) {
     holds!(rt; legs.len() == 1);
     let leg = &legs[0];
     holds!(rt; leg_word(leg.phase) == seen.3);
@@ -153,7 +157,7 @@ fn expect_row(rt: &impl Abort, alloc: Global, row: &Row<'_>, seen: &Seen) -> Res
 
 fn reads_tables(rt: &impl Abort, alloc: Global) -> Result<(), Refusal> {
     expect_empty(rt, alloc)?;
-    for (row, seen) in ROWS.iter().zip(&SEEN) {
+    for (row, seen) in ROWS.iter().zip(SEEN) {
         expect_row(rt, alloc, row, seen)?;
     }
     Ok(())

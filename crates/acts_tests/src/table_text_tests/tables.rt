@@ -16,7 +16,7 @@ const CLAIM: Words<'static> = Words::Claim("r1", "1", "linux");
 /// Commands, the last lease of the table after them, and what stands behind the body of its one run.
 pub type Row<'a> = (&'a [Words<'a>], u8, &'a [u8]);
 
-pub const ROWS: [Row<'static>; 7] = [
+pub const ROWS: &[Row<'static>] = &[
     // live, an open job, a ready leg, and no runner
     (
         &[ADMIT],
@@ -127,7 +127,7 @@ fn expect_table(rt: &impl Abort, alloc: Global, table: &Table, want: &[u8]) -> R
 
 fn writes_tables(rt: &impl Abort, alloc: Global) -> Result<(), Refusal> {
     expect_table(rt, alloc, &Table::new(alloc), &[0; 12])?;
-    for row in &ROWS {
+    for row in ROWS {
         expect_row(rt, alloc, row)?;
     }
     Ok(())

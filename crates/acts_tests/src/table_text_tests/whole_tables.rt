@@ -49,7 +49,7 @@ fn expect_empty(rt: &impl Abort, alloc: Global) -> Result<(), Refusal> {
 
 fn reads_whole_tables(rt: &impl Abort, alloc: Global) -> Result<(), Refusal> {
     expect_empty(rt, alloc)?;
-    for row in &ROWS {
+    for row in ROWS {
         expect_row(rt, alloc, row)?;
     }
     Ok(())
@@ -66,7 +66,7 @@ fn whole_tables_are_read_again(rt: HostRuntime) {
 
 /// A row, the offset of the byte that is changed, and the byte that stands there then: the parts are read, but they are those of no
 /// sound table.
-const CHANGES: [(usize, usize, u8); 12] = [
+const CHANGES: &[(usize, usize, u8)] = &[
     // a waiting run and an ended one with an open job; a blocked job with a leg, and a successful one whose leg is ready
     (0, 107, 0),
     (0, 107, 2),
@@ -95,8 +95,8 @@ fn is_table(alloc: Global, bytes: &[u8]) -> Result<bool, Refusal> {
 }
 
 fn reads_no_unsound_table(rt: &impl Abort, alloc: Global) -> Result<(), Refusal> {
-    for &(row, offset, byte) in &CHANGES {
-        holds!(rt; row < 7);
+    for &(row, offset, byte) in CHANGES {
+        holds!(rt; row < ROWS.len());
         let bytes = changed(alloc, &ROWS[row], offset, byte)?;
         holds!(rt; has_parts(alloc, bytes.as_slice())?, offset);
         holds!(rt; !is_table(alloc, bytes.as_slice())?, offset);

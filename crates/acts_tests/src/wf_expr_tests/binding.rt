@@ -1,10 +1,10 @@
 //! Templates that are bound before the results of needs are known.
 
 use crate::holds::holds;
-use crate::wf_expr_tests::{EXAMPLE, properties};
+use crate::wf_expr_tests::{example, template_of};
 use std::alloc::Global;
 use std::process::Abort;
-use wf_expr::{BoundTemplate, NeedResults, Needs, Place, Template};
+use wf_expr::{BoundTemplate, NeedResults, Needs, Properties};
 use wf_value::{Chars, JobResult, Refusal, TryCopy, copy_items};
 
 /// A path of three names is that of a need, whose number is the length of its second name.
@@ -45,11 +45,24 @@ impl NeedResults for Ended {
     }
 }
 
+/// What is bound of a text as a job's template in a context.
+fn bound_in(alloc: Global, text: &str, context: &Properties) -> Result<BoundTemplate, Refusal> {
+    template_of(alloc, text)?.bind(alloc, context, &ByLength)
+}
+
 /// What is bound of a text as a job's template in the context of the rows.
 pub fn bound_of(alloc: Global, text: &str) -> Result<BoundTemplate, Refusal> {
-    let context = properties(alloc, &EXAMPLE)?;
-    let template = Template::parse(alloc, text, Place::Job)?;
-    template.bind(alloc, &context, &ByLength)
+    bound_in(alloc, text, &example(alloc)?)
+}
+
+/// A template that is bound and not refused.
+fn bound(rt: &impl Abort, alloc: Global, text: &str) -> BoundTemplate {
+    bound_of(alloc, text).expect(rt, text)
+}
+
+/// Whether a template has by its results the text that another has by its own.
+fn is_same(one: &BoundTemplate, ended: &Ended, other: &BoundTemplate, other_ended: &Ended) -> bool {
+    one.is_same_text(ended, other, other_ended)
 }
 
 pub const NONE: Ended = Ended {
@@ -73,7 +86,7 @@ const BOTH: Ended = Ended {
 };
 
 /// A template, results, and the text that it has by them.
-const ROWS: [(&str, Ended, &str); 14] = [
+static ROWS: [(&str, Ended, &str); 14] = [
     ("", NONE, ""),
     ("plain", BOTH, "plain"),
     ("${{ needs.a.result }}", NONE, ""),
@@ -118,12 +131,21 @@ const ROWS: [(&str, Ended, &str); 14] = [
     ),
 ];
 
-fn expect_bound(rt: &impl Abort, alloc: Global, row: &(&str, Ended, &str)) {
+/// That a template has the text of the row by its results, as a template too that needs none.
+fn expect_text_of(
+    rt: &impl Abort,
+    row: &(&str, Ended, &str),
+    bound: &BoundTemplate,
+    want_bound: &BoundTemplate,
+) {
     let (text, ended, want) = row;
-    let bound = bound_of(alloc, text).expect(rt, text);
-    let want_bound = bound_of(alloc, want).expect(rt, text);
-    holds!(rt; bound.is_same_text(ended, &want_bound, &NONE), text);
+    holds!(rt; is_same(bound, ended, want_bound, &NONE), text);
     holds!(rt; bound.has_text(ended) == !want.is_empty(), text);
+}
+
+fn expect_bound(rt: &impl Abort, alloc: Global, row: &(&str, Ended, &str)) {
+    let want_bound = bound(rt, alloc, row.2);
+    expect_text_of(rt, row, &bound(rt, alloc, row.0), &want_bound);
 }
 
 #[test]
@@ -134,7 +156,7 @@ fn binds_to_the_text_by_results(rt: HostRuntime) {
 }
 
 /// Two templates, results for both, and whether they have the same text.
-const COMPARED: [(&str, &str, Ended, bool); 5] = [
+static COMPARED: [(&str, &str, Ended, bool); 5] = [
     ("a${{ 'bc' }}", "${{ 'ab' }}c", NONE, true),
     ("${{ needs.a.result }}", "failure", FAILED, true),
     ("${{ needs.a.result }}d", "failure", FAILED, false),
@@ -142,16 +164,21 @@ const COMPARED: [(&str, &str, Ended, bool); 5] = [
     ("abd", "abc", NONE, false),
 ];
 
+/// Whether two templates have the same text by the same results.
+fn are_same_by(rt: &impl Abort, alloc: Global, texts: (&str, &str), ended: &Ended) -> bool {
+    let other = bound(rt, alloc, texts.1);
+    is_same(&bound(rt, alloc, texts.0), ended, &other, ended)
+}
+
 #[test]
 fn compares_bound_texts(rt: HostRuntime) {
     for (text, other, ended, same) in &COMPARED {
-        let bound = bound_of(rt.alloc(), text).expect(&rt, text);
-        let other = bound_of(rt.alloc(), other).expect(&rt, text);
-        holds!(rt; bound.is_same_text(ended, &other, ended) == *same, text);
+        let is_same = are_same_by(&rt, rt.alloc(), (*text, *other), ended);
+        holds!(rt; is_same == *same, text);
     }
 }
 
-const FLAGS: [(&str, Ended, bool); 6] = [
+static FLAGS: [(&str, Ended, bool); 6] = [
     ("${{ inputs.yes }}", NONE, true),
     ("tr${{ 'ue' }}", NONE, true),
     ("${{ inputs.a-b_C9 }}", NONE, false),
@@ -163,8 +190,8 @@ const FLAGS: [(&str, Ended, bool); 6] = [
 #[test]
 fn sets_a_bound_flag(rt: HostRuntime) {
     for (text, ended, set) in &FLAGS {
-        let bound = bound_of(rt.alloc(), text).expect(&rt, text);
-        holds!(rt; bound.sets_flag(ended) == *set, text);
+        let sets_flag = bound(&rt, rt.alloc(), text).sets_flag(ended);
+        holds!(rt; sets_flag == *set, text);
     }
 }
 
@@ -173,13 +200,16 @@ fn remade(alloc: Global, bound: &BoundTemplate) -> Result<BoundTemplate, Refusal
     Ok(BoundTemplate::new(copy_items(alloc, bound.pieces())?))
 }
 
+/// That a copy has the text of its template by the results of a failure, and no other.
+fn expect_copy(rt: &impl Abort, copy: &BoundTemplate, bound: &BoundTemplate) {
+    holds!(rt; is_same(copy, &FAILED, bound, &FAILED));
+    holds!(rt; !is_same(copy, &FAILED, bound, &NONE));
+}
+
 #[test]
 fn copies_a_bound_template(rt: HostRuntime) {
     let text = "x-${{ needs.a.result || 'none' }}";
-    let bound = bound_of(rt.alloc(), text).expect(&rt, text);
-    let copy = bound.copy(rt.alloc()).expect(&rt, text);
-    let again = remade(rt.alloc(), &bound).expect(&rt, text);
-    holds!(rt; copy.is_same_text(&FAILED, &bound, &FAILED));
-    holds!(rt; again.is_same_text(&FAILED, &bound, &FAILED));
-    holds!(rt; !copy.is_same_text(&FAILED, &bound, &NONE));
+    let bound = bound(&rt, rt.alloc(), text);
+    expect_copy(&rt, &bound.copy(rt.alloc()).expect(&rt, text), &bound);
+    expect_copy(&rt, &remade(rt.alloc(), &bound).expect(&rt, text), &bound);
 }

@@ -15,7 +15,7 @@ fn expect_read(rt: &impl Abort, alloc: Global, text: &str, place: Place, want: u
     holds!(rt; number == want, format_args!("{text}: {number}"));
 }
 
-const NO_TEMPLATES: [&str; 35] = [
+static NO_TEMPLATES: [&str; 35] = [
     "${{",
     "${{ ",
     "${{ }}",
@@ -62,7 +62,7 @@ fn refuses_what_spells_no_template(rt: HostRuntime) {
 }
 
 /// A text, and the numbers with which it is refused at a job and at a workflow, 0 where it is read.
-const PLACES: [(&str, u64, u64); 10] = [
+static PLACES: [(&str, u64, u64); 10] = [
     ("${{ needs.a.result }}", 0, 18),
     ("${{ strategy.job-index }}", 0, 18),
     ("x${{ github.ref || matrix.os }}", 0, 18),
@@ -85,7 +85,7 @@ fn refuses_contexts_of_jobs_elsewhere(rt: HostRuntime) {
 
 /// The pieces of a text, each with how often it stands there, the place, and the number with which the
 /// text is refused, 0 where it is read.
-const COUNTED: [(&[(&str, usize)], Place, u64); 5] = [
+static COUNTED: [(&[(&str, usize)], Place, u64); 5] = [
     (
         &[("${{ github.x", 1), (" || github.x", 31), (" }}", 1)],
         Place::Job,

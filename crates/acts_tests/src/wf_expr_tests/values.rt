@@ -1,9 +1,9 @@
 use crate::holds::holds;
 use crate::values::{Given, scalar};
-use crate::wf_expr_tests::{EXAMPLE, path_of, properties, value_of};
+use crate::wf_expr_tests::{example, path_of, properties, template_of, value_of};
 use std::alloc::Global;
 use std::process::Abort;
-use wf_expr::{Over, Place, Properties, Template, is_flag_set};
+use wf_expr::{Over, Properties, Template, is_flag_set};
 use wf_value::{Chars, Refusal, Same, Scalar, TryCopy};
 
 /// Templates, and their values.
@@ -15,7 +15,7 @@ fn expect_values(rt: &impl Abort, alloc: Global, rows: &[(&str, Given)]) {
     }
 }
 
-const JOINED: [(&str, Given); 23] = [
+static JOINED: [(&str, Given); 23] = [
     ("", Given::Text("")),
     ("plain", Given::Text("plain")),
     (
@@ -55,7 +55,7 @@ fn joins_pieces(rt: HostRuntime) {
     expect_values(&rt, rt.alloc(), &JOINED);
 }
 
-const KEPT: [(&str, Given); 12] = [
+static KEPT: [(&str, Given); 12] = [
     ("${{ inputs.most }}", Given::Whole(i64::MAX)),
     ("${{ inputs.zero }}", Given::Whole(0)),
     ("${{ inputs.none }}", Given::Null),
@@ -100,73 +100,102 @@ fn expect_at(
     }
 }
 
-const SET_AGAIN: [(&str, Given); 3] = [
+static SET_AGAIN: [(&str, Given); 3] = [
     ("github.workflow", Given::Whole(1)),
     ("github.workflow.x", Given::Whole(2)),
     ("github.workflow", Given::Whole(3)),
 ];
 
-#[test]
-fn keeps_the_newest_value_of_a_path(rt: HostRuntime) {
-    let rows = [
-        ("github.workflow", Some(3)),
-        ("github.workflow.x", Some(2)),
-        ("github", None),
-        ("github.workflow.y", None),
-    ];
-    let none = Properties::new(rt.alloc());
-    expect_at(&rt, rt.alloc(), &none, &[("github.workflow", None)]);
-    let properties = properties(rt.alloc(), &SET_AGAIN).expect(&rt, "properties");
-    expect_at(&rt, rt.alloc(), &properties, &rows);
+/// Paths, and the newest values that they were set to.
+static NEWEST: [(&str, Option<i64>); 4] = [
+    ("github.workflow", Some(3)),
+    ("github.workflow.x", Some(2)),
+    ("github", None),
+    ("github.workflow.y", None),
+];
+
+/// Properties that are not refused.
+fn tree(rt: &impl Abort, alloc: Global, rows: &[(&str, Given)]) -> Properties {
+    properties(alloc, rows).expect(rt, "properties")
 }
 
-const INNER: [(&str, Given); 2] = [("a", Given::Whole(1)), ("b.c", Given::Whole(2))];
+/// That properties have these whole numbers once they are set in turn.
+fn expect_tree(
+    rt: &impl Abort,
+    alloc: Global,
+    set: &[(&str, Given)],
+    rows: &[(&str, Option<i64>)],
+) {
+    expect_at(rt, alloc, &tree(rt, alloc, set), rows);
+}
 
-const OUTER: [(&str, Given); 2] = [("inputs.old", Given::Whole(3)), ("vars.a", Given::Whole(4))];
+#[test]
+fn keeps_the_newest_value_of_a_path(rt: HostRuntime) {
+    expect_tree(&rt, rt.alloc(), &[], &[("github.workflow", None)]);
+    expect_tree(&rt, rt.alloc(), &SET_AGAIN, &NEWEST);
+}
+
+static INNER: [(&str, Given); 2] = [("a", Given::Whole(1)), ("b.c", Given::Whole(2))];
+
+static OUTER: [(&str, Given); 2] = [("inputs.old", Given::Whole(3)), ("vars.a", Given::Whole(4))];
+
+/// Paths, and their values where the inner tree is put at `inputs` of the outer.
+static NESTED: [(&str, Option<i64>); 4] = [
+    ("inputs.a", Some(1)),
+    ("inputs.b.c", Some(2)),
+    ("vars.a", Some(4)),
+    ("inputs.old", None),
+];
+
+/// Puts the inner tree at `inputs`.
+fn put(alloc: Global, outer: &mut Properties) -> Result<(), Refusal> {
+    let name = Chars::from_str(alloc, "inputs")?;
+    outer.nest(alloc, &name, properties(alloc, &INNER)?)
+}
 
 #[test]
 fn puts_a_tree_at_a_name(rt: HostRuntime) {
-    let rows = [
-        ("inputs.a", Some(1)),
-        ("inputs.b.c", Some(2)),
-        ("vars.a", Some(4)),
-        ("inputs.old", None),
-    ];
-    let inner = properties(rt.alloc(), &INNER).expect(&rt, "properties");
-    let mut outer = properties(rt.alloc(), &OUTER).expect(&rt, "properties");
-    let name = Chars::from_str(rt.alloc(), "inputs").expect(&rt, "a name");
-    outer.nest(rt.alloc(), &name, inner).expect(&rt, "a tree");
-    expect_at(&rt, rt.alloc(), &outer, &rows);
+    let mut outer = tree(&rt, rt.alloc(), &OUTER);
+    put(rt.alloc(), &mut outer).expect(&rt, "a tree");
+    expect_at(&rt, rt.alloc(), &outer, &NESTED);
 }
 
-const UPPER: [(&str, Given); 2] = [
+static UPPER: [(&str, Given); 2] = [
     ("matrix.os", Given::Text("linux")),
     ("github.run_id", Given::Null),
 ];
 
-const OVER: [(&str, &str); 3] = [
+static OVER: [(&str, &str); 3] = [
     ("${{ matrix.os }}-${{ github.workflow }}", "linux-ci.json"),
     ("<${{ github.run_id }}>", "<>"),
     ("${{ matrix.x || inputs.most }}", "9223372036854775807"),
 ];
 
+/// Whether that is the text of the template in the upper layer over the lower.
+fn is_text_over(template: &Template, upper: &Properties, lower: &Properties, text: &str) -> bool {
+    template.is_text(&Over { upper, lower }, text.as_bytes())
+}
+
 fn expect_over(rt: &impl Abort, alloc: Global, upper: &Properties, lower: &Properties) {
-    let layers = Over { upper, lower };
-    for &(text, want) in &OVER {
-        let template = Template::parse(alloc, text, Place::Job).expect(rt, text);
-        holds!(rt; template.is_text(&layers, want.as_bytes()), text);
+    for (text, want) in &OVER {
+        let template = template_of(alloc, text).expect(rt, text);
+        holds!(rt; is_text_over(&template, upper, lower, want), text);
     }
+}
+
+/// The properties of the example.
+fn example_tree(rt: &impl Abort, alloc: Global) -> Properties {
+    example(alloc).expect(rt, "properties")
 }
 
 #[test]
 fn looks_from_the_upper_layer_down(rt: HostRuntime) {
-    let lower = properties(rt.alloc(), &EXAMPLE).expect(&rt, "properties");
-    let upper = properties(rt.alloc(), &UPPER).expect(&rt, "properties");
-    expect_over(&rt, rt.alloc(), &upper, &lower);
+    let lower = example_tree(&rt, rt.alloc());
+    expect_over(&rt, rt.alloc(), &tree(&rt, rt.alloc(), &UPPER), &lower);
 }
 
 /// A template, another text, whether that is its text, and whether it is but for letter case.
-const COMPARED: [(&str, &str, bool, bool); 13] = [
+static COMPARED: [(&str, &str, bool, bool); 13] = [
     ("Linux", "Linux", true, true),
     ("Linux", "linux", false, true),
     ("Linux", "linu", false, false),
@@ -189,23 +218,44 @@ const COMPARED: [(&str, &str, bool, bool); 13] = [
 
 /// A copy of a template.
 fn copied(alloc: Global, text: &str) -> Result<Template, Refusal> {
-    let template = Template::parse(alloc, text, Place::Job)?;
-    template.copy(alloc)
+    template_of(alloc, text)?.copy(alloc)
+}
+
+fn is_text(template: &Template, context: &Properties, other: &str) -> bool {
+    template.is_text(context, other.as_bytes())
+}
+
+/// Whether that is the text of the template, but for letter case.
+fn is_alike(template: &Template, context: &Properties, other: &str) -> bool {
+    template.is_text_ignoring_ascii_case(context, other.as_bytes())
+}
+
+fn expect_compared(
+    rt: &impl Abort,
+    template: &Template,
+    context: &Properties,
+    row: &(&str, &str, bool, bool),
+) {
+    let (text, other, same, alike) = row;
+    holds!(rt; is_text(template, context, other) == *same, text);
+    holds!(rt; is_alike(template, context, other) == *alike, text);
+}
+
+/// That the rows hold in a context.
+fn expect_all_compared(rt: &impl Abort, alloc: Global, context: &Properties) {
+    for row in &COMPARED {
+        let template = copied(alloc, row.0).expect(rt, row.0);
+        expect_compared(rt, &template, context, row);
+    }
 }
 
 #[test]
 fn compares_with_a_text(rt: HostRuntime) {
-    let context = properties(rt.alloc(), &EXAMPLE).expect(&rt, "properties");
-    for &(text, other, same, alike) in &COMPARED {
-        let template = copied(rt.alloc(), text).expect(&rt, text);
-        let other = other.as_bytes();
-        holds!(rt; template.is_text(&context, other) == same, text);
-        holds!(rt; template.is_text_ignoring_ascii_case(&context, other) == alike, text);
-    }
+    expect_all_compared(&rt, rt.alloc(), &example_tree(&rt, rt.alloc()));
 }
 
 /// A template, and whether its value sets a flag.
-const FLAGS: [(&str, bool); 10] = [
+static FLAGS: [(&str, bool); 10] = [
     ("${{ inputs.yes }}", true),
     ("true", true),
     ("${{ 'true' }}", true),

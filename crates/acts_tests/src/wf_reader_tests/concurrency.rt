@@ -20,7 +20,7 @@ const IN_THE_JOB: Around = (
 );
 
 /// Values, and what is answered where a workflow has them and where a job has them.
-const VALUES: [(&str, u64, u64); 22] = [
+const VALUES: &[(&str, u64, u64)] = &[
     ("\"g\"", ACCEPTED, ACCEPTED),
     ("\"\"", ACCEPTED, ACCEPTED),
     ("{\"group\":\"g\"}", ACCEPTED, ACCEPTED),
@@ -73,7 +73,7 @@ const VALUES: [(&str, u64, u64); 22] = [
 
 #[test]
 fn answers_each_fault_of_a_concurrency(rt: HostRuntime) {
-    for &(value, workflow, job) in &VALUES {
+    for &(value, workflow, job) in VALUES {
         expect_answers(&rt, rt.alloc(), IN_WORKFLOW, &[(value, workflow)]);
         expect_answers(&rt, rt.alloc(), IN_THE_JOB, &[(value, job)]);
     }

@@ -53,7 +53,7 @@ fn shown(alloc: Global, body: &str) -> Result<String, Refusal> {
 }
 
 /// A body, and what it shows.
-const SHOWN: [(&str, &str); 2] = [
+const SHOWN: &[(&str, &str)] = &[
     (
         "{\"repo\":\"o/r\",\"path\":\"ci.json\",\"workflow\":{\"jobs\":{\"build\":{\"runs-on\":\"linux\"}}}}",
         "o/r ci.json [] build:linux",
@@ -70,7 +70,7 @@ const SHOWN: [(&str, &str); 2] = [
 
 #[test]
 fn reads_an_event(rt: HostRuntime) {
-    for &(body, want) in &SHOWN {
+    for &(body, want) in SHOWN {
         let text = match shown(rt.alloc(), body) {
             Ok(text) => text,
             Err(_) => shown(rt.alloc(), body).expect(&rt, "an event"),
@@ -88,15 +88,20 @@ const BEFORE: &str = concat!(
 
 const BEHIND: &str = " }}>\"}}}}";
 
+/// The event whose label has this reference.
+fn event_with(alloc: Global, reference: &str) -> Result<Event, Refusal> {
+    let body = format!(in alloc; "{BEFORE}{reference}{BEHIND}")?;
+    read_event(alloc, body.as_bytes())
+}
+
 /// The labels with this reference.
 fn sent(alloc: Global, reference: &str) -> Result<String, Refusal> {
-    let body = format!(in alloc; "{BEFORE}{reference}{BEHIND}")?;
-    let event = read_event(alloc, body.as_bytes())?;
+    let event = event_with(alloc, reference)?;
     labels_shown(alloc, &event)
 }
 
 /// A reference, and the text of the label.
-const FOUND: [(&str, &str); 14] = [
+const FOUND: &[(&str, &str)] = &[
     ("vars.l", " a:<linux>"),
     ("github.t", " a:<true>"),
     ("github.i", " a:<-9223372036854775808>"),
@@ -115,7 +120,7 @@ const FOUND: [(&str, &str); 14] = [
 
 #[test]
 fn finds_values_of_contexts(rt: HostRuntime) {
-    for &(reference, want) in &FOUND {
+    for &(reference, want) in FOUND {
         let text = match sent(rt.alloc(), reference) {
             Ok(text) => text,
             Err(_) => sent(rt.alloc(), reference).expect(&rt, "a label"),

@@ -1,10 +1,9 @@
 //! The `needs` and the `if` of a job, as they are read.
 
-use super::{ACCEPTED, Around, BEHIND_LABELS, expect_answers};
-use crate::given::spelled;
+use super::{ACCEPTED, Around, BEHIND_LABELS, expect_answers, workflow_with};
 use crate::holds::holds;
 use std::alloc::Global;
-use wf_reader::{Job, read_workflow};
+use wf_reader::Job;
 use wf_value::{Condition, Refusal};
 
 fn word_of(condition: Condition) -> &'static str {
@@ -28,16 +27,16 @@ fn shown_job(alloc: Global, job: &Job) -> Result<String, Refusal> {
     Ok(text)
 }
 
-fn shown(alloc: Global, members: &str) -> Result<String, Refusal> {
-    let body = spelled(
-        alloc,
-        &[(BEHIND_LABELS.0, 1), (members, 1), (BEHIND_LABELS.1, 1)],
-    )?;
-    let workflow = read_workflow(alloc, body.as_bytes())?;
-    match workflow.jobs.as_slice() {
+fn shown_jobs(alloc: Global, jobs: &[Job]) -> Result<String, Refusal> {
+    match jobs {
         [job] => shown_job(alloc, job),
         _ => Ok(String::from_str(alloc, "other jobs")?),
     }
+}
+
+fn shown(alloc: Global, members: &str) -> Result<String, Refusal> {
+    let workflow = workflow_with(alloc, members)?;
+    shown_jobs(alloc, workflow.jobs.as_slice())
 }
 
 fn is_shown(alloc: Global, members: &str, want: &str) -> bool {
@@ -51,7 +50,7 @@ fn is_shown(alloc: Global, members: &str, want: &str) -> bool {
 }
 
 /// The forms of the documentation, bare and in braces. Spaces are free around both.
-const READ: [(&str, &str); 22] = [
+const READ: &[(&str, &str)] = &[
     ("", "success"),
     (",\"if\":\"success()\"", "success"),
     (",\"if\":\"failure()\"", "failure"),
@@ -78,7 +77,7 @@ const READ: [(&str, &str); 22] = [
 
 #[test]
 fn reads_needs_and_conditions(rt: HostRuntime) {
-    for &(members, want) in &READ {
+    for &(members, want) in READ {
         let shown = is_shown(rt.alloc(), members, want);
         holds!(rt; shown, members);
     }
@@ -87,7 +86,7 @@ fn reads_needs_and_conditions(rt: HostRuntime) {
 /// The text is the `if` of the one job.
 const IN_CONDITION: Around = ("{\"jobs\":{\"a\":{\"runs-on\":\"x\",\"if\":", "}}}");
 
-const NO_CONDITIONS: [(&str, u64); 28] = [
+const NO_CONDITIONS: &[(&str, u64)] = &[
     ("null", 26),
     ("0", 26),
     ("1", 26),
@@ -120,34 +119,36 @@ const NO_CONDITIONS: [(&str, u64); 28] = [
 
 #[test]
 fn refuses_other_conditions(rt: HostRuntime) {
-    expect_answers(&rt, rt.alloc(), IN_CONDITION, &NO_CONDITIONS);
+    expect_answers(&rt, rt.alloc(), IN_CONDITION, NO_CONDITIONS);
 }
+
+const SPACES: &[(&str, u64)] = &[
+    (",\"if\":\"\\u00a0true\"", 26),
+    (",\"if\":\"true\\u000b\"", 26),
+    (",\"if\":\"true\\r\"", 26),
+    (",\"if\":\"\\ftrue\"", 26),
+    (",\"if\":\"true\\u0000\"", 26),
+    (",\"if\":\" true \"", ACCEPTED),
+];
 
 /// A no-break space, and each other white space of ASCII, is no space.
 #[test]
 fn takes_one_character_for_a_space(rt: HostRuntime) {
-    let rows = [
-        (",\"if\":\"\\u00a0true\"", 26),
-        (",\"if\":\"true\\u000b\"", 26),
-        (",\"if\":\"true\\r\"", 26),
-        (",\"if\":\"\\ftrue\"", 26),
-        (",\"if\":\"true\\u0000\"", 26),
-        (",\"if\":\" true \"", ACCEPTED),
-    ];
-    expect_answers(&rt, rt.alloc(), BEHIND_LABELS, &rows);
+    expect_answers(&rt, rt.alloc(), BEHIND_LABELS, SPACES);
 }
+
+const OTHER_NEEDS: &[(&str, u64)] = &[
+    (",\"needs\":null", 11),
+    (",\"needs\":true", 11),
+    (",\"needs\":5", 11),
+    (",\"needs\":{}", 11),
+    (",\"needs\":[\"b\",5]", 11),
+    (",\"needs\":[null]", 11),
+    (",\"needs\":[[\"b\"]]", 11),
+    (",\"needs\":[\"b\",\"b\"]", ACCEPTED),
+];
 
 #[test]
 fn refuses_other_needs(rt: HostRuntime) {
-    let rows = [
-        (",\"needs\":null", 11),
-        (",\"needs\":true", 11),
-        (",\"needs\":5", 11),
-        (",\"needs\":{}", 11),
-        (",\"needs\":[\"b\",5]", 11),
-        (",\"needs\":[null]", 11),
-        (",\"needs\":[[\"b\"]]", 11),
-        (",\"needs\":[\"b\",\"b\"]", ACCEPTED),
-    ];
-    expect_answers(&rt, rt.alloc(), BEHIND_LABELS, &rows);
+    expect_answers(&rt, rt.alloc(), BEHIND_LABELS, OTHER_NEEDS);
 }

@@ -1,8 +1,7 @@
-use super::{ACCEPTED, Around, BEHIND_LABELS, expect_answers};
-use crate::given::spelled;
+use super::{ACCEPTED, Around, BEHIND_LABELS, expect_answers, workflow_with};
 use crate::holds::holds;
 use std::alloc::Global;
-use wf_reader::{Strategy, read_workflow};
+use wf_reader::{Job, Strategy};
 use wf_value::{Matrix, Refusal};
 
 /// The text is the strategy of the one job.
@@ -14,7 +13,7 @@ const IN_MATRIX: Around = (
     "}}}}",
 );
 
-const STRATEGIES: [(&str, u64); 24] = [
+const STRATEGIES: &[(&str, u64)] = &[
     ("{}", ACCEPTED),
     ("null", 25),
     ("[]", 25),
@@ -43,10 +42,10 @@ const STRATEGIES: [(&str, u64); 24] = [
 
 #[test]
 fn reads_strategies(rt: HostRuntime) {
-    expect_answers(&rt, rt.alloc(), IN_STRATEGY, &STRATEGIES);
+    expect_answers(&rt, rt.alloc(), IN_STRATEGY, STRATEGIES);
 }
 
-const MATRICES: [(&str, u64); 26] = [
+const MATRICES: &[(&str, u64)] = &[
     (
         "{\"n\":[null,true,\"\",-9223372036854775808,9223372036854775807]}",
         ACCEPTED,
@@ -83,11 +82,11 @@ const MATRICES: [(&str, u64); 26] = [
 
 #[test]
 fn reads_matrices(rt: HostRuntime) {
-    expect_answers(&rt, rt.alloc(), IN_MATRIX, &MATRICES);
+    expect_answers(&rt, rt.alloc(), IN_MATRIX, MATRICES);
 }
 
 /// Of two faults the earlier one is answered, in whatever order they stand.
-const EARLIER_IN_STRATEGY: [(&str, u64); 5] = [
+const EARLIER_IN_STRATEGY: &[(&str, u64)] = &[
     ("{\"matrix\":{\"n\":[]},\"x\":1}", 25),
     ("{\"matrix\":{\"n\":[]},\"fail-fast\":1}", 25),
     ("{\"matrix\":{\"n\":[]},\"max-parallel\":0}", 25),
@@ -95,7 +94,7 @@ const EARLIER_IN_STRATEGY: [(&str, u64); 5] = [
     ("{\"max-parallel\":1,\"matrix\":{\"n\":[]}}", 20),
 ];
 
-const EARLIER_IN_MATRIX: [(&str, u64); 15] = [
+const EARLIER_IN_MATRIX: &[(&str, u64)] = &[
     ("{\"exclude\":5,\"include\":[{}]}", 20),
     ("{\"exclude\":[{}],\"include\":5}", 19),
     ("{\"a\":5,\"exclude\":[{}]}", 20),
@@ -115,12 +114,12 @@ const EARLIER_IN_MATRIX: [(&str, u64); 15] = [
 
 #[test]
 fn answers_the_earlier_of_two_checks(rt: HostRuntime) {
-    expect_answers(&rt, rt.alloc(), IN_STRATEGY, &EARLIER_IN_STRATEGY);
+    expect_answers(&rt, rt.alloc(), IN_STRATEGY, EARLIER_IN_STRATEGY);
 }
 
 #[test]
 fn answers_the_earlier_of_two_parts_of_a_matrix(rt: HostRuntime) {
-    expect_answers(&rt, rt.alloc(), IN_MATRIX, &EARLIER_IN_MATRIX);
+    expect_answers(&rt, rt.alloc(), IN_MATRIX, EARLIER_IN_MATRIX);
 }
 
 fn push_matrix(alloc: Global, text: &mut String, matrix: &Matrix) -> Result<(), Refusal> {
@@ -144,20 +143,20 @@ fn shown(alloc: Global, strategy: &Strategy) -> Result<String, Refusal> {
     Ok(text)
 }
 
-/// What the strategy of the one job of a workflow says.
-fn shown_of_job(alloc: Global, strategy: &str) -> Result<String, Refusal> {
-    let body = spelled(
-        alloc,
-        &[(BEHIND_LABELS.0, 1), (strategy, 1), (BEHIND_LABELS.1, 1)],
-    )?;
-    let workflow = read_workflow(alloc, body.as_bytes())?;
-    match workflow.jobs.as_slice() {
+fn shown_of(alloc: Global, jobs: &[Job]) -> Result<String, Refusal> {
+    match jobs {
         [job] => match &job.strategy {
             Some(strategy) => shown(alloc, strategy),
             None => Ok(String::from_str(alloc, "none")?),
         },
         _ => Ok(String::from_str(alloc, "other jobs")?),
     }
+}
+
+/// What the strategy of the one job of a workflow says.
+fn shown_of_job(alloc: Global, strategy: &str) -> Result<String, Refusal> {
+    let workflow = workflow_with(alloc, strategy)?;
+    shown_of(alloc, workflow.jobs.as_slice())
 }
 
 /// A second call has the memory that the first was refused.
@@ -171,21 +170,22 @@ fn is_shown(alloc: Global, strategy: &str, want: &str) -> bool {
     }
 }
 
+const SAID: &[(&str, &str)] = &[
+    ("", "none"),
+    (",\"strategy\":{}", "true 0"),
+    (
+        ",\"strategy\":{\"fail-fast\":false,\"max-parallel\":2}",
+        "false 2",
+    ),
+    (
+        ",\"strategy\":{\"matrix\":{\"v\":[1,2],\"os\":[null],\"include\":[{\"n\":1}],\"exclude\":[{\"v\":1},{\"v\":2}]}}",
+        "true 0 os:1 v:2 +1 -2",
+    ),
+];
+
 #[test]
 fn gives_what_a_strategy_says(rt: HostRuntime) {
-    let rows = [
-        ("", "none"),
-        (",\"strategy\":{}", "true 0"),
-        (
-            ",\"strategy\":{\"fail-fast\":false,\"max-parallel\":2}",
-            "false 2",
-        ),
-        (
-            ",\"strategy\":{\"matrix\":{\"v\":[1,2],\"os\":[null],\"include\":[{\"n\":1}],\"exclude\":[{\"v\":1},{\"v\":2}]}}",
-            "true 0 os:1 v:2 +1 -2",
-        ),
-    ];
-    for (strategy, want) in rows {
+    for &(strategy, want) in SAID {
         let shown = is_shown(rt.alloc(), strategy, want);
         holds!(rt; shown, strategy);
     }
