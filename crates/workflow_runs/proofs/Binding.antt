@@ -13,7 +13,7 @@ use Rattle.wf_value.specs.Words.{result_word}
 use Rattle.wf_value.specs.declared.outcome.JobResult.{JobResult}
 use Rattle.wf_value.specs.declared.scalar.Scalar.{Scalar}
 use Rattle.wf_value.specs.declared.scalar.Scalar.TheVariants.{Null, Truth, Whole, Text}
-use Rattle.wf_expr.specs.Bound.{HasResults, Results, result_value}
+use Rattle.wf_expr.specs.Bound.{HasResults, Results, no_results, result_value}
 use Rattle.wf_expr.specs.ContextValue.{Values}
 use Rattle.wf_expr.specs.FlagValue.{sets_flag}
 use Rattle.wf_expr.proofs.FlagLemmas.{flag-text}
@@ -109,47 +109,68 @@ inner_by : (results : Results) (b : Bool) (found : Option ℕ) (later now : Opti
 inner_by results true found later now sent is none nothing = by_need results found later now sent is none (nothing refl)
 inner_by results false found later now sent is none nothing = refl
 
--- what is known of a leg when its run is admitted
-abbrev pub facts_now : RunState → List ℕ → List ℕ → PlannedJob → ℕ → ℕ → LegFacts
-facts_now run id number job j l = record {
-  event = run.admitted;
-  run_id = id;
-  run_number = number;
+-- what is told of a leg whose job's needs have these results
+abbrev facts_with : RunFacts → PlannedJob → ℕ → List (List ℕ × Option JobResult) → LegFacts
+facts_with run job l needs = record {
+  event = run.event;
+  run_id = run.run_id;
+  run_number = run.run_number;
   job = job;
   leg = l;
-  needs = direct_needs run j;
+  needs = needs;
 }
+
+-- where nothing is told of a job that is not needed, the context lacks the results of needs alone
+has_results_later : (run : RunFacts) (job : PlannedJob) (j l : ℕ) (needs : List (List ℕ × Option JobResult)) (results : Results)
+    → ((id : List ℕ) → find (has_id (plan_of run.event.body) id) (needs_at (plan_graph (plan_of run.event.body)) j) ≡ None
+    → option_and_then (λ r. r) (under id needs) ≡ None)
+    → HasResults (context_of (facts_with run job l needs)) (need_of_job (plan_of run.event.body) j) results
+    (context_of (facts_by run j job l results))
+has_results_later run job j l needs results others [] = refl
+has_results_later run job j l needs results others (context ∷ []) = refl
+has_results_later run job j l needs results others (context ∷ name ∷ []) = refl
+has_results_later run job j l needs results others (context ∷ inner ∷ name ∷ []) =
+    let plan = plan_of run.event.body in
+    let places = needs_at (plan_graph plan) j in
+    inner_by results (bytes_eq context (codes "needs") && bytes_eq name (codes "result")) (find (has_id plan inner) places)
+    (option_and_then (λ r. r) (under inner (filter_map
+    (λ k. option_map (λ (planned : PlannedJob). (planned.id, results k)) (slice_get plan k)) places)))
+    (option_and_then (λ r. r) (under inner needs))
+    (sent_value (event_of run.event.body).contexts (context ∷ inner ∷ name ∷ []))
+    (result_of_id inner plan results places) (others inner)
+    (λ both. nothing_sent (event_of run.event.body).contexts context (inner ∷ name ∷ [])
+    (and_parts (bytes_eq context (codes "needs")) (bytes_eq name (codes "result")) both).0)
+has_results_later run job j l needs results others (context ∷ inner ∷ name ∷ more ∷ names) = refl
 
 abbrev pub told_of : RunState → List ℕ → List ℕ → RunFacts
 told_of run id number = record { event = run.admitted; run_id = id; run_number = number }
 
-none_needed : (run : RunState) (j : ℕ) (id : List ℕ) (found : Option ℕ)
-    → find (has_id (plan_of run.admitted.body) id) (needs_at (needs_in run) j) ≡ found → found ≡ None
+-- what is known of a leg when its run is admitted
+abbrev pub facts_now : RunState → List ℕ → List ℕ → PlannedJob → ℕ → ℕ → LegFacts
+facts_now run id number job j l = facts_with (told_of run id number) job l (direct_needs run j)
+
+none_needed : (run : RunState) (j : ℕ) (id : List ℕ) → find (has_id (plan_of run.admitted.body) id) (needs_at (needs_in run) j) ≡ None
     → option_and_then (λ r. r) (under id (direct_needs run j)) ≡ None
 unfolding direct_needs
-none_needed run j id found is none =
+none_needed run j id none =
     result_of_id id (plan_of run.admitted.body) (λ k. slice_index_or (results_so_far run.jobs) k None) (needs_at (needs_in run) j)
-    ∙ ap (option_and_then (λ k. slice_index_or (results_so_far run.jobs) k None)) (is ∙ none)
+    ∙ ap (option_and_then (λ k. slice_index_or (results_so_far run.jobs) k None)) none
 
 pub leg_has_results : (run : RunState) (id number : List ℕ) (job : PlannedJob) (j l : ℕ) (results : Results)
     → HasResults (context_of (facts_now run id number job j l)) (need_of_job (plan_of run.admitted.body) j) results
     (context_of (facts_by (told_of run id number) j job l results))
-leg_has_results run id number job j l results [] = refl
-leg_has_results run id number job j l results (context ∷ []) = refl
-leg_has_results run id number job j l results (context ∷ name ∷ []) = refl
-leg_has_results run id number job j l results (context ∷ inner ∷ name ∷ []) =
-    let plan = plan_of run.admitted.body in
+leg_has_results run id number job j l results =
+    has_results_later (told_of run id number) job j l (direct_needs run j) results (none_needed run j)
+
+-- and so of a leg whose job's needs have no result yet
+pub leg_has_results_at_last : (run : RunFacts) (job : PlannedJob) (j l : ℕ) (results : Results)
+    → HasResults (context_of (facts_by run j job l no_results)) (need_of_job (plan_of run.event.body) j) results
+    (context_of (facts_by run j job l results))
+leg_has_results_at_last run job j l results =
+    let plan = plan_of run.event.body in
     let places = needs_at (plan_graph plan) j in
-    let found = find (has_id plan inner) places in
-    inner_by results (bytes_eq context (codes "needs") && bytes_eq name (codes "result")) found
-    (option_and_then (λ r. r) (under inner (filter_map
-    (λ k. option_map (λ (planned : PlannedJob). (planned.id, results k)) (slice_get plan k)) places)))
-    (option_and_then (λ r. r) (under inner (direct_needs run j)))
-    (sent_value (event_of run.admitted.body).contexts (context ∷ inner ∷ name ∷ []))
-    (result_of_id inner plan results places) (none_needed run j inner found refl)
-    (λ both. nothing_sent (event_of run.admitted.body).contexts context (inner ∷ name ∷ [])
-    (and_parts (bytes_eq context (codes "needs")) (bytes_eq name (codes "result")) both).0)
-leg_has_results run id number job j l results (context ∷ inner ∷ name ∷ more ∷ names) = refl
+    has_results_later run job j l (facts_by run j job l no_results).needs results
+    (λ id none. result_of_id id plan no_results places ∙ ap (option_and_then no_results) none)
 
 -- what holds of the paths of a run's own needs
 pub by_needs : (values : Values) (needs : RunState × ℕ) (event : Admitted) (j : ℕ) (later : Results → Values)

@@ -118,12 +118,12 @@ module _ (runs : List RunState) (kept : List RunAsks) (bound : AreBound runs kep
       → RunSays (facts_of_run runs r x) k
   run_says r x k at is = bound.each r (facts_of_run runs r x) k (run_told runs r x at) is
 
-  leg_says : (p : LegPlace) (x : RunState) (k : RunAsks) → run_at runs p.run ≡ Some x → slice_get kept p.run ≡ Some k
-      → (o : Option PlannedJob) → slice_get (plan_of x.admitted.body) p.job ≡ o
+module _ (runs : List RunState) where
+  leg_says : (p : LegPlace) (x : RunState) (k : RunAsks) → run_at runs p.run ≡ Some x
+      → RunSays (facts_of_run runs p.run x) k → (o : Option PlannedJob) → slice_get (plan_of x.admitted.body) p.job ≡ o
       → group_by x (asked_of k (Holder.a_leg p)) ≡ option_and_then leg_group (facts_at runs p)
       × flag_by x (asked_of k (Holder.a_leg p)) ≡ option_map_or leg_cancels (facts_at runs p) false
-  leg_says p x k at is None unplanned =
-      let says = run_says p.run x k at is in
+  leg_says p x k at says None unplanned =
       let none : asked_of k (Holder.a_leg p) ≡ None =
       ap (option_and_then (λ (job : JobAsks). slice_get job.groups p.leg))
       (as_short (plan_of x.admitted.body) k.jobs p.job says.as_many unplanned) in
@@ -131,9 +131,8 @@ module _ (runs : List RunState) (kept : List RunAsks) (bound : AreBound runs kep
         ap (group_by x) none ∙ sym (ap (option_and_then leg_group) untold),
         ap (flag_by x) none ∙ sym (ap (λ o. option_map_or leg_cancels o false) untold),
       )
-  leg_says p x k at is (Some job) planned =
+  leg_says p x k at run (Some job) planned =
       let f = facts_of_run runs p.run x in
-      let run = run_says p.run x k at is in
       let repo = (event_of f.event.body).repo in
       let values : Results → Values = λ results. context_of (facts_by f p.job job p.leg results) in
       let asks = as_long (plan_of x.admitted.body) k.jobs p.job job run.as_many planned in
@@ -147,25 +146,33 @@ module _ (runs : List RunState) (kept : List RunAsks) (bound : AreBound runs kep
             ∙ sym (ap (λ o. option_map_or leg_cancels o false) told),
       )
 
-  pub group_said : (h : Holder) (x : RunState) (k : RunAsks) → run_at runs (run_of h) ≡ Some x → slice_get kept (run_of h) ≡ Some k
-      → group_by x (asked_of k h) ≡ group_at runs h
+  group_said : (h : Holder) (x : RunState) (k : RunAsks) → run_at runs (run_of h) ≡ Some x
+      → RunSays (facts_of_run runs (run_of h) x) k → group_by x (asked_of k h) ≡ group_at runs h
   unfolding group_at
-  group_said (Holder.a_run r) x k at is =
+  group_said (Holder.a_run r) x k at says =
       let f = facts_of_run runs r x in
       let event = event_of f.event.body in
-      says_group event.repo (λ results. run_context f) event.workflow.concurrency k.own (run_says r x k at is).own (results_by_place x)
+      says_group event.repo (λ results. run_context f) event.workflow.concurrency k.own says.own (results_by_place x)
       ∙ sym (ap (option_and_then run_group) (run_told runs r x at))
-  group_said (Holder.a_leg p) x k at is = (leg_says p x k at is (slice_get (plan_of x.admitted.body) p.job) refl).0
+  group_said (Holder.a_leg p) x k at says = (leg_says p x k at says (slice_get (plan_of x.admitted.body) p.job) refl).0
 
-  pub flag_said : (h : Holder) (x : RunState) (k : RunAsks) → run_at runs (run_of h) ≡ Some x → slice_get kept (run_of h) ≡ Some k
-      → flag_by x (asked_of k h) ≡ cancels_in_progress runs h
+  flag_said : (h : Holder) (x : RunState) (k : RunAsks) → run_at runs (run_of h) ≡ Some x
+      → RunSays (facts_of_run runs (run_of h) x) k → flag_by x (asked_of k h) ≡ cancels_in_progress runs h
   unfolding cancels_in_progress
-  flag_said (Holder.a_run r) x k at is =
+  flag_said (Holder.a_run r) x k at says =
       let f = facts_of_run runs r x in
       let event = event_of f.event.body in
-      says_flag event.repo (λ results. run_context f) event.workflow.concurrency k.own (run_says r x k at is).own (results_by_place x)
+      says_flag event.repo (λ results. run_context f) event.workflow.concurrency k.own says.own (results_by_place x)
       ∙ sym (ap (λ o. option_map_or run_cancels o false) (run_told runs r x at))
-  flag_said (Holder.a_leg p) x k at is = (leg_says p x k at is (slice_get (plan_of x.admitted.body) p.job) refl).1
+  flag_said (Holder.a_leg p) x k at says = (leg_says p x k at says (slice_get (plan_of x.admitted.body) p.job) refl).1
+
+  -- both, by what is kept at the place of the holder's run
+  pub said_there : (h : Holder) (x : RunState) (k : RunAsks) (r : ℕ) → r ≡ run_of h → run_at runs (run_of h) ≡ Some x
+      → ((facts : RunFacts) → run_facts_at runs r ≡ Some facts → RunSays facts k)
+      → (group_by x (asked_of k h) ≡ group_at runs h) × (flag_by x (asked_of k h) ≡ cancels_in_progress runs h)
+  said_there h x k r is at says =
+      let its = says (facts_of_run runs (run_of h) x) (ap (run_facts_at runs) is ∙ run_told runs (run_of h) x at) in
+      (group_said h x k at its, flag_said h x k at its)
 
 -- ---- where there is no run there is nothing
 

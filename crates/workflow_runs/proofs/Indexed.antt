@@ -1,6 +1,6 @@
 -- Runs that are looked up by their deliveries: what is found, and one run more.
 use Rattle.std.specs.Prelude.{◌≡◌, ℕ, ◌+◌, ◌<◌, ◌&&◌, List, [], ◌∷◌, ◌++◌, length, Bool, true, false, String, if◌then◌else◌, is_none, refl}
-use Rattle.std.specs.Prelude.{Option, Some, None, count_by, option_map, slice_get}
+use Rattle.std.specs.Prelude.{Option, Some, None, Result, Ok, Err, OnOk, OnErr, option_map, slice_get}
 use Rattle.std.specs.BTreeMap.{BTreeMap, get_by_text}
 use Rattle.std.specs.List.{position}
 use Rattle.std.specs.Option.{option_map_or}
@@ -12,17 +12,16 @@ use Rattle.std.proofs.lemmas.List.{length-map, map-append}
 use Rattle.std.proofs.lemmas.List.Quantifiers.{position-Some}
 use Rattle.std.proofs.lemmas.Option.{get_or_from_slice_get, slice_get-get_or, slice_get-map, slice_get_within}
 use Rattle.std.proofs.lemmas.Slice.Eq.{bytes_eq-Decides}
+use Rattle.wf_value.specs.declared.refusal.Refusal.{Refusal}
 use Rattle.run_plan.specs.Admitted.{Admitted}
 use Rattle.workflow_runs.specs.Counted.{AreCounted, Workflow, count_of}
 use Rattle.workflow_runs.specs.Delivered.{FindsFirst, IsFirst, delivery_at}
 use Rattle.workflow_runs.specs.RunNumber.{events, same_workflow}
 use Rattle.workflow_runs.specs.NewRun.{is_delivered_as}
 use Rattle.workflow_runs.specs.RunState.{RunState}
-use Rattle.workflow_runs.specs.declared.runs.index.Index.{Index}
 use Rattle.workflow_runs.proofs.Counting.{one_counted}
 use Rattle.workflow_runs.proofs.Found.{at_the_end, before_the_end, each_at, found_nowhere, none_found}
 use Rattle.workflow_runs.proofs.Optional.{from_map}
-use Rattle.workflow_runs.proofs.RunNumbers.{count_of_map}
 
 abbrev Places : Type 0
 Places = BTreeMap (String Global) ℕ
@@ -233,38 +232,25 @@ finds_none places d r first = absurd (none_is_kept_there first.there)
 
 -- ---- a run that is added
 
--- what is made ready for a run that is not added yet
-pub record IsRoom (runs : List RunState) (index : Index) (event : Admitted) : Type 0 where
-  pub finds : FindsFirst (events runs) index.places.places
-  pub counted : AreCounted (events runs) index.counts.counts
-  pub finds_more : FindsFirst (events runs ++ event ∷ []) index.places.places
+module _ (runs : List RunState) (old new : Places) (event : Admitted) (found : Option ℕ)
+    (is : found ≡ position (is_delivered_as event.delivery) runs) where
+  -- all is found as before, whether the place of one run more is kept or not
+  pub still_found : {X : Type 0} (result : Result X Refusal) → OnOk result (IsKept old new event.delivery (length runs) found)
+      → OnErr result ((d : List ℕ) → get_by_text new d ≡ get_by_text old d) → FindsFirst (events runs) old → FindsFirst (events runs) new
+  still_found (Ok x) kept same finds =
+      still_finds (events runs) old new event.delivery (length runs) found (place_tells runs event.delivery found is) kept finds
+  still_found (Err e) kept same finds = finds_the_same (events runs) old new same finds
 
-pub room_made : (runs : List RunState) (old new : Index) (event of : Admitted) (place : ℕ) (found : Option ℕ) → of ≡ event
-    → found ≡ position (is_delivered_as event.delivery) runs → place ≡ length runs
-    → IsKept old.places.places new.places.places of.delivery place found
-    → ((other : Admitted) → count_of new.counts.counts other ≡ count_of old.counts.counts other)
-    → FindsFirst (events runs) old.places.places → AreCounted (events runs) old.counts.counts → IsRoom runs new event
-room_made runs old new event of place found same is at kept uncounted finds counted =
-    let tells = place_tells runs event.delivery found is in
-    let keeps = subst (λ (e : Admitted). IsKept old.places.places new.places.places e.delivery place found) same kept in
-    record {
-      finds = still_finds (events runs) old.places.places new.places.places event.delivery place found tells keeps finds;
-      counted = (λ other. uncounted other ∙ counted other);
-      finds_more =
-          finds_one_more (events runs) old.places.places new.places.places event.delivery place event refl
-          (at ∙ sym (length-map runs (λ (x : RunState). x.admitted))) found tells keeps finds;
-    }
+  -- and so is that run, once it stands there
+  pub found_then : {X : Type 0} (result : Result X Refusal) → OnOk result (IsKept old new event.delivery (length runs) found)
+      → FindsFirst (events runs) old → OnOk result (FindsFirst (events runs ++ event ∷ []) new)
+  found_then (Ok x) kept finds =
+      finds_one_more (events runs) old new event.delivery (length runs) event refl (sym (length-map runs (λ (x : RunState). x.admitted)))
+      found (place_tells runs event.delivery found is) kept finds
+  found_then (Err e) kept finds = tt
 
 pub events_more : (runs : List RunState) (run : RunState) → events (runs ++ run ∷ []) ≡ events runs ++ run.admitted ∷ []
 events_more runs run = map-append (λ (x : RunState). x.admitted) runs (run ∷ [])
-
--- the number of the next run
-pub next_number : (runs : List RunState) (counts : BTreeMap Workflow ℕ) (event of : Admitted) (number : ℕ) → of ≡ event
-    → AreCounted (events runs) counts → number ≡ count_of counts of + 1
-    → number ≡ count_by (λ (other : RunState). same_workflow event other.admitted) runs + 1
-next_number runs counts event of number same counted is =
-    is ∙ ap (λ (e : Admitted). count_of counts e + 1) same
-    ∙ ap (λ n. n + 1) (counted event ∙ sym (count_of_map (same_workflow event) (λ (x : RunState). x.admitted) runs))
 
 pub counted_more : (runs : List RunState) (run : RunState) (old new : BTreeMap Workflow ℕ) → AreCounted (events runs) old
     → ((event : Admitted) → count_of new event ≡ (if same_workflow event run.admitted then count_of old event + 1 else count_of old event))

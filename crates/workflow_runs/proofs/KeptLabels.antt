@@ -1,18 +1,19 @@
 -- Which labels are known before any job has a result, and that what is kept of them is their texts whatever the results.
-use Rattle.std.specs.Prelude.{◌≡◌, ◌+◌, ◌<◌, ◌≤◌, ℕ, List, [], ◌∷◌, ◌++◌, map, length, Bool, true, false, nat_le, ◌&&◌, Option, Some, None}
-use Rattle.std.specs.Prelude.{filter_map, if◌then◌else◌, refl}
+use Rattle.std.specs.Prelude.{◌≡◌, ◌+◌, ◌<◌, ◌≤◌, ℕ, List, [], ◌∷◌, ◌++◌, map, length, Bool, true, false, ◌&&◌, Option, Some, None}
+use Rattle.std.specs.Prelude.{nat_eq, nat_le, filter_map, if◌then◌else◌, refl}
 use Rattle.std.specs.List.{flat_map, list_all}
 use Rattle.std.specs.Option.{option_map_or}
-use Rattle.std.proofs.Common.{ap, get_or, sym, take, ◌∙◌}
+use Rattle.std.proofs.Common.{arith, ap, get_or, sym, take, ◌∙◌}
 use Rattle.std.proofs.Math.Path.{fun_ext}
-use Rattle.std.proofs.lemmas.Bool.{and_parts}
+use Rattle.std.proofs.lemmas.Bool.{and_parts, eqb-true}
 use Rattle.std.proofs.lemmas.Grind.{take_at_read}
 use Rattle.std.proofs.lemmas.List.{map-append, take_all}
 use Rattle.std.proofs.lemmas.List.Folds.{list_all_at, list_all_more}
 use Rattle.wf_value.specs.ScalarValue.{scalar_text}
 use Rattle.wf_value.specs.Words.{result_word}
 use Rattle.wf_value.specs.declared.scalar.Scalar.{Scalar}
-use Rattle.wf_expr.specs.Bound.{HasResults, NeedOf, Results, before_true, bound_of, bound_piece, bound_text, first_result, need_of_operand}
+use Rattle.wf_expr.specs.Bound.{HasResults, NeedOf, Results, before_true, bound_of, bound_piece, bound_piece_text, bound_text}
+use Rattle.wf_expr.specs.Bound.{first_result, need_of_operand}
 use Rattle.wf_expr.specs.Bound.{no_results, result_value, with_results}
 use Rattle.wf_expr.specs.ContextValue.{Values}
 use Rattle.wf_expr.specs.TemplateValue.{piece_text, template_value}
@@ -20,11 +21,29 @@ use Rattle.wf_expr.specs.declared.bound.BoundPiece.{BoundPiece}
 use Rattle.wf_expr.specs.declared.piece.Piece.{Piece}
 use Rattle.wf_expr.specs.declared.piece.Piece.TheVariants.{Plain, Braced}
 use Rattle.wf_expr.proofs.BoundLemmas.{text-when-bound}
-use Rattle.workflow_runs.specs.KnownLabels.{asks_nothing, has_no_need, is_known, kept_of, known_text, text_without_results}
+use Rattle.workflow_runs.specs.KnownLabels.{asks_nothing, has_no_need, is_known, kept_of, known_text, most_bytes}
+use Rattle.workflow_runs.specs.KnownLabels.{text_without_results}
 use Rattle.workflow_runs.specs.Words.{label_texts}
 use Rattle.workflow_runs.specs.declared.wanted.Wanted.{Wanted}
 use Rattle.workflow_runs.specs.declared.wanted.Wanted.TheVariants as wanted
-use Rattle.workflow_runs.proofs.KnownSays.{text_whatever_results}
+
+-- ---- pieces that ask for no result
+
+no_needs : (needs : List ℕ) → nat_eq (length needs) 0 ≡ true → needs ≡ []
+no_needs [] none = refl
+no_needs (need ∷ needs) none = absurd (omega (arith, eqb-true (length (need ∷ needs)) 0 none))
+
+says_otherwise : (results : Results) (piece : BoundPiece) → asks_nothing piece ≡ true → bound_piece_text results piece ≡ piece.otherwise
+says_otherwise results piece none =
+    ap (λ needs. bound_piece_text results (record { needs = needs; otherwise = piece.otherwise })) (no_needs piece.needs none)
+
+text_whatever_results : (results : Results) (pieces : List BoundPiece) → list_all asks_nothing pieces ≡ true
+    → bound_text results pieces ≡ flat_map (λ (piece : BoundPiece). piece.otherwise) pieces
+text_whatever_results results [] none = refl
+text_whatever_results results (piece ∷ pieces) none =
+    let parts = and_parts (asks_nothing piece) (list_all asks_nothing pieces) none in
+    ap (λ text. text ++ bound_text results pieces) (says_otherwise results piece parts.0)
+    ∙ ap (λ text. piece.otherwise ++ text) (text_whatever_results results pieces parts.1)
 
 -- ---- the text of a label as long as no need has a result
 
@@ -42,14 +61,15 @@ text_so_far (piece ∷ pieces) =
 without_results : (known : Values) (need_of : NeedOf) (label : List Piece)
     → text_without_results known need_of label ≡ flat_map (λ (piece : BoundPiece). piece.otherwise) (bound_of known need_of label)
 without_results known need_of label =
-    text-when-bound known need_of label (bound_of known need_of label) refl no_results (with_results known need_of no_results) (λ path. refl)
+    text-when-bound known need_of label (bound_of known need_of label) refl no_results (with_results known need_of no_results)
+    (λ path. refl)
     ∙ text_so_far (bound_of known need_of label)
 
 -- what is known of a label, by what was bound of it
 pub known_when_bound : (known : Values) (need_of : NeedOf) (label : List Piece) → known_text (bound_of known need_of label)
     ≡ (if is_known known need_of label then Some (text_without_results known need_of label) else None)
 known_when_bound known need_of label =
-    ap (λ (text : List ℕ). if has_no_need known need_of label && nat_le (length text) 64 then Some text else None)
+    ap (λ (text : List ℕ). if has_no_need known need_of label && nat_le (length text) most_bytes then Some text else None)
     (sym (without_results known need_of label))
 
 -- ---- known labels, whatever the results
@@ -63,15 +83,33 @@ known_whatever known need_of label none results values has =
     ∙ sym (text_whatever_results results pieces none)
     ∙ sym (text-when-bound known need_of label pieces refl results values has)
 
-pub all_whatever : (known : Values) (need_of : NeedOf) (labels : List (List Piece)) → list_all (is_known known need_of) labels ≡ true
+all_whatever : (known : Values) (need_of : NeedOf) (labels : List (List Piece)) → list_all (is_known known need_of) labels ≡ true
     → (results : Results) (values : Values) → HasResults known need_of results values
     → map (text_without_results known need_of) labels ≡ label_texts values labels
 all_whatever known need_of [] all results values has = refl
 all_whatever known need_of (label ∷ labels) all results values has =
     let parts = and_parts (is_known known need_of label) (list_all (is_known known need_of) labels) all in
-    let none = (and_parts (has_no_need known need_of label) (nat_le (length (text_without_results known need_of label)) 64) parts.0).0 in
+    let none = (and_parts (has_no_need known need_of label) (nat_le (length (text_without_results known need_of label)) most_bytes)
+    parts.0).0 in
     ap (λ text. text ∷ map (text_without_results known need_of) labels) (known_whatever known need_of label none results values has)
     ∙ ap (λ texts. scalar_text (template_value values label) ∷ texts) (all_whatever known need_of labels parts.1 results values has)
+
+-- where the labels are kept these are their texts
+pub kept_whatever : (known : Values) (need_of : NeedOf) (labels : List (List Piece)) (texts : List (List ℕ))
+    → wanted.Known texts ≡ kept_of known need_of labels → (results : Results) (values : Values) → HasResults known need_of results values
+    → texts ≡ label_texts values labels
+kept_whatever known need_of labels texts kept results values has =
+    if_all (list_all (is_known known need_of) labels) refl kept
+  where
+    of_known : (others : List (List ℕ)) → wanted.Known texts ≡ wanted.Known others → texts ≡ others
+    of_known others same = cc
+
+    if_all : (all : Bool) → list_all (is_known known need_of) labels ≡ all
+        → wanted.Known texts ≡ (if all then wanted.Known (map (text_without_results known need_of) labels) else wanted.LookedUp)
+        → texts ≡ label_texts values labels
+    if_all true all same =
+        of_known (map (text_without_results known need_of) labels) same ∙ all_whatever known need_of labels all results values has
+    if_all false none same = cc
 
 -- ---- the labels, one after another
 
@@ -84,7 +122,8 @@ one_more_known known need_of labels i label within at is so_far =
     ∙ ap (λ b. b && is_known known need_of (get_or labels i label)) so_far
     ∙ ap (is_known known need_of) (sym at) ∙ is
 
-pub one_text_more : (f : List Piece → List ℕ) (labels : List (List Piece)) (i : ℕ) (label : List Piece) (texts : List (List ℕ)) (text : List ℕ)
+pub one_text_more : (f : List Piece → List ℕ) (labels : List (List Piece)) (i : ℕ) (label : List Piece) (texts : List (List ℕ))
+    (text : List ℕ)
     → i < length labels → label ≡ get_or labels i label → texts ≡ map f (take i labels) → f label ≡ text
     → texts ++ text ∷ [] ≡ map f (take (i + 1) labels)
 one_text_more f labels i label texts text within at so_far says =
@@ -153,7 +192,7 @@ twice known need_of = fun_ext (λ path. taken_twice (need_of path) (known path))
 abbrev kept_seen : Values → NeedOf → List (List Piece) → Wanted
 kept_seen values need_of labels =
     let text : List Piece → List ℕ = λ label. scalar_text (template_value values label) in
-    if list_all (λ label. list_all asks_nothing (map (seen values need_of) label) && nat_le (length (text label)) 64) labels
+    if list_all (λ label. list_all asks_nothing (map (seen values need_of) label) && nat_le (length (text label)) most_bytes) labels
     then wanted.Known (map text labels)
     else wanted.LookedUp
 
@@ -161,7 +200,7 @@ kept_as_seen : (known : Values) (need_of : NeedOf) (labels : List (List Piece))
     → kept_of known need_of labels ≡ kept_seen (with_results known need_of no_results) need_of labels
 kept_as_seen known need_of labels =
     ap (λ (bound : List Piece → List BoundPiece). if list_all (λ label. list_all asks_nothing (bound label)
-    && nat_le (length (text_without_results known need_of label)) 64) labels
+    && nat_le (length (text_without_results known need_of label)) most_bytes) labels
     then wanted.Known (map (text_without_results known need_of) labels) else wanted.LookedUp)
     (fun_ext (all_as_seen known need_of))
 

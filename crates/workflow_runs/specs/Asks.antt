@@ -5,7 +5,7 @@ use Rattle.run_plan.specs.PlanOf.{plan_of}
 use Rattle.run_plan.specs.declared.planned.PlannedJob.{PlannedJob}
 use Rattle.workflow_runs.specs.BoundGroups.{SaysSo, facts_by}
 use Rattle.workflow_runs.specs.GroupOf.{RunFacts, asked_of_leg, run_context, run_facts_at}
-use Rattle.workflow_runs.specs.KnownLabels.{AreKept, Tells}
+use Rattle.workflow_runs.specs.KnownLabels.{AreKept}
 use Rattle.workflow_runs.specs.LegContext.{context_of}
 use Rattle.workflow_runs.specs.Moves.{Holder}
 use Rattle.workflow_runs.specs.RunState.{RunState}
@@ -32,9 +32,7 @@ pub record JobSays (run : RunFacts) (j : ℕ) (job : PlannedJob) (kept : JobAsks
   pub groups : (l : ℕ)
       → SaysSo (event_of run.event.body).repo (λ results. context_of (facts_by run j job l results)) (asked_of_leg job l)
       (slice_get kept.groups l)
-  pub labels : (l : ℕ) (wanted : Wanted) → slice_get kept.labels l ≡ Some wanted
-      → Tells (λ results. context_of (facts_by run j job l results)) job.labels wanted
-  pub as_known : AreKept run j job kept.labels
+  pub labels : AreKept run j job kept.labels
 
 -- and what the run and its legs ask
 pub record RunSays (run : RunFacts) (kept : RunAsks) : Type 0 where

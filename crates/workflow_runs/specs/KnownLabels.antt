@@ -4,7 +4,7 @@ use Rattle.std.specs.Prelude.{◌≡◌, ◌&&◌, ℕ, List, map, Bool, true, f
 use Rattle.std.specs.Prelude.{if◌then◌else◌}
 use Rattle.std.specs.List.{flat_map, list_all}
 use Rattle.wf_value.specs.ScalarValue.{scalar_text}
-use Rattle.wf_expr.specs.Bound.{NeedOf, Results, bound_of, no_results, with_results}
+use Rattle.wf_expr.specs.Bound.{NeedOf, bound_of, no_results, with_results}
 use Rattle.wf_expr.specs.ContextValue.{Values}
 use Rattle.wf_expr.specs.TemplateValue.{template_value}
 use Rattle.wf_expr.specs.declared.bound.BoundPiece.{BoundPiece}
@@ -15,16 +15,16 @@ use Rattle.run_plan.specs.declared.planned.PlannedJob.{PlannedJob}
 use Rattle.workflow_runs.specs.BoundGroups.{facts_by, need_of_job}
 use Rattle.workflow_runs.specs.GroupOf.{RunFacts}
 use Rattle.workflow_runs.specs.LegContext.{context_of}
-use Rattle.workflow_runs.specs.Words.{label_texts}
 use Rattle.workflow_runs.specs.declared.wanted.Wanted.{Wanted}
 use Rattle.workflow_runs.specs.declared.wanted.Wanted.TheVariants as wanted
 
--- ---- what kept labels tell
+-- ---- what a runner has at most
 
--- they are the texts of the labels, whatever the results
-abbrev pub Tells : (Results → Values) → List (List Piece) → Wanted → Type 0
-Tells values labels (wanted.Known texts) = (results : Results) → texts ≡ label_texts (values results) labels
-Tells values labels wanted.LookedUp = Unit {0}
+abbrev pub most_labels : ℕ
+most_labels = 16
+
+abbrev pub most_bytes : ℕ
+most_bytes = 64
 
 -- ---- which labels are known
 
@@ -41,13 +41,13 @@ text_without_results known need_of label = scalar_text (template_value (with_res
 
 -- that is its text whatever the results, and no longer than a runner's
 abbrev pub is_known : Values → NeedOf → List Piece → Bool
-is_known known need_of label = has_no_need known need_of label && nat_le (length (text_without_results known need_of label)) 64
+is_known known need_of label = has_no_need known need_of label && nat_le (length (text_without_results known need_of label)) most_bytes
 
 -- the same of what was bound of a label: the text that is known of it, if one is
 abbrev pub known_text : List BoundPiece → Option (List ℕ)
 known_text pieces =
     let text = flat_map (λ (piece : BoundPiece). piece.otherwise) pieces in
-    if list_all asks_nothing pieces && nat_le (length text) 64 then Some text else None
+    if list_all asks_nothing pieces && nat_le (length text) most_bytes then Some text else None
 
 -- ---- which labels are worth keeping
 
@@ -61,7 +61,7 @@ are_as_they_stand labels = list_all (list_all is_as_it_stands) labels
 
 -- something is looked up, and they are no more than a runner's
 abbrev pub are_kept : List (List Piece) → Bool
-are_kept labels = nat_le (length labels) 16 && not (are_as_they_stand labels)
+are_kept labels = nat_le (length labels) most_labels && not (are_as_they_stand labels)
 
 -- ---- what is kept
 

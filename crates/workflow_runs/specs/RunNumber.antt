@@ -19,6 +19,10 @@ same_workflow a b =
 abbrev pub run_number : List Admitted → ℕ → Admitted → ℕ
 run_number all r event = count_by (same_workflow event) (take (r + 1) all)
 
+-- the number of one run more, of an event
+abbrev pub number_of_next : List RunState → Admitted → ℕ
+number_of_next runs event = count_by (λ run. same_workflow event run.admitted) runs + 1
+
 -- ---- runs that are kept with their numbers
 
 -- each counted among those before it and itself

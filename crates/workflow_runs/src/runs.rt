@@ -1,12 +1,14 @@
 ghost use Rattle.std.specs.Prelude.{◌≡◌, ◌+◌, ◌≤◌, ◌<◌, ◌∷◌, ◌++◌, [], length, IfSome, OnErr, OnOk};
 ghost use Rattle.std.specs.Prelude.{option_map, option_copied, slice_get, Ok, ◌^◌, false, true};
+ghost use Rattle.std.specs.Fmt.{decimal};
 ghost use Rattle.std.specs.List.{position};
 ghost use Rattle.std.specs.Option.{option_map_or};
 ghost use Rattle.wf_value.specs.Gives.{Gives};
+ghost use Rattle.workflow_runs.specs.Asks.{AreBound, RunSays};
 ghost use Rattle.workflow_runs.specs.LegContext.{facts_at};
 ghost use Rattle.workflow_runs.specs.Places.{job_at, leg_at, plan_at};
 ghost use Rattle.workflow_runs.specs.Counted.{IsOf};
-ghost use Rattle.workflow_runs.specs.RunNumber.{events, run_number};
+ghost use Rattle.workflow_runs.specs.RunNumber.{AreNumbered, events, number_of_next, run_number};
 ghost use Rattle.workflow_runs.specs.Parallel.{most_at_work};
 ghost use Rattle.workflow_runs.specs.NewRun.{is_delivered_as};
 ghost use Rattle.workflow_runs.specs.Words.{combo_at, job_id, passes_over};
@@ -226,13 +228,13 @@ impl Runs {
         ensures added { Gives (λ _. self.new) result (Ok (self.old ++ run ∷ [])) }
         ensures err { OnErr result (self.new ≡ self.old) }
     {
-        let place = self.runs.len();
+        let runs = self.runs.as_slice();
         let number = self
             .index
-            .make_room(alloc, run.prepared(), &workflow, place, found)?;
-        let asked = RunAsks::bind(alloc, &run, place + 1, number)?;
+            .make_room(alloc, runs, run.prepared(), &workflow, found)?;
+        let asked = RunAsks::bind(alloc, &run, self.runs.len() + 1, number)?;
         let numbers = &mut self.numbers;
-        push_all(&mut self.runs, numbers, &mut self.asks, run, number, asked)?;
+        add_kept(&mut self.runs, numbers, &mut self.asks, run, number, asked)?;
         self.index.counts.add(workflow, number);
         Ok(())
     }
@@ -313,4 +315,25 @@ fn push_all(
             Err(refusal)
         }
     }
+}
+
+/// The same of runs that are kept with their numbers and with what they ask: they stay so.
+fn add_kept(
+    runs: &mut Vec<Run>,
+    numbers: &mut Vec<usize>,
+    asks: &mut Vec<RunAsks>,
+    run: Run,
+    number: usize,
+    asked: RunAsks,
+) -> Result<(), Refusal>
+    requires room { length runs.old.items < 100000 }
+    requires kept { AreNumbered runs.old.items numbers.old.items × AreBound runs.old.items asks.old.items }
+    requires number { number ≡ number_of_next runs.old.items run.admitted }
+    requires says { RunSays (record { event = run.admitted; run_id = decimal (length runs.old.items + 1); run_number = decimal number })
+        asked }
+    ensures added { Gives (λ _. runs.new.items) result (Ok (runs.old.items ++ run ∷ [])) }
+    ensures err { OnErr result (runs.new.items ≡ runs.old.items) }
+    ensures kept { AreNumbered runs.new.items numbers.new.items × AreBound runs.new.items asks.new.items }
+{
+    push_all(runs, numbers, asks, run, number, asked)
 }

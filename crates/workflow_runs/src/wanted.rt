@@ -3,13 +3,11 @@
 
 ghost use Rattle.std.specs.Prelude.{◌≡◌, ℕ, IfOk, Ok, Some, length, slice_get};
 ghost use Rattle.std.specs.List.{flat_map, list_all};
-ghost use Rattle.wf_expr.specs.Bound.{HasResults, Results, bound_of};
-ghost use Rattle.wf_expr.specs.ContextValue.{Values};
+ghost use Rattle.wf_expr.specs.Bound.{bound_of};
 ghost use Rattle.wf_value.specs.Gives.{Gives};
-ghost use Rattle.workflow_runs.specs.BoundGroups.{ErrsOnlyByMemory, facts_by};
-ghost use Rattle.workflow_runs.specs.KnownLabels.{AreKept, Tells, are_as_they_stand, are_kept, asks_nothing};
+ghost use Rattle.workflow_runs.specs.BoundGroups.{ErrsOnlyByMemory};
+ghost use Rattle.workflow_runs.specs.KnownLabels.{AreKept, are_as_they_stand, are_kept, asks_nothing};
 ghost use Rattle.workflow_runs.specs.KnownLabels.{is_as_it_stands, kept_of, kept_of_leg, known_text};
-ghost use Rattle.workflow_runs.specs.LegContext.{context_of};
 ghost use Rattle.workflow_runs.specs.declared.wanted.Wanted.{Wanted as WantedLabels};
 
 use crate::told::Told;
@@ -41,11 +39,7 @@ impl Wanted {
         known: &C,
         needs: &N,
     ) -> Result<Self, Refusal>
-        ensures kept { Gives (λ w. w) result (Ok (kept_of (C.values known.now) (N.need_of needs.now) labels.now)) }
-        ensures tells { IfOk result
-            (λ wanted. (values : Results → Values)
-            → ((results : Results) → HasResults (C.values known.now) (N.need_of needs.now) results (values results))
-            → Tells values labels.now wanted) }
+        ensures { Gives (λ w. w) result (Ok (kept_of (C.values known.now) (N.need_of needs.now) labels.now)) }
     {
         let mut texts = Vec::with_capacity(alloc, labels.len())?;
         for label in labels {
@@ -160,8 +154,6 @@ pub(crate) fn bind_labels<'x>(
 ) -> Result<Sequence<Wanted>, Refusal>
     ensures err { ErrsOnlyByMemory result }
     ensures kept { IfOk result (AreKept told.now j job.now) }
-    ensures tells { IfOk result (λ legs. (l : ℕ) (wanted : WantedLabels) → slice_get legs l ≡ Some wanted
-        → Tells (λ results. context_of (facts_by told.now j job.now l results)) job.now.labels wanted) }
 {
     if !are_kept(job.labels.as_slice()) {
         return Ok(Sequence::new(Vec::new(alloc)));
@@ -180,8 +172,6 @@ fn bind_each<'x>(
     ensures many { IfOk result (λ legs. length legs.items ≡ length job.now.legs) }
     ensures kept { IfOk result (λ legs. (l : ℕ) (wanted : WantedLabels) → slice_get legs.items l ≡ Some wanted
         → wanted ≡ kept_of_leg told.now j job.now l) }
-    ensures tells { IfOk result (λ legs. (l : ℕ) (wanted : WantedLabels) → slice_get legs.items l ≡ Some wanted
-        → Tells (λ results. context_of (facts_by told.now j job.now l results)) job.now.labels wanted) }
 {
     let needs = told.leg_needs(j);
     let count = job.legs.as_slice().len();

@@ -1,12 +1,13 @@
 //! Who holds a concurrency group: found by going over all runs and legs. It takes no memory.
 
-ghost use Rattle.std.specs.Prelude.{◌≡◌, false, true, find, is_some, length, map, option_and_then, option_map};
+ghost use Rattle.std.specs.Prelude.{◌≡◌, IfSome, Some, false, true, find, is_some, length, map, option_and_then, option_map};
 ghost use Rattle.std.specs.Option.{option_map_or};
 ghost use Rattle.group_name.specs.BoundGroup.{group_at as bound_group_at};
 ghost use Rattle.workflow_runs.specs.Arrivals.{arrived, is_in_group_of_run};
+ghost use Rattle.workflow_runs.specs.Asks.{RunSays};
 ghost use Rattle.workflow_runs.specs.BoundGroups.{is_set_by, results_by_place};
 ghost use Rattle.workflow_runs.specs.FirstOf.{placed};
-ghost use Rattle.workflow_runs.specs.GroupOf.{cancels_in_progress, group_at};
+ghost use Rattle.workflow_runs.specs.GroupOf.{RunFacts, cancels_in_progress, group_at, run_facts_at};
 ghost use Rattle.workflow_runs.specs.Groups.{HasOneBeside, holds, is_in, may_start, waits};
 ghost use Rattle.workflow_runs.specs.Holders.{first_meant, holder_in_words, is_meant};
 ghost use Rattle.workflow_runs.specs.Moves.{Holder as HolderOfGroup};
@@ -15,6 +16,7 @@ ghost use Rattle.workflow_runs.specs.SoundRuns.{RunsAreSound};
 ghost use Rattle.workflow_runs.specs.StopMoves.{stop_holder};
 ghost use Rattle.workflow_runs.specs.Stops.{stopped};
 
+use crate::asks::RunAsks;
 use crate::groups::Asked;
 use crate::holder::{Holder, Whom};
 use crate::place::LegPlace;
@@ -22,6 +24,17 @@ use crate::run::Run;
 use crate::runs::Runs;
 
 impl Runs {
+    /// The run at a place, with what it and its legs ask.
+    fn with_asks(&self, r: usize) -> Option<(&Run, &RunAsks)>
+        ensures run { option_map (λ it. it.0.now) result ≡ run_at self.now r }
+        ensures says { IfSome result
+            (λ it. (facts : RunFacts) → run_facts_at self.now r ≡ Some facts → RunSays facts it.1.now) }
+    {
+        let run = self.runs.get(r)?;
+        let asks = self.asks.get(r)?;
+        Some((run, asks))
+    }
+
     /// What a run or a leg asks of a group, and the run by the results of whose jobs.
     fn asked(&self, holder: &Holder) -> Option<(&Asked, &Run)>
         ensures group { option_and_then (λ a. bound_group_at (results_by_place a.1.now) a.0.now.group) result
@@ -29,9 +42,8 @@ impl Runs {
         ensures cancels { option_map_or (λ a. is_set_by (results_by_place a.1.now) a.0.now.cancels) result false
             ≡ cancels_in_progress self.now (holder_in_words holder.now) }
     {
-        let run = self.runs.get(holder.run())?;
-        let kept = self.asks.get(holder.run())?;
-        Some((kept.asked(holder)?, run))
+        let (run, asks) = self.with_asks(holder.run())?;
+        Some((asks.asked(holder)?, run))
     }
 
     /// Whether the holder has a group.

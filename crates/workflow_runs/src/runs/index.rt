@@ -1,13 +1,18 @@
 //! By what the runs of a table are looked up and counted.
 
 ghost use Rattle.std.specs.BTreeMap.{get_by_text};
-ghost use Rattle.std.specs.Prelude.{◌≡◌, ◌+◌, ◌<◌, ◌&&◌, ℕ, [], IfOk, List, OnErr, OnOk, Some, if◌then◌else◌, is_none, true};
+ghost use Rattle.std.specs.List.{position};
+ghost use Rattle.std.specs.Prelude.{◌≡◌, ◌+◌, ◌<◌, ◌&&◌, ◌∷◌, ◌++◌, ℕ, [], IfOk, List, OnErr, OnOk, Some, if◌then◌else◌, is_none};
+ghost use Rattle.std.specs.Prelude.{length, true};
 ghost use Rattle.std.specs.Str.{bytes_eq};
 ghost use Rattle.run_plan.specs.Admitted.{Admitted};
 ghost use Rattle.workflow_runs.specs.BoundGroups.{ErrsOnlyByMemory};
 ghost use Rattle.workflow_runs.specs.Counted.{AreCounted, IsOf, count_of, is_counted};
 ghost use Rattle.workflow_runs.specs.Delivered.{FindsFirst};
+ghost use Rattle.workflow_runs.specs.NewRun.{is_delivered_as};
+ghost use Rattle.workflow_runs.specs.RunNumber.{events, number_of_next};
 
+use crate::run::Run;
 use crate::runs::counts::{Counts, Workflow};
 use crate::runs::places::Places;
 use run_plan::Prepared;
@@ -32,9 +37,33 @@ impl Index {
         }
     }
 
-    /// Takes the memory for the run of an event of this workflow, which is to stand at the place, and answers its number. The place is kept
-    /// for its delivery unless one of its runs was found before; the run is not counted yet.
+    /// Takes the memory for one run more behind these, of an event of this workflow, and answers its number. Its place is kept for its
+    /// delivery unless one of its runs was found before; it is not counted yet.
     pub(crate) fn make_room(
+        &mut self,
+        alloc: Global,
+        runs: &[Run],
+        event: &Prepared,
+        workflow: &Workflow,
+        found: Option<usize>,
+    ) -> Result<usize, Refusal>
+        requires few { length runs.now < 100000 }
+        requires found { found ≡ position (is_delivered_as event.now.delivery) runs.now }
+        requires workflow { IsOf workflow.now event.now }
+        requires finds { FindsFirst (events runs.now) self.old.places.places }
+        requires counted { AreCounted (events runs.now) self.old.counts.counts }
+        ensures err { ErrsOnlyByMemory result }
+        ensures number { IfOk result (λ number. number ≡ number_of_next runs.now event.now) }
+        ensures finds { FindsFirst (events runs.now) self.new.places.places }
+        ensures counted { AreCounted (events runs.now) self.new.counts.counts }
+        ensures one_more { OnOk result (FindsFirst (events runs.now ++ event.now ∷ []) self.new.places.places) }
+        ensures room { OnOk result (is_counted self.new.counts.counts event.now ≡ true) }
+    {
+        self.take_memory(alloc, event, workflow, runs.len(), found)
+    }
+
+    /// The same for a run that is to stand at a place.
+    fn take_memory(
         &mut self,
         alloc: Global,
         event: &Prepared,

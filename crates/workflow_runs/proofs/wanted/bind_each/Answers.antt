@@ -1,16 +1,15 @@
 use Rattle.std.specs.Prelude.{◌≡◌, ℕ, ◌++◌, ◌∷◌, [], List, Some, length, slice_get}
 use Rattle.std.proofs.Common.{arith, ap, sym, subst, ◌∙◌}
 use Rattle.std.proofs.lemmas.List.{length-append}
-use Rattle.wf_expr.specs.Bound.{Results, no_results}
-use Rattle.wf_expr.specs.ContextValue.{Values}
+use Rattle.wf_expr.specs.Bound.{no_results}
 use Rattle.wf_expr.specs.declared.piece.Piece.{Piece}
 use Rattle.run_plan.specs.Admitted.{Admitted}
 use Rattle.run_plan.specs.PlanOf.{plan_of}
 use Rattle.workflow_runs.specs.BoundGroups.{facts_by, need_of_job}
-use Rattle.workflow_runs.specs.KnownLabels.{Tells, kept_of, kept_of_leg}
+use Rattle.workflow_runs.specs.KnownLabels.{kept_of, kept_of_leg}
 use Rattle.workflow_runs.specs.LegContext.{context_of}
 use Rattle.workflow_runs.specs.declared.wanted.Wanted.{Wanted}
-use Rattle.workflow_runs.proofs.Binding.{by_needs, one_more}
+use Rattle.workflow_runs.proofs.Binding.{one_more}
 use Rattle.workflow_runs.proofs.Doors.{given}
 use Rattle.workflow_runs.proofs.KeptLabels.{kept_by_none}
 use Rattle.workflow_runs.proofs.wanted.bind_each.Goals as goal
@@ -25,27 +24,17 @@ loop-leg-preserved c =
     let leg = c.loop-leg.leg in
     let needs = c.leg_needs-needs.result in
     let context = context_of c.leg_context-context.result in
-    let values : ℕ → Results → Values = λ l results. context_of (facts_by told c.args.j job l results) in
-    let is_its : ℕ → Wanted → Type 0 = λ l kept. (kept ≡ kept_of_leg told c.args.j job l) × Tells (values l) job.labels kept in
-    let has = by_needs context needs told.event c.args.j (values leg) c.leg_needs-needs.ensures.event c.leg_needs-needs.ensures.place
-    c.leg_context-context.ensures in
-    let tells = subst (λ (labels : List (List Piece)). Tells (values leg) labels wanted) c.as_slice.ensures
-    (c.in_ok-wanted.ensures.tells (values leg) has) in
+    let is_its : ℕ → Wanted → Type 0 = λ l kept. kept ≡ kept_of_leg told c.args.j job l in
     let kept : wanted ≡ kept_of_leg told c.args.j job leg =
-    sym (given _ _ c.in_ok-wanted.ensures.kept)
+    sym (given _ _ c.in_ok-wanted.ensures)
     ∙ ap (λ (labels : List (List Piece)). kept_of context (need_of_job (plan_of needs.0.admitted.body) needs.1) labels) c.as_slice.ensures
     ∙ ap (λ (event : Admitted). kept_of context (need_of_job (plan_of event.body) needs.1) job.labels) c.leg_needs-needs.ensures.event
     ∙ ap (λ (place : ℕ). kept_of context (need_of_job (plan_of told.event.body) place) job.labels) c.leg_needs-needs.ensures.place
-    ∙ kept_by_none context (need_of_job (plan_of told.event.body) c.args.j) job.labels (values leg no_results)
+    ∙ kept_by_none context (need_of_job (plan_of told.event.body) c.args.j) job.labels
+    (context_of (facts_by told c.args.j job leg no_results))
     (c.leg_context-context.ensures no_results) in
-    let here = subst (λ (n : ℕ). is_its n wanted) (sym c.loop-leg.invariant.0) (kept, tells) in (
+    let here = subst (λ (n : ℕ). is_its n wanted) (sym c.loop-leg.invariant.0) kept in (
       omega (arith, length-append old (wanted ∷ []), ap length now, c.loop-leg.invariant.0),
       subst (λ (items : List Wanted). (k : ℕ) (kept : Wanted) → slice_get items k ≡ Some kept → is_its k kept) (sym now)
           (one_more is_its old wanted c.loop-leg.invariant.1 here),
     )
-
-pub returns-clause-kept : goal.returns-clause-kept
-returns-clause-kept c = λ l wanted at. (c.loop-leg.invariant.1 l wanted at).0
-
-pub returns-clause-tells : goal.returns-clause-tells
-returns-clause-tells c = λ l wanted at. (c.loop-leg.invariant.1 l wanted at).1

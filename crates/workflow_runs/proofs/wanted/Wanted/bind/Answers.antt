@@ -6,7 +6,7 @@ use Rattle.workflow_runs.specs.KnownLabels.{is_known, kept_of, known_text, text_
 use Rattle.workflow_runs.specs.declared.wanted.Wanted.{Wanted}
 use Rattle.workflow_runs.specs.declared.wanted.Wanted.TheVariants as wanted
 use Rattle.workflow_runs.proofs.Doors.{given}
-use Rattle.workflow_runs.proofs.KeptLabels.{all_known, all_kept, all_whatever, known_when_bound, none_kept, one_more_known, one_text_more}
+use Rattle.workflow_runs.proofs.KeptLabels.{all_known, all_kept, known_when_bound, none_kept, one_more_known, one_text_more}
 use Rattle.workflow_runs.proofs.Optional.{if_none, if_some}
 use Rattle.workflow_runs.proofs.wanted.Wanted.bind.Goals as goal
 
@@ -32,8 +32,8 @@ loop-label-preserved g c =
       c.in_ok-push-in-Some.ensures.items ∙ texts,
     )
 
-pub returns-in-None-clause-kept : goal.returns-in-None-clause-kept
-returns-in-None-clause-kept g c =
+pub returns-in-None : goal.returns-in-None
+returns-in-None g c =
     let known = g.C.Context.values c.args.known.now in
     let need_of = g.N.Needs.need_of c.args.needs.now in
     let labels = c.args.labels.now in
@@ -45,18 +45,8 @@ returns-in-None-clause-kept g c =
     is_ok (kept_of known need_of labels) wanted.LookedUp
     (none_kept known need_of labels c.loop-label.label-index label c.loop-label-test.true c.label-item.is none)
 
-pub returns-clause-tells : goal.returns-clause-tells
-returns-clause-tells g c = λ values has results.
-    let known = g.C.Context.values c.args.known.now in
-    let need_of = g.N.Needs.need_of c.args.needs.now in
-    let labels = c.args.labels.now in
-    let all =
-    all_known known need_of labels c.loop-label.label-index c.loop-label.texts.items c.loop-label-test.false c.loop-label.invariant.0
-    c.loop-label.invariant.1 in
-    c.new.ensures ∙ all.1 ∙ all_whatever known need_of labels all.0 results (values results) (has results)
-
-pub returns-clause-kept : goal.returns-clause-kept
-returns-clause-kept g c =
+pub returns : goal.returns
+returns g c =
     let known = g.C.Context.values c.args.known.now in
     let need_of = g.N.Needs.need_of c.args.needs.now in
     let labels = c.args.labels.now in
