@@ -4,7 +4,7 @@ ghost use Rattle.std.specs.Prelude.{◌≡◌};
 ghost use Rattle.std.specs.Cmp.Lexicographic.{slice_cmp};
 ghost use Rattle.std.specs.Ordering.{is_lt, nat_cmp};
 ghost use Rattle.table_text.specs.Reading.{Finds, kept};
-ghost use Rattle.table_text.specs.ReadingTables.{claim_with, last_at, last_with, report_with, runner_at, runners_at};
+ghost use Rattle.table_text.specs.ReadingTables.{claim_with, kept_at, last_at, last_with, report_with, runner_at, runners_at};
 ghost use Rattle.table_text.specs.Tables.{names_rise};
 
 use crate::command_at::command_at;
@@ -49,17 +49,30 @@ fn last_with(command: Command, kept: Kept) -> Result<LastParts, NotRead>
     }
 }
 
+/// What is kept of a reply, at the front, and what stands behind it.
+#[tactic(auto, unfolding(crate::specs::ReadingTables::kept_at))]
+fn kept_at(bytes: &[u8]) -> Result<(Kept, &[u8]), NotRead>
+    ensures { Finds (λ f. (f.0, f.1.now)) result (kept_at bytes.now) }
+{
+    let (reply, rest) = byte_at(bytes)?;
+    let (lease, rest) = lease_at(rest)?;
+    let kept = kept_of(reply, lease_told(lease))?;
+    Ok((kept, rest))
+}
+
 /// The last command of a runner, with what is kept of its reply.
-#[tactic(auto, unfolding(crate::specs::ReadingTables::last_at, crate::specs::ReadingTables::kept_at))]
+#[tactic(auto, unfolding(crate::specs::ReadingTables::last_at))]
 fn last_at(alloc: Global, bytes: &[u8]) -> Result<(LastParts, &[u8]), NotRead>
     ensures { Finds (λ f. (f.0, f.1.now)) result (last_at bytes.now) }
 {
     let (command, rest) = command_at(alloc, bytes)?;
-    let (reply, rest) = byte_at(rest)?;
-    let (lease, rest) = lease_at(rest)?;
-    let kept = kept_of(reply, lease_told(lease))?;
-    let last = last_with(command, kept)?;
-    Ok((last, rest))
+    match kept_at(rest) {
+        Ok((kept, rest)) => {
+            let last = last_with(command, kept)?;
+            Ok((last, rest))
+        }
+        Err(why) => Err(why),
+    }
 }
 
 impl ReadAt for RunnerParts {
