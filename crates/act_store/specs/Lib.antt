@@ -10,6 +10,7 @@ pub mod Reopened
 pub mod Replayed
 pub mod Spelled
 pub mod Steps
+pub mod StoreSeen
 pub mod TableText
 pub mod Told
 pub mod Waiting

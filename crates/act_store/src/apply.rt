@@ -91,9 +91,8 @@ fn enter(
     ensures same_waiting { OnErr result (waiting.new ≡ waiting.old) }
     ensures refused { IfErr result (λ e. e ≡ no_memory) }
 {
-    history.reserve(1)?;
     let (count, spelled) = (waiting.count(), waiting.spelled_len());
-    waiting.add(alloc, &command)?;
+    make_room(alloc, history, waiting, &command)?;
     match step_and_push(alloc, table, history, seat, command) {
         Ok(reply) => Ok(reply),
         Err(refusal) => {
@@ -101,6 +100,26 @@ fn enter(
             Err(refusal)
         }
     }
+}
+
+/// Makes room for an entry, and writes its command behind those that wait.
+fn make_room(
+    alloc: Global,
+    history: &mut Vec<Entry>,
+    waiting: &mut Waiting,
+    command: &Command,
+) -> Result<(), Refusal>
+    requires few { waiting.old.count + 1 < 2 ^ 32 }
+    requires fits { 4 + length waiting.old.spelled + length (command_bytes command.now) < 2 ^ 32 }
+    ensures room { OnOk result (vec_len history.new < vec_capacity history.new) }
+    ensures waiting { OnOk result (waiting.new ≡ with_command waiting.old command.now) }
+    ensures spelled { OnOk result (IsSpelled command.now) }
+    ensures same_history { history.new.items ≡ history.old.items }
+    ensures same_waiting { OnErr result (waiting.new ≡ waiting.old) }
+    ensures refused { IfErr result (λ e. e ≡ no_memory) }
+{
+    history.reserve(1)?;
+    waiting.add(alloc, command)
 }
 
 /// Carries out a command, and enters it at the end of a history that has room for it.

@@ -42,35 +42,17 @@ pub struct Store<D: Disk> {
 impl<D: Disk> Model for Store<D> {
     ghost use Rattle.std.specs.Prelude.{◌≡◌, ◌-◌, ◌^◌, ◌<◌, false};
     ghost use Rattle.act_store.specs.Kept.{Kept};
-    ghost use Rattle.act_store.specs.Promise.{IsCounted, IsStanding};
 
     ghost Value = { Kept D };
 
-    ghost view = { λ s. record {
-      disk = s.disk;
-      area = s.areas.len;
-      base = s.base;
-      history = s.history.items;
-      covered = s.covered;
-      used = s.used;
-      generation = s.generation;
-      failed = s.failed;
-    } };
+    ghost use Rattle.act_store.specs.Promise.{IsCounted, IsStanding};
+    ghost use Rattle.act_store.specs.StoreSeen.{as_kept};
 
-    ghost invariant = { λ s.
-        let kept : Kept D = record {
-          disk = s.disk;
-          area = s.areas.len;
-          base = s.base;
-          history = s.history.items;
-          covered = s.covered;
-          used = s.used;
-          generation = s.generation;
-          failed = s.failed;
-        } in
-        IsCounted {D = D} kept s.table s.waiting
+    ghost view = { as_kept };
+
+    ghost invariant = { λ s. IsCounted {D = D} (as_kept s) s.table s.waiting
         × (s.failed ≡ false → D.Disk.fault_count s.disk < 2 ^ 64 - 1)
-        × (D.Disk.honest s.disk → IsStanding D.Disk.images s.areas.side s.other kept) };
+        × (D.Disk.honest s.disk → IsStanding D.Disk.images s.areas.side s.other (as_kept s)) };
 }
 
 impl<D: Disk> Store<D> {

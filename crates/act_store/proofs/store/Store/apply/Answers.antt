@@ -5,6 +5,7 @@ use Rattle.run_table.specs.TableState.{TableState}
 use Rattle.act_store.specs.Kept.{Kept}
 use Rattle.act_store.specs.Plain.{refusal_of_apply}
 use Rattle.act_store.specs.Promise.{IsCounted}
+use Rattle.act_store.specs.StoreSeen.{as_kept}
 use Rattle.act_store.specs.declared.entry.Entry.{Entry}
 use Rattle.act_store.proofs.Entering.{IsAdmitted, counted_entered, few_wait, is_admitted, record_is_short}
 use Rattle.act_store.proofs.Settling.{standing_entered}
@@ -13,60 +14,30 @@ use Rattle.act_store.proofs.store.Store.apply.Goals as goal
 pub enter-requires-clause-few : goal.enter-requires-clause-few
 enter-requires-clause-few g c =
     let s = c.self.inside in
-    let D = g.row.D.Denot in
-    let k : Kept D = record {
-      disk = s.disk;
-      area = s.areas.len;
-      base = s.base;
-      history = s.history.items;
-      covered = s.covered;
-      used = s.used;
-      generation = s.generation;
-      failed = s.failed;
-    } in
+    let k = as_kept s in
     let command = c.args.command in
     let none : refusal_of_apply c.args.self.now command ≡ None = search rules in
     few_wait k s.table s.waiting c.self.invariant.0 command
-    (is_admitted k command (subst (λ (v : Kept D). refusal_of_apply v command ≡ None) (sym c.self.view_is) none))
+    (is_admitted k command (subst (λ (v : Kept g.row.D.Denot). refusal_of_apply v command ≡ None) (sym c.self.view_is) none))
 
 pub enter-requires-clause-fits : goal.enter-requires-clause-fits
 enter-requires-clause-fits g c =
     let s = c.self.inside in
-    let D = g.row.D.Denot in
-    let k : Kept D = record {
-      disk = s.disk;
-      area = s.areas.len;
-      base = s.base;
-      history = s.history.items;
-      covered = s.covered;
-      used = s.used;
-      generation = s.generation;
-      failed = s.failed;
-    } in
+    let k = as_kept s in
     let command = c.args.command in
     let none : refusal_of_apply c.args.self.now command ≡ None = search rules in
     record_is_short k s.table s.waiting c.self.invariant.0 command
-    (is_admitted k command (subst (λ (v : Kept D). refusal_of_apply v command ≡ None) (sym c.self.view_is) none))
+    (is_admitted k command (subst (λ (v : Kept g.row.D.Denot). refusal_of_apply v command ≡ None) (sym c.self.view_is) none))
 
 pub invariant_of-self-2 : goal.invariant_of-self-2
 invariant_of-self-2 g c =
     let s = c.self.inside in
-    let D = g.row.D.Denot in
-    let k : Kept D = record {
-      disk = s.disk;
-      area = s.areas.len;
-      base = s.base;
-      history = s.history.items;
-      covered = s.covered;
-      used = s.used;
-      generation = s.generation;
-      failed = s.failed;
-    } in
+    let k = as_kept s in
     let counted = c.self.invariant.0 in
     let command = c.args.command in
     let none : refusal_of_apply c.args.self.now command ≡ None = search rules in
     let admitted : IsAdmitted k command = is_admitted k command
-    (subst (λ (v : Kept D). refusal_of_apply v command ≡ None) (sym c.self.view_is) none) in
+    (subst (λ (v : Kept g.row.D.Denot). refusal_of_apply v command ≡ None) (sym c.self.view_is) none) in
     let entry : Entry = record { seat = c.args.seat; command = command; reply = (stepped s.table command).reply } in
     let history = c.enter.new.history.items in
     let is : history ≡ s.history.items ++ entry ∷ [] = c.in_ok-reply.ensures.history in

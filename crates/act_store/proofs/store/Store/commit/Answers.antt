@@ -5,6 +5,7 @@ use Rattle.act_store.specs.Images.{StandsFor}
 use Rattle.act_store.specs.Kept.{Kept, StandsForEither, table_of}
 use Rattle.act_store.specs.Plain.{committed}
 use Rattle.act_store.specs.Promise.{IsCounted, IsStanding}
+use Rattle.act_store.specs.StoreSeen.{as_kept}
 use Rattle.act_store.specs.Waiting.{body_of}
 use Rattle.act_store.proofs.Committing.{now_of, none_waits, all_stands, counted_broken, counted_committed, commit_each, commit_moments}
 use Rattle.act_store.proofs.Committing.{commit_standing, commit_stands, more, used_is, same_committed}
@@ -16,37 +17,18 @@ pub returns-then-is_empty-clause-stands : goal.returns-then-is_empty-clause-stan
 returns-then-is_empty-clause-stands g c =
     let s = c.self.inside in
     let disk = g.D.Disk in
-    let D = g.row.D.Denot in
-    let k : Kept D = record {
-      disk = s.disk;
-      area = s.areas.len;
-      base = s.base;
-      history = s.history.items;
-      covered = s.covered;
-      used = s.used;
-      generation = s.generation;
-      failed = s.failed;
-    } in
+    let k = as_kept s in
     let counted = c.self.invariant.0 in
     let none : s.waiting.count ≡ 0 = search (rules, arith) in
-    subst (λ (v : Kept D). disk.honest v.disk → (image : List ℕ) → disk.images v.disk image → StandsFor (table_of v) image) c.self.view_is
+    subst (λ (v : Kept g.row.D.Denot). disk.honest v.disk → (image : List ℕ) → disk.images v.disk image → StandsFor (table_of v) image)
+    c.self.view_is
     (λ honest image now. all_stands k s.table s.waiting counted (none_waits k s.table s.waiting counted none) image
     ((c.self.invariant.2 honest).each image now))
 
 pub grow-requires-clause-fits : goal.grow-requires-clause-fits
 grow-requires-clause-fits g c =
     let s = c.self.inside in
-    let D = g.row.D.Denot in
-    let k : Kept D = record {
-      disk = s.disk;
-      area = s.areas.len;
-      base = s.base;
-      history = s.history.items;
-      covered = s.covered;
-      used = s.used;
-      generation = s.generation;
-      failed = s.failed;
-    } in
+    let k = as_kept s in
     let counted = c.self.invariant.0 in
     let some : 0 < s.waiting.count = search (rules, arith) in
     let bytes = c.as_slice-bytes.ensures in
@@ -61,22 +43,13 @@ pub returns-in-Err-clause-any_moment : goal.returns-in-Err-clause-any_moment
 returns-in-Err-clause-any_moment g c =
     let s = c.self.inside in
     let disk = g.D.Disk in
-    let D = g.row.D.Denot in
-    let k : Kept D = record {
-      disk = s.disk;
-      area = s.areas.len;
-      base = s.base;
-      history = s.history.items;
-      covered = s.covered;
-      used = s.used;
-      generation = s.generation;
-      failed = s.failed;
-    } in
+    let k = as_kept s in
     let live : s.failed ≡ false = search rules in
     let some : 0 < s.waiting.count = search (rules, arith) in
     let body = body_of s.waiting in
     let bytes = c.as_slice-bytes.ensures in
-    subst (λ (v : Kept D). disk.honest v.disk → EachSince disk.moment disk.images_since v.disk c.grow.new.disk (StandsForEither v))
+    subst (λ (v : Kept g.row.D.Denot). disk.honest v.disk
+    → EachSince disk.moment disk.images_since v.disk c.grow.new.disk (StandsForEither v))
     c.self.view_is
     (λ honest.
     let settled = (c.self.invariant.2 honest).settled live in
@@ -89,22 +62,13 @@ pub returns-in-Ok-clause-any_moment : goal.returns-in-Ok-clause-any_moment
 returns-in-Ok-clause-any_moment g c =
     let s = c.self.inside in
     let disk = g.D.Disk in
-    let D = g.row.D.Denot in
-    let k : Kept D = record {
-      disk = s.disk;
-      area = s.areas.len;
-      base = s.base;
-      history = s.history.items;
-      covered = s.covered;
-      used = s.used;
-      generation = s.generation;
-      failed = s.failed;
-    } in
+    let k = as_kept s in
     let live : s.failed ≡ false = search rules in
     let some : 0 < s.waiting.count = search (rules, arith) in
     let body = body_of s.waiting in
     let bytes = c.as_slice-bytes.ensures in
-    subst (λ (v : Kept D). disk.honest v.disk → EachSince disk.moment disk.images_since v.disk c.grow.new.disk (StandsForEither v))
+    subst (λ (v : Kept g.row.D.Denot). disk.honest v.disk
+    → EachSince disk.moment disk.images_since v.disk c.grow.new.disk (StandsForEither v))
     c.self.view_is
     (λ honest.
     let settled = (c.self.invariant.2 honest).settled live in
@@ -117,17 +81,7 @@ pub invariant_of-self : goal.invariant_of-self
 invariant_of-self g c =
     let s = c.self.inside in
     let disk = g.D.Disk in
-    let D = g.row.D.Denot in
-    let k : Kept D = record {
-      disk = s.disk;
-      area = s.areas.len;
-      base = s.base;
-      history = s.history.items;
-      covered = s.covered;
-      used = s.used;
-      generation = s.generation;
-      failed = s.failed;
-    } in
+    let k = as_kept s in
     let counted = c.self.invariant.0 in
     let live : s.failed ≡ false = search rules in
     let some : 0 < s.waiting.count = search (rules, arith) in
@@ -152,17 +106,7 @@ pub invariant_of-self-in-Ok : goal.invariant_of-self-in-Ok
 invariant_of-self-in-Ok g c =
     let s = c.self.inside in
     let disk = g.D.Disk in
-    let D = g.row.D.Denot in
-    let k : Kept D = record {
-      disk = s.disk;
-      area = s.areas.len;
-      base = s.base;
-      history = s.history.items;
-      covered = s.covered;
-      used = s.used;
-      generation = s.generation;
-      failed = s.failed;
-    } in
+    let k = as_kept s in
     let counted = c.self.invariant.0 in
     let live : s.failed ≡ false = search rules in
     let some : 0 < s.waiting.count = search (rules, arith) in
@@ -174,7 +118,7 @@ invariant_of-self-in-Ok g c =
     let used = s.used + length c.as_slice-bytes.result.now in
     let grows : used ≡ _ = used_is k s.table s.waiting counted some (length c.as_slice-bytes.result.now)
     (ap (λ (l : List ℕ). length l) (bytes.bytes some) ∙ length_record body) in
-    subst (λ (v : Kept D). IsCounted v s.table c.keep.new.self × (v.failed ≡ false → disk.fault_count v.disk < 2 ^ 64 - 1)
+    subst (λ (v : Kept g.row.D.Denot). IsCounted v s.table c.keep.new.self × (v.failed ≡ false → disk.fault_count v.disk < 2 ^ 64 - 1)
     × (disk.honest v.disk → IsStanding disk.images s.areas.side s.other v))
     (same_committed k d1 covered used all grows) (
       counted_committed k s.table s.waiting counted some d1 c.keep.new.self c.keep.ensures.count c.keep.ensures.spelled,
@@ -191,17 +135,7 @@ pub returns-in-Ok-clause-stands : goal.returns-in-Ok-clause-stands
 returns-in-Ok-clause-stands g c = λ honest1.
     let s = c.self.inside in
     let disk = g.D.Disk in
-    let D = g.row.D.Denot in
-    let k : Kept D = record {
-      disk = s.disk;
-      area = s.areas.len;
-      base = s.base;
-      history = s.history.items;
-      covered = s.covered;
-      used = s.used;
-      generation = s.generation;
-      failed = s.failed;
-    } in
+    let k = as_kept s in
     let live : s.failed ≡ false = search rules in
     let some : 0 < s.waiting.count = search (rules, arith) in
     let body = body_of s.waiting in
@@ -209,7 +143,7 @@ returns-in-Ok-clause-stands g c = λ honest1.
     let d1 = c.grow.new.disk in
     let honest = c.grow.ensures.honest.0 honest1 in
     let settled = (c.self.invariant.2 honest).settled live in
-    subst (λ (v : Kept D). (image : List ℕ) → disk.images d1 image → StandsFor (table_of v) image) c.self.view_is
+    subst (λ (v : Kept g.row.D.Denot). (image : List ℕ) → disk.images d1 image → StandsFor (table_of v) image) c.self.view_is
     (commit_stands k s.table s.waiting c.self.invariant.0 some disk.images s.areas.side s.other settled d1
     (c.in-Ok.ensures.grown s.other settled.head settled.bodies body honest settled.each settled.used_is (bytes.bytes some)
     (bytes.short some)))
@@ -217,17 +151,7 @@ returns-in-Ok-clause-stands g c = λ honest1.
 pub returns-in-Ok-clause-some : goal.returns-in-Ok-clause-some
 returns-in-Ok-clause-some g c =
     let s = c.self.inside in
-    let D = g.row.D.Denot in
-    let k : Kept D = record {
-      disk = s.disk;
-      area = s.areas.len;
-      base = s.base;
-      history = s.history.items;
-      covered = s.covered;
-      used = s.used;
-      generation = s.generation;
-      failed = s.failed;
-    } in
+    let k = as_kept s in
     let some : 0 < s.waiting.count = search (rules, arith) in
     let bytes = c.as_slice-bytes.ensures in
     let d1 = c.grow.new.disk in
@@ -236,6 +160,7 @@ returns-in-Ok-clause-some g c =
     let used = s.used + length c.as_slice-bytes.result.now in
     let grows : used ≡ _ = used_is k s.table s.waiting c.self.invariant.0 some (length c.as_slice-bytes.result.now)
     (ap (λ (l : List ℕ). length l) (bytes.bytes some) ∙ length_record (body_of s.waiting)) in
-    subst (λ (v : Kept D). v.covered < length v.history → record k { disk = d1; covered = covered; used = used } ≡ committed v d1)
+    subst (λ (v : Kept g.row.D.Denot). v.covered < length v.history
+    → record k { disk = d1; covered = covered; used = used } ≡ committed v d1)
     c.self.view_is
     (λ _. sym (same_committed k d1 covered used all grows))
