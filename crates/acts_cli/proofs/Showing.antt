@@ -1,7 +1,6 @@
 -- What a showing has written, run by run.
 use Rattle.std.proofs.Common.{◌≡◌, ◌∙◌, ◌⊎◌, inl, inr, ℕ, suc, ◌+◌, ◌-◌, ◌<◌, ◌≤◌, List, [], ◌++◌, length, Option, Some, None}
-use Rattle.std.proofs.Common.{Result, Ok, Err, IfErr, sym, ap, subst, append-nil, arith}
-use Rattle.std.specs.Prelude.{IsErrAnd}
+use Rattle.std.proofs.Common.{Result, Ok, Err, IfErr, OnOk, refl, sym, ap, append-nil, arith}
 use Rattle.std.specs.Option.{option_map_or}
 use Rattle.std.specs.Prelude.{option_map}
 use Rattle.std.proofs.lemmas.Option.{slice_get_cases}
@@ -88,15 +87,9 @@ not_there t place is =
 pub opened_table : {D : Type 0} (s : Kept D) → s.history ≡ [] → s.base ≡ table_of s
 opened_table s begun = ap (λ (h : List Entry). table_after s.base h) (sym begun)
 
--- all is shown, and the writer is flushed
-pub shows_after : {U : Type 0} (image out : List ℕ) (t : TableState) (r : Result U Refusal) → StandsFor t image → out ≡ shown t
-    → IfErr r (λ e. e ≡ stream_failed) → Shows image out r
-shows_after image out t (Ok u) stands all why = (t, stands, all)
-shows_after image out t (Err e) stands all why = inr (inl why, (t, stands, [], append-nil out ∙ all))
-
--- writing failed
-pub shows_front : {U : Type 0} (image out rest : List ℕ) (t : TableState) (r : Result U Refusal) (e : Refusal) → IsErrAnd r (λ f. f ≡ e)
-    → (e ≡ stream_failed) ⊎ (e ≡ no_memory) → StandsFor t image → out ++ rest ≡ shown t → Shows image out r
-shows_front image out rest t (Ok u) e is why stands joined = absurd is
-shows_front image out rest t (Err f) e is why stands joined =
-    inr (subst (λ x. (x ≡ stream_failed) ⊎ (x ≡ no_memory)) (sym is) why, (t, stands, rest, joined))
+-- what a showing wrote of a table, all or a front
+pub shows_told : {U : Type 0} (image : List ℕ) (t : TableState) (Wrote : List ℕ → Type 0) (r : Result U Refusal) → StandsFor t image
+    → OnOk r (Wrote (shown t)) → ((out : List ℕ) × (rest : List ℕ) × Wrote out × (out ++ rest ≡ shown t))
+    → IfErr r (λ e. (e ≡ stream_failed) ⊎ (e ≡ no_memory)) → (out : List ℕ) × Wrote out × Shows image out r
+shows_told image t Wrote (Ok u) stands all front why = (shown t, all, (t, stands, refl))
+shows_told image t Wrote (Err e) stands all front why = (front.0, front.2, inr (why, (t, stands, front.1, front.3)))

@@ -116,15 +116,28 @@ fn with_stores<'a>(alloc: Global, acts: Command<'a>) -> Result<Command<'a>, Allo
     acts.subcommand(show_command(alloc)?)
 }
 
-/// The command line of `acts`. Its `explain` takes one of these numbers.
-fn command<'a>(alloc: Global, numbers: &'a [&'a str]) -> Result<Command<'a>, AllocError> {
-    let acts = Command::new(alloc, "acts")
+/// With the command that explains a refusal, of one of these numbers.
+fn with_explain<'a>(
+    alloc: Global,
+    acts: Command<'a>,
+    numbers: &'a [&'a str],
+) -> Result<Command<'a>, AllocError> {
+    acts.subcommand(explain_command(alloc, numbers)?)
+}
+
+/// The program without a command yet.
+fn program<'a>(alloc: Global) -> Command<'a> {
+    Command::new(alloc, "acts")
         .about("The coordinating half of GitHub Actions")
         .version(VERSION)
-        .subcommand_required(true);
-    let acts = with_readers(alloc, acts)?;
+        .subcommand_required(true)
+}
+
+/// The command line of `acts`. Its `explain` takes one of these numbers.
+fn command<'a>(alloc: Global, numbers: &'a [&'a str]) -> Result<Command<'a>, AllocError> {
+    let acts = with_readers(alloc, program(alloc))?;
     let acts = with_stores(alloc, acts)?;
-    acts.subcommand(explain_command(alloc, numbers)?)
+    with_explain(alloc, acts, numbers)
 }
 
 /// What the words of `acts init` ask for.

@@ -1,11 +1,12 @@
 ghost use Rattle.std.specs.Prelude.{◌≡◌, Ok, Some, None, IfOk, IfErr, ok_or};
 ghost use Rattle.wf_value.specs.Gives.{Gives};
-ghost use Rattle.acts_cli.specs.Line.{not_a_line, admit_of, claim_of, outcome_of, done_of, beat_of};
+ghost use Rattle.run_plan.specs.SmallText.{label_list_of, short_text_of};
+ghost use Rattle.acts_cli.specs.Line.{not_a_line, prepared, admit_of, claim_of, outcome_of, done_of, beat_of};
 ghost use Rattle.acts_cli.specs.Line.{cancel_of, lost_of, look_of, fetch_of, command_by, command_of};
 
 use crate::fields::{at_space, three_fields};
 use run_plan::{
-    Beat, Claim, Command, DeliveryId, Done, EventName, Labels, Number, RunnerName, prepare,
+    Beat, Claim, Command, DeliveryId, Done, EventName, Form, Labels, Number, SmallText, prepare,
 };
 use std::alloc::Global;
 use wf_value::{Code, Outcome, Refusal};
@@ -18,12 +19,38 @@ fn spelled<T: Drop>(part: Option<T>) -> Result<T, Refusal>
     part.ok_or(Refusal::Numbered(Code::Line))
 }
 
+/// The small text that a field is.
+fn small_text<F: Form>(alloc: Global, field: &[u8]) -> Result<SmallText<F>, Refusal>
+    ensures { Gives (λ t. t) result (ok_or (short_text_of F.allows field.now) not_a_line) }
+{
+    spelled(SmallText::of(alloc, field)?)
+}
+
+/// The labels that a field is.
+fn labels(alloc: Global, field: &[u8]) -> Result<Labels, Refusal>
+    ensures { Gives (λ l. l) result (ok_or (label_list_of field.now) not_a_line) }
+{
+    spelled(Labels::of(alloc, field)?)
+}
+
 fn admit_of(alloc: Global, fields: &[u8]) -> Result<Command, Refusal>
     ensures { Gives (λ c. c) result (admit_of fields.now) }
 {
     let (delivery, event, body) = spelled(three_fields(fields))?;
-    let delivery = spelled(DeliveryId::of(alloc, delivery)?)?;
-    let event = spelled(EventName::of(alloc, event)?)?;
+    let delivery = small_text(alloc, delivery)?;
+    let event = small_text(alloc, event)?;
+    prepared(alloc, delivery, event, body)
+}
+
+/// The admission of an event, or the first fault of its body.
+fn prepared(
+    alloc: Global,
+    delivery: DeliveryId,
+    event: EventName,
+    body: &[u8],
+) -> Result<Command, Refusal>
+    ensures { Gives (λ c. c) result (prepared (record { delivery = delivery; event = event; body = body.now })) }
+{
     let body = body.to_vec(alloc)?;
     Ok(Command::Admit(prepare(alloc, event, delivery, body)?))
 }
@@ -31,11 +58,14 @@ fn admit_of(alloc: Global, fields: &[u8]) -> Result<Command, Refusal>
 fn claim_of(alloc: Global, fields: &[u8]) -> Result<Command, Refusal>
     ensures { Gives (λ c. c) result (ok_or (claim_of fields.now) not_a_line) }
 {
-    let (runner, number, labels) = spelled(three_fields(fields))?;
+    let (runner, number, asked) = spelled(three_fields(fields))?;
+    let runner = small_text(alloc, runner)?;
+    let number = spelled(Number::of(number))?;
+    let labels = labels(alloc, asked)?;
     Ok(Command::Claim(Claim {
-        runner: spelled(RunnerName::of(alloc, runner)?)?,
-        number: spelled(Number::of(number))?,
-        labels: spelled(Labels::of(alloc, labels)?)?,
+        runner,
+        number,
+        labels,
     }))
 }
 
@@ -58,11 +88,15 @@ fn done_of(alloc: Global, fields: &[u8]) -> Result<Command, Refusal>
 {
     let (runner, fields) = spelled(at_space(fields))?;
     let (number, lease, outcome) = spelled(three_fields(fields))?;
+    let runner = small_text(alloc, runner)?;
+    let number = spelled(Number::of(number))?;
+    let lease = spelled(Number::of(lease))?;
+    let result = spelled(outcome_of(outcome))?;
     Ok(Command::Done(Done {
-        runner: spelled(RunnerName::of(alloc, runner)?)?,
-        number: spelled(Number::of(number))?,
-        lease: spelled(Number::of(lease))?,
-        result: spelled(outcome_of(outcome))?,
+        runner,
+        number,
+        lease,
+        result,
     }))
 }
 
@@ -70,10 +104,9 @@ fn beat_of(alloc: Global, fields: &[u8]) -> Result<Command, Refusal>
     ensures { Gives (λ c. c) result (ok_or (beat_of fields.now) not_a_line) }
 {
     let (runner, lease) = spelled(at_space(fields))?;
-    Ok(Command::Beat(Beat {
-        runner: spelled(RunnerName::of(alloc, runner)?)?,
-        lease: spelled(Number::of(lease))?,
-    }))
+    let runner = small_text(alloc, runner)?;
+    let lease = spelled(Number::of(lease))?;
+    Ok(Command::Beat(Beat { runner, lease }))
 }
 
 fn cancel_of(field: &[u8]) -> Result<Command, Refusal>
@@ -85,7 +118,7 @@ fn cancel_of(field: &[u8]) -> Result<Command, Refusal>
 fn lost_of(alloc: Global, field: &[u8]) -> Result<Command, Refusal>
     ensures { Gives (λ c. c) result (ok_or (lost_of field.now) not_a_line) }
 {
-    Ok(Command::Lost(spelled(RunnerName::of(alloc, field)?)?))
+    Ok(Command::Lost(small_text(alloc, field)?))
 }
 
 fn look_of(field: &[u8]) -> Result<Command, Refusal>

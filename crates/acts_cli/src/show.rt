@@ -58,6 +58,21 @@ fn write_views<D: Disk, W: Write>(
     Ok(())
 }
 
+/// The same, and sends on what the writer holds back.
+fn show_store<D: Disk, W: Write>(
+    alloc: Global,
+    store: &Store<D>,
+    writer: &mut W,
+) -> Result<(), Refusal>
+    ensures all { OnOk result (Appends (W.contents writer.old) (W.contents writer.new) (shown (table_of store.now))) }
+    ensures front { (out : List ℕ) × (rest : List ℕ) × Appends (W.contents writer.old) (W.contents writer.new) out
+        × (out ++ rest ≡ shown (table_of store.now)) }
+    ensures err { IfErr result (λ e. (e ≡ stream_failed) ⊎ (e ≡ no_memory)) }
+{
+    write_views(alloc, store, writer)?;
+    flush(writer)
+}
+
 /// Shows what a disk stands for: opens it, and writes the view of each run, in the order of their ids, and a
 /// line feed. A disk on which no area is open is refused 53, one whose area spells no table 54, with nothing
 /// written. Where the device fails that is 51, a failed write is 61, and want of memory 50.
@@ -70,10 +85,8 @@ pub fn run_show<D: Disk + Drop, W: Write>(
     ensures { (after : D) × (D.honest after → (out : List ℕ) × Appends (W.contents writer.old) (W.contents writer.new) out
         × Shows (D.seen disk) out result) }
 {
-    let store = match Store::open(alloc, disk) {
-        Ok(store) => store,
-        Err((_, refusal)) => return Err(refusal),
-    };
-    write_views(alloc, &store, writer)?;
-    flush(writer)
+    match Store::open(alloc, disk) {
+        Ok(store) => show_store(alloc, &store, writer),
+        Err((_, refusal)) => Err(refusal),
+    }
 }
