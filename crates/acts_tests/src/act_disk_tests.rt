@@ -23,39 +23,49 @@ pub type Row = (Ask, bool, u64, u64);
 /// Makes the calls, through the disk's trait.
 pub fn play<D: Disk>(rt: &impl Abort, disk: &mut D, rows: &[Row]) {
     for (place, (ask, succeeds, faults, len)) in rows.iter().enumerate() {
-        holds!(rt; is_answered(disk, ask) == *succeeds, place);
+        holds!(rt; is_answered(rt, disk, ask) == *succeeds, place);
         holds!(rt; disk.faults() == *faults, place);
         holds!(rt; disk.len() == *len, place);
     }
 }
 
-fn is_answered<D: Disk>(disk: &mut D, ask: &Ask) -> bool {
+fn is_answered<D: Disk>(rt: &impl Abort, disk: &mut D, ask: &Ask) -> bool {
+    holds!(rt; disk.faults() < u64::MAX);
     match ask {
-        Ask::Write(at, bytes) => is_written(disk, *at, bytes),
-        Ask::Sync => is_synced(disk),
-        Ask::Read(at, want) => is_read(disk, *at, want),
+        Ask::Write(at, bytes) => disk.write_at(*at, bytes).is_ok(),
+        Ask::Sync => disk.sync().is_ok(),
+        Ask::Read(at, want) => is_read(rt, disk, *at, want),
     }
 }
 
-fn is_written<D: Disk>(disk: &mut D, at: u64, bytes: &[u8]) -> bool {
-    disk.faults() < u64::MAX && disk.write_at(at, bytes).is_ok()
-}
-
-fn is_synced<D: Disk>(disk: &mut D) -> bool {
-    disk.faults() < u64::MAX && disk.sync().is_ok()
-}
-
-/// Whether the disk reads so, which are four bytes at most.
-fn is_read<D: Disk>(disk: &mut D, at: u64, want: &[u8]) -> bool {
+/// Whether the disk reads so, which are four bytes at most, and none past its end.
+fn is_read<D: Disk>(rt: &impl Abort, disk: &mut D, at: u64, want: &[u8]) -> bool {
     let mut four = [0; 4];
-    let Some(found) = four.get_mut(..want.len()) else {
-        return false;
-    };
+    holds!(rt; want.len() <= 4);
+    let found = &mut four[..want.len()];
     let len = disk.len();
-    if at > len || found.len() as u64 > len - at || disk.faults() == u64::MAX {
-        return false;
-    }
+    holds!(rt; at <= len && want.len() as u64 <= len - at);
+    holds!(rt; disk.faults() < u64::MAX);
     disk.read(at, found).is_ok() && *found == *want
+}
+
+/// Whether a disk in memory noted this call so.
+fn is_noted(call: &Call, ask: &Ask) -> bool {
+    match (call, ask) {
+        (Call::Write { at, bytes }, Ask::Write(place, want)) => {
+            at == place && bytes.as_slice() == *want
+        }
+        (Call::Sync, Ask::Sync) => true,
+        _ => false,
+    }
+}
+
+/// The calls that a disk in memory has noted.
+pub fn expect_calls(rt: &impl Abort, calls: &[Call], want: &[Ask]) {
+    holds!(rt; calls.len() == want.len());
+    for (place, (call, ask)) in calls.iter().zip(want).enumerate() {
+        holds!(rt; is_noted(call, ask), place);
+    }
 }
 
 /// A disk in memory that holds these bytes.
@@ -82,27 +92,15 @@ const KEPT: &[Row] = &[
     (Ask::Read(1, b"bXYe"), true, 0, 6),
 ];
 
+const KEPT_CALLS: &[Ask] = &[Ask::Write(0, b"abcdef"), Ask::Sync, Ask::Write(2, b"XY")];
+
 #[test]
 fn memory_keeps_bytes_and_calls(rt: HostRuntime) {
     let mut disk = MemoryDisk::new(rt.alloc());
     holds!(rt; disk.len() == 0 && disk.faults() == 0);
     play(&rt, &mut disk, KEPT);
-    expect_held(&rt, &disk, b"abXYef", 3);
-    expect_calls(&rt, disk.calls());
-}
-
-fn is_write(call: &Call, place: u64, want: &[u8]) -> bool {
-    match call {
-        Call::Write { at, bytes } => *at == place && bytes.as_slice() == want,
-        Call::Sync => false,
-    }
-}
-
-fn expect_calls(rt: &impl Abort, calls: &[Call]) {
-    holds!(rt; calls.len() == 3);
-    holds!(rt; is_write(&calls[0], 0, b"abcdef"));
-    holds!(rt; matches!(&calls[1], Call::Sync));
-    holds!(rt; is_write(&calls[2], 2, b"XY"));
+    expect_bytes(&rt, disk.bytes(), b"abXYef");
+    expect_calls(&rt, disk.calls(), KEPT_CALLS);
 }
 
 const REFUSED_A_GROWTH: &[Row] = &[
@@ -264,30 +262,20 @@ fn fault_is_refusal_51(rt: HostRuntime) {
     holds!(rt; refusal.number() == 51);
 }
 
-/// Grows the disk, whose length is 5,000 then, with zeros at its end.
+/// Grows the disk, whose length is 5,000 then, by two calls in all, with zeros at its end.
 fn expect_grown(rt: &impl Abort, disk: &mut MemoryDisk, len: u64) {
     holds!(rt; disk.faults() == 0);
-    holds!(rt; is_grown(disk, len));
-    expect_zero_at_last(rt, disk.bytes());
-}
-
-fn is_grown(disk: &mut MemoryDisk, len: u64) -> bool {
-    disk.faults() < u64::MAX && grow_to(disk, len).is_ok()
-}
-
-fn expect_zero_at_last(rt: &impl Abort, bytes: &[u8]) {
+    holds!(rt; grow_to(disk, len).is_ok());
+    holds!(rt; disk.calls().len() == 2);
+    let bytes = disk.bytes();
     holds!(rt; bytes.len() == 5000);
     holds!(rt; bytes[4999] == 0);
 }
 
+/// Grows the disk, and then not, as it is longer.
 #[test]
 fn disk_grows_by_zeros(rt: HostRuntime) {
-    grow_twice(&rt, &mut holding(&rt, rt.alloc(), b"abc"));
-}
-
-/// Grows the disk, and then not, as it is longer.
-fn grow_twice(rt: &impl Abort, disk: &mut MemoryDisk) {
-    expect_grown(rt, disk, 5000);
-    holds!(rt; disk.calls().len() == 2);
-    expect_grown(rt, disk, 4);
+    let mut disk = holding(&rt, rt.alloc(), b"abc");
+    expect_grown(&rt, &mut disk, 5000);
+    expect_grown(&rt, &mut disk, 4);
 }

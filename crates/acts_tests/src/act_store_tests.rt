@@ -13,7 +13,7 @@ mod texts;
 
 use crate::commands::{Words, command_of};
 use crate::holds::holds;
-use act_disk::Disk;
+use act_disk::{Disk, MemoryDisk};
 use act_store::{Receipt, Store};
 use std::alloc::Global;
 use std::process::Abort;
@@ -65,16 +65,24 @@ pub fn made<D: Disk>(rt: &impl Abort, alloc: Global, disk: D, area: u64) -> Stor
     }
 }
 
+/// Closes a store. Its disk is not needed any more.
+pub fn close(store: Store<MemoryDisk>) {
+    let _disk = store.into_disk();
+}
+
 /// The number with which a disk is refused, and 0 where it opens.
-fn number_of_opening<D: Disk + Drop>(rt: &impl Abort, alloc: Global, disk: D) -> u64 {
+fn number_of_opening(rt: &impl Abort, alloc: Global, disk: MemoryDisk) -> u64 {
     match try_open(rt, alloc, disk) {
-        Ok(_) => 0,
+        Ok(store) => {
+            close(store);
+            0
+        }
         Err((_, refusal)) => refusal.number(),
     }
 }
 
 /// The store of a disk that opens.
-fn opened<D: Disk>(rt: &impl Abort, alloc: Global, disk: D) -> Store<D> {
+fn opened(rt: &impl Abort, alloc: Global, disk: MemoryDisk) -> Store<MemoryDisk> {
     match try_open(rt, alloc, disk) {
         Ok(store) => store,
         Err((_, refusal)) => panic!(rt; "not opened: {refusal}"),
@@ -112,6 +120,19 @@ fn applied<D: Disk>(
     let receipt = apply(alloc, store, 7, words)?;
     holds!(rt; receipt.place == store.entries());
     receipt.reply.text(alloc)
+}
+
+/// That the command is refused with this number, or entered where it is 0, and how many entries there are then.
+pub fn expect_entered(
+    rt: &impl Abort,
+    alloc: Global,
+    store: &mut Store<MemoryDisk>,
+    words: &Words<'_>,
+    (number, entries): (u64, u64),
+) {
+    let outcome = applied(rt, alloc, store, words);
+    holds!(rt; number_of(outcome) == number, entries);
+    holds!(rt; store.entries() == entries);
 }
 
 fn covered_text(alloc: Global, count: u64) -> Result<Chars, Refusal> {

@@ -1,15 +1,15 @@
+ghost use Rattle.std.specs.Prelude.{◌+◌, ◌<◌, ◌≤◌, ◌^◌};
+
 mod rows;
 pub mod steps;
 mod sweep;
 mod torn;
 
 use crate::holds::holds;
-use act_disk::{Call, Disk, DiskFault, Fill, MemoryDisk};
+use act_disk::{Disk, DiskFault, Fill, MemoryDisk};
 use gated_journal::{Area, scan};
 use std::alloc::Global;
 use std::process::Abort;
-use std::test::Fail;
-use wf_value::Refusal;
 
 /// The first half of a disk of 8,192 bytes.
 const FIRST: Area = Area {
@@ -23,21 +23,23 @@ const FRONT: [u8; 31] = [
 ];
 
 /// A body of nine bytes behind its length, and a closed gate.
-const RECORD: [u8; 14] = [0, 0, 0, 9, 0, 0, 0, 1, 7, 0, 0, 0, 1, 0];
+const RECORD: &[u8] = &[0, 0, 0, 9, 0, 0, 0, 1, 7, 0, 0, 0, 1, 0];
+
+const FILLS: &[Fill] = &[Fill::Old, Fill::New, Fill::Half, Fill::Gates];
 
 /// A disk with that front; all behind it is FF, but for a closed gate at the other half.
-fn fresh_disk(alloc: Global) -> Result<MemoryDisk, Refusal> {
+fn fresh_disk(rt: &impl Abort, alloc: Global) -> MemoryDisk {
     let mut bytes = [0xFF; 8192];
     bytes[..31].copy_from_slice(&FRONT);
     bytes[4096] = 0;
-    MemoryDisk::from_slice(alloc, &bytes)
+    MemoryDisk::from_slice(alloc, &bytes).expect(rt, "a disk")
 }
 
 /// A fresh disk with the record behind its first gate.
-fn appended_disk(rt: &impl Abort, alloc: Global) -> Result<MemoryDisk, Fail> {
-    let mut disk = fresh_disk(alloc)?;
-    append(rt, FIRST, &mut disk, 30, &RECORD)?;
-    Ok(disk)
+fn appended_disk(rt: &impl Abort, alloc: Global) -> MemoryDisk {
+    let mut disk = fresh_disk(rt, alloc);
+    append(rt, FIRST, &mut disk, 30, RECORD).expect(rt, "a record");
+    disk
 }
 
 /// The disk that a stop inside a call of this one leaves.
@@ -47,9 +49,20 @@ fn image_of(
     disk: &MemoryDisk,
     call: u64,
     fill: Fill,
-) -> Result<MemoryDisk, Refusal> {
+) -> MemoryDisk {
     holds!(rt; (call as usize) < disk.calls().len());
-    disk.image(alloc, call, fill)
+    disk.image(alloc, call, fill).expect(rt, "an image")
+}
+
+/// That so many bytes from a place on lie in the area, and that the disk can count one more fault.
+fn expect_room<D: Disk>(rt: &impl Abort, area: Area, disk: &D, at: u64, len: u64)
+    ensures countable { D.fault_count disk.now < u64.MAX }
+    ensures addressed { area.start + area.len < 2 ^ 64 }
+    ensures fits { at + len ≤ area.len }
+{
+    holds!(rt; disk.faults() < u64::MAX);
+    holds!(rt; area.start <= 1 << 32 && area.len <= 1 << 32);
+    holds!(rt; at <= 1 << 32 && len <= 1 << 32 && at + len <= area.len);
 }
 
 /// Appends to an area of a disk.
@@ -60,10 +73,7 @@ fn append<D: Disk>(
     at: u64,
     bytes: &[u8],
 ) -> Result<(), DiskFault> {
-    holds!(rt; disk.faults() < u64::MAX);
-    holds!(rt; area.start <= 1 << 32 && area.len <= 1 << 32);
-    let len = bytes.len() as u64;
-    holds!(rt; at <= 1 << 32 && len <= 1 << 32 && at + len + 1 <= area.len);
+    expect_room(rt, area, disk, at, bytes.len() as u64 + 1);
     area.append(disk, at, bytes)
 }
 
@@ -75,10 +85,8 @@ fn put<D: Disk>(
     at: u64,
     bytes: &[u8],
 ) -> Result<(), DiskFault> {
-    holds!(rt; disk.faults() < u64::MAX);
-    holds!(rt; area.start <= 1 << 32 && area.len <= 1 << 32);
-    let len = bytes.len() as u64;
-    holds!(rt; 0 < at && at <= 1 << 32 && len <= 1 << 32 && at + len <= area.len);
+    holds!(rt; 0 < at);
+    expect_room(rt, area, disk, at, bytes.len() as u64);
     area.put(disk, at, bytes)
 }
 
@@ -90,12 +98,4 @@ fn gate_in(area: &[u8]) -> Option<u64> {
 /// The same of the first area of a disk.
 fn gate_of(disk: &MemoryDisk) -> Option<u64> {
     gate_in(disk.bytes().get(..4096)?)
-}
-
-/// Whether a call wrote these bytes there.
-fn wrote(call: &Call, offset: u64, want: &[u8]) -> bool {
-    match call {
-        Call::Write { at, bytes } => *at == offset && bytes.as_slice() == want,
-        Call::Sync => false,
-    }
 }

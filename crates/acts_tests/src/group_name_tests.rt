@@ -6,12 +6,12 @@ use crate::wf_expr_tests::binding::{Ended, FAILED, NONE, bound_of};
 use group_name::{BoundGroup, GroupKey};
 use std::alloc::Global;
 use std::process::Abort;
-use wf_value::{Refusal, Same, TryCopy};
+use wf_value::{Same, TryCopy};
 
 /// A repository and a name.
 type Named = (&'static str, &'static str);
 
-static ONE_GROUP: [(Named, Named); 7] = [
+const ONE_GROUP: &[(Named, Named)] = &[
     (("o/r", "deploy"), ("o/r", "deploy")),
     (("o/r", "Prod"), ("o/r", "prod")),
     (("o/r", "Straße"), ("o/r", "STRASSE")),
@@ -22,7 +22,7 @@ static ONE_GROUP: [(Named, Named); 7] = [
 ];
 
 /// A repository of another case, a dotless i, an é in one character and in two, and a space more.
-static TWO_GROUPS: [(Named, Named); 6] = [
+const TWO_GROUPS: &[(Named, Named)] = &[
     (("o/r", "prod"), ("o/s", "prod")),
     (("o/r", "prod"), ("O/R", "prod")),
     (("o/r", "prod"), ("o/r", "prod2")),
@@ -45,8 +45,8 @@ fn expect_groups(rt: &impl Abort, alloc: Global, rows: &[(Named, Named)], one: b
 
 #[test]
 fn folds_names(rt: HostRuntime) {
-    expect_groups(&rt, rt.alloc(), &ONE_GROUP, true);
-    expect_groups(&rt, rt.alloc(), &TWO_GROUPS, false);
+    expect_groups(&rt, rt.alloc(), ONE_GROUP, true);
+    expect_groups(&rt, rt.alloc(), TWO_GROUPS, false);
 }
 
 #[test]
@@ -55,29 +55,15 @@ fn empty_name_is_no_group(rt: HostRuntime) {
     holds!(rt; made.is_none());
 }
 
-fn copied(rt: &impl Abort, alloc: Global, group: &GroupKey) -> GroupKey {
-    group.copy(alloc).expect(rt, "memory")
-}
-
-/// Whether a group is the same as its copy.
-fn is_its_copy(rt: &impl Abort, alloc: Global, group: &GroupKey) -> bool {
-    copied(rt, alloc, group).same(group)
-}
-
 #[test]
 fn copies_a_group(rt: HostRuntime) {
-    let is_copy = is_its_copy(&rt, rt.alloc(), &group(&rt, rt.alloc(), ("o/r", "Prod")));
-    holds!(rt; is_copy);
-}
-
-/// The group of a template in a repository, as it is bound.
-fn bound_group(alloc: Global, named: Named) -> Result<BoundGroup, Refusal> {
-    let name = bound_of(alloc, named.1)?;
-    BoundGroup::of(alloc, named.0, &name)
+    let group = group(&rt, rt.alloc(), ("o/r", "Prod"));
+    let copy = group.copy(rt.alloc()).expect(&rt, "memory");
+    holds!(rt; copy.same(&group));
 }
 
 /// Two names, the results of the first, and whether it names the group that the second names without results.
-static BOUND: [(Named, Named, Ended, bool); 8] = [
+const BOUND: &[(Named, Named, Ended, bool)] = &[
     (("o/r", "Straße"), ("o/r", "STRASSE"), NONE, true),
     (("o/r", "A${{ 'bc' }}"), ("o/r", "${{ 'aB' }}C"), NONE, true),
     (
@@ -103,9 +89,10 @@ static BOUND: [(Named, Named, Ended, bool); 8] = [
     (("o/r", "${{ needs.a.result }}"), ("o/r", ""), NONE, false),
 ];
 
-/// The group of a template that is not refused.
+/// The group of a template in a repository, as it is bound.
 fn bound(rt: &impl Abort, alloc: Global, named: Named) -> BoundGroup {
-    bound_group(alloc, named).expect(rt, named.1)
+    let name = bound_of(rt, alloc, named.1);
+    BoundGroup::of(alloc, named.0, &name).expect(rt, named.1)
 }
 
 /// Whether a bound name is by its results the group that another is by its own.
@@ -113,25 +100,15 @@ fn is_same(one: &BoundGroup, ended: &Ended, other: &BoundGroup, other_ended: &En
     one.same(ended, other, other_ended)
 }
 
-/// Whether a group is by these results the one that a name means without any.
-fn is_group_of(
-    rt: &impl Abort,
-    alloc: Global,
-    group: &BoundGroup,
-    ended: &Ended,
-    named: Named,
-) -> bool {
-    is_same(group, ended, &bound(rt, alloc, named), &NONE)
-}
-
-/// Whether two bound names are one group, by these results of the first.
+/// Whether two bound names are one group, by these results of the first and none of the other.
 fn is_one_group(rt: &impl Abort, alloc: Global, named: Named, other: Named, ended: &Ended) -> bool {
-    is_group_of(rt, alloc, &bound(rt, alloc, named), ended, other)
+    let group = bound(rt, alloc, named);
+    is_same(&group, ended, &bound(rt, alloc, other), &NONE)
 }
 
 #[test]
 fn compares_bound_groups(rt: HostRuntime) {
-    for (named, other, ended, same) in &BOUND {
+    for (named, other, ended, same) in BOUND {
         let is_one = is_one_group(&rt, rt.alloc(), *named, *other, ended);
         holds!(rt; is_one == *same, named.1);
     }
@@ -150,16 +127,9 @@ fn expect_copy(rt: &impl Abort, copy: &BoundGroup, group: &BoundGroup) {
     holds!(rt; !is_same(copy, &FAILED, group, &NONE));
 }
 
-fn copied_bound(rt: &impl Abort, alloc: Global, group: &BoundGroup) -> BoundGroup {
-    group.copy(alloc).expect(rt, "memory")
-}
-
-fn expect_copied(rt: &impl Abort, alloc: Global, group: &BoundGroup) {
-    expect_copy(rt, &copied_bound(rt, alloc, group), group);
-}
-
 #[test]
 fn copies_a_bound_group(rt: HostRuntime) {
-    let named = ("o/r", "D-${{ needs.a.result }}");
-    expect_copied(&rt, rt.alloc(), &bound(&rt, rt.alloc(), named));
+    let group = bound(&rt, rt.alloc(), ("o/r", "D-${{ needs.a.result }}"));
+    let copy = group.copy(rt.alloc()).expect(&rt, "memory");
+    expect_copy(&rt, &copy, &group);
 }

@@ -5,7 +5,7 @@ use crate::values::{Given, combo, scalars};
 use matrix_expand::expand;
 use std::alloc::Global;
 use std::process::Abort;
-use wf_value::{Chars, Code, Combo, Matrix, Refusal, Scalar, Variable};
+use wf_value::{Chars, Combo, Matrix, Scalar, Variable};
 
 /// The names and values of an object.
 type Object = &'static [(&'static str, Given)];
@@ -17,79 +17,65 @@ type Listed = (
     &'static [Object],
 );
 
-fn variable(alloc: Global, name: &str, values: &[Given]) -> Result<Variable, Refusal> {
-    let values = scalars(alloc, values)?;
-    Ok(Variable::new(Chars::from_str(alloc, name)?, values))
-}
-
-fn variables(alloc: Global, listed: &[(&str, &[Given])]) -> Result<Vec<Variable>, Refusal> {
+fn variables(rt: &impl Abort, alloc: Global, listed: &[(&str, &[Given])]) -> Vec<Variable> {
     let mut variables = Vec::new(alloc);
     for (name, values) in listed {
-        variables.push(variable(alloc, name, values)?)?;
+        let name = Chars::from_str(alloc, name).expect(rt, "a name");
+        let values = scalars(alloc, values).expect(rt, "values");
+        variables
+            .push(Variable::new(name, values))
+            .expect(rt, "memory");
     }
-    Ok(variables)
+    variables
 }
 
-fn combos(alloc: Global, objects: &[Object]) -> Result<Vec<Combo>, Refusal> {
+fn combos(rt: &impl Abort, alloc: Global, objects: &[Object]) -> Vec<Combo> {
     let mut combos = Vec::new(alloc);
     for object in objects {
-        combos.push(combo(alloc, object)?)?;
+        let combo = combo(alloc, object).expect(rt, "an object");
+        combos.push(combo).expect(rt, "memory");
     }
-    Ok(combos)
+    combos
 }
 
-/// Variables whose names do not rise are refused 75.
-fn matrix_of(
-    variables: Vec<Variable>,
-    include: Vec<Combo>,
-    exclude: Vec<Combo>,
-) -> Result<Matrix, Refusal> {
-    if !Matrix::names_rise(variables.as_slice()) {
-        return Err(Refusal::Numbered(Code::Line));
-    }
-    Ok(Matrix::new(variables, include, exclude))
-}
-
-/// The matrix of these variables and objects.
+/// The matrix of these variables, whose names rise, and objects.
 fn matrix(
+    rt: &impl Abort,
     alloc: Global,
     variables: Vec<Variable>,
     include: &[Object],
     exclude: &[Object],
-) -> Result<Matrix, Refusal> {
-    let include = combos(alloc, include)?;
-    let exclude = combos(alloc, exclude)?;
-    matrix_of(variables, include, exclude)
+) -> Matrix {
+    let include = combos(rt, alloc, include);
+    let exclude = combos(rt, alloc, exclude);
+    holds!(rt; Matrix::names_rise(variables.as_slice()));
+    Matrix::new(variables, include, exclude)
 }
 
-/// The pairs in order, a text in quotes.
-fn shown(alloc: Global, combos: &[Combo]) -> Result<String, Refusal> {
+/// The combinations of a matrix, the pairs of each in order, and a text in quotes.
+fn shown(rt: &impl Abort, alloc: Global, matrix: &Matrix) -> String {
+    let combos = expand(alloc, matrix).expect(rt, "combinations");
     let mut shown = String::new(alloc);
-    show_all(alloc, &mut shown, combos)?;
-    Ok(shown)
-}
-
-fn show_all(alloc: Global, shown: &mut String, combos: &[Combo]) -> Result<(), Refusal> {
-    for combo in combos {
-        show(alloc, shown, combo.as_slice())?;
+    for combo in combos.as_slice() {
+        show(rt, alloc, &mut shown, combo.as_slice());
     }
-    Ok(())
+    shown
 }
 
-fn show(alloc: Global, shown: &mut String, pairs: &[(Chars, Scalar)]) -> Result<(), Refusal> {
-    push(shown, "{")?;
+fn show(rt: &impl Abort, alloc: Global, shown: &mut String, pairs: &[(Chars, Scalar)]) {
+    push(rt, shown, "{");
     for (name, value) in pairs {
-        show_pair(alloc, shown, name.as_str(), value)?;
+        show_pair(rt, alloc, shown, name.as_str(), value);
     }
-    push(shown, "}")
+    push(rt, shown, "}");
 }
 
-fn show_pair(alloc: Global, shown: &mut String, name: &str, value: &Scalar) -> Result<(), Refusal> {
-    push(shown, " ")?;
-    push(shown, name)?;
-    push(shown, quote(value))?;
-    push(shown, ":")?;
-    push(shown, value.text(alloc)?.as_str())
+fn show_pair(rt: &impl Abort, alloc: Global, shown: &mut String, name: &str, value: &Scalar) {
+    push(rt, shown, " ");
+    push(rt, shown, name);
+    push(rt, shown, quote(value));
+    push(rt, shown, ":");
+    push(rt, shown, value.text(alloc).expect(rt, "a text").as_str());
 }
 
 /// What tells the value's kind, where its text alone does not.
@@ -101,31 +87,19 @@ fn quote(value: &Scalar) -> &'static str {
     }
 }
 
-fn push(shown: &mut String, text: &str) -> Result<(), Refusal> {
-    shown.push_str(text)?;
-    Ok(())
+fn push(rt: &impl Abort, shown: &mut String, text: &str) {
+    shown.push_str(text).expect(rt, "memory");
 }
 
-/// The combinations of a matrix as they are shown.
-fn shown_of(alloc: Global, matrix: &Matrix) -> Result<String, Refusal> {
-    let combos = expand(alloc, matrix)?;
-    shown(alloc, combos.as_slice())
-}
-
-/// The matrix that is listed.
-fn listed_matrix(alloc: Global, listed: &Listed) -> Result<Matrix, Refusal> {
+/// That the matrix that is listed has these combinations.
+fn expect_shown(rt: &impl Abort, alloc: Global, listed: &Listed, want: &str) {
     let (listed, include, exclude) = listed;
-    matrix(alloc, variables(alloc, listed)?, include, exclude)
-}
-
-/// The combinations of the matrix that is listed, as they are shown.
-fn shown_combinations(rt: &impl Abort, alloc: Global, listed: &Listed) -> String {
-    let matrix = listed_matrix(alloc, listed).expect(rt, "a matrix");
-    shown_of(alloc, &matrix).expect(rt, "combinations")
+    let matrix = matrix(rt, alloc, variables(rt, alloc, listed), include, exclude);
+    expect_text(rt, shown(rt, alloc, &matrix).as_str(), want);
 }
 
 /// The matrix of fruits and animals of the documentation.
-static DOCUMENTED: Listed = (
+const DOCUMENTED: &Listed = &(
     &[
         ("animal", &[Given::Text("cat"), Given::Text("dog")]),
         ("fruit", &[Given::Text("apple"), Given::Text("pear")]),
@@ -159,11 +133,10 @@ const DOCUMENTED_COMBINATIONS: &str = concat!(
 
 #[test]
 fn gives_the_combinations_of_the_documentation(rt: HostRuntime) {
-    let shown = shown_combinations(&rt, rt.alloc(), &DOCUMENTED);
-    expect_text(&rt, shown.as_str(), DOCUMENTED_COMBINATIONS);
+    expect_shown(&rt, rt.alloc(), DOCUMENTED, DOCUMENTED_COMBINATIONS);
 }
 
-static INCLUDED_ALONE: Listed = (
+const INCLUDED_ALONE: &Listed = &(
     &[],
     &[&[("a", Given::Whole(1))], &[("a", Given::Whole(2))]],
     &[],
@@ -171,11 +144,10 @@ static INCLUDED_ALONE: Listed = (
 
 #[test]
 fn gives_a_leg_for_each_include_object_alone(rt: HostRuntime) {
-    let shown = shown_combinations(&rt, rt.alloc(), &INCLUDED_ALONE);
-    expect_text(&rt, shown.as_str(), "{ a:1}{ a:2}");
+    expect_shown(&rt, rt.alloc(), INCLUDED_ALONE, "{ a:1}{ a:2}");
 }
 
-static OF_EACH_KIND: Listed = (
+const OF_EACH_KIND: &Listed = &(
     &[(
         "a",
         &[
@@ -195,26 +167,30 @@ static OF_EACH_KIND: Listed = (
 
 #[test]
 fn keeps_kinds_apart(rt: HostRuntime) {
-    let shown = shown_combinations(&rt, rt.alloc(), &OF_EACH_KIND);
-    expect_text(&rt, shown.as_str(), "{ a:1}{ a:true}{ anull:}");
+    let want = "{ a:1}{ a:true}{ anull:}";
+    expect_shown(&rt, rt.alloc(), OF_EACH_KIND, want);
 }
 
-/// A variable of the numbers from 0 on.
-fn numbers(alloc: Global, name: &str, count: i64) -> Result<Variable, Refusal> {
+/// The numbers from 0 on.
+fn numbers(rt: &impl Abort, alloc: Global, count: i64) -> Vec<Scalar> {
     let mut values = Vec::new(alloc);
     for n in 0..count {
-        values.push(Scalar::Whole(n))?;
+        values.push(Scalar::Whole(n)).expect(rt, "memory");
     }
-    Ok(Variable::new(Chars::from_str(alloc, name)?, values))
+    values
 }
 
 /// Variables of the numbers from 0 on.
-fn numbered(alloc: Global, counts: &[(&str, i64)]) -> Result<Vec<Variable>, Refusal> {
+fn numbered(rt: &impl Abort, alloc: Global, counts: &[(&str, i64)]) -> Vec<Variable> {
     let mut variables = Vec::new(alloc);
     for (name, count) in counts {
-        variables.push(numbers(alloc, name, *count)?)?;
+        let name = Chars::from_str(alloc, name).expect(rt, "a name");
+        let values = numbers(rt, alloc, *count);
+        variables
+            .push(Variable::new(name, values))
+            .expect(rt, "memory");
     }
-    Ok(variables)
+    variables
 }
 
 const SIXTEEN: &[Object] = &[&[("x", Given::Whole(16))]];
@@ -223,7 +199,7 @@ const ORIGIN: &[Object] = &[&[("x", Given::Whole(0)), ("y", Given::Whole(0))]];
 
 /// How many values `x` and `y` have, what is included and excluded, and 1,000 more than the number of
 /// combinations, or the number of the refusal.
-static GRIDS: [(i64, i64, &[Object], &[Object], u64); 6] = [
+const GRIDS: &[(i64, i64, &[Object], &[Object], u64)] = &[
     (16, 16, &[], &[], 1256),
     (16, 16, SIXTEEN, &[], 22),
     (16, 16, SIXTEEN, ORIGIN, 1256),
@@ -241,8 +217,8 @@ fn grid(
     exclude: &[Object],
 ) -> Matrix {
     let (x, y) = counts;
-    let variables = numbered(alloc, &[("x", x), ("y", y)]).expect(rt, "variables");
-    matrix(alloc, variables, include, exclude).expect(rt, "a matrix")
+    let variables = numbered(rt, alloc, &[("x", x), ("y", y)]);
+    matrix(rt, alloc, variables, include, exclude)
 }
 
 /// 1,000 more than the number of combinations, or the number of the refusal.
@@ -264,13 +240,13 @@ fn counts_legs_after_exclude(rt: HostRuntime) {
 #[test]
 fn puts_the_new_combination_last(rt: HostRuntime) {
     let matrix = grid(&rt, rt.alloc(), (16, 16), SIXTEEN, ORIGIN);
-    let shown = shown_of(rt.alloc(), &matrix).expect(&rt, "combinations");
+    let shown = shown(&rt, rt.alloc(), &matrix);
     holds!(rt; shown.as_str().starts_with("{ x:0 y:1}{ x:0 y:2}"));
     holds!(rt; shown.as_str().ends_with("{ x:15 y:15}{ x:16}"));
 }
 
 /// Seventeen variables of two values each: 131,072 choices.
-static SEVENTEEN_OF_TWO: [(&str, i64); 17] = [
+const SEVENTEEN_OF_TWO: &[(&str, i64)] = &[
     ("a", 2),
     ("b", 2),
     ("c", 2),
@@ -292,15 +268,15 @@ static SEVENTEEN_OF_TWO: [(&str, i64); 17] = [
 
 /// Variables, and the number with which their matrix is refused.
 fn expect_refused(rt: &impl Abort, alloc: Global, counts: &[(&str, i64)], number: u64) {
-    let variables = numbered(alloc, counts).expect(rt, "variables");
-    let matrix = matrix(alloc, variables, &[], &[]).expect(rt, "a matrix");
+    let variables = numbered(rt, alloc, counts);
+    let matrix = matrix(rt, alloc, variables, &[], &[]);
     holds!(rt; matrix.variables().len() == counts.len());
     holds!(rt; counted(alloc, &matrix) == number);
 }
 
 #[test]
 fn refuses_seventeen_variables_of_two_values(rt: HostRuntime) {
-    expect_refused(&rt, rt.alloc(), &SEVENTEEN_OF_TWO, 21);
+    expect_refused(&rt, rt.alloc(), SEVENTEEN_OF_TWO, 21);
 }
 
 #[test]

@@ -11,7 +11,7 @@ use crate::holds::expect_text;
 use run_table::Table;
 use std::alloc::Global;
 use std::process::Abort;
-use wf_value::{Chars, Refusal};
+use wf_value::{Chars, Refusal, TryCopy};
 
 /// The body of an event of one job, `build`.
 pub const BUILD: &str =
@@ -61,10 +61,9 @@ pub fn expect_replies(rt: &impl Abort, alloc: Global, rows: &[Row<'_>]) {
     play(rt, alloc, &mut table, rows);
 }
 
-/// The same, and looks at a run then.
-pub fn expect_shown(rt: &impl Abort, alloc: Global, rows: &[Row<'_>], id: &str, want: &str) {
-    let table = played(rt, alloc, rows);
-    expect_view(rt, alloc, &table, id, want);
+/// A copy of a table.
+fn copied(rt: &impl Abort, alloc: Global, table: &Table) -> Table {
+    table.copy(alloc).expect(rt, "a copy")
 }
 
 /// Looks at a run, and compares its printed view.

@@ -3,7 +3,7 @@
 pub mod no_tables;
 mod reading_tables;
 pub mod tables;
-mod whole_tables;
+pub mod whole_tables;
 
 use crate::commands::{Words, command_of};
 use crate::holds::{expect_bytes, holds};
@@ -93,13 +93,9 @@ fn expect_command(
     bytes: &[u8],
     command: &Command,
 ) -> Result<(), Refusal> {
-    match read_command(alloc, bytes)? {
-        Some((found, rest)) => {
-            holds!(rt; found.same(command));
-            holds!(rt; rest.len() == 1);
-        }
-        None => panic!(rt; "no command"),
-    }
+    let (found, rest) = read_command(alloc, bytes)?.expect(rt, "a command");
+    holds!(rt; found.same(command));
+    holds!(rt; rest.len() == 1);
     Ok(())
 }
 
@@ -170,13 +166,9 @@ fn expect_batch(
     bytes: &[u8],
     commands: &[Command],
 ) -> Result<(), Refusal> {
-    match read_batch(alloc, bytes)? {
-        Some((found, rest)) => {
-            holds!(rt; same_items(found.as_slice(), commands));
-            holds!(rt; rest.is_empty());
-        }
-        None => panic!(rt; "no batch"),
-    }
+    let (found, rest) = read_batch(alloc, bytes)?.expect(rt, "a batch");
+    holds!(rt; same_items(found.as_slice(), commands));
+    holds!(rt; rest.is_empty());
     Ok(())
 }
 
@@ -216,9 +208,14 @@ fn claim_of_labels(alloc: Global, count: u8) -> Result<Vec<u8>, Refusal> {
 /// What no batch is spelled as: a count of none, and a count of two with one command behind it.
 const NO_BATCHES: &[&[u8]] = &[&[0, 0, 0, 0], &[0, 0, 0, 2, 7, 0, 0, 0, 1]];
 
+/// Whether the bytes begin with a command.
+fn is_command(alloc: Global, bytes: &[u8]) -> Result<bool, Refusal> {
+    Ok(read_command(alloc, bytes)?.is_some())
+}
+
 fn reads_no_commands(rt: &impl Abort, alloc: Global) -> Result<(), Refusal> {
     for (place, &bytes) in NO_COMMANDS.iter().enumerate() {
-        holds!(rt; read_command(alloc, bytes)?.is_none(), place);
+        holds!(rt; !is_command(alloc, bytes)?, place);
     }
     Ok(())
 }
@@ -234,7 +231,7 @@ fn reads_no_batches(rt: &impl Abort, alloc: Global) -> Result<(), Refusal> {
 fn bounds_labels(rt: &impl Abort, alloc: Global) -> Result<(), Refusal> {
     for &(count, is_read) in &[(16, true), (17, false)] {
         let bytes = claim_of_labels(alloc, count)?;
-        holds!(rt; read_command(alloc, bytes.as_slice())?.is_some() == is_read, count);
+        holds!(rt; is_command(alloc, bytes.as_slice())? == is_read, count);
     }
     Ok(())
 }

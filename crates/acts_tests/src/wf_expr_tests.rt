@@ -6,39 +6,35 @@ mod values;
 
 use crate::values::{Given, scalar};
 use std::alloc::Global;
+use std::process::Abort;
 use wf_expr::{Place, Properties, Template};
-use wf_value::{Chars, Refusal, Scalar};
+use wf_value::{Chars, Scalar};
 
 /// The path of the names, of which `.` stands between each two.
-pub fn path_of(alloc: Global, names: &str) -> Result<Vec<Chars>, Refusal> {
+pub fn path_of(rt: &impl Abort, alloc: Global, names: &str) -> Vec<Chars> {
     let mut path = Vec::new(alloc);
     for name in names.split('.') {
-        path.push(Chars::from_str(alloc, name)?)?;
+        let name = Chars::from_str(alloc, name).expect(rt, "a name");
+        path.push(name).expect(rt, "memory");
     }
-    Ok(path)
-}
-
-fn set(
-    alloc: Global,
-    properties: &mut Properties,
-    names: &str,
-    given: &Given,
-) -> Result<(), Refusal> {
-    let path = path_of(alloc, names)?;
-    properties.insert(alloc, path.as_slice(), scalar(alloc, given)?)
+    path
 }
 
 /// The properties at these paths, set in turn.
-pub fn properties(alloc: Global, rows: &[(&str, Given)]) -> Result<Properties, Refusal> {
+pub fn properties(rt: &impl Abort, alloc: Global, rows: &[(&str, Given)]) -> Properties {
     let mut properties = Properties::new(alloc);
     for (names, given) in rows {
-        set(alloc, &mut properties, names, given)?;
+        let path = path_of(rt, alloc, names);
+        let value = scalar(alloc, given).expect(rt, "a scalar");
+        properties
+            .insert(alloc, path.as_slice(), value)
+            .expect(rt, names);
     }
-    Ok(properties)
+    properties
 }
 
 /// The context of the rows.
-static EXAMPLE: [(&str, Given); 10] = [
+const EXAMPLE: &[(&str, Given)] = &[
     ("github.workflow", Given::Text("ci.json")),
     ("github.run_id", Given::Text("1")),
     ("inputs.none", Given::Null),
@@ -52,21 +48,19 @@ static EXAMPLE: [(&str, Given); 10] = [
 ];
 
 /// The properties that are the context of the rows.
-pub fn example(alloc: Global) -> Result<Properties, Refusal> {
-    properties(alloc, &EXAMPLE)
+pub fn example(rt: &impl Abort, alloc: Global) -> Properties {
+    properties(rt, alloc, EXAMPLE)
 }
 
 /// The text as a job's template.
-pub fn template_of(alloc: Global, text: &str) -> Result<Template, Refusal> {
-    Template::parse(alloc, text, Place::Job)
+pub fn template_of(rt: &impl Abort, alloc: Global, text: &str) -> Template {
+    Template::parse(alloc, text, Place::Job).expect(rt, text)
 }
 
-/// The value of the text as a job's template in a context.
-fn value_in(alloc: Global, text: &str, context: &Properties) -> Result<Scalar, Refusal> {
-    template_of(alloc, text)?.eval(alloc, context)
-}
-
-/// The value of the text as a job's template, or its refusal.
-pub fn value_of(alloc: Global, text: &str) -> Result<Scalar, Refusal> {
-    value_in(alloc, text, &example(alloc)?)
+/// The value of the text as a job's template.
+pub fn value_of(rt: &impl Abort, alloc: Global, text: &str) -> Scalar {
+    let context = example(rt, alloc);
+    template_of(rt, alloc, text)
+        .eval(alloc, &context)
+        .expect(rt, text)
 }

@@ -49,19 +49,36 @@ const IN_JOB: Around = ("{\"jobs\":{\"a\":{", "}}}");
 /// The text is what stands behind the labels of that job.
 const BEHIND_LABELS: Around = ("{\"jobs\":{\"a\":{\"runs-on\":\"x\"", "}}}");
 
+/// The workflow, which is not refused.
+fn read(rt: &impl Abort, alloc: Global, body: &str) -> Workflow {
+    match read_workflow(alloc, body.as_bytes()) {
+        Ok(workflow) => workflow,
+        Err(_) => read_workflow(alloc, body.as_bytes()).expect(rt, "a workflow"),
+    }
+}
+
+/// The text with what stands around it.
+fn framed(rt: &impl Abort, alloc: Global, around: Around, text: &str) -> String {
+    long(rt, alloc, &[(around.0, 1), (text, 1), (around.1, 1)])
+}
+
 /// The workflow of one job that has these members behind its labels.
-fn workflow_with(alloc: Global, members: &str) -> Result<Workflow, Refusal> {
-    let (before, behind) = BEHIND_LABELS;
-    let body = spelled(alloc, &[(before, 1), (members, 1), (behind, 1)])?;
-    read_workflow(alloc, body.as_bytes())
+fn workflow_with(rt: &impl Abort, alloc: Global, members: &str) -> Workflow {
+    let body = framed(rt, alloc, BEHIND_LABELS, members);
+    read(rt, alloc, body.as_str())
+}
+
+/// A text, and what is answered to the workflow of it.
+fn expect_answer(rt: &impl Abort, alloc: Global, around: Around, text: &str, want: u64) {
+    let body = framed(rt, alloc, around, text);
+    let answer = answer_to_workflow(alloc, body.as_bytes());
+    holds!(rt; answer == want, text);
 }
 
 /// Texts, and what is answered to the workflow of each.
 fn expect_answers(rt: &impl Abort, alloc: Global, around: Around, rows: &[(&str, u64)]) {
     for &(text, want) in rows {
-        let body = long(rt, alloc, &[(around.0, 1), (text, 1), (around.1, 1)]);
-        let answer = answer_to_workflow(alloc, body.as_bytes());
-        holds!(rt; answer == want, text);
+        expect_answer(rt, alloc, around, text, want);
     }
 }
 

@@ -9,7 +9,7 @@ use wf_value::{
     Variable, copy_items, same_items,
 };
 
-static ALIKE: [Given; 6] = [
+const ALIKE: &[Given] = &[
     Given::Null,
     Given::Truth(true),
     Given::Whole(1),
@@ -20,12 +20,12 @@ static ALIKE: [Given; 6] = [
 
 #[test]
 fn scalars_that_look_alike_differ(rt: HostRuntime) {
-    let scalars = scalars(rt.alloc(), &ALIKE).expect(&rt, "scalars");
+    let scalars = scalars(rt.alloc(), ALIKE).expect(&rt, "scalars");
     expect_apart(&rt, rt.alloc(), scalars.as_slice()).expect(&rt, "copies");
 }
 
 /// A scalar, whether it is true, and its text.
-static PRINTED: [(Given, bool, &str); 9] = [
+const PRINTED: &[(Given, bool, &str)] = &[
     (Given::Null, false, ""),
     (Given::Truth(false), false, "false"),
     (Given::Truth(true), true, "true"),
@@ -45,14 +45,14 @@ fn expect_scalar(rt: &impl Abort, alloc: Global, scalar: &Scalar, truthy: bool, 
 
 #[test]
 fn truth_and_text(rt: HostRuntime) {
-    for (given, truthy, printed) in &PRINTED {
+    for (given, truthy, printed) in PRINTED {
         let scalar = scalar(rt.alloc(), given).expect(&rt, "a scalar");
         expect_scalar(&rt, rt.alloc(), &scalar, *truthy, printed);
     }
 }
 
-fn cycle(alloc: Global, ids: &[&str]) -> Result<Refusal, Refusal> {
-    Ok(Refusal::Cycle(Sequence::new(texts(alloc, ids)?)))
+fn cycle(rt: &impl Abort, alloc: Global, ids: &[&str]) -> Refusal {
+    Refusal::Cycle(Sequence::new(texts(alloc, ids).expect(rt, "texts")))
 }
 
 fn expect_printed(rt: &impl Abort, alloc: Global, refusal: &Refusal, number: u64, printed: &str) {
@@ -63,7 +63,7 @@ fn expect_printed(rt: &impl Abort, alloc: Global, refusal: &Refusal, number: u64
     expect_text(rt, shown.as_str(), printed);
 }
 
-static CODES: [(Code, u64, &str); 2] = [
+const CODES: &[(Code, u64, &str)] = &[
     (Code::NotJson, 10, "refused 10"),
     (Code::InputTooLong, 76, "refused 76"),
 ];
@@ -71,35 +71,42 @@ static CODES: [(Code, u64, &str); 2] = [
 #[test]
 fn refusals_print_what_they_carry(rt: HostRuntime) {
     let alloc = rt.alloc();
-    let cycle = cycle(alloc, &["a", "b"]).expect(&rt, "a cycle");
-    expect_printed(&rt, alloc, &cycle, 14, "refused 14 a b");
+    expect_printed(
+        &rt,
+        alloc,
+        &cycle(&rt, alloc, &["a", "b"]),
+        14,
+        "refused 14 a b",
+    );
     expect_printed(&rt, alloc, &Refusal::Turn(0), 43, "refused 43 0");
-    for &(code, number, printed) in &CODES {
+    for &(code, number, printed) in CODES {
         expect_printed(&rt, alloc, &Refusal::Numbered(code), number, printed);
     }
 }
 
 /// Variables of those names, without values.
-fn variables(alloc: Global, names: &[&str]) -> Result<Vec<Variable>, Refusal> {
+fn variables(rt: &impl Abort, alloc: Global, names: &[&str]) -> Vec<Variable> {
     let mut variables = Vec::new(alloc);
     for name in names {
-        let name = Chars::from_str(alloc, name)?;
-        variables.push(Variable::new(name, Vec::new(alloc)))?;
+        let name = Chars::from_str(alloc, name).expect(rt, "a name");
+        let variable = Variable::new(name, Vec::new(alloc));
+        variables.push(variable).expect(rt, "memory");
     }
-    Ok(variables)
+    variables
 }
 
 /// Whether the names rise, as those of pairs.
-fn rise_in_pairs(alloc: Global, names: &[&str]) -> Result<bool, Refusal> {
+fn rise_in_pairs(rt: &impl Abort, alloc: Global, names: &[&str]) -> bool {
     let mut pairs = Vec::new(alloc);
     for name in names {
-        pairs.push((Chars::from_str(alloc, name)?, Scalar::Null))?;
+        let name = Chars::from_str(alloc, name).expect(rt, "a name");
+        pairs.push((name, Scalar::Null)).expect(rt, "memory");
     }
-    Ok(Combo::names_rise(pairs.as_slice()))
+    Combo::names_rise(pairs.as_slice())
 }
 
 /// Names, and whether they rise.
-static NAMES: [(&[&str], bool); 5] = [
+const NAMES: &[(&[&str], bool)] = &[
     (&[], true),
     (&["b"], true),
     (&["B", "a", "ab"], true),
@@ -110,10 +117,9 @@ static NAMES: [(&[&str], bool); 5] = [
 #[test]
 fn tells_the_order_of_names(rt: HostRuntime) {
     for (row, (names, expected)) in NAMES.iter().enumerate() {
-        let variables = variables(rt.alloc(), names).expect(&rt, "variables");
+        let variables = variables(&rt, rt.alloc(), names);
         holds!(rt; Matrix::names_rise(variables.as_slice()) == *expected, row);
-        let rises = rise_in_pairs(rt.alloc(), names).expect(&rt, "pairs");
-        holds!(rt; rises == *expected, row);
+        holds!(rt; rise_in_pairs(&rt, rt.alloc(), names) == *expected, row);
     }
 }
 
@@ -135,14 +141,15 @@ fn lists_come_back(rt: HostRuntime) {
 }
 
 /// Lists, of which no two are the same.
-static LISTS: [&[&str]; 5] = [&[], &["a"], &["a", "b"], &["b", "a"], &["a", "b", ""]];
+const LISTS: &[&[&str]] = &[&[], &["a"], &["a", "b"], &["b", "a"], &["a", "b", ""]];
 
-fn lists(alloc: Global) -> Result<Vec<Sequence<Chars>>, Refusal> {
+fn lists(rt: &impl Abort, alloc: Global) -> Vec<Sequence<Chars>> {
     let mut lists = Vec::new(alloc);
-    for &list in &LISTS {
-        lists.push(Sequence::new(texts(alloc, list)?))?;
+    for list in LISTS {
+        let list = Sequence::new(texts(alloc, list).expect(rt, "texts"));
+        lists.push(list).expect(rt, "memory");
     }
-    Ok(lists)
+    lists
 }
 
 /// That the items are those of the list at this place, and of no other.
@@ -154,7 +161,7 @@ fn expect_items(rt: &impl Abort, lists: &[Sequence<Chars>], items: &[Chars], pla
 
 #[test]
 fn lists_are_copied_and_compared(rt: HostRuntime) {
-    let lists = lists(rt.alloc()).expect(&rt, "lists");
+    let lists = lists(&rt, rt.alloc());
     expect_apart(&rt, rt.alloc(), lists.as_slice()).expect(&rt, "copies");
     for (place, list) in lists.iter().enumerate() {
         let items = copy_items(rt.alloc(), list.as_slice()).expect(&rt, "a copy");
@@ -162,11 +169,11 @@ fn lists_are_copied_and_compared(rt: HostRuntime) {
     }
 }
 
-static PAIRS: [(&str, Given); 2] = [("a", Given::Null), ("b", Given::Null)];
+const PAIRS: &[(&str, Given)] = &[("a", Given::Null), ("b", Given::Null)];
 
 #[test]
 fn pairs_are_copied(rt: HostRuntime) {
-    let pairs = pairs(rt.alloc(), &PAIRS).expect(&rt, "pairs");
+    let pairs = pairs(rt.alloc(), PAIRS).expect(&rt, "pairs");
     holds!(rt; Combo::names_rise(pairs.as_slice()));
     let pairs = Combo::from_pairs(pairs);
     holds!(rt; pairs.copy(rt.alloc()).expect(&rt, "a copy").same(&pairs));
@@ -174,17 +181,18 @@ fn pairs_are_copied(rt: HostRuntime) {
 }
 
 /// The lists `[n, n + 1]` for 0, 1 and 2.
-fn lists_of_two(alloc: Global) -> Result<Sequence<Sequence<usize>>, Refusal> {
+fn lists_of_two(rt: &impl Abort, alloc: Global) -> Sequence<Sequence<usize>> {
     let mut rows = Vec::new(alloc);
     for n in 0..3usize {
-        rows.push(Sequence::new([n, n + 1].to_vec(alloc)?))?;
+        let two = [n, n + 1].to_vec(alloc).expect(rt, "memory");
+        rows.push(Sequence::new(two)).expect(rt, "memory");
     }
-    Ok(Sequence::new(rows))
+    Sequence::new(rows)
 }
 
 #[test]
 fn numbers_and_lists_of_lists_are_copied(rt: HostRuntime) {
-    let rows = lists_of_two(rt.alloc()).expect(&rt, "lists");
+    let rows = lists_of_two(&rt, rt.alloc());
     let copy = rows.copy(rt.alloc()).expect(&rt, "a copy");
     holds!(rt; copy.same(&rows));
     holds!(rt; copy.as_slice().len() == 3);
@@ -193,32 +201,33 @@ fn numbers_and_lists_of_lists_are_copied(rt: HostRuntime) {
 }
 
 /// Refusals, of which no two are the same.
-fn refusals(alloc: Global) -> Result<Vec<Refusal>, Refusal> {
-    let cycle_of_one = cycle(alloc, &["a"])?;
-    let cycle_of_two = cycle(alloc, &["a", "b"])?;
-    Ok(vec![in alloc;
+fn refusals(rt: &impl Abort, alloc: Global) -> Vec<Refusal> {
+    let cycle_of_one = cycle(rt, alloc, &["a"]);
+    let cycle_of_two = cycle(rt, alloc, &["a", "b"]);
+    let refusals = vec![in alloc;
         Refusal::Numbered(Code::Line),
         Refusal::Numbered(Code::NoRun),
         cycle_of_one,
         cycle_of_two,
         Refusal::Turn(0),
         Refusal::Turn(1),
-    ]?)
+    ];
+    refusals.expect(rt, "memory")
 }
 
 #[test]
 fn refusals_are_copied_and_compared(rt: HostRuntime) {
-    let refusals = refusals(rt.alloc()).expect(&rt, "refusals");
+    let refusals = refusals(&rt, rt.alloc());
     expect_apart(&rt, rt.alloc(), refusals.as_slice()).expect(&rt, "copies");
 }
 
-static OUTCOMES: [(Outcome, &str); 3] = [
+const OUTCOMES: &[(Outcome, &str)] = &[
     (Outcome::Success, "success"),
     (Outcome::Failure, "failure"),
     (Outcome::Cancelled, "cancelled"),
 ];
 
-static RESULTS: [(JobResult, &str); 4] = [
+const RESULTS: &[(JobResult, &str)] = &[
     (JobResult::Success, "success"),
     (JobResult::Failure, "failure"),
     (JobResult::Cancelled, "cancelled"),
@@ -227,10 +236,10 @@ static RESULTS: [(JobResult, &str); 4] = [
 
 #[test]
 fn words_of_results(rt: HostRuntime) {
-    for &(outcome, word) in &OUTCOMES {
+    for &(outcome, word) in OUTCOMES {
         holds!(rt; outcome.word() == word, word);
     }
-    for &(result, word) in &RESULTS {
+    for &(result, word) in RESULTS {
         holds!(rt; result.word() == word, word);
     }
 }

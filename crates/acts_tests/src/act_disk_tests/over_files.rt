@@ -5,7 +5,7 @@ use crate::holds::{expect_bytes, holds};
 use act_disk::{Disk, Empty, FileDisk, HostFile};
 use std::alloc::Global;
 use std::fs;
-use std::fs::{File, Files};
+use std::fs::Files;
 use std::process::Abort;
 use wf_value::{Code, Refusal};
 
@@ -13,20 +13,16 @@ use wf_value::{Code, Refusal};
 type RealDisk = FileDisk<HostFile<Empty>>;
 
 /// 61, for a disk that can't be opened.
-fn is_61(opened: &Result<RealDisk, Refusal>) -> bool {
-    matches!(opened, Err(Refusal::Numbered(Code::StreamFailed)))
+fn expect_61(rt: &impl Abort, opened: Result<RealDisk, Refusal>) {
+    holds!(rt; matches!(opened, Err(Refusal::Numbered(Code::StreamFailed))));
 }
 
-/// Makes the calls of a disk that was opened.
+/// Makes the calls of a disk that was opened, with this length.
 fn play_opened(rt: &impl Abort, opened: Result<RealDisk, Refusal>, len: u64, rows: &[Row]) {
     let mut disk = opened.expect(rt, "a disk");
-    expect_opened(rt, &disk, len);
-    play(rt, &mut disk, rows);
-}
-
-fn expect_opened(rt: &impl Abort, disk: &RealDisk, len: u64) {
     holds!(rt; disk.len() == len);
     holds!(rt; disk.faults() == 0);
+    play(rt, &mut disk, rows);
 }
 
 /// A folder of this name with nothing in it.
@@ -42,22 +38,6 @@ fn remove_folder<R: Abort + Alloc + Files>(rt: &R, folder: &str) {
 fn expect_file<R: Abort + Alloc<A = Global> + Files>(rt: &R, path: &str, bytes: &[u8]) {
     let found = fs::read(rt, path).expect(rt, "a file");
     expect_bytes(rt, found.as_slice(), bytes);
-}
-
-fn expect_61<R: Abort + Files<File = File>>(rt: &R, path: &str) {
-    holds!(rt; is_61(&RealDisk::open(rt, path)));
-}
-
-fn expect_61_if_created<R: Abort + Files<File = File>>(rt: &R, path: &str) {
-    holds!(rt; is_61(&RealDisk::create(rt, path)));
-}
-
-fn play_reopened<R: Abort + Files<File = File>>(rt: &R, path: &str, len: u64, rows: &[Row]) {
-    play_opened(rt, RealDisk::open(rt, path), len, rows);
-}
-
-fn play_created<R: Abort + Files<File = File>>(rt: &R, path: &str, len: u64, rows: &[Row]) {
-    play_opened(rt, RealDisk::create(rt, path), len, rows);
 }
 
 const FOLDER: &str = "act_disk_test";
@@ -83,11 +63,11 @@ const OPENED: &[Row] = &[(Ask::Read(7, b"\0z\0\0"), true, 0, 11)];
 #[test]
 fn file_keeps_what_was_written(rt: HostRuntime) {
     make_folder(&rt, FOLDER);
-    expect_61(&rt, PATH);
-    play_created(&rt, PATH, 0, CREATED);
+    expect_61(&rt, RealDisk::open(&rt, PATH));
+    play_opened(&rt, RealDisk::create(&rt, PATH), 0, CREATED);
     expect_file(&rt, PATH, b"abXYef\0\0z");
-    play_created(&rt, PATH, 9, CREATED_AGAIN);
-    play_reopened(&rt, PATH, 11, OPENED);
+    play_opened(&rt, RealDisk::create(&rt, PATH), 9, CREATED_AGAIN);
+    play_opened(&rt, RealDisk::open(&rt, PATH), 11, OPENED);
     remove_folder(&rt, FOLDER);
 }
 
@@ -110,19 +90,14 @@ const CUT: &[Row] = &[
     (Ask::Read(0, b"wxyz"), true, 1, 4),
 ];
 
-/// Opens the file, cuts it, and makes calls.
-fn play_cut<R: Abort + Files<File = File>>(rt: &R, path: &str, len: u64, rows: &[Row]) {
-    let opened = RealDisk::open(rt, path);
-    fs::write(rt, path, b"ab".as_slice()).expect(rt, "a file");
-    play_opened(rt, opened, len, rows);
-}
-
 #[test]
 fn file_fails_from_a_failed_write_on(rt: HostRuntime) {
     make_folder(&rt, FAULT_FOLDER);
-    play_created(&rt, FAULT_PATH, 0, WRITTEN_TOO_FAR);
+    play_opened(&rt, RealDisk::create(&rt, FAULT_PATH), 0, WRITTEN_TOO_FAR);
     expect_file(&rt, FAULT_PATH, b"abcd");
-    play_cut(&rt, FAULT_PATH, 4, CUT);
+    let opened = RealDisk::open(&rt, FAULT_PATH);
+    fs::write(&rt, FAULT_PATH, b"ab".as_slice()).expect(&rt, "a file");
+    play_opened(&rt, opened, 4, CUT);
     remove_folder(&rt, FAULT_FOLDER);
 }
 
@@ -132,7 +107,7 @@ const NO_FILES: &[&str] = &["/tmp", "/dev/null/disk", "/proc/sys/kernel/osreleas
 #[test]
 fn file_that_cannot_be_opened_is_61(rt: HostRuntime) {
     for path in NO_FILES {
-        expect_61(&rt, path);
-        expect_61_if_created(&rt, path);
+        expect_61(&rt, RealDisk::open(&rt, path));
+        expect_61(&rt, RealDisk::create(&rt, path));
     }
 }

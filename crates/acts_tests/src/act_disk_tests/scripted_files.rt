@@ -13,27 +13,33 @@ fn scripted(rt: &impl Abort, alloc: Global, script: &[Turn]) -> FileDisk<Scripte
     FileDisk::over(ScriptedFile::new(alloc, turns)).expect(rt, "a disk")
 }
 
-/// Makes the calls, and compares how many were made of the file then.
-fn expect_turns(
+/// Makes the calls, and compares how many were made of the file then, and the bytes that it has.
+fn expect_played(
     rt: &impl Abort,
     mut disk: FileDisk<ScriptedFile>,
     rows: &[Row],
     turns: usize,
-) -> ScriptedFile {
+    bytes: &[u8],
+) {
     play(rt, &mut disk, rows);
     let file = disk.into_file();
     holds!(rt; file.turns() == turns);
-    file
+    expect_bytes(rt, file.bytes(), bytes);
 }
 
-/// The length, a write of six bytes by three calls, a sync, and a read of four bytes by two calls.
-const TURNS: [Turn; 7] = [
+/// The length, a write of six bytes by three calls, a sync, a read of four bytes by two calls, and four turns
+/// more, so that the calls after these are counted too.
+const TURNS: &[Turn] = &[
     Turn::Whole,
     Turn::Short(2),
     Turn::Short(2),
     Turn::Whole,
     Turn::Whole,
     Turn::Short(3),
+    Turn::Whole,
+    Turn::Whole,
+    Turn::Whole,
+    Turn::Whole,
     Turn::Whole,
 ];
 
@@ -45,13 +51,8 @@ const WRITTEN_AND_READ: &[Row] = &[
 
 #[test]
 fn short_calls_are_gone_on_from(rt: HostRuntime) {
-    expect_written_and_read(&rt, scripted(&rt, rt.alloc(), &TURNS), 7);
-}
-
-/// Makes the calls, by so many calls of the file.
-fn expect_written_and_read(rt: &impl Abort, disk: FileDisk<ScriptedFile>, turns: usize) {
-    let file = expect_turns(rt, disk, WRITTEN_AND_READ, turns);
-    expect_bytes(rt, file.bytes(), b"abcdef");
+    let disk = scripted(&rt, rt.alloc(), TURNS);
+    expect_played(&rt, disk, WRITTEN_AND_READ, 7, b"abcdef");
 }
 
 /// The turns, with two more that are interrupted at this place.
@@ -66,22 +67,18 @@ fn interrupted_at(rt: &impl Abort, alloc: Global, place: usize) -> FileDisk<Scri
 
 #[test]
 fn interrupted_calls_are_made_again(rt: HostRuntime) {
-    for place in 0..TURNS.len() {
-        expect_written_and_read(&rt, interrupted_at(&rt, rt.alloc(), place), 9);
+    for place in 0..7 {
+        let disk = interrupted_at(&rt, rt.alloc(), place);
+        expect_played(&rt, disk, WRITTEN_AND_READ, 9, b"abcdef");
     }
 }
 
 /// The turns, the one at this place failing.
 fn failing_at(rt: &impl Abort, alloc: Global, place: usize) -> FileDisk<ScriptedFile> {
-    let mut script = TURNS;
+    let mut script = TURNS.to_vec(alloc).expect(rt, "turns");
     holds!(rt; place < script.len());
     script[place] = Turn::Failed;
     scripted(rt, alloc, &script)
-}
-
-/// Makes the calls with the turn at this place failing, and compares how many were made of the file then.
-fn expect_failing(rt: &impl Abort, alloc: Global, place: usize, rows: &[Row], turns: usize) {
-    expect_turns(rt, failing_at(rt, alloc, place), rows, turns);
 }
 
 #[test]
@@ -104,17 +101,19 @@ macro_rules! unwritten {
     };
 }
 
-/// Which call fails, how many calls are made then, and what is asked.
-const UNWRITTEN: &[(usize, usize, &[Row])] = &[
-    (1, 2, unwritten!(0)),
-    (2, 3, unwritten!(2)),
-    (3, 4, unwritten!(4)),
+/// Which call fails, how many calls are made then, what is asked, and the file's bytes, of which the call that
+/// failed wrote the first half of its own.
+const UNWRITTEN: &[(usize, usize, &[Row], &[u8])] = &[
+    (1, 2, unwritten!(0), b"abc"),
+    (2, 3, unwritten!(2), b"abcd"),
+    (3, 4, unwritten!(4), b"abcde"),
 ];
 
 #[test]
 fn nothing_is_asked_after_a_failed_write(rt: HostRuntime) {
-    for (place, turns, rows) in UNWRITTEN {
-        expect_failing(&rt, rt.alloc(), *place, rows, *turns);
+    for (place, turns, rows, bytes) in UNWRITTEN {
+        let disk = failing_at(&rt, rt.alloc(), *place);
+        expect_played(&rt, disk, rows, *turns, bytes);
     }
 }
 
@@ -128,7 +127,8 @@ const UNSYNCED: &[Row] = &[
 
 #[test]
 fn nothing_is_asked_after_a_failed_sync(rt: HostRuntime) {
-    expect_failing(&rt, rt.alloc(), 4, UNSYNCED, 5);
+    let disk = failing_at(&rt, rt.alloc(), 4);
+    expect_played(&rt, disk, UNSYNCED, 5, b"abcdef");
 }
 
 const UNREAD: &[Row] = &[
@@ -140,10 +140,15 @@ const UNREAD: &[Row] = &[
     (Ask::Sync, true, 1, 7),
 ];
 
+/// Which call of the read fails, and how many calls are made: five before the read, those of the read, and one
+/// each of the read that is made again, the write and the sync.
+const UNREAD_AT: &[(usize, usize)] = &[(5, 9), (6, 10)];
+
 #[test]
 fn failed_read_is_gone_on_from(rt: HostRuntime) {
-    for place in [5, 6] {
-        play(&rt, &mut failing_at(&rt, rt.alloc(), place), UNREAD);
+    for &(place, turns) in UNREAD_AT {
+        let disk = failing_at(&rt, rt.alloc(), place);
+        expect_played(&rt, disk, UNREAD, turns, b"abcdefg");
     }
 }
 
@@ -156,14 +161,8 @@ const NOT_GROWN: &[Row] = &[(Ask::Write(3, b""), false, 1, 0)];
 
 #[test]
 fn write_of_no_bytes_past_the_end_grows(rt: HostRuntime) {
-    let file = played(&rt, rt.alloc(), &[Turn::Whole, Turn::Interrupted], GROWN);
-    expect_bytes(&rt, file.bytes(), &[0, 0, 0]);
-    let _not_grown = played(&rt, rt.alloc(), &[Turn::Whole, Turn::Failed], NOT_GROWN);
-}
-
-/// Makes the calls of a disk over a scripted file, and gives the file.
-fn played(rt: &impl Abort, alloc: Global, script: &[Turn], rows: &[Row]) -> ScriptedFile {
-    let mut disk = scripted(rt, alloc, script);
-    play(rt, &mut disk, rows);
-    disk.into_file()
+    let disk = scripted(&rt, rt.alloc(), &[Turn::Whole, Turn::Interrupted]);
+    expect_played(&rt, disk, GROWN, 2, &[0, 0, 0]);
+    let disk = scripted(&rt, rt.alloc(), &[Turn::Whole, Turn::Failed, Turn::Whole]);
+    expect_played(&rt, disk, NOT_GROWN, 2, &[]);
 }

@@ -1,6 +1,6 @@
 //! The last entry that a history and an area take.
 
-use super::{LEAST, applied, commit, made, number_of, number_of_opening};
+use super::{LEAST, commit, expect_entered, made, number_of_opening};
 use crate::commands::Words;
 use crate::holds::holds;
 use act_disk::{Disk, MemoryDisk};
@@ -8,28 +8,15 @@ use act_store::Store;
 use std::alloc::Global;
 use std::process::Abort;
 
-/// That the command is refused so, or entered where the number is 0, and how many entries there are then.
-fn expect<D: Disk>(
-    rt: &impl Abort,
-    alloc: Global,
-    store: &mut Store<D>,
-    words: &Words<'_>,
-    (number, entries): (u64, u64),
-) {
-    let outcome = applied(rt, alloc, store, words);
-    holds!(rt; number_of(outcome) == number, entries);
-    holds!(rt; store.entries() == entries);
-}
-
 /// So many look-ups more, from a number of entries on.
-fn look_up<D: Disk>(rt: &impl Abort, alloc: Global, store: &mut Store<D>, from: u64, times: u64) {
+fn look_up(rt: &impl Abort, alloc: Global, store: &mut Store<MemoryDisk>, from: u64, times: u64) {
     for place in 0..times {
         let entries = from.saturating_add(place).saturating_add(1);
-        expect(rt, alloc, store, &Words::Look("1"), (0, entries));
+        expect_entered(rt, alloc, store, &Words::Look("1"), (0, entries));
     }
 }
 
-fn expect_covered<D: Disk>(rt: &impl Abort, store: &mut Store<D>, count: u64) {
+fn expect_covered(rt: &impl Abort, store: &mut Store<MemoryDisk>, count: u64) {
     match commit(store) {
         Ok(covered) => holds!(rt; covered == count),
         Err(refusal) => panic!(rt; "not covered: {refusal}"),
@@ -43,11 +30,11 @@ fn area_is_filled_to_its_last_byte(rt: HostRuntime) {
     let alloc = rt.alloc();
     let mut store = made(&rt, alloc, MemoryDisk::new(alloc), LEAST);
     look_up(&rt, alloc, &mut store, 0, 810);
-    expect(&rt, alloc, &mut store, &Words::Lost("r1"), (47, 810));
-    expect(&rt, alloc, &mut store, &Words::Lost("r"), (0, 811));
-    expect(&rt, alloc, &mut store, &Words::Look("1"), (47, 811));
+    expect_entered(&rt, alloc, &mut store, &Words::Lost("r1"), (47, 810));
+    expect_entered(&rt, alloc, &mut store, &Words::Lost("r"), (0, 811));
+    expect_entered(&rt, alloc, &mut store, &Words::Look("1"), (47, 811));
     expect_covered(&rt, &mut store, 811);
-    expect(&rt, alloc, &mut store, &Words::Look("1"), (47, 811));
+    expect_entered(&rt, alloc, &mut store, &Words::Look("1"), (47, 811));
     expect_covered(&rt, &mut store, 811);
     let disk = store.into_disk();
     holds!(rt; disk.len() == 8_192);
@@ -63,7 +50,7 @@ fn history_ends_at_its_last_entry(rt: HostRuntime) {
         look_up(&rt, alloc, &mut store, 100 * hundred, 100);
         expect_covered(&rt, &mut store, 100 * hundred + 100);
     }
-    expect(&rt, alloc, &mut store, &Words::Look("1"), (46, 100_000));
+    expect_entered(&rt, alloc, &mut store, &Words::Look("1"), (46, 100_000));
     expect_covered(&rt, &mut store, 100_000);
     holds!(rt; store.entry(100_000).is_some());
     holds!(rt; number_of_opening(&rt, alloc, store.into_disk()) == 0);

@@ -11,15 +11,18 @@ use std::alloc::Global;
 use std::process::Abort;
 use wf_value::{Code, Refusal, TryCopy};
 
+/// A disk of which a call fails.
+type Fused = FuseDisk<MemoryDisk>;
+
 /// More calls than opening and a script make.
 const MOST: u64 = 50;
 
 /// Plays a script up to the step that is refused, which is with 51.
-fn play_to_fault<D: Disk>(
+fn play_to_fault(
     rt: &impl Abort,
     alloc: Global,
     seed: u64,
-    store: &mut Store<D>,
+    store: &mut Store<Fused>,
 ) -> Option<Span> {
     let mut dice = Dice::new(seed);
     for _ in 0..STEPS {
@@ -34,19 +37,14 @@ fn play_to_fault<D: Disk>(
 }
 
 /// That a store that has failed is refused with 52, and has its entries still.
-fn expect_failed<D: Disk>(rt: &impl Abort, alloc: Global, store: &mut Store<D>, span: Span) {
+fn expect_failed(rt: &impl Abort, alloc: Global, store: &mut Store<Fused>, span: Span) {
     holds!(rt; number_of(apply(alloc, store, 0, &Words::Look("1"))) == 52);
     holds!(rt; number_of(commit(store)) == 52);
     holds!(rt; store.entries() == span.to && covered(store) == span.from);
 }
 
 /// Plays a script over a fuse. Says whether a call failed, and what the disk inside has to open to.
-fn play_fused(
-    rt: &impl Abort,
-    alloc: Global,
-    seed: u64,
-    disk: FuseDisk<MemoryDisk>,
-) -> (bool, Span, FuseDisk<MemoryDisk>) {
+fn play_fused(rt: &impl Abort, alloc: Global, seed: u64, disk: Fused) -> (bool, Span, Fused) {
     let none = Span { from: 0, to: 0 };
     holds!(rt; disk.faults() == 0);
     let mut store = match try_open(rt, alloc, disk) {
@@ -73,13 +71,7 @@ fn play_fused(
 }
 
 /// Plays a script over a fuse, and opens the disk inside. Says whether a call failed.
-fn fails(
-    rt: &impl Abort,
-    alloc: Global,
-    seed: u64,
-    disk: FuseDisk<MemoryDisk>,
-    tables: &[String],
-) -> bool {
+fn fails(rt: &impl Abort, alloc: Global, seed: u64, disk: Fused, tables: &[String]) -> bool {
     let (failed, span, disk) = play_fused(rt, alloc, seed, disk);
     holds!(rt; disk.faults() == if failed { 1 } else { 0 });
     expect_either(rt, alloc, disk.into_inner(), tables, span);
@@ -92,7 +84,7 @@ fn fresh(rt: &impl Abort, alloc: Global) -> MemoryDisk {
 
 /// Each call of a script fails in turn. The first does, and none behind the last.
 fn expect_script(rt: &impl Abort, alloc: Global, seed: u64) {
-    let tables = tables_of(alloc, seed).expect(rt, "tables");
+    let tables = tables_of(rt, alloc, seed);
     for call in 0..MOST {
         let once = FuseDisk::once(fresh(rt, alloc), call);
         let failed = fails(rt, alloc, seed, once, tables.as_slice());
@@ -124,7 +116,9 @@ fn expect_not_made(rt: &impl Abort, alloc: Global, call: u64) {
 /// The entries of a store that is made where the call behind its last would fail.
 fn entries_where_spared(rt: &impl Abort, alloc: Global) -> u64 {
     let store = made(rt, alloc, FuseDisk::once(MemoryDisk::new(alloc), 6), LEAST);
-    store.entries()
+    let entries = store.entries();
+    let _disk = store.into_disk();
+    entries
 }
 
 #[test]

@@ -1,6 +1,6 @@
 //! Memory may be refused once, at any allocation: the answer is 50, nothing has changed, and asked again the call is done.
 
-use super::{LEAST, apply, commit, made, try_open};
+use super::{LEAST, apply, close, commit, made, try_open};
 use crate::commands::Words;
 use crate::holds::{expect_text, holds};
 use crate::run_plan_tests::expect_twice;
@@ -99,13 +99,17 @@ fn plays_over(
 /// What was committed stands in the store that opens.
 fn opens_to_the_last(rt: &impl Abort, alloc: Global, disk: MemoryDisk) -> Result<(), Refusal> {
     let mut again = opened_again(rt, alloc, disk)?;
-    expect_reply(rt, alloc, &mut again, &LAST)
+    let replied = expect_reply(rt, alloc, &mut again, &LAST);
+    close(again);
+    replied
 }
 
 fn plays(rt: &impl Abort, alloc: Global) -> Result<(), Refusal> {
     let mut store = made(rt, alloc, MemoryDisk::new(alloc), LEAST);
-    plays_over(rt, alloc, &mut store)?;
-    opens_to_the_last(rt, alloc, store.into_disk())
+    let played = plays_over(rt, alloc, &mut store);
+    let disk = store.into_disk();
+    played?;
+    opens_to_the_last(rt, alloc, disk)
 }
 
 #[test]

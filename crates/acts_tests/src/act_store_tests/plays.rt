@@ -2,7 +2,7 @@
 //! are the same byte by byte.
 
 use super::rows::FIRST;
-use super::{Ask, LEAST, Row, covered, covered_text, made, opened, play};
+use super::{Ask, LEAST, Row, close, covered, covered_text, made, opened, play};
 use crate::commands::{Words, command_of};
 use crate::holds::{expect_bytes, expect_text, holds};
 use crate::run_table_tests::BUILD;
@@ -161,4 +161,5 @@ fn steps_after_a_fault_are_refused(rt: HostRuntime) {
     let disk = plays_to_the_fault(&rt, rt.alloc());
     let mut store = opened(&rt, rt.alloc(), disk);
     play(&rt, rt.alloc(), &mut store, AFTER_THE_FAULT);
+    close(store);
 }

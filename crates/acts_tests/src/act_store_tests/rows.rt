@@ -1,6 +1,6 @@
 //! Scripts whose answers are worked out by hand, and what opens of their disks.
 
-use super::{Ask, LEAST, Row, covered, made, opened, play};
+use super::{Ask, LEAST, Row, close, covered, made, opened, play};
 use crate::commands::{Words, number};
 use crate::holds::holds;
 use crate::run_table_tests::{BUILD, BUILD_ELSEWHERE};
@@ -116,14 +116,8 @@ fn is_last(entry: &Entry) -> bool {
 /// The entries of `FIRST`, counted from 1.
 fn expect_entries(rt: &impl Abort, store: &Store<MemoryDisk>) {
     holds!(rt; store.entry(0).is_none());
-    match store.entry(1) {
-        Some(entry) => holds!(rt; is_first(entry)),
-        None => panic!(rt; "no first entry"),
-    }
-    match store.entry(5) {
-        Some(entry) => holds!(rt; is_last(entry)),
-        None => panic!(rt; "no last entry"),
-    }
+    holds!(rt; is_first(store.entry(1).expect(rt, "a first entry")));
+    holds!(rt; is_last(store.entry(5).expect(rt, "a last entry")));
     holds!(rt; store.entry(6).is_none());
     holds!(rt; store.entry(u64::MAX).is_none());
 }
@@ -166,6 +160,7 @@ fn plays_again(rt: &impl Abort, alloc: Global, disk: MemoryDisk) -> MemoryDisk {
 fn plays_after_that(rt: &impl Abort, alloc: Global, disk: MemoryDisk) {
     let mut store = opened(rt, alloc, disk);
     play(rt, alloc, &mut store, AFTER_THAT);
+    close(store);
 }
 
 #[test]

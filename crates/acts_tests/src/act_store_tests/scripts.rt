@@ -1,11 +1,11 @@
 //! Random scripts, the tables that they lead to, and what tells these apart.
 
-use super::{apply, commit, opened};
+use super::{apply, close, commit, opened};
 use crate::commands::{Words, stepped};
 use crate::gated_journal_tests::steps::Dice;
 use crate::holds::holds;
 use crate::run_table_tests::{BUILD, BUILD_ELSEWHERE, THREE};
-use act_disk::Disk;
+use act_disk::{Disk, MemoryDisk};
 use act_store::Store;
 use run_plan::Reply;
 use run_table::Table;
@@ -77,114 +77,72 @@ const PROBES: &[Words<'static>] = &[
     Words::Claim("r2", "99", "x"),
 ];
 
-/// Adds what a table answers, and a line feed.
-fn push_answer(
-    alloc: Global,
-    table: &mut Table,
-    words: &Words<'_>,
-    told: &mut String,
-) -> Result<(), Refusal> {
-    let text = stepped(alloc, table, words)?.text(alloc)?;
-    push_line(told, text.as_str())
+/// Adds a printed reply, and a line feed.
+fn push_line(rt: &impl Abort, alloc: Global, told: &mut String, reply: &Reply) {
+    let text = reply.text(alloc).expect(rt, "a text");
+    told.push_str(text.as_str()).expect(rt, "memory");
+    told.push_str("\n").expect(rt, "memory");
 }
 
-fn push_line(told: &mut String, line: &str) -> Result<(), Refusal> {
-    told.push_str(line)?;
-    told.push_str("\n")?;
-    Ok(())
-}
-
-/// Adds what a table answers the probes.
-fn push_told(alloc: Global, table: &mut Table, told: &mut String) -> Result<(), Refusal> {
-    for words in PROBES {
-        push_answer(alloc, table, words, told)?;
-    }
-    Ok(())
-}
-
-fn told(alloc: Global, table: &mut Table) -> Result<String, Refusal> {
+/// What a table answers the probes.
+fn told(rt: &impl Abort, alloc: Global, table: &mut Table) -> String {
     let mut told = String::new(alloc);
-    push_told(alloc, table, &mut told)?;
-    Ok(told)
-}
-
-/// Adds what a store answers, and a line feed.
-fn push_reply<D: Disk>(
-    alloc: Global,
-    store: &mut Store<D>,
-    words: &Words<'_>,
-    told: &mut String,
-) -> Result<(), Refusal> {
-    let text = entered(alloc, store, words)?.text(alloc)?;
-    push_line(told, text.as_str())
+    for words in PROBES {
+        let reply = stepped(alloc, table, words).expect(rt, "a reply");
+        push_line(rt, alloc, &mut told, &reply);
+    }
+    told
 }
 
 /// What a store answers a command, which becomes an entry.
-pub fn entered<D: Disk>(
+pub fn entered(
     alloc: Global,
-    store: &mut Store<D>,
+    store: &mut Store<MemoryDisk>,
     words: &Words<'_>,
 ) -> Result<Reply, Refusal> {
     Ok(apply(alloc, store, 0, words)?.reply)
 }
 
-fn push_told_by<D: Disk>(
-    alloc: Global,
-    store: &mut Store<D>,
-    told: &mut String,
-) -> Result<(), Refusal> {
-    for words in PROBES {
-        push_reply(alloc, store, words, told)?;
-    }
-    Ok(())
-}
-
 /// What a store answers the probes, which become entries.
-pub fn told_by<D: Disk>(alloc: Global, store: &mut Store<D>) -> Result<String, Refusal> {
+fn told_by(rt: &impl Abort, alloc: Global, store: &mut Store<MemoryDisk>) -> String {
     let mut told = String::new(alloc);
-    push_told_by(alloc, store, &mut told)?;
-    Ok(told)
+    for words in PROBES {
+        let reply = entered(alloc, store, words).expect(rt, "a reply");
+        push_line(rt, alloc, &mut told, &reply);
+    }
+    told
 }
 
-fn push_table(alloc: Global, table: &mut Table, tables: &mut Vec<String>) -> Result<(), Refusal> {
-    let told = told(alloc, table)?;
-    tables.push(told)?;
-    Ok(())
-}
-
-/// Makes the next step of a script, and adds what the table then answers, where the step is a command.
+/// Makes the next step of a script, and adds what the table answers the probes after a command.
 fn push_next(
+    rt: &impl Abort,
     alloc: Global,
     table: &mut Table,
     dice: &mut Dice,
     tables: &mut Vec<String>,
-) -> Result<(), Refusal> {
+) {
     if let Some(words) = next_step(dice) {
-        let _reply = stepped(alloc, table, words)?;
-        push_table(alloc, table, tables)?;
+        let _reply = stepped(alloc, table, words).expect(rt, "a reply");
+        let told = told(rt, alloc, table);
+        tables.push(told).expect(rt, "memory");
     }
-    Ok(())
 }
 
-fn push_tables(
-    alloc: Global,
-    table: &mut Table,
-    seed: u64,
-    tables: &mut Vec<String>,
-) -> Result<(), Refusal> {
+fn push_tables(rt: &impl Abort, alloc: Global, seed: u64, tables: &mut Vec<String>) {
     let mut dice = Dice::new(seed);
-    push_table(alloc, table, tables)?;
+    let mut table = Table::new(alloc);
+    let told = told(rt, alloc, &mut table);
+    tables.push(told).expect(rt, "memory");
     for _ in 0..STEPS {
-        push_next(alloc, table, &mut dice, tables)?;
+        push_next(rt, alloc, &mut table, &mut dice, tables);
     }
-    Ok(())
 }
 
 /// What the tables after 0, 1, 2 and more commands of a script answer the probes.
-pub fn tables_of(alloc: Global, seed: u64) -> Result<Vec<String>, Refusal> {
+pub fn tables_of(rt: &impl Abort, alloc: Global, seed: u64) -> Vec<String> {
     let mut tables = Vec::new(alloc);
-    push_tables(alloc, &mut Table::new(alloc), seed, &mut tables)?;
-    Ok(tables)
+    push_tables(rt, alloc, seed, &mut tables);
+    tables
 }
 
 fn is_told(tables: &[String], count: u64, found: &str) -> bool {
@@ -195,16 +153,18 @@ fn is_told(tables: &[String], count: u64, found: &str) -> bool {
 }
 
 /// What the store of a disk that opens answers the probes.
-fn found_in<D: Disk + Drop>(rt: &impl Abort, alloc: Global, disk: D) -> String {
+fn found_in(rt: &impl Abort, alloc: Global, disk: MemoryDisk) -> String {
     let mut store = opened(rt, alloc, disk);
-    told_by(alloc, &mut store).expect(rt, "answers")
+    let told = told_by(rt, alloc, &mut store);
+    close(store);
+    told
 }
 
 /// That a disk opens to the table of the entries that were covered, or of all.
-pub fn expect_either<D: Disk + Drop>(
+pub fn expect_either(
     rt: &impl Abort,
     alloc: Global,
-    disk: D,
+    disk: MemoryDisk,
     tables: &[String],
     span: Span,
 ) {

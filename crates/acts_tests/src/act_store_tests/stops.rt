@@ -10,7 +10,6 @@ use act_store::Store;
 use std::alloc::Global;
 use std::ops::Range;
 use std::process::Abort;
-use wf_value::Refusal;
 
 /// How many writes and syncs make a store, and a commit.
 const MAKES: usize = 6;
@@ -20,18 +19,18 @@ const COMMITS: usize = 4;
 const FILLS: &[Fill] = &[Fill::Old, Fill::New, Fill::Half, Fill::Gates];
 
 /// Plays a script, and keeps each commit that wrote.
-fn play(alloc: Global, seed: u64, store: &mut Store<MemoryDisk>) -> Result<Vec<Span>, Refusal> {
+fn play(rt: &impl Abort, alloc: Global, seed: u64, store: &mut Store<MemoryDisk>) -> Vec<Span> {
     let mut dice = Dice::new(seed);
     let mut spans = Vec::new(alloc);
     for _ in 0..STEPS {
         let from = covered(store);
-        make_step(alloc, store, &mut dice)?;
+        make_step(alloc, store, &mut dice).expect(rt, "a step");
         let to = covered(store);
         if from < to {
-            spans.push(Span { from, to })?;
+            spans.push(Span { from, to }).expect(rt, "memory");
         }
     }
-    Ok(spans)
+    spans
 }
 
 /// The images of a stop inside a call, with each fill.
@@ -65,15 +64,11 @@ fn expect_calls(
 }
 
 /// The commits of a script that wrote, the entries that are covered at its end, and the disk.
-fn played(
-    rt: &impl Abort,
-    alloc: Global,
-    seed: u64,
-) -> Result<(Vec<Span>, u64, MemoryDisk), Refusal> {
+fn played(rt: &impl Abort, alloc: Global, seed: u64) -> (Vec<Span>, u64, MemoryDisk) {
     let mut store = made(rt, alloc, MemoryDisk::new(alloc), LEAST);
-    let spans = play(alloc, seed, &mut store)?;
+    let spans = play(rt, alloc, seed, &mut store);
     let last = covered(&store);
-    Ok((spans, last, store.into_disk()))
+    (spans, last, store.into_disk())
 }
 
 /// The images of a stop inside each call of these commits, which are all that there are.
@@ -94,21 +89,20 @@ fn expect_commits(
 }
 
 /// The images of each commit of a script, and the disk at its end.
-fn expect_script(rt: &impl Abort, alloc: Global, seed: u64) -> Result<(), Refusal> {
-    let tables = tables_of(alloc, seed)?;
-    let (spans, last, disk) = played(rt, alloc, seed)?;
+fn expect_script(rt: &impl Abort, alloc: Global, seed: u64) {
+    let tables = tables_of(rt, alloc, seed);
+    let (spans, last, disk) = played(rt, alloc, seed);
     expect_commits(rt, alloc, &disk, spans.as_slice(), tables.as_slice());
     let end = Span {
         from: last,
         to: last,
     };
     expect_either(rt, alloc, disk, tables.as_slice(), end);
-    Ok(())
 }
 
 fn expect_scripts(rt: &impl Abort, alloc: Global, seeds: Range<u64>) {
     for seed in seeds {
-        expect_script(rt, alloc, seed).expect(rt, "a script");
+        expect_script(rt, alloc, seed);
     }
 }
 
@@ -150,7 +144,7 @@ fn expect_none_or_empty(
     let same = disk.image(alloc, call as u64, fill).expect(rt, "an image");
     let number = number_of_opening(rt, alloc, image);
     if number == 0 {
-        let tables = tables_of(alloc, 0).expect(rt, "tables");
+        let tables = tables_of(rt, alloc, 0);
         let none = Span { from: 0, to: 0 };
         expect_either(rt, alloc, same, tables.as_slice(), none);
     } else {

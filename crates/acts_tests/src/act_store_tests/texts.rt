@@ -2,7 +2,7 @@
 
 use super::openings::lay;
 use super::scripts::entered;
-use super::{commit, covered, try_open};
+use super::{close, commit, covered, try_open};
 use crate::commands::{Words, number, stepped};
 use crate::holds::{expect_text, holds};
 use crate::run_plan_tests::expect_twice;
@@ -10,12 +10,12 @@ use crate::run_table_tests::tables::{GONE_ON, LEASED, LEASED_RUNS};
 use crate::run_table_tests::{BUILD, Row};
 use crate::table_text_tests::no_tables::OTHER_COUNTS;
 use crate::table_text_tests::tables::{ROWS, bytes_of};
+use crate::table_text_tests::whole_tables::text_of;
 use act_disk::{Disk, MemoryDisk};
 use act_store::Store;
 use run_table::Table;
 use std::alloc::Global;
 use std::process::Abort;
-use table_text::write_table;
 use wf_value::Refusal;
 
 /// A disk of two areas of the least length. The first is open, of version 1 and of generation 1, and has this text behind its length;
@@ -42,13 +42,6 @@ fn lease_all(alloc: Global, table: &mut Table) -> Result<(), Refusal> {
     Ok(())
 }
 
-fn text_of(rt: &impl Abort, alloc: Global, table: &Table) -> Result<Vec<u8>, Refusal> {
-    holds!(rt; table.runners().len() <= 4_294_967_295);
-    let mut text = Vec::new(alloc);
-    write_table(&mut text, table)?;
-    Ok(text)
-}
-
 /// The text of the table after `LEASED`.
 fn leased_text(rt: &impl Abort, alloc: Global) -> Result<Vec<u8>, Refusal> {
     let mut table = Table::new(alloc);
@@ -64,10 +57,9 @@ fn expect_seen(
     id: &str,
     want: &str,
 ) -> Result<(), Refusal> {
-    match store.look(number(id)?) {
-        Some(view) => expect_text(rt, view.text(alloc)?.as_str(), want),
-        None => panic!(rt; "no run"),
-    }
+    let view = store.look(number(id)?).expect(rt, "a run");
+    let text = view.text(alloc)?;
+    expect_text(rt, text.as_str(), want);
     Ok(())
 }
 
@@ -84,6 +76,32 @@ fn expect_reply(
     Ok(())
 }
 
+/// Applies commands in turn, and compares each printed reply.
+fn expect_replies(
+    rt: &impl Abort,
+    alloc: Global,
+    store: &mut Store<MemoryDisk>,
+    rows: &[Row<'_>],
+) -> Result<(), Refusal> {
+    for (words, want) in rows {
+        expect_reply(rt, alloc, store, words, want)?;
+    }
+    Ok(())
+}
+
+/// That the printed views of runs are these.
+fn expect_runs(
+    rt: &impl Abort,
+    alloc: Global,
+    store: &Store<MemoryDisk>,
+    runs: &[(&str, &str)],
+) -> Result<(), Refusal> {
+    for (id, want) in runs {
+        expect_seen(rt, alloc, store, id, want)?;
+    }
+    Ok(())
+}
+
 /// A store that opens on the text has the runs of its table, with their numbers, and the leases and kept replies of its runners. What
 /// it commits then is carried out from that table.
 fn goes_on(rt: &impl Abort, alloc: Global) -> Result<(), Refusal> {
@@ -94,16 +112,10 @@ fn goes_on(rt: &impl Abort, alloc: Global) -> Result<(), Refusal> {
 
 fn goes_on_over(rt: &impl Abort, alloc: Global, disk: MemoryDisk) -> Result<MemoryDisk, Refusal> {
     let mut store = opening(rt, alloc, disk)?;
-    go_on_from_leased(rt, alloc, &mut store)?;
-    Ok(store.into_disk())
-}
-
-fn expect_leased(rt: &impl Abort, alloc: Global, store: &Store<MemoryDisk>) -> Result<(), Refusal> {
-    holds!(rt; store.entries() == 0 && covered(store) == 0);
-    for &(id, want) in LEASED_RUNS {
-        expect_seen(rt, alloc, store, id, want)?;
-    }
-    Ok(())
+    let gone_on = go_on_from_leased(rt, alloc, &mut store);
+    let disk = store.into_disk();
+    gone_on?;
+    Ok(disk)
 }
 
 fn go_on_from_leased(
@@ -111,14 +123,9 @@ fn go_on_from_leased(
     alloc: Global,
     store: &mut Store<MemoryDisk>,
 ) -> Result<(), Refusal> {
-    expect_leased(rt, alloc, store)?;
-    go_on(rt, alloc, store)
-}
-
-fn go_on(rt: &impl Abort, alloc: Global, store: &mut Store<MemoryDisk>) -> Result<(), Refusal> {
-    for (words, want) in GONE_ON {
-        expect_reply(rt, alloc, store, words, want)?;
-    }
+    holds!(rt; store.entries() == 0 && covered(store) == 0);
+    expect_runs(rt, alloc, store, LEASED_RUNS)?;
+    expect_replies(rt, alloc, store, GONE_ON)?;
     let count = commit(store)?;
     holds!(rt; count == 8);
     Ok(())
@@ -127,18 +134,9 @@ fn go_on(rt: &impl Abort, alloc: Global, store: &mut Store<MemoryDisk>) -> Resul
 /// What is committed stands in what opens.
 fn opens_after(rt: &impl Abort, alloc: Global, disk: MemoryDisk) -> Result<(), Refusal> {
     let again = opening(rt, alloc, disk)?;
-    expect_gone_on(rt, alloc, &again)
-}
-
-fn expect_gone_on(
-    rt: &impl Abort,
-    alloc: Global,
-    store: &Store<MemoryDisk>,
-) -> Result<(), Refusal> {
-    for &(id, want) in GONE_ON_RUNS {
-        expect_seen(rt, alloc, store, id, want)?;
-    }
-    Ok(())
+    let seen = expect_runs(rt, alloc, &again, GONE_ON_RUNS);
+    close(again);
+    seen
 }
 
 const GONE_ON_RUNS: &[(&str, &str)] = &[
@@ -160,19 +158,11 @@ const SIXTH: &[Row] = &[
 ];
 
 fn counts_on(rt: &impl Abort, alloc: Global) -> Result<(), Refusal> {
-    let mut store = opening(rt, alloc, disk_of(alloc, AFTER_FIVE)?)?;
-    gives_the_sixth(rt, alloc, &mut store)
-}
-
-fn gives_the_sixth(
-    rt: &impl Abort,
-    alloc: Global,
-    store: &mut Store<MemoryDisk>,
-) -> Result<(), Refusal> {
-    for (words, want) in SIXTH {
-        expect_reply(rt, alloc, store, words, want)?;
-    }
-    Ok(())
+    let disk = disk_of(alloc, AFTER_FIVE)?;
+    let mut store = opening(rt, alloc, disk)?;
+    let replied = expect_replies(rt, alloc, &mut store, SIXTH);
+    close(store);
+    replied
 }
 
 #[test]
@@ -219,7 +209,8 @@ fn opens_no_other_order(rt: &impl Abort, alloc: Global) -> Result<(), Refusal> {
 
 fn expect_opening(rt: &impl Abort, alloc: Global, text: &[u8]) -> Result<(), Refusal> {
     let disk = disk_of(alloc, text)?;
-    let _store = opening(rt, alloc, disk)?;
+    let store = opening(rt, alloc, disk)?;
+    close(store);
     Ok(())
 }
 

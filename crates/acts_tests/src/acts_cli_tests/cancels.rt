@@ -1,7 +1,6 @@
 //! Runs that are cancelled, runners that are lost, and bodies that are fetched. GitHub Docs, "Canceling a workflow".
 
 use crate::acts_cli_tests::scripts::{Row, expect_play};
-use std::test::Fail;
 
 const BUILD: &str = r#"{"jobs":{"build":{"runs-on":"linux"}}}"#;
 
@@ -71,28 +70,28 @@ const FETCHED: &[Row] = &[
 ];
 
 #[test]
-fn a_run_is_cancelled(rt: HostRuntime) -> Result<(), Fail> {
-    expect_play(&rt, rt.alloc(), BUILD, CANCELLED)
+fn a_run_is_cancelled(rt: HostRuntime) {
+    expect_play(&rt, rt.alloc(), BUILD, CANCELLED);
 }
 
 #[test]
-fn a_run_is_cancelled_before_a_claim(rt: HostRuntime) -> Result<(), Fail> {
-    expect_play(&rt, rt.alloc(), BUILD, CANCELLED_BEFORE_A_CLAIM)
+fn a_run_is_cancelled_before_a_claim(rt: HostRuntime) {
+    expect_play(&rt, rt.alloc(), BUILD, CANCELLED_BEFORE_A_CLAIM);
 }
 
 #[test]
-fn a_runner_is_lost(rt: HostRuntime) -> Result<(), Fail> {
-    expect_play(&rt, rt.alloc(), BUILD, LOST)
+fn a_runner_is_lost(rt: HostRuntime) {
+    expect_play(&rt, rt.alloc(), BUILD, LOST);
 }
 
 #[test]
-fn a_runner_is_lost_while_its_leg_stops(rt: HostRuntime) -> Result<(), Fail> {
-    expect_play(&rt, rt.alloc(), BUILD, LOST_WHILE_STOPPING)
+fn a_runner_is_lost_while_its_leg_stops(rt: HostRuntime) {
+    expect_play(&rt, rt.alloc(), BUILD, LOST_WHILE_STOPPING);
 }
 
 #[test]
-fn bodies_are_fetched(rt: HostRuntime) -> Result<(), Fail> {
-    expect_play(&rt, rt.alloc(), BUILD, FETCHED)
+fn bodies_are_fetched(rt: HostRuntime) {
+    expect_play(&rt, rt.alloc(), BUILD, FETCHED);
 }
 
 /// A job that runs under each condition, once the run has been told to stop.
@@ -203,23 +202,23 @@ const LOST_UNDER_ALWAYS: &[Row] = &[
 const ALWAYS: &str = r#"{"jobs":{"a":{"runs-on":"linux","if":"always()"}}}"#;
 
 #[test]
-fn each_condition_after_a_cancel(rt: HostRuntime) -> Result<(), Fail> {
-    expect_play(&rt, rt.alloc(), EACH_CONDITION, CONDITIONS_AFTER_A_CANCEL)
+fn each_condition_after_a_cancel(rt: HostRuntime) {
+    expect_play(&rt, rt.alloc(), EACH_CONDITION, CONDITIONS_AFTER_A_CANCEL);
 }
 
 #[test]
-fn jobs_at_work_are_cancelled(rt: HostRuntime) -> Result<(), Fail> {
-    expect_play(&rt, rt.alloc(), AT_WORK, JOBS_AT_WORK)
+fn jobs_at_work_are_cancelled(rt: HostRuntime) {
+    expect_play(&rt, rt.alloc(), AT_WORK, JOBS_AT_WORK);
 }
 
 #[test]
-fn one_runner_of_three_is_lost(rt: HostRuntime) -> Result<(), Fail> {
-    expect_play(&rt, rt.alloc(), THREE, TWO_AND_A_LOST_ONE)
+fn one_runner_of_three_is_lost(rt: HostRuntime) {
+    expect_play(&rt, rt.alloc(), THREE, TWO_AND_A_LOST_ONE);
 }
 
 #[test]
-fn a_runner_of_a_job_that_always_runs_is_lost(rt: HostRuntime) -> Result<(), Fail> {
-    expect_play(&rt, rt.alloc(), ALWAYS, LOST_UNDER_ALWAYS)
+fn a_runner_of_a_job_that_always_runs_is_lost(rt: HostRuntime) {
+    expect_play(&rt, rt.alloc(), ALWAYS, LOST_UNDER_ALWAYS);
 }
 
 const NO_LINES: &[Row] = &[
@@ -240,6 +239,6 @@ const NO_LINES: &[Row] = &[
 ];
 
 #[test]
-fn lines_that_are_none(rt: HostRuntime) -> Result<(), Fail> {
-    expect_play(&rt, rt.alloc(), BUILD, NO_LINES)
+fn lines_that_are_none(rt: HostRuntime) {
+    expect_play(&rt, rt.alloc(), BUILD, NO_LINES);
 }

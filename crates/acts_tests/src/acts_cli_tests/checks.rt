@@ -7,7 +7,6 @@ use acts_cli::{MOST_BYTES, run_check};
 use std::alloc::Global;
 use std::io::{Read, Write};
 use std::process::Abort;
-use std::test::Fail;
 use wf_value::Refusal;
 
 /// Checks the workflow that a reader gives, and prints its legs to a writer.
@@ -90,67 +89,66 @@ const LEGS: &[(&str, &str)] = &[
 ];
 
 #[test]
-fn prints_the_legs(rt: HostRuntime) -> Result<(), Fail> {
+fn prints_the_legs(rt: HostRuntime) {
     for &(workflow, lines) in LEGS {
-        let printed = checked(rt.alloc(), workflow.as_bytes())?;
+        let printed = checked(rt.alloc(), workflow.as_bytes()).expect(&rt, "legs");
         holds!(rt; printed.as_slice() == lines.as_bytes(), workflow);
     }
-    Ok(())
 }
 
-/// A job `m` whose variables `x` and `y` have the values 0 to 15, and more members of its matrix.
+/// A job `m` whose variables `x` and `y` have the values 0 to 15, up to what else its matrix has.
+const GRID: &str = concat!(
+    "{\"jobs\":{\"m\":{\"runs-on\":\"x\",\"strategy\":{\"matrix\":{",
+    "\"x\":[0,1,2,3,4,5,6,7,8,9,10,11,12,13,14,15],\"y\":[0,1,2,3,4,5,6,7,8,9,10,11,12,13,14,15]",
+);
+
+/// This job, with more members of its matrix.
 fn grid(alloc: Global, more: &str) -> Result<String, Refusal> {
-    let values = "[0,1,2,3,4,5,6,7,8,9,10,11,12,13,14,15]";
-    let start = "{\"jobs\":{\"m\":{\"runs-on\":\"x\",\"strategy\":{\"matrix\":{\"x\":";
-    let (then, end) = (",\"y\":", "}}}}}");
-    Ok(format!(in alloc; "{start}{values}{then}{values}{more}{end}")?)
+    spelled(alloc, &[(GRID, 1), (more, 1), ("}}}}}", 1)])
 }
 
 /// The lines of so many choices of `x` and `y`, from one of them on.
-fn choices(alloc: Global, first: u32, count: u32) -> Result<String, Refusal> {
+fn choices(rt: &impl Abort, alloc: Global, first: u32, count: u32) -> String {
     let mut lines = String::new(alloc);
     for leg in 0..count {
         let choice = first.saturating_add(leg);
         let (x, y) = (choice / 16, choice % 16);
-        let line = format!(in alloc; "m {leg} {{\"x\":{x},\"y\":{y}}}\n")?;
-        lines.push_str(line.as_str())?;
+        let line = format!(in alloc; "m {leg} {{\"x\":{x},\"y\":{y}}}\n").expect(rt, "a line");
+        lines.push_str(line.as_str()).expect(rt, "memory");
     }
-    Ok(lines)
+    lines
 }
 
 /// That the grid with these members has these legs.
-fn expect_legs(rt: &impl Abort, alloc: Global, members: &str, legs: &str) -> Result<(), Refusal> {
-    let workflow = grid(alloc, members)?;
-    let printed = checked(alloc, workflow.as_bytes())?;
+fn expect_legs(rt: &impl Abort, alloc: Global, members: &str, legs: &str) {
+    let workflow = grid(alloc, members).expect(rt, "a workflow");
+    let printed = checked(alloc, workflow.as_bytes()).expect(rt, "legs");
     expect_bytes(rt, printed.as_slice(), legs.as_bytes());
-    Ok(())
 }
 
-fn takes_256_legs(rt: &impl Abort, alloc: Global) -> Result<(), Refusal> {
-    let legs = choices(alloc, 0, 256)?;
-    expect_legs(rt, alloc, "", legs.as_str())
+fn takes_256_legs(rt: &impl Abort, alloc: Global) {
+    let legs = choices(rt, alloc, 0, 256);
+    expect_legs(rt, alloc, "", legs.as_str());
 }
 
-fn refuses_one_more(rt: &impl Abort, alloc: Global) -> Result<(), Refusal> {
-    let workflow = grid(alloc, ",\"include\":[{\"x\":16}]")?;
+fn refuses_one_more(rt: &impl Abort, alloc: Global) {
+    let workflow = grid(alloc, ",\"include\":[{\"x\":16}]").expect(rt, "a workflow");
     expect_refused(rt, alloc, workflow.as_str(), 22);
-    Ok(())
 }
 
-fn takes_one_for_another(rt: &impl Abort, alloc: Global) -> Result<(), Refusal> {
-    let mut legs = choices(alloc, 1, 255)?;
-    legs.push_str("m 255 {\"x\":16}\n")?;
+fn takes_one_for_another(rt: &impl Abort, alloc: Global) {
+    let mut legs = choices(rt, alloc, 1, 255);
+    legs.push_str("m 255 {\"x\":16}\n").expect(rt, "lines");
     let members = ",\"include\":[{\"x\":16}],\"exclude\":[{\"x\":0,\"y\":0}]";
-    expect_legs(rt, alloc, members, legs.as_str())
+    expect_legs(rt, alloc, members, legs.as_str());
 }
 
 /// 256 legs are the most, also where one is excluded and another included.
 #[test]
-fn bounds_the_legs(rt: HostRuntime) -> Result<(), Fail> {
-    takes_256_legs(&rt, rt.alloc())?;
-    refuses_one_more(&rt, rt.alloc())?;
-    takes_one_for_another(&rt, rt.alloc())?;
-    Ok(())
+fn bounds_the_legs(rt: HostRuntime) {
+    takes_256_legs(&rt, rt.alloc());
+    refuses_one_more(&rt, rt.alloc());
+    takes_one_for_another(&rt, rt.alloc());
 }
 
 const TOO_MANY_CHOICES: &str =
@@ -287,45 +285,40 @@ fn answers_the_earlier_of_two_checks(rt: HostRuntime) {
     }
 }
 
+/// How long texts are that are too long, and the numbers with which they are refused.
+const TOO_LONG: &[(usize, u64)] = &[(65_537, 24), (MOST_BYTES + 1, 76)];
+
 /// A text that is too long is not read.
 #[test]
-fn answers_the_length_before_the_form(rt: HostRuntime) -> Result<(), Fail> {
-    let long = spelled(rt.alloc(), &[("[", 65_537)])?;
-    expect_refused(&rt, rt.alloc(), long.as_str(), 24);
-    let longer = spelled(rt.alloc(), &[("[", MOST_BYTES + 1)])?;
-    expect_refused(&rt, rt.alloc(), longer.as_str(), 76);
-    Ok(())
-}
-
-/// A workflow of one job, filled up with spaces.
-fn workflow_of_length(alloc: Global, length: usize) -> Result<Vec<u8>, Refusal> {
-    let mut workflow = b"{\"jobs\":{\"a\":{\"runs-on\":\"x\"}}}".to_vec(alloc)?;
-    for _ in workflow.len()..length {
-        workflow.push(b' ')?;
+fn answers_the_length_before_the_form(rt: HostRuntime) {
+    for &(length, number) in TOO_LONG {
+        let workflow = spelled(rt.alloc(), &[("[", length)]).expect(&rt, "a workflow");
+        expect_refused(&rt, rt.alloc(), workflow.as_str(), number);
     }
-    Ok(workflow)
 }
 
-/// Lengths, and the numbers with which workflows of these are refused.
-const LENGTHS: &[(usize, u64)] = &[
-    (65_536, 0),
-    (65_537, 24),
-    (MOST_BYTES, 24),
-    (MOST_BYTES + 9, 76),
+/// A workflow of one job.
+const ONE_JOB: &str = "{\"jobs\":{\"a\":{\"runs-on\":\"x\"}}}";
+
+/// Spaces behind this workflow, the number with which it is refused then, and how many bytes are not read: no more than 1,048,577 are.
+const SPACES: &[(usize, u64, usize)] = &[
+    (65_536 - ONE_JOB.len(), 0, 0),
+    (65_537 - ONE_JOB.len(), 24, 0),
+    (MOST_BYTES - ONE_JOB.len(), 24, 0),
+    (MOST_BYTES + 9 - ONE_JOB.len(), 76, 8),
 ];
 
 #[test]
-fn bounds_a_workflow(rt: HostRuntime) -> Result<(), Fail> {
-    for &(length, number) in LENGTHS {
-        let workflow = workflow_of_length(rt.alloc(), length)?;
-        let mut reader = workflow.as_slice();
+fn bounds_a_workflow(rt: HostRuntime) {
+    for &(spaces, number, left) in SPACES {
+        let pieces = [(ONE_JOB, 1), (" ", spaces)];
+        let workflow = spelled(rt.alloc(), &pieces).expect(&rt, "a workflow");
+        let mut reader = workflow.as_bytes();
         let mut printed = Vec::new(rt.alloc());
-        let ended = check(rt.alloc(), &mut reader, &mut printed);
-        holds!(rt; number_of(ended) == number, length);
-        let left = if length > MOST_BYTES { 8 } else { 0 };
-        holds!(rt; reader.len() == left, "no more than 1,048,577 bytes are read");
+        let ended = number_of(check(rt.alloc(), &mut reader, &mut printed));
+        holds!(rt; ended == number, spaces);
+        holds!(rt; reader.len() == left, spaces);
     }
-    Ok(())
 }
 
 #[test]

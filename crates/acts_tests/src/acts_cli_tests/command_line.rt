@@ -225,6 +225,8 @@ const PLAY: &[&str] = &["acts", "play"];
 
 const HELP: &[&str] = &["acts", "--help"];
 
+const CHECK: &[&str] = &["acts", "check"];
+
 /// A refusal's number is explained with an input that gets it.
 const EXPLAINED: &str = concat!(
     "refused 15: a job has no \"runs-on\", or an empty list there.\n",
@@ -317,7 +319,7 @@ const CHECKS: &[(&str, usize, Ended<'static>)] = &[
 #[test]
 fn ends_a_check_with_its_status(rt: HostRuntime) {
     for &(workflow, room, ended) in CHECKS {
-        expect(&rt, rt.alloc(), &["acts", "check"], workflow, room, ended);
+        expect(&rt, rt.alloc(), CHECK, workflow, room, ended);
     }
 }
 

@@ -4,7 +4,6 @@
 use crate::acts_cli_tests::scripts::Script;
 use std::alloc::Global;
 use std::process::Abort;
-use std::test::Fail;
 use wf_value::Refusal;
 
 /// The jobs that ask for their condition, each behind `b`, which is behind `a`.
@@ -19,52 +18,37 @@ const JOBS: &str = concat!(
     r#""if-true":{"runs-on":"x","needs":"b","if":true}"#,
 );
 
-/// A job, with the condition under which it runs, or is skipped, whatever was before it.
-fn add_job(workflow: &mut String, head: &str, end: &str) -> Result<(), Refusal> {
-    workflow.push_str(head)?;
-    let condition = if end == "skipped" {
+/// The condition under which a job runs, or is skipped, whatever was before it.
+fn condition(end: &str) -> &'static str {
+    if end == "skipped" {
         "false"
     } else {
         "always()"
-    };
-    workflow.push_str(condition)?;
-    workflow.push_str(r#""},"#)?;
-    Ok(())
+    }
 }
 
 fn workflow_of(alloc: Global, ancestor: &str, need: &str) -> Result<String, Refusal> {
-    let mut workflow = String::from_str(alloc, r#"{"jobs":{"#)?;
-    add_job(&mut workflow, r#""a":{"runs-on":"a","if":""#, ancestor)?;
-    add_job(
-        &mut workflow,
-        r#""b":{"runs-on":"b","needs":"a","if":""#,
-        need,
-    )?;
-    workflow.push_str(JOBS)?;
-    workflow.push_str("}}")?;
-    Ok(workflow)
-}
-
-fn add_claim(alloc: Global, script: &mut Script, job: &str, lease: u32) -> Result<(), Refusal> {
-    let claim = format!(in alloc; "claim r{job} 1 {job}")?;
-    let leased = format!(in alloc; "lease {lease} 1 {job} 0 {{}}")?;
-    script.add(claim.as_str(), leased.as_str())
+    let (a, b, jobs) = (condition(ancestor), condition(need), JOBS);
+    Ok(format!(in alloc;
+        "{{\"jobs\":{{\"a\":{{\"runs-on\":\"a\",\"if\":\"{a}\"}},\
+        \"b\":{{\"runs-on\":\"b\",\"needs\":\"a\",\"if\":\"{b}\"}},{jobs}}}}}"
+    )?)
 }
 
 /// Claims the leg of a job and reports its result, unless the job is skipped.
 fn add_end(
+    rt: &impl Abort,
     alloc: Global,
     script: &mut Script,
-    job: &str,
-    lease: u32,
-    end: &str,
-) -> Result<(), Refusal> {
+    (job, lease, end): (&str, u32, &str),
+) {
     if end == "skipped" {
-        return Ok(());
+        return;
     }
-    add_claim(alloc, script, job, lease)?;
-    let done = format!(in alloc; "done r{job} 2 {lease} {end}")?;
-    script.add(done.as_str(), "ok")
+    let lines = format!(in alloc; "claim r{job} 1 {job}\ndone r{job} 2 {lease} {end}");
+    let lines = lines.expect(rt, "lines");
+    let answers = format!(in alloc; "lease {lease} 1 {job} 0 {{}}\nok").expect(rt, "answers");
+    script.add(rt, lines.as_str(), answers.as_str());
 }
 
 /// The state of a job whose condition holds, or does not.
@@ -72,19 +56,9 @@ fn state(holds: bool) -> &'static str {
     if holds { "open(ready)" } else { "skipped()" }
 }
 
-/// The state of a job that has ended with this result.
-fn ended(alloc: Global, end: &str) -> Result<String, Refusal> {
-    let legs = if end == "skipped" { "" } else { end };
-    Ok(format!(in alloc; "{end}({legs})")?)
-}
-
-/// What the end of a run's view has to say of the jobs behind `b`.
-fn states(alloc: Global, success: bool, failure: bool) -> Result<String, Refusal> {
-    let (success, failure) = (state(success), state(failure));
-    Ok(format!(in alloc;
-        "if-always:open(ready) if-cancelled:skipped() if-failure:{failure} if-false:skipped() \
-        if-none:{success} if-not-cancelled:open(ready) if-success:{success} if-true:{success}"
-    )?)
+/// The legs of a job that has ended with this result.
+fn legs(end: &str) -> &str {
+    if end == "skipped" { "" } else { end }
 }
 
 /// The result of `a`, that of `b`, whether `success()` then holds of what is behind `b`, and whether `failure()` does.
@@ -118,43 +92,42 @@ fn status(ancestor: &str, need: &str) -> &'static str {
 
 type Case = (&'static str, &'static str, bool, bool);
 
-fn script_of(alloc: Global, case: &Case) -> Result<Script, Refusal> {
-    let workflow = workflow_of(alloc, case.0, case.1)?;
-    Script::admitting(alloc, workflow.as_str())
+fn script_of(rt: &impl Abort, alloc: Global, case: &Case) -> Script {
+    let workflow = workflow_of(alloc, case.0, case.1).expect(rt, "a workflow");
+    Script::admitting(rt, alloc, workflow.as_str())
 }
 
-fn add_ends(alloc: Global, script: &mut Script, case: &Case) -> Result<(), Refusal> {
-    add_end(alloc, script, "a", 1, case.0)?;
-    let lease = if case.0 == "skipped" { 1 } else { 2 };
-    add_end(alloc, script, "b", lease, case.1)
-}
-
-/// The run as it is seen then.
+/// The run as it is seen once `a` and `b` have ended.
 fn view_of(alloc: Global, case: &Case) -> Result<String, Refusal> {
     let (ancestor, need, success, failure) = *case;
     let status = status(ancestor, need);
-    let a = ended(alloc, ancestor)?;
-    let b = ended(alloc, need)?;
-    let rest = states(alloc, success, failure)?;
-    Ok(format!(in alloc; "run 1 1 {status} - a:{a} b:{b} {rest}")?)
+    let (a, b) = (legs(ancestor), legs(need));
+    let (success, failure) = (state(success), state(failure));
+    Ok(format!(in alloc;
+        "run 1 1 {status} - a:{ancestor}({a}) b:{need}({b}) \
+        if-always:open(ready) if-cancelled:skipped() if-failure:{failure} if-false:skipped() \
+        if-none:{success} if-not-cancelled:open(ready) if-success:{success} if-true:{success}"
+    )?)
 }
 
-fn add_view(alloc: Global, script: &mut Script, case: &Case) -> Result<(), Refusal> {
-    let view = view_of(alloc, case)?;
-    script.add("look 1", view.as_str())
+/// Ends `a` and `b`, and looks at the run.
+fn add_rest(rt: &impl Abort, alloc: Global, script: &mut Script, case: &Case) {
+    add_end(rt, alloc, script, ("a", 1, case.0));
+    let lease = if case.0 == "skipped" { 1 } else { 2 };
+    add_end(rt, alloc, script, ("b", lease, case.1));
+    let view = view_of(alloc, case).expect(rt, "a view");
+    script.add(rt, "look 1", view.as_str());
 }
 
-fn expect_case(rt: &impl Abort, alloc: Global, case: &Case) -> Result<(), Refusal> {
-    let mut script = script_of(alloc, case)?;
-    add_ends(alloc, &mut script, case)?;
-    add_view(alloc, &mut script, case)?;
-    script.expect(rt, alloc)
+fn expect_case(rt: &impl Abort, alloc: Global, case: &Case) {
+    let mut script = script_of(rt, alloc, case);
+    add_rest(rt, alloc, &mut script, case);
+    script.expect(rt, alloc);
 }
 
 #[test]
-fn conditions_over_two_results(rt: HostRuntime) -> Result<(), Fail> {
+fn conditions_over_two_results(rt: HostRuntime) {
     for case in CASES {
-        expect_case(&rt, rt.alloc(), case)?;
+        expect_case(&rt, rt.alloc(), case);
     }
-    Ok(())
 }

@@ -3,8 +3,7 @@
 use crate::acts_cli_tests::scripts::Line::{Push, Words};
 use crate::acts_cli_tests::scripts::{LineRow, Script, expect_script};
 use std::alloc::Global;
-use std::test::Fail;
-use wf_value::Refusal;
+use std::process::Abort;
 
 const DEPLOY: &str = r#"{"concurrency":"deploy","jobs":{"go":{"runs-on":"linux"}}}"#;
 
@@ -196,48 +195,48 @@ const PENDING_RUN_IS_CANCELLED: &[LineRow] = &[
 ];
 
 #[test]
-fn a_newcomer_displaces_the_pending_run(rt: HostRuntime) -> Result<(), Fail> {
-    expect_script(&rt, rt.alloc(), NEWCOMER_DISPLACES_THE_PENDING_RUN)
+fn a_newcomer_displaces_the_pending_run(rt: HostRuntime) {
+    expect_script(&rt, rt.alloc(), NEWCOMER_DISPLACES_THE_PENDING_RUN);
 }
 
 #[test]
-fn a_run_of_another_group_goes_on(rt: HostRuntime) -> Result<(), Fail> {
-    expect_script(&rt, rt.alloc(), ANOTHER_GROUP_GOES_ON)
+fn a_run_of_another_group_goes_on(rt: HostRuntime) {
+    expect_script(&rt, rt.alloc(), ANOTHER_GROUP_GOES_ON);
 }
 
 #[test]
-fn a_newcomer_stops_the_run_in_progress(rt: HostRuntime) -> Result<(), Fail> {
-    expect_script(&rt, rt.alloc(), NEWCOMER_STOPS_THE_RUN_IN_PROGRESS)
+fn a_newcomer_stops_the_run_in_progress(rt: HostRuntime) {
+    expect_script(&rt, rt.alloc(), NEWCOMER_STOPS_THE_RUN_IN_PROGRESS);
 }
 
 #[test]
-fn a_newcomer_stops_a_ready_run(rt: HostRuntime) -> Result<(), Fail> {
-    expect_script(&rt, rt.alloc(), NEWCOMER_STOPS_A_READY_RUN)
+fn a_newcomer_stops_a_ready_run(rt: HostRuntime) {
+    expect_script(&rt, rt.alloc(), NEWCOMER_STOPS_A_READY_RUN);
 }
 
 #[test]
-fn the_runner_of_a_stopping_run_is_lost(rt: HostRuntime) -> Result<(), Fail> {
-    expect_script(&rt, rt.alloc(), RUNNER_OF_A_STOPPING_RUN_IS_LOST)
+fn the_runner_of_a_stopping_run_is_lost(rt: HostRuntime) {
+    expect_script(&rt, rt.alloc(), RUNNER_OF_A_STOPPING_RUN_IS_LOST);
 }
 
 #[test]
-fn a_second_stop_changes_nothing(rt: HostRuntime) -> Result<(), Fail> {
-    expect_script(&rt, rt.alloc(), SECOND_STOP_CHANGES_NOTHING)
+fn a_second_stop_changes_nothing(rt: HostRuntime) {
+    expect_script(&rt, rt.alloc(), SECOND_STOP_CHANGES_NOTHING);
 }
 
 #[test]
-fn jobs_have_groups(rt: HostRuntime) -> Result<(), Fail> {
-    expect_script(&rt, rt.alloc(), GROUPS_OF_JOBS)
+fn jobs_have_groups(rt: HostRuntime) {
+    expect_script(&rt, rt.alloc(), GROUPS_OF_JOBS);
 }
 
 #[test]
-fn runs_and_legs_share_groups(rt: HostRuntime) -> Result<(), Fail> {
-    expect_script(&rt, rt.alloc(), A_RUN_AND_A_LEG_SHARE_A_GROUP)
+fn runs_and_legs_share_groups(rt: HostRuntime) {
+    expect_script(&rt, rt.alloc(), A_RUN_AND_A_LEG_SHARE_A_GROUP);
 }
 
 #[test]
-fn a_pending_run_is_cancelled(rt: HostRuntime) -> Result<(), Fail> {
-    expect_script(&rt, rt.alloc(), PENDING_RUN_IS_CANCELLED)
+fn a_pending_run_is_cancelled(rt: HostRuntime) {
+    expect_script(&rt, rt.alloc(), PENDING_RUN_IS_CANCELLED);
 }
 
 const STRASSE: &str = r#"{"concurrency":"Straße","jobs":{"go":{"runs-on":"linux"}}}"#;
@@ -396,82 +395,76 @@ const NO_GROUP_BY_A_MATRIX: &[LineRow] = &[
 ];
 
 #[test]
-fn groups_go_by_their_names(rt: HostRuntime) -> Result<(), Fail> {
-    expect_script(&rt, rt.alloc(), NAMES_OF_GROUPS)
+fn groups_go_by_their_names(rt: HostRuntime) {
+    expect_script(&rt, rt.alloc(), NAMES_OF_GROUPS);
 }
 
 #[test]
-fn a_group_by_an_input(rt: HostRuntime) -> Result<(), Fail> {
-    expect_script(&rt, rt.alloc(), GROUP_BY_AN_INPUT)
+fn a_group_by_an_input(rt: HostRuntime) {
+    expect_script(&rt, rt.alloc(), GROUP_BY_AN_INPUT);
 }
 
 #[test]
-fn a_repository_has_groups_of_its_own(rt: HostRuntime) -> Result<(), Fail> {
-    expect_script(&rt, rt.alloc(), GROUPS_OF_TWO_REPOSITORIES)
+fn a_repository_has_groups_of_its_own(rt: HostRuntime) {
+    expect_script(&rt, rt.alloc(), GROUPS_OF_TWO_REPOSITORIES);
 }
 
 #[test]
-fn the_legs_of_a_job_share_its_group(rt: HostRuntime) -> Result<(), Fail> {
-    expect_script(&rt, rt.alloc(), LEGS_OF_A_JOB)
+fn the_legs_of_a_job_share_its_group(rt: HostRuntime) {
+    expect_script(&rt, rt.alloc(), LEGS_OF_A_JOB);
 }
 
 #[test]
-fn a_job_in_the_group_of_its_run(rt: HostRuntime) -> Result<(), Fail> {
-    expect_script(&rt, rt.alloc(), OWN_GROUP)
+fn a_job_in_the_group_of_its_run(rt: HostRuntime) {
+    expect_script(&rt, rt.alloc(), OWN_GROUP);
 }
 
 #[test]
-fn a_group_by_a_result(rt: HostRuntime) -> Result<(), Fail> {
-    expect_script(&rt, rt.alloc(), GROUP_BY_A_RESULT)
+fn a_group_by_a_result(rt: HostRuntime) {
+    expect_script(&rt, rt.alloc(), GROUP_BY_A_RESULT);
 }
 
 #[test]
-fn settling_goes_on_after_a_stop(rt: HostRuntime) -> Result<(), Fail> {
-    expect_script(&rt, rt.alloc(), A_STOP_IN_THE_MIDST_OF_SETTLING)
+fn settling_goes_on_after_a_stop(rt: HostRuntime) {
+    expect_script(&rt, rt.alloc(), A_STOP_IN_THE_MIDST_OF_SETTLING);
 }
 
 #[test]
-fn a_run_has_no_group_by_a_matrix(rt: HostRuntime) -> Result<(), Fail> {
-    expect_script(&rt, rt.alloc(), NO_GROUP_BY_A_MATRIX)
+fn a_run_has_no_group_by_a_matrix(rt: HostRuntime) {
+    expect_script(&rt, rt.alloc(), NO_GROUP_BY_A_MATRIX);
 }
 
 /// A look at a run, whose number is its id.
-fn look(alloc: Global, script: &mut Script, run: u32, seen: &str) -> Result<(), Refusal> {
-    let line = format!(in alloc; "look {run}")?;
-    let answer = format!(in alloc; "run {run} {run} {seen}")?;
-    script.add(line.as_str(), answer.as_str())
+fn look(rt: &impl Abort, alloc: Global, script: &mut Script, run: u32, seen: &str) {
+    let line = format!(in alloc; "look {run}").expect(rt, "a line");
+    let answer = format!(in alloc; "run {run} {run} {seen}").expect(rt, "an answer");
+    script.add(rt, line.as_str(), answer.as_str());
 }
 
 /// A push of a run of the group `deploy`, which waits.
-fn push(alloc: Global, script: &mut Script, run: u32) -> Result<(), Refusal> {
-    let delivery = format!(in alloc; "d{run}")?;
-    let answer = format!(in alloc; "created {run}")?;
-    script.admit(delivery.as_str(), DEPLOY, answer.as_str())?;
-    look(alloc, script, run, "pending - go:blocked")
+fn push(rt: &impl Abort, alloc: Global, script: &mut Script, run: u32) {
+    let delivery = format!(in alloc; "d{run}").expect(rt, "a delivery");
+    let answer = format!(in alloc; "created {run}").expect(rt, "an answer");
+    script.admit(rt, delivery.as_str(), DEPLOY, answer.as_str());
+    look(rt, alloc, script, run, "pending - go:blocked");
 }
 
-/// 1,000 pushes while the one runner has the first run: 998 are cancelled, each by the next one.
-fn thousand_pushes(alloc: Global) -> Result<Script, Refusal> {
-    let mut script = Script::admitting(alloc, DEPLOY)?;
-    script.add("claim r1 1 linux", "lease 1 1 go 0 {}")?;
-    push(alloc, &mut script, 2)?;
+/// 999 pushes more while the one runner has the first run: 998 are cancelled, each by the next one.
+fn add_pushes(rt: &impl Abort, alloc: Global, script: &mut Script) {
+    let displaced = "completed cancelled go:cancelled()";
+    script.add(rt, "claim r1 1 linux", "lease 1 1 go 0 {}");
+    push(rt, alloc, script, 2);
     for run in 2..1_000 {
-        push(alloc, &mut script, run + 1)?;
-        look(
-            alloc,
-            &mut script,
-            run,
-            "completed cancelled go:cancelled()",
-        )?;
+        push(rt, alloc, script, run + 1);
+        look(rt, alloc, script, run, displaced);
     }
-    script.add("done r1 2 1 success", "ok")?;
-    script.add("claim r1 3 linux", "lease 2 1000 go 0 {}")?;
-    Ok(script)
+    script.add(rt, "done r1 2 1 success", "ok");
+    script.add(rt, "claim r1 3 linux", "lease 2 1000 go 0 {}");
 }
 
 #[test]
-fn each_push_displaces_the_one_before(rt: HostRuntime) -> Result<(), Fail> {
-    let script = thousand_pushes(rt.alloc())?;
-    script.expect(&rt, rt.alloc())?;
-    Ok(())
+fn each_push_displaces_the_one_before(rt: HostRuntime) {
+    let mut script = Script::admitting(&rt, rt.alloc(), DEPLOY);
+    add_pushes(&rt, rt.alloc(), &mut script);
+    script.expect(&rt, rt.alloc());
 }

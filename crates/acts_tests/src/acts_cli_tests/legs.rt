@@ -3,7 +3,6 @@
 //! `jobs.<job_id>.strategy.max-parallel`, and "Running variations of jobs in a workflow".
 
 use crate::acts_cli_tests::scripts::{Row, expect_play};
-use std::test::Fail;
 
 const FOUR_BY_TWO: &str =
     r#"{"jobs":{"m":{"runs-on":"linux","strategy":{"max-parallel":2,"matrix":{"n":[0,1,2,3]}}}}}"#;
@@ -112,33 +111,33 @@ const BESIDE_A_FAILURE_THAT_IS_PASSED_OVER: &[Row] = &[
 ];
 
 #[test]
-fn a_failed_leg_stops_the_rest(rt: HostRuntime) -> Result<(), Fail> {
-    expect_play(&rt, rt.alloc(), FOUR_BY_TWO, A_FAILURE_STOPS_THE_REST)
+fn a_failed_leg_stops_the_rest(rt: HostRuntime) {
+    expect_play(&rt, rt.alloc(), FOUR_BY_TWO, A_FAILURE_STOPS_THE_REST);
 }
 
 #[test]
-fn a_leg_that_was_told_to_stop_succeeds(rt: HostRuntime) -> Result<(), Fail> {
-    expect_play(&rt, rt.alloc(), TWO, A_STOPPING_LEG_SUCCEEDS)
+fn a_leg_that_was_told_to_stop_succeeds(rt: HostRuntime) {
+    expect_play(&rt, rt.alloc(), TWO, A_STOPPING_LEG_SUCCEEDS);
 }
 
 #[test]
-fn a_cancelled_leg_stops_no_other(rt: HostRuntime) -> Result<(), Fail> {
-    expect_play(&rt, rt.alloc(), TWO, A_CANCELLED_LEG_STOPS_NONE)
+fn a_cancelled_leg_stops_no_other(rt: HostRuntime) {
+    expect_play(&rt, rt.alloc(), TWO, A_CANCELLED_LEG_STOPS_NONE);
 }
 
 #[test]
-fn the_rest_goes_on_without_fail_fast(rt: HostRuntime) -> Result<(), Fail> {
-    expect_play(&rt, rt.alloc(), WITHOUT_FAIL_FAST, THE_REST_GOES_ON)
+fn the_rest_goes_on_without_fail_fast(rt: HostRuntime) {
+    expect_play(&rt, rt.alloc(), WITHOUT_FAIL_FAST, THE_REST_GOES_ON);
 }
 
 #[test]
-fn a_failure_is_passed_over(rt: HostRuntime) -> Result<(), Fail> {
+fn a_failure_is_passed_over(rt: HostRuntime) {
     expect_play(
         &rt,
         rt.alloc(),
         TWO_OF_FOUR_PASSED_OVER,
         BESIDE_A_FAILURE_THAT_IS_PASSED_OVER,
-    )
+    );
 }
 
 const ONE_AT_A_TIME: &str = concat!(
@@ -204,18 +203,18 @@ const STRATEGY_AS_LABELS: &[Row] = &[
 ];
 
 #[test]
-fn one_leg_at_a_time(rt: HostRuntime) -> Result<(), Fail> {
-    expect_play(&rt, rt.alloc(), ONE_AT_A_TIME, ONE_LEG_AFTER_THE_OTHER)
+fn one_leg_at_a_time(rt: HostRuntime) {
+    expect_play(&rt, rt.alloc(), ONE_AT_A_TIME, ONE_LEG_AFTER_THE_OTHER);
 }
 
 #[test]
-fn each_leg_finds_its_runner(rt: HostRuntime) -> Result<(), Fail> {
-    expect_play(&rt, rt.alloc(), LABELS_OF_THEIR_OWN, EACH_ITS_RUNNER)
+fn each_leg_finds_its_runner(rt: HostRuntime) {
+    expect_play(&rt, rt.alloc(), LABELS_OF_THEIR_OWN, EACH_ITS_RUNNER);
 }
 
 #[test]
-fn labels_of_the_strategy(rt: HostRuntime) -> Result<(), Fail> {
-    expect_play(&rt, rt.alloc(), LABELS_BY_STRATEGY, STRATEGY_AS_LABELS)
+fn labels_of_the_strategy(rt: HostRuntime) {
+    expect_play(&rt, rt.alloc(), LABELS_BY_STRATEGY, STRATEGY_AS_LABELS);
 }
 
 const BUILD: &str = r#"{"jobs":{"build":{"runs-on":"linux"}}}"#;
@@ -248,11 +247,11 @@ const NO_BEATS: &[Row] = &[
 ];
 
 #[test]
-fn runners_beat(rt: HostRuntime) -> Result<(), Fail> {
-    expect_play(&rt, rt.alloc(), BUILD, BEATS)
+fn runners_beat(rt: HostRuntime) {
+    expect_play(&rt, rt.alloc(), BUILD, BEATS);
 }
 
 #[test]
-fn lines_that_are_no_beats(rt: HostRuntime) -> Result<(), Fail> {
-    expect_play(&rt, rt.alloc(), BUILD, NO_BEATS)
+fn lines_that_are_no_beats(rt: HostRuntime) {
+    expect_play(&rt, rt.alloc(), BUILD, NO_BEATS);
 }

@@ -1,10 +1,9 @@
 //! Runs whose jobs need one another. GitHub Docs, "Workflow syntax for GitHub Actions", sections
 //! `jobs.<job_id>.needs` and `jobs.<job_id>.if`.
 
-use crate::acts_cli_tests::scripts::{Row, Script, expect_play};
+use crate::acts_cli_tests::scripts::{Row, expect_play};
 use std::alloc::Global;
-use std::test::Fail;
-use wf_value::Refusal;
+use std::process::Abort;
 
 const AFTER_ANY_END: &str = concat!(
     r#"{"jobs":{"a":{"runs-on":"linux"},"b":{"runs-on":"linux","needs":"a","if":"always()"},"#,
@@ -101,28 +100,28 @@ const LEGS_AND_THEN_ANOTHER: &[Row] = &[
 ];
 
 #[test]
-fn a_job_is_skipped_for_its_ancestor(rt: HostRuntime) -> Result<(), Fail> {
-    expect_play(&rt, rt.alloc(), AFTER_ANY_END, SKIPPED_FOR_ITS_ANCESTOR)
+fn a_job_is_skipped_for_its_ancestor(rt: HostRuntime) {
+    expect_play(&rt, rt.alloc(), AFTER_ANY_END, SKIPPED_FOR_ITS_ANCESTOR);
 }
 
 #[test]
-fn a_job_after_no_failure(rt: HostRuntime) -> Result<(), Fail> {
-    expect_play(&rt, rt.alloc(), AFTER_A_FAILURE, NO_FAILURE)
+fn a_job_after_no_failure(rt: HostRuntime) {
+    expect_play(&rt, rt.alloc(), AFTER_A_FAILURE, NO_FAILURE);
 }
 
 #[test]
-fn a_job_after_a_failure(rt: HostRuntime) -> Result<(), Fail> {
-    expect_play(&rt, rt.alloc(), AFTER_A_FAILURE, A_FAILURE)
+fn a_job_after_a_failure(rt: HostRuntime) {
+    expect_play(&rt, rt.alloc(), AFTER_A_FAILURE, A_FAILURE);
 }
 
 #[test]
-fn a_diamond_of_jobs(rt: HostRuntime) -> Result<(), Fail> {
-    expect_play(&rt, rt.alloc(), DIAMOND, THROUGH_THE_DIAMOND)
+fn a_diamond_of_jobs(rt: HostRuntime) {
+    expect_play(&rt, rt.alloc(), DIAMOND, THROUGH_THE_DIAMOND);
 }
 
 #[test]
-fn a_job_after_the_legs_of_another(rt: HostRuntime) -> Result<(), Fail> {
-    expect_play(&rt, rt.alloc(), AFTER_A_MATRIX, LEGS_AND_THEN_ANOTHER)
+fn a_job_after_the_legs_of_another(rt: HostRuntime) {
+    expect_play(&rt, rt.alloc(), AFTER_A_MATRIX, LEGS_AND_THEN_ANOTHER);
 }
 
 /// The result of a direct need is a text of the job's own templates. One that is further up has none.
@@ -185,70 +184,70 @@ const FLAGS_BY_RESULTS: &[Row] = &[
 ];
 
 #[test]
-fn a_result_as_a_label(rt: HostRuntime) -> Result<(), Fail> {
-    expect_play(&rt, rt.alloc(), RESULT_AS_LABEL, LABELS_BY_RESULTS)
+fn a_result_as_a_label(rt: HostRuntime) {
+    expect_play(&rt, rt.alloc(), RESULT_AS_LABEL, LABELS_BY_RESULTS);
 }
 
 #[test]
-fn results_that_are_not_seen(rt: HostRuntime) -> Result<(), Fail> {
-    expect_play(&rt, rt.alloc(), OTHER_RESULTS, LABELS_BY_OTHER_RESULTS)
+fn results_that_are_not_seen(rt: HostRuntime) {
+    expect_play(&rt, rt.alloc(), OTHER_RESULTS, LABELS_BY_OTHER_RESULTS);
 }
 
 #[test]
-fn a_result_as_a_flag(rt: HostRuntime) -> Result<(), Fail> {
-    expect_play(&rt, rt.alloc(), RESULT_AS_FLAG, FLAGS_BY_RESULTS)
+fn a_result_as_a_flag(rt: HostRuntime) {
+    expect_play(&rt, rt.alloc(), RESULT_AS_FLAG, FLAGS_BY_RESULTS);
 }
 
 /// A workflow of 256 jobs of which each but the last needs the one behind it; the last has this member too.
-fn chain_workflow(alloc: Global, member: &str) -> Result<String, Refusal> {
-    let mut workflow = String::from_str(alloc, r#"{"jobs":{"#)?;
+fn chain_workflow(rt: &impl Abort, alloc: Global, member: &str) -> String {
+    let mut workflow = String::from_str(alloc, r#"{"jobs":{"#).expect(rt, "memory");
     for job in 100u32..355 {
         let behind = job.saturating_add(1);
         let chained = format!(in alloc;
             "\"j{job}\":{{\"runs-on\":\"x\",\"needs\":\"j{behind}\"}},"
-        )?;
-        workflow.push_str(chained.as_str())?;
+        ).expect(rt, "a job");
+        workflow.push_str(chained.as_str()).expect(rt, "memory");
     }
-    workflow.push_str(r#""j355":{"runs-on":"x""#)?;
-    workflow.push_str(member)?;
-    workflow.push_str("}}}")?;
-    Ok(workflow)
+    let last = format!(in alloc; "\"j355\":{{\"runs-on\":\"x\"{member}}}}}}}").expect(rt, "a job");
+    workflow.push_str(last.as_str()).expect(rt, "memory");
+    workflow
 }
 
 /// The view of the chain's run where all but the last are skipped.
-fn skipped_chain(alloc: Global, conclusion: &str, last: &str) -> Result<String, Refusal> {
-    let mut view = String::from_str(alloc, "run 1 1 completed ")?;
-    view.push_str(conclusion)?;
+fn skipped_chain(rt: &impl Abort, alloc: Global, conclusion: &str, last: &str) -> String {
+    let mut view = format!(in alloc; "run 1 1 completed {conclusion}").expect(rt, "a view");
     for job in 100u32..355 {
-        view.push_str(format!(in alloc; " j{job}:skipped()")?.as_str())?;
+        let skipped = format!(in alloc; " j{job}:skipped()").expect(rt, "a job");
+        view.push_str(skipped.as_str()).expect(rt, "memory");
     }
-    view.push_str(" j355:")?;
-    view.push_str(last)?;
-    Ok(view)
+    view.push_str(" j355:").expect(rt, "memory");
+    view.push_str(last).expect(rt, "memory");
+    view
 }
 
 /// Where the job that all others wait for is skipped, all are by the same step.
 #[test]
-fn a_chain_of_256_skipped_jobs(rt: HostRuntime) -> Result<(), Fail> {
+fn a_chain_of_256_skipped_jobs(rt: HostRuntime) {
     let alloc = rt.alloc();
-    let workflow = chain_workflow(alloc, r#","if":false"#)?;
-    let mut script = Script::admitting(alloc, workflow.as_str())?;
-    let view = skipped_chain(alloc, "success", "skipped()")?;
-    script.add("look 1", view.as_str())?;
-    script.expect(&rt, alloc)?;
-    Ok(())
+    let workflow = chain_workflow(&rt, alloc, r#","if":false"#);
+    let view = skipped_chain(&rt, alloc, "success", "skipped()");
+    expect_play(&rt, alloc, workflow.as_str(), &[("look 1", view.as_str())]);
 }
 
 /// And so are the others where it fails.
 #[test]
-fn a_chain_of_256_jobs_behind_a_failure(rt: HostRuntime) -> Result<(), Fail> {
+fn a_chain_of_256_jobs_behind_a_failure(rt: HostRuntime) {
     let alloc = rt.alloc();
-    let workflow = chain_workflow(alloc, "")?;
-    let mut script = Script::admitting(alloc, workflow.as_str())?;
-    script.add("claim r1 1 x", "lease 1 1 j355 0 {}")?;
-    script.add("done r1 2 1 failure", "ok")?;
-    let view = skipped_chain(alloc, "failure", "failure(failure)")?;
-    script.add("look 1", view.as_str())?;
-    script.expect(&rt, alloc)?;
-    Ok(())
+    let workflow = chain_workflow(&rt, alloc, "");
+    let view = skipped_chain(&rt, alloc, "failure", "failure(failure)");
+    expect_play(
+        &rt,
+        alloc,
+        workflow.as_str(),
+        &[
+            ("claim r1 1 x", "lease 1 1 j355 0 {}"),
+            ("done r1 2 1 failure", "ok"),
+            ("look 1", view.as_str()),
+        ],
+    );
 }

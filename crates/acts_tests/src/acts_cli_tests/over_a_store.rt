@@ -1,7 +1,7 @@
 //! Scripts over a store, and what is made and shown of disks.
 
 use super::{expect_played, number_of};
-use crate::act_store_tests::{LEAST, apply, commit, made};
+use crate::act_store_tests::{LEAST, apply, close, commit, expect_entered, made};
 use crate::commands::Words;
 use crate::given::spelled;
 use crate::holds::holds;
@@ -68,14 +68,14 @@ const LOOKS: usize = 1_000;
 const PARTS: usize = 100;
 
 /// The answers of so many look-ups and a commit, again and again.
-fn push_parts(alloc: Global, answers: &mut String) -> Result<(), Refusal> {
-    let looks = spelled(alloc, &[("refused 40\n", LOOKS)])?;
+fn push_parts(rt: &impl Abort, alloc: Global, answers: &mut String) {
+    let looks = spelled(alloc, &[("refused 40\n", LOOKS)]).expect(rt, "answers");
     for part in 0..PARTS {
         let count = (part + 1) * LOOKS;
-        answers.push_str(looks.as_str())?;
-        answers.push_str(format!(in alloc; "committed {count}\n")?.as_str())?;
+        let committed = format!(in alloc; "committed {count}\n").expect(rt, "an answer");
+        answers.push_str(looks.as_str()).expect(rt, "memory");
+        answers.push_str(committed.as_str()).expect(rt, "memory");
     }
-    Ok(())
 }
 
 /// So many look-ups and a commit, again and again, and then two look-ups more.
@@ -85,18 +85,19 @@ fn long_script(alloc: Global) -> Result<String, Refusal> {
     spelled(alloc, &[(part.as_str(), PARTS), (last, 1)])
 }
 
-fn long_answers(alloc: Global) -> Result<String, Refusal> {
+fn long_answers(rt: &impl Abort, alloc: Global) -> String {
     let mut answers = String::new(alloc);
-    push_parts(alloc, &mut answers)?;
-    answers.push_str("refused 46\nrefused 46\ncommitted 100000\nrefused 75\n")?;
-    Ok(answers)
+    push_parts(rt, alloc, &mut answers);
+    let last = "refused 46\nrefused 46\ncommitted 100000\nrefused 75\n";
+    answers.push_str(last).expect(rt, "memory");
+    answers
 }
 
 /// A history takes 100,000 entries, and no more.
 #[test]
 fn refuses_a_command_past_the_last_entry(rt: HostRuntime) {
     let script = long_script(rt.alloc()).expect(&rt, "a script");
-    let answers = long_answers(rt.alloc()).expect(&rt, "answers");
+    let answers = long_answers(&rt, rt.alloc());
     expect_played(&rt, rt.alloc(), script.as_bytes(), answers.as_str());
 }
 
@@ -144,9 +145,9 @@ fn expect_showing<D: Disk + Drop>(
 }
 
 /// Applies commands, and commits once.
-fn enter<D: Disk>(
+fn enter(
     alloc: Global,
-    store: &mut Store<D>,
+    store: &mut Store<MemoryDisk>,
     asked: &[Words<'_>],
 ) -> Result<u64, Refusal> {
     for words in asked {
@@ -286,48 +287,29 @@ const THREE_LOOKS: &[Words<'static>] = &[Words::Look("1"), Words::Look("1"), Wor
 fn commits_a_batch_of_three(rt: HostRuntime) {
     let alloc = rt.alloc();
     let disk = disk_after(&rt, alloc, THREE_LOOKS);
-    match disk.bytes().get(30..55) {
-        Some(bytes) => holds!(rt; bytes == RECORD_OF_THREE),
-        None => panic!(rt; "a short disk"),
-    }
+    let bytes = disk.bytes().get(30..55).expect(&rt, "so many bytes");
+    holds!(rt; bytes == RECORD_OF_THREE);
 }
 
-/// Look-ups, each with its commit, in an area of 4,096 bytes, and the number with which an `admit` is refused then, or 0.
-const FILLED: &[(u64, u64)] = &[(282, 0), (283, 47)];
+/// Look-ups, each with its commit, in an area of 4,096 bytes, the number with which an `admit` is refused then, or 0 where it is entered,
+/// and how many entries there are after it.
+const FILLED: &[(u64, u64, u64)] = &[(282, 0, 283), (283, 47, 283)];
 
-fn look_and_commit<D: Disk>(rt: &impl Abort, alloc: Global, store: &mut Store<D>, times: u64) {
+fn look_and_commit(rt: &impl Abort, alloc: Global, store: &mut Store<MemoryDisk>, times: u64) {
     for place in 0..times {
         let covered = enter(alloc, store, &[Words::Look("1")]).expect(rt, "a commit");
         holds!(rt; covered == place + 1, place);
     }
 }
 
-/// The number with which an `admit` is refused, and 0 where it is the entry behind the others.
-fn number_of_admit<D: Disk>(
-    rt: &impl Abort,
-    alloc: Global,
-    store: &mut Store<D>,
-    entries: u64,
-) -> u64 {
-    match apply(alloc, store, 0, &Words::Admit("d1", BUILD)) {
-        Ok(receipt) => {
-            holds!(rt; receipt.place == entries.saturating_add(1), entries);
-            0
-        }
-        Err(refusal) => refusal.number(),
-    }
-}
-
-fn expect_filled(rt: &impl Abort, alloc: Global, times: u64, number: u64) {
-    let mut store = made(rt, alloc, MemoryDisk::new(alloc), LEAST);
-    look_and_commit(rt, alloc, &mut store, times);
-    let told = number_of_admit(rt, alloc, &mut store, times);
-    holds!(rt; told == number, times);
-}
-
 #[test]
 fn fills_an_area(rt: HostRuntime) {
-    for &(times, number) in FILLED {
-        expect_filled(&rt, rt.alloc(), times, number);
+    let alloc = rt.alloc();
+    for &(times, number, entries) in FILLED {
+        let mut store = made(&rt, alloc, MemoryDisk::new(alloc), LEAST);
+        look_and_commit(&rt, alloc, &mut store, times);
+        let admit = Words::Admit("d1", BUILD);
+        expect_entered(&rt, alloc, &mut store, &admit, (number, entries));
+        close(store);
     }
 }

@@ -1,14 +1,11 @@
 //! Scripts that are put together from lines and their answers, and played through `run_script`.
 
-use super::play;
-use crate::holds::holds;
+use super::expect_played;
 use std::alloc::Global;
 use std::process::Abort;
-use std::test::Fail;
-use wf_value::Refusal;
 
 /// A line of a script, and its answer.
-pub type Row = (&'static str, &'static str);
+pub type Row<'a> = (&'a str, &'a str);
 
 /// A line of a script.
 pub enum Line {
@@ -36,82 +33,64 @@ impl Script {
     }
 
     /// A script whose first line admits run 1, of this workflow.
-    pub fn admitting(alloc: Global, workflow: &str) -> Result<Script, Refusal> {
+    pub fn admitting(rt: &impl Abort, alloc: Global, workflow: &str) -> Script {
         let mut script = Script::new(alloc);
-        script.admit("d1", workflow, "created 1")?;
-        Ok(script)
+        script.admit(rt, "d1", workflow, "created 1");
+        script
     }
 
     /// A `push` to `o/r`, of this workflow.
-    pub fn admit(&mut self, delivery: &str, workflow: &str, answer: &str) -> Result<(), Refusal> {
-        self.lines.push_str("admit ")?;
-        self.lines.push_str(delivery)?;
-        self.lines
-            .push_str(r#" push {"repo":"o/r","path":"ci.json","workflow":"#)?;
-        self.lines.push_str(workflow)?;
-        self.add("}", answer)
+    pub fn admit(&mut self, rt: &impl Abort, delivery: &str, workflow: &str, answer: &str) {
+        let origin = r#" push {"repo":"o/r","path":"ci.json","workflow":"#;
+        self.lines.push_str("admit ").expect(rt, "memory");
+        self.lines.push_str(delivery).expect(rt, "memory");
+        self.lines.push_str(origin).expect(rt, "memory");
+        self.lines.push_str(workflow).expect(rt, "memory");
+        self.add(rt, "}", answer);
     }
 
-    pub fn add(&mut self, line: &str, answer: &str) -> Result<(), Refusal> {
-        self.lines.push_str(line)?;
-        self.lines.push_str("\n")?;
-        self.answers.push_str(answer)?;
-        self.answers.push_str("\n")?;
-        Ok(())
+    pub fn add(&mut self, rt: &impl Abort, line: &str, answer: &str) {
+        self.lines.push_str(line).expect(rt, "memory");
+        self.lines.push_str("\n").expect(rt, "memory");
+        self.answers.push_str(answer).expect(rt, "memory");
+        self.answers.push_str("\n").expect(rt, "memory");
     }
 
-    fn add_line(&mut self, line: &Line, answer: &str) -> Result<(), Refusal> {
+    fn add_line(&mut self, rt: &impl Abort, line: &Line, answer: &str) {
         match line {
-            Line::Push(delivery, workflow) => self.admit(delivery, workflow, answer),
-            Line::Words(words) => self.add(words, answer),
+            Line::Push(delivery, workflow) => self.admit(rt, delivery, workflow, answer),
+            Line::Words(words) => self.add(rt, words, answer),
         }
     }
 
-    fn add_all(&mut self, rows: &[Row]) -> Result<(), Refusal> {
+    fn add_all(&mut self, rt: &impl Abort, rows: &[Row<'_>]) {
         for (line, answer) in rows {
-            self.add(line, answer)?;
+            self.add(rt, line, answer);
         }
-        Ok(())
     }
 
-    fn add_lines(&mut self, rows: &[LineRow]) -> Result<(), Refusal> {
+    fn add_lines(&mut self, rt: &impl Abort, rows: &[LineRow]) {
         for (line, answer) in rows {
-            self.add_line(line, answer)?;
+            self.add_line(rt, line, answer);
         }
-        Ok(())
     }
 
-    /// What is printed of the script.
-    fn printed(&self, alloc: Global) -> Result<Vec<u8>, Refusal> {
-        let mut reader = self.lines.as_bytes();
-        let mut printed = Vec::new(alloc);
-        play(alloc, &mut reader, &mut printed)?;
-        Ok(printed)
-    }
-
-    pub fn expect(&self, rt: &impl Abort, alloc: Global) -> Result<(), Refusal> {
-        let printed = self.printed(alloc)?;
-        let lines = self.lines.as_str();
-        holds!(rt; printed.as_slice() == self.answers.as_bytes(), lines);
-        Ok(())
+    /// Plays the script, and compares what it prints.
+    pub fn expect(&self, rt: &impl Abort, alloc: Global) {
+        expect_played(rt, alloc, self.lines.as_bytes(), self.answers.as_str());
     }
 }
 
 /// Admits run 1, of this workflow, and plays the rows.
-pub fn expect_play(
-    rt: &impl Abort,
-    alloc: Global,
-    workflow: &str,
-    rows: &[Row],
-) -> Result<(), Fail> {
-    let mut script = Script::admitting(alloc, workflow)?;
-    script.add_all(rows)?;
-    Ok(script.expect(rt, alloc)?)
+pub fn expect_play(rt: &impl Abort, alloc: Global, workflow: &str, rows: &[Row<'_>]) {
+    let mut script = Script::admitting(rt, alloc, workflow);
+    script.add_all(rt, rows);
+    script.expect(rt, alloc);
 }
 
 /// Plays the rows from an empty table.
-pub fn expect_script(rt: &impl Abort, alloc: Global, rows: &[LineRow]) -> Result<(), Fail> {
+pub fn expect_script(rt: &impl Abort, alloc: Global, rows: &[LineRow]) {
     let mut script = Script::new(alloc);
-    script.add_lines(rows)?;
-    Ok(script.expect(rt, alloc)?)
+    script.add_lines(rt, rows);
+    script.expect(rt, alloc);
 }

@@ -1,37 +1,30 @@
-use super::{RECORD, appended_disk, fresh_disk, gate_in, gate_of, wrote};
+use super::{RECORD, appended_disk, fresh_disk, gate_in, gate_of};
+use crate::act_disk_tests::{Ask, expect_calls};
 use crate::holds::{expect_bytes, holds};
-use act_disk::{Call, Disk, MemoryDisk};
+use act_disk::Disk;
 use gated_journal::{ScannedArea, record_at, scan};
 use std::process::Abort;
-use std::test::Fail;
 
 #[test]
-fn fresh_area_has_no_records(rt: HostRuntime) -> Result<(), Fail> {
-    let disk = fresh_disk(rt.alloc())?;
-    holds!(rt; gate_of(&disk) == Some(30));
-    Ok(())
-}
-
-#[test]
-fn record_goes_behind_the_gate(rt: HostRuntime) -> Result<(), Fail> {
-    expect_appended(&rt, &appended_disk(&rt, rt.alloc())?);
-    Ok(())
-}
-
-/// The record stands behind the gate, written by the calls of an append.
-fn expect_appended(rt: &impl Abort, disk: &MemoryDisk) {
-    expect_append_calls(rt, disk.calls());
-    holds!(rt; gate_of(disk) == Some(44));
-    holds!(rt; disk.faults() == 0);
+fn fresh_area_has_no_records(rt: HostRuntime) {
+    holds!(rt; gate_of(&fresh_disk(&rt, rt.alloc())) == Some(30));
 }
 
 /// The record, a sync, its gate, and a sync.
-fn expect_append_calls(rt: &impl Abort, calls: &[Call]) {
-    holds!(rt; calls.len() == 4);
-    holds!(rt; wrote(&calls[0], 31, &RECORD));
-    holds!(rt; matches!(&calls[1], Call::Sync));
-    holds!(rt; wrote(&calls[2], 30, &[0xA5]));
-    holds!(rt; matches!(&calls[3], Call::Sync));
+const APPENDED: &[Ask] = &[
+    Ask::Write(31, RECORD),
+    Ask::Sync,
+    Ask::Write(30, &[0xA5]),
+    Ask::Sync,
+];
+
+/// The record stands behind the gate, written by the calls of an append.
+#[test]
+fn record_goes_behind_the_gate(rt: HostRuntime) {
+    let disk = appended_disk(&rt, rt.alloc());
+    expect_calls(&rt, disk.calls(), APPENDED);
+    holds!(rt; gate_of(&disk) == Some(44));
+    holds!(rt; disk.faults() == 0);
 }
 
 /// An area of generation 7 with the text `ab` and the bodies `hey` and ``. The last three bytes may be any.

@@ -3,7 +3,7 @@
 use crate::holds::holds;
 use act_disk::{Disk, DiskFault};
 use gated_journal::{Area, Gate};
-use std::alloc::{AllocError, Global};
+use std::alloc::Global;
 use std::process::Abort;
 
 /// The length of each of the two areas.
@@ -28,14 +28,14 @@ impl Dice {
     }
 
     /// Up to so many bytes; each fourth of them is that of an open gate.
-    fn bytes(&mut self, alloc: Global, most: u8) -> Result<Vec<u8>, AllocError> {
+    fn bytes(&mut self, rt: &impl Abort, alloc: Global, most: u8) -> Vec<u8> {
         let mut bytes = Vec::new(alloc);
         let count = self.byte() % 32;
         for _ in 0..count.min(most) {
             let byte = if self.byte() < 64 { 0xA5 } else { self.byte() };
-            bytes.push(byte)?;
+            bytes.push(byte).expect(rt, "memory");
         }
-        Ok(bytes)
+        bytes
     }
 }
 
@@ -77,48 +77,30 @@ pub struct Journal {
 }
 
 /// A gate, a version, a generation below 256, and a text behind its length.
-fn front(alloc: Global, generation: u8, text: &[u8]) -> Result<Vec<u8>, AllocError> {
+fn front(rt: &impl Abort, alloc: Global, generation: u8, text: &[u8]) -> Vec<u8> {
     let mut bytes = Vec::new(alloc);
-    push_all(&mut bytes, &[0xA5, 1, 0, 0, 0, 0, 0, 0, 0, generation])?;
-    push_behind_length(&mut bytes, &[0, 0, 0, 0, 0, 0, 0], text)?;
-    Ok(bytes)
+    push(rt, &mut bytes, &[0xA5, 1, 0, 0, 0, 0, 0, 0, 0, generation]);
+    push(rt, &mut bytes, &(text.len() as u64).to_be_bytes());
+    push(rt, &mut bytes, text);
+    bytes
 }
 
 /// A body behind its length, and a closed gate.
-fn record(alloc: Global, body: &[u8]) -> Result<Vec<u8>, AllocError> {
+fn record(rt: &impl Abort, alloc: Global, body: &[u8]) -> Vec<u8> {
     let mut bytes = Vec::new(alloc);
-    push_record(&mut bytes, body)?;
-    Ok(bytes)
+    push(rt, &mut bytes, &(body.len() as u64).to_be_bytes()[4..]);
+    push(rt, &mut bytes, body);
+    push(rt, &mut bytes, &[0]);
+    bytes
 }
 
-fn push_record(bytes: &mut Vec<u8>, body: &[u8]) -> Result<(), AllocError> {
-    push_behind_length(bytes, &[0, 0, 0], body)?;
-    Ok(bytes.push(0)?)
-}
-
-/// A length below 256, whose upper bytes are these zeros, and so many bytes.
-fn push_behind_length(bytes: &mut Vec<u8>, zeros: &[u8], counted: &[u8]) -> Result<(), AllocError> {
-    push_all(bytes, zeros)?;
-    bytes.push((counted.len() % 256) as u8)?;
-    push_all(bytes, counted)
-}
-
-fn push_all(bytes: &mut Vec<u8>, more: &[u8]) -> Result<(), AllocError> {
-    bytes.extend_from_slice(more)
-}
-
-/// An open gate and a record, or a closed gate.
-fn push_gate(bytes: &mut Vec<u8>, is_open: bool, body: &[u8]) -> Result<(), AllocError> {
-    if !is_open {
-        return Ok(bytes.push(0)?);
-    }
-    bytes.push(0xA5)?;
-    push_record(bytes, body)
+fn push(rt: &impl Abort, bytes: &mut Vec<u8>, more: &[u8]) {
+    bytes.extend_from_slice(more).expect(rt, "memory");
 }
 
 impl Journal {
-    pub fn new(alloc: Global) -> Result<Journal, AllocError> {
-        Ok(Journal {
+    pub fn new(rt: &impl Abort, alloc: Global) -> Journal {
+        Journal {
             standing: Area { start: 0, len: LEN },
             other: Area {
                 start: LEN,
@@ -126,10 +108,10 @@ impl Journal {
             },
             other_gate: Gate::Closed,
             generation: 1,
-            opened: front(alloc, 1, b"ab")?,
+            opened: front(rt, alloc, 1, b"ab"),
             next: Vec::new(alloc),
             progress: Progress::Idle,
-        })
+        }
     }
 
     /// The bytes of the area that stands, up to its first closed gate.
@@ -138,25 +120,21 @@ impl Journal {
     }
 
     /// The next call.
-    pub fn roll(&mut self, alloc: Global, dice: &mut Dice) -> Result<Step, AllocError> {
-        let body = dice.bytes(alloc, 24)?;
+    pub fn roll(&mut self, rt: &impl Abort, alloc: Global, dice: &mut Dice) -> Step {
+        let body = dice.bytes(rt, alloc, 24);
+        let record = record(rt, alloc, &body);
         let fits = self.opened.len() < 165;
         if fits && dice.byte() < 128 {
-            return Ok(Step::Append(record(alloc, &body)?));
+            return Step::Append(record);
         }
-        self.turn(alloc, dice, &body)
-    }
-
-    /// The next call of those that write the other area and open it.
-    fn turn(&mut self, alloc: Global, dice: &mut Dice, body: &[u8]) -> Result<Step, AllocError> {
         match self.progress {
             Progress::Idle => {
-                self.next = self.next_area(alloc, dice, body)?;
-                Ok(Step::Close)
+                self.next = self.next_area(rt, alloc, dice, &record);
+                Step::Close
             }
-            Progress::Writing(from) => Ok(Step::Put(self.portion(dice, from))),
-            Progress::Written => Ok(Step::Sync),
-            Progress::Synced => Ok(Step::Open),
+            Progress::Writing(from) => Step::Put(self.portion(dice, from)),
+            Progress::Written => Step::Sync,
+            Progress::Synced => Step::Open,
         }
     }
 
@@ -167,16 +145,16 @@ impl Journal {
     }
 
     /// A text, and behind it a closed gate, or a record and then one.
-    fn next_area(
-        &self,
-        alloc: Global,
-        dice: &mut Dice,
-        body: &[u8],
-    ) -> Result<Vec<u8>, AllocError> {
-        let text = dice.bytes(alloc, 32)?;
-        let mut next = front(alloc, self.generation.wrapping_add(1), &text)?;
-        push_gate(&mut next, dice.byte() < 128, body)?;
-        Ok(next)
+    fn next_area(&self, rt: &impl Abort, alloc: Global, dice: &mut Dice, record: &[u8]) -> Vec<u8> {
+        let text = dice.bytes(rt, alloc, 32);
+        let mut next = front(rt, alloc, self.generation.wrapping_add(1), &text);
+        if dice.byte() < 128 {
+            push(rt, &mut next, &[0xA5]);
+            push(rt, &mut next, record);
+        } else {
+            push(rt, &mut next, &[0]);
+        }
+        next
     }
 
     /// Makes the call.
@@ -207,28 +185,17 @@ impl Journal {
         let Progress::Writing(from) = self.progress else {
             return Ok(());
         };
-        super::put(
-            rt,
-            self.other,
-            disk,
-            from as u64,
-            self.left(rt, from, count),
-        )
-    }
-
-    /// So many bytes of those of the other area that are left.
-    fn left(&self, rt: &impl Abort, from: usize, count: usize) -> &[u8] {
         let next = self.next.as_slice();
         holds!(rt; from <= next.len() && count <= next.len() - from);
-        &next[from..from + count]
+        super::put(rt, self.other, disk, from as u64, &next[from..from + count])
     }
 
     /// The call was made.
-    pub fn note(&mut self, alloc: Global, step: &Step) -> Result<(), AllocError> {
+    pub fn note(&mut self, rt: &impl Abort, alloc: Global, step: &Step) {
         match step {
             Step::Append(bytes) => {
-                self.opened.push(0xA5)?;
-                self.opened.extend_from_slice(bytes.as_slice())?;
+                push(rt, &mut self.opened, &[0xA5]);
+                push(rt, &mut self.opened, bytes);
                 let _gate = self.opened.pop();
             }
             Step::Close => {
@@ -237,9 +204,8 @@ impl Journal {
             }
             Step::Put(count) => self.note_put(*count),
             Step::Sync => self.progress = Progress::Synced,
-            Step::Open => self.note_open(alloc)?,
+            Step::Open => self.note_open(rt, alloc),
         }
-        Ok(())
     }
 
     fn note_put(&mut self, count: usize) {
@@ -254,15 +220,14 @@ impl Journal {
     }
 
     /// The other area stands from now on.
-    fn note_open(&mut self, alloc: Global) -> Result<(), AllocError> {
+    fn note_open(&mut self, rt: &impl Abort, alloc: Global) {
         let _gate = self.next.pop();
-        self.opened = self.next.to_vec(alloc)?;
+        self.opened = self.next.to_vec(alloc).expect(rt, "memory");
         let standing = self.other;
         self.other = self.standing;
         self.standing = standing;
         self.other_gate = Gate::Open;
         self.generation = self.generation.wrapping_add(1);
         self.progress = Progress::Idle;
-        Ok(())
     }
 }

@@ -1,20 +1,16 @@
 //! 1,000 random lists of calls. Each test plays a part of them, so that it is short in a trial run too.
 
-use super::image_of;
 use super::steps::{Dice, Journal, LEN};
+use super::{FILLS, image_of};
 use crate::holds::holds;
-use act_disk::{Disk, Fill, FuseDisk, MemoryDisk};
+use act_disk::{Disk, FuseDisk, MemoryDisk};
 use gated_journal::scan;
-use std::alloc::{AllocError, Global};
+use std::alloc::Global;
 use std::ops::Range;
 use std::process::Abort;
-use std::test::Fail;
-use wf_value::Refusal;
 
 /// How many calls a list has.
 const STEPS: usize = 12;
-
-const FILLS: &[Fill] = &[Fill::Old, Fill::New, Fill::Half, Fill::Gates];
 
 /// What stood, up to the first closed gate, when so many calls of the disk were done.
 #[derive(Drop)]
@@ -24,24 +20,15 @@ struct Moment {
 }
 
 /// A disk of two areas; the first has an open gate, and the other's bytes are those of the seed.
-fn two_areas(rt: &impl Abort, alloc: Global, seed: u64) -> Result<MemoryDisk, Refusal> {
-    let journal = Journal::new(alloc)?;
-    areas_with(rt, alloc, journal.opened(), seed)
-}
-
-/// Such a disk, whose first area opens with these bytes.
-fn areas_with(
-    rt: &impl Abort,
-    alloc: Global,
-    front: &[u8],
-    seed: u64,
-) -> Result<MemoryDisk, Refusal> {
+fn two_areas(rt: &impl Abort, alloc: Global, seed: u64) -> MemoryDisk {
+    let journal = Journal::new(rt, alloc);
+    let front = journal.opened();
     let mut bytes = [(seed % 256) as u8; 400];
     bytes[20] = 0;
     bytes[200] = 0;
     holds!(rt; front.len() <= 20);
     bytes[..front.len()].copy_from_slice(front);
-    MemoryDisk::from_slice(alloc, &bytes)
+    MemoryDisk::from_slice(alloc, &bytes).expect(rt, "a disk")
 }
 
 /// Of the areas that read as something, the one of greater generation, up to its first closed gate.
@@ -63,33 +50,16 @@ fn opened_in(area: &[u8]) -> Option<(u64, &[u8])> {
 }
 
 /// Plays a list of calls, and keeps what stood before each and after the last.
-fn play(
-    rt: &impl Abort,
-    alloc: Global,
-    seed: u64,
-    disk: &mut MemoryDisk,
-) -> Result<Vec<Moment>, AllocError> {
-    let mut journal = Journal::new(alloc)?;
-    let mut moments = Vec::new(alloc);
-    play_steps(rt, alloc, seed, &mut journal, disk, &mut moments)?;
-    Ok(moments)
-}
-
-/// Plays a journal's calls, and keeps these moments.
-fn play_steps(
-    rt: &impl Abort,
-    alloc: Global,
-    seed: u64,
-    journal: &mut Journal,
-    disk: &mut MemoryDisk,
-    moments: &mut Vec<Moment>,
-) -> Result<(), AllocError> {
+fn play(rt: &impl Abort, alloc: Global, seed: u64, disk: &mut MemoryDisk) -> Vec<Moment> {
+    let mut journal = Journal::new(rt, alloc);
     let mut dice = Dice::new(seed);
+    let mut moments = Vec::new(alloc);
     for step in 0..STEPS {
-        note_now(alloc, disk, journal, moments)?;
-        holds!(rt; is_taken(rt, alloc, journal, &mut dice, disk)?, step);
+        note_now(rt, alloc, disk, &journal, &mut moments);
+        holds!(rt; is_taken(rt, alloc, &mut journal, &mut dice, disk), step);
     }
-    note_now(alloc, disk, journal, moments)
+    note_now(rt, alloc, disk, &journal, &mut moments);
+    moments
 }
 
 /// Makes the next call, and says whether it succeeded. One that failed is not noted.
@@ -99,45 +69,26 @@ fn is_taken<D: Disk>(
     journal: &mut Journal,
     dice: &mut Dice,
     disk: &mut D,
-) -> Result<bool, AllocError> {
-    let step = journal.roll(alloc, dice)?;
-    if journal.make(rt, disk, &step).is_err() {
-        return Ok(false);
+) -> bool {
+    let step = journal.roll(rt, alloc, dice);
+    let is_made = journal.make(rt, disk, &step).is_ok();
+    if is_made {
+        journal.note(rt, alloc, &step);
     }
-    journal.note(alloc, &step)?;
-    Ok(true)
+    is_made
 }
 
 /// Keeps what stands now.
 fn note_now(
+    rt: &impl Abort,
     alloc: Global,
     disk: &MemoryDisk,
     journal: &Journal,
     moments: &mut Vec<Moment>,
-) -> Result<(), AllocError> {
-    Ok(moments.push(now(alloc, disk, journal)?)?)
-}
-
-/// What stands now.
-fn now(alloc: Global, disk: &MemoryDisk, journal: &Journal) -> Result<Moment, AllocError> {
-    Ok(Moment {
-        done: disk.calls().len(),
-        opened: journal.opened().to_vec(alloc)?,
-    })
-}
-
-/// The image of a stop inside the call reads as before it, or as after it.
-fn check_image(
-    rt: &impl Abort,
-    alloc: Global,
-    disk: &MemoryDisk,
-    call: usize,
-    fill: Fill,
-    allowed: (&[u8], &[u8]),
-) -> Result<(), Refusal> {
-    let image = image_of(rt, alloc, disk, call as u64, fill)?;
-    expect_standing(rt, &image, allowed, call);
-    Ok(())
+) {
+    let opened = journal.opened().to_vec(alloc).expect(rt, "memory");
+    let done = disk.calls().len();
+    moments.push(Moment { done, opened }).expect(rt, "memory");
 }
 
 /// The disk, whose place in the sweep is this, reads as one of the two.
@@ -146,79 +97,56 @@ fn expect_standing(rt: &impl Abort, disk: &MemoryDisk, allowed: (&[u8], &[u8]), 
     holds!(rt; found == allowed.0 || found == allowed.1, place);
 }
 
-/// The images of a stop inside the call, with each fill.
-fn check_fills(
-    rt: &impl Abort,
-    alloc: Global,
-    disk: &MemoryDisk,
-    call: usize,
-    allowed: (&[u8], &[u8]),
-) -> Result<(), Refusal> {
-    for &fill in FILLS {
-        check_image(rt, alloc, disk, call, fill, allowed)?;
-    }
-    Ok(())
-}
-
-/// The images of a stop inside each of these calls, with each fill.
+/// The images of a stop inside each of these calls, with each fill, read as one of the two.
 fn check_images(
     rt: &impl Abort,
     alloc: Global,
     disk: &MemoryDisk,
     calls: Range<usize>,
     allowed: (&[u8], &[u8]),
-) -> Result<(), Refusal> {
+) {
     for call in calls {
-        check_fills(rt, alloc, disk, call, allowed)?;
+        for &fill in FILLS {
+            let image = image_of(rt, alloc, disk, call as u64, fill);
+            expect_standing(rt, &image, allowed, call);
+        }
     }
-    Ok(())
 }
 
 /// The images of a stop inside each call of a list read as what stood before or after it.
-fn check_list(rt: &impl Abort, alloc: Global, seed: u64) -> Result<(), Refusal> {
-    let mut disk = two_areas(rt, alloc, seed)?;
-    let moments = play(rt, alloc, seed, &mut disk)?;
-    check_moments(rt, alloc, &disk, &moments)
-}
-
-fn check_moments(
-    rt: &impl Abort,
-    alloc: Global,
-    disk: &MemoryDisk,
-    moments: &[Moment],
-) -> Result<(), Refusal> {
+fn check_list(rt: &impl Abort, alloc: Global, seed: u64) {
+    let mut disk = two_areas(rt, alloc, seed);
+    let moments = play(rt, alloc, seed, &mut disk);
     for (before, after) in moments.iter().zip(moments.iter().skip(1)) {
         let allowed = (before.opened.as_slice(), after.opened.as_slice());
-        check_images(rt, alloc, disk, before.done..after.done, allowed)?;
+        check_images(rt, alloc, &disk, before.done..after.done, allowed);
     }
-    Ok(())
 }
 
-fn check_lists(rt: &impl Abort, alloc: Global, seeds: Range<u64>) -> Result<(), Fail> {
+fn check_lists(rt: &impl Abort, alloc: Global, seeds: Range<u64>) {
     for seed in seeds {
-        check_list(rt, alloc, seed)?;
+        check_list(rt, alloc, seed);
     }
-    Ok(())
 }
 
 #[test]
-fn images_of_lists_0_to_249(rt: HostRuntime) -> Result<(), Fail> {
-    check_lists(&rt, rt.alloc(), 0..250)
+fn images_of_lists_0_to_249(rt: HostRuntime) {
+    check_lists(&rt, rt.alloc(), 0..250);
 }
 
 #[test]
-fn images_of_lists_250_to_499(rt: HostRuntime) -> Result<(), Fail> {
-    check_lists(&rt, rt.alloc(), 250..500)
+fn images_of_lists_250_to_499(rt: HostRuntime) {
+    check_lists(&rt, rt.alloc(), 250..500);
 }
 
 #[test]
-fn images_of_lists_500_to_749(rt: HostRuntime) -> Result<(), Fail> {
-    check_lists(&rt, rt.alloc(), 500..750)
+fn images_of_lists_500_to_749(rt: HostRuntime) {
+    check_lists(&rt, rt.alloc(), 500..750);
 }
 
 #[test]
-fn images_of_lists_750_to_999(rt: HostRuntime) -> Result<(), Fail> {
-    check_lists(&rt, rt.alloc(), 750..1000)
+fn images_of_lists_750_to_999(rt: HostRuntime) {
+    check_lists(&rt, rt.alloc(), 750..1000);
 }
 
 /// Plays a list of calls up to the first that fails, and says how many were made before it.
@@ -227,45 +155,30 @@ fn play_to_fault(
     alloc: Global,
     seed: u64,
     disk: &mut FuseDisk<MemoryDisk>,
-) -> Result<usize, AllocError> {
-    let mut journal = Journal::new(alloc)?;
-    play_steps_to_fault(rt, alloc, seed, &mut journal, disk)
-}
-
-fn play_steps_to_fault(
-    rt: &impl Abort,
-    alloc: Global,
-    seed: u64,
-    journal: &mut Journal,
-    disk: &mut FuseDisk<MemoryDisk>,
-) -> Result<usize, AllocError> {
+) -> usize {
+    let mut journal = Journal::new(rt, alloc);
     let mut dice = Dice::new(seed);
     for made in 0..STEPS {
-        if !is_taken(rt, alloc, journal, &mut dice, disk)? {
-            return Ok(made);
+        if !is_taken(rt, alloc, &mut journal, &mut dice, disk) {
+            return made;
         }
     }
     panic!(rt; "a call of the disk fails")
 }
 
 /// After a fault each image of the failed call, and what a read gives after a sync, is as before that
-/// call or as after it.
+/// call or as after it. The sync may fail too.
 fn check_fault(
     rt: &impl Abort,
     alloc: Global,
     seed: u64,
     moments: &[Moment],
     mut disk: FuseDisk<MemoryDisk>,
-) -> Result<(), Refusal> {
-    let made = play_to_fault(rt, alloc, seed, &mut disk)?;
-    sync_after_fault(rt, &mut disk);
-    check_stopped(rt, alloc, moments, made, &disk.into_inner())
-}
-
-/// A sync after the one fault, whether it fails too or not.
-fn sync_after_fault(rt: &impl Abort, disk: &mut FuseDisk<MemoryDisk>) {
+) {
+    let made = play_to_fault(rt, alloc, seed, &mut disk);
     holds!(rt; disk.faults() == 1);
     let _outcome = disk.sync();
+    check_stopped(rt, alloc, moments, made, &disk.into_inner());
 }
 
 /// The disk and the images of its last calls read as before the call that failed after so many, or as
@@ -276,92 +189,68 @@ fn check_stopped(
     moments: &[Moment],
     made: usize,
     disk: &MemoryDisk,
-) -> Result<(), Refusal> {
+) {
     holds!(rt; made < moments.len() && made + 1 < moments.len());
     let (before, after) = (&moments[made], &moments[made + 1]);
     let allowed = (before.opened.as_slice(), after.opened.as_slice());
     expect_standing(rt, disk, allowed, made);
-    check_images(rt, alloc, disk, before.done..disk.calls().len(), allowed)
+    check_images(rt, alloc, disk, before.done..disk.calls().len(), allowed);
 }
 
-/// A call of the disk fails by itself, and with all after it.
-fn check_call(
-    rt: &impl Abort,
-    alloc: Global,
-    seed: u64,
-    moments: &[Moment],
-    call: u64,
-) -> Result<(), Refusal> {
-    let once = FuseDisk::once(two_areas(rt, alloc, seed)?, call);
-    check_fault(rt, alloc, seed, moments, once)?;
-    let from = FuseDisk::from(two_areas(rt, alloc, seed)?, call);
-    check_fault(rt, alloc, seed, moments, from)
-}
-
-/// Each call of the disk fails in turn.
-fn check_faults(rt: &impl Abort, alloc: Global, seed: u64) -> Result<(), Refusal> {
-    let mut disk = two_areas(rt, alloc, seed)?;
-    let moments = play(rt, alloc, seed, &mut disk)?;
-    check_calls(rt, alloc, seed, &moments, disk.calls().len() as u64)
-}
-
-/// Each of so many calls fails in turn.
-fn check_calls(
-    rt: &impl Abort,
-    alloc: Global,
-    seed: u64,
-    moments: &[Moment],
-    calls: u64,
-) -> Result<(), Refusal> {
-    for call in 0..calls {
-        check_call(rt, alloc, seed, moments, call)?;
+/// Each call of the disk fails in turn, by itself and with all after it.
+fn check_faults(rt: &impl Abort, alloc: Global, seed: u64) {
+    let mut disk = two_areas(rt, alloc, seed);
+    let moments = play(rt, alloc, seed, &mut disk);
+    for call in 0..disk.calls().len() as u64 {
+        let once = FuseDisk::once(two_areas(rt, alloc, seed), call);
+        check_fault(rt, alloc, seed, &moments, once);
+        let from = FuseDisk::from(two_areas(rt, alloc, seed), call);
+        check_fault(rt, alloc, seed, &moments, from);
     }
-    Ok(())
 }
 
-fn check_faulty_lists(rt: &impl Abort, alloc: Global, seeds: Range<u64>) -> Result<(), Fail> {
+fn check_faulty_lists(rt: &impl Abort, alloc: Global, seeds: Range<u64>) {
     for seed in seeds {
-        check_faults(rt, alloc, seed)?;
+        check_faults(rt, alloc, seed);
     }
-    Ok(())
 }
 
 #[test]
-fn faults_of_lists_0_to_124(rt: HostRuntime) -> Result<(), Fail> {
-    check_faulty_lists(&rt, rt.alloc(), 0..125)
+fn faults_of_lists_0_to_124(rt: HostRuntime) {
+    check_faulty_lists(&rt, rt.alloc(), 0..125);
 }
 
 #[test]
-fn faults_of_lists_125_to_249(rt: HostRuntime) -> Result<(), Fail> {
-    check_faulty_lists(&rt, rt.alloc(), 125..250)
+fn faults_of_lists_125_to_249(rt: HostRuntime) {
+    check_faulty_lists(&rt, rt.alloc(), 125..250);
 }
 
 #[test]
-fn faults_of_lists_250_to_374(rt: HostRuntime) -> Result<(), Fail> {
-    check_faulty_lists(&rt, rt.alloc(), 250..375)
+fn faults_of_lists_250_to_374(rt: HostRuntime) {
+    check_faulty_lists(&rt, rt.alloc(), 250..375);
 }
 
 #[test]
-fn faults_of_lists_375_to_499(rt: HostRuntime) -> Result<(), Fail> {
-    check_faulty_lists(&rt, rt.alloc(), 375..500)
+fn faults_of_lists_375_to_499(rt: HostRuntime) {
+    check_faulty_lists(&rt, rt.alloc(), 375..500);
 }
 
 #[test]
-fn faults_of_lists_500_to_624(rt: HostRuntime) -> Result<(), Fail> {
-    check_faulty_lists(&rt, rt.alloc(), 500..625)
+fn faults_of_lists_500_to_624(rt: HostRuntime) {
+    check_faulty_lists(&rt, rt.alloc(), 500..625);
 }
 
 #[test]
-fn faults_of_lists_625_to_749(rt: HostRuntime) -> Result<(), Fail> {
-    check_faulty_lists(&rt, rt.alloc(), 625..750)
+fn faults_of_lists_625_to_749(rt: HostRuntime) {
+    check_faulty_lists(&rt, rt.alloc(), 625..750);
 }
 
 #[test]
-fn faults_of_lists_750_to_874(rt: HostRuntime) -> Result<(), Fail> {
-    check_faulty_lists(&rt, rt.alloc(), 750..875)
+fn faults_of_lists_750_to_874(rt: HostRuntime) {
+    check_faulty_lists(&rt, rt.alloc(), 750..875);
 }
 
 #[test]
-fn faults_of_lists_875_to_999(rt: HostRuntime) -> Result<(), Fail> {
-    check_faulty_lists(&rt, rt.alloc(), 875..1000)
+fn faults_of_lists_875_to_999(rt: HostRuntime) {
+    check_faulty_lists(&rt, rt.alloc(), 875..1000);
 }

@@ -50,7 +50,7 @@ fn build(rt: &impl Abort, alloc: Global, rows: Rows<'_>) -> Result<Graph, Refusa
 }
 
 /// Jobs, and the refusal of their graph.
-static REFUSED: [(Rows<'static>, &str); 7] = [
+const REFUSED: &[(Rows<'static>, &str)] = &[
     (&[("a", &["b"])], "refused 13"),
     (&[("a", &["a"]), ("b", &["c"])], "refused 13"),
     (&[("a", &["b"]), ("b", &["a"])], "refused 14 a b"),
@@ -73,21 +73,19 @@ const THREE_IN_A_CYCLE: Rows<'static> = &[
     ("d", &["a"]),
 ];
 
-fn refused(rt: &impl Abort, alloc: Global, rows: Rows<'_>) -> Refusal {
+fn expect_refused(rt: &impl Abort, alloc: Global, rows: Rows<'_>, want: &str) {
     match build(rt, alloc, rows) {
         Ok(_) => panic!(rt; "a graph in place of a refusal"),
-        Err(refusal) => refusal,
+        Err(refusal) => {
+            let text = refusal.text(alloc).expect(rt, "a text");
+            expect_text(rt, text.as_str(), want);
+        }
     }
-}
-
-fn expect_refused(rt: &impl Abort, alloc: Global, rows: Rows<'_>, want: &str) {
-    let text = refused(rt, alloc, rows).text(alloc).expect(rt, "a text");
-    expect_text(rt, text.as_str(), want);
 }
 
 #[test]
 fn refuses(rt: HostRuntime) {
-    for &(rows, want) in &REFUSED {
+    for &(rows, want) in REFUSED {
         expect_refused(&rt, rt.alloc(), rows, want);
     }
 }
@@ -99,13 +97,15 @@ const DIAMOND: Rows<'static> = &[
     ("d", &["c", "b"]),
 ];
 
+const NO_ANCESTORS: &[bool] = &[false, false, false, false, false];
+
 /// Of each job of the diamond: its needs, its dependents, and a mark for each ancestor, with one more
 /// for a job that is not there.
-static DIAMOND_ROWS: [(&[usize], &[usize], [bool; 5]); 4] = [
-    (&[], &[1, 2], [false, false, false, false, false]),
-    (&[0], &[3], [true, false, false, false, false]),
-    (&[0], &[3], [true, false, false, false, false]),
-    (&[1, 2], &[], [true, true, true, false, false]),
+const DIAMOND_ROWS: &[(&[usize], &[usize], &[bool])] = &[
+    (&[], &[1, 2], NO_ANCESTORS),
+    (&[0], &[3], &[true, false, false, false, false]),
+    (&[0], &[3], &[true, false, false, false, false]),
+    (&[1, 2], &[], &[true, true, true, false, false]),
 ];
 
 /// Whether the second of two jobs is an ancestor of the first.
@@ -119,7 +119,7 @@ fn expect_ancestor(rt: &impl Abort, graph: &Graph, pair: (usize, usize), want: b
 }
 
 /// The jobs that are ancestors of one, by a mark for each job in order.
-fn expect_ancestors(rt: &impl Abort, graph: &Graph, job: usize, ancestors: [bool; 5]) {
+fn expect_ancestors(rt: &impl Abort, graph: &Graph, job: usize, ancestors: &[bool]) {
     for (other, want) in ancestors.iter().enumerate() {
         expect_ancestor(rt, graph, (job, other), *want);
     }
@@ -131,9 +131,9 @@ fn expect_diamond(rt: &impl Abort, graph: &Graph) {
         holds!(rt; job < graph.job_count());
         holds!(rt; graph.needs(job) == *needs, job);
         holds!(rt; graph.dependents(job) == *dependents, job);
-        expect_ancestors(rt, graph, job, *ancestors);
+        expect_ancestors(rt, graph, job, ancestors);
     }
-    expect_ancestors(rt, graph, 4, [false; 5]);
+    expect_ancestors(rt, graph, 4, NO_ANCESTORS);
 }
 
 /// A graph that is not refused.
@@ -141,19 +141,12 @@ fn built(rt: &impl Abort, alloc: Global, rows: Rows<'_>) -> Graph {
     build(rt, alloc, rows).expect(rt, "a graph")
 }
 
-fn copied(rt: &impl Abort, alloc: Global, graph: &Graph) -> Graph {
-    graph.copy(alloc).expect(rt, "a copy")
-}
-
-/// That a graph is a diamond, and its copy too.
-fn expect_diamond_twice(rt: &impl Abort, alloc: Global, graph: &Graph) {
-    expect_diamond(rt, graph);
-    expect_diamond(rt, &copied(rt, alloc, graph));
-}
-
 #[test]
 fn builds_a_diamond(rt: HostRuntime) {
-    expect_diamond_twice(&rt, rt.alloc(), &built(&rt, rt.alloc(), DIAMOND));
+    let graph = built(&rt, rt.alloc(), DIAMOND);
+    expect_diamond(&rt, &graph);
+    let copy = graph.copy(rt.alloc()).expect(&rt, "a copy");
+    expect_diamond(&rt, &copy);
 }
 
 /// The number with which a graph is refused, 0 where it is none. What is built is a diamond.
@@ -178,7 +171,7 @@ fn gives_its_answer_or_refuses_memory(rt: HostRuntime) {
 
 /// The result of a first job, and whether `success()` and `failure()` hold then of the last of three
 /// in a chain, of which the second succeeded.
-static FIRST_OF_A_CHAIN: [(Option<JobResult>, bool, bool); 5] = [
+const FIRST_OF_A_CHAIN: &[(Option<JobResult>, bool, bool)] = &[
     (Some(JobResult::Success), true, false),
     (Some(JobResult::Failure), false, true),
     (Some(JobResult::Cancelled), false, false),
@@ -204,17 +197,15 @@ fn expect_decided(
     holds!(rt; graph.decide(2, Condition::Always, &jobs, true), row);
 }
 
-fn expect_all_decided(rt: &impl Abort, graph: &Graph) {
-    for (row, wanted) in FIRST_OF_A_CHAIN.iter().enumerate() {
-        expect_decided(rt, graph, row, *wanted);
-    }
-}
-
-/// That the last job of a chain of three needs the one before it, and has the first as an ancestor.
-fn expect_last_of_three(rt: &impl Abort, graph: &Graph) {
+/// That the last job of a chain of three needs the one before it, has the first as an ancestor, and is decided as
+/// each row says.
+fn expect_chain(rt: &impl Abort, graph: &Graph) {
     holds!(rt; graph.job_count() == 3);
     holds!(rt; graph.needs(2) == [1].as_slice());
     holds!(rt; has_ancestor(graph, (2, 0)));
+    for (row, wanted) in FIRST_OF_A_CHAIN.iter().enumerate() {
+        expect_decided(rt, graph, row, *wanted);
+    }
 }
 
 /// A chain of three, so that its last job has an ancestor that it does not need directly.
@@ -222,36 +213,31 @@ fn expect_last_of_three(rt: &impl Abort, graph: &Graph) {
 fn sees_past_direct_needs(rt: HostRuntime) {
     let rows: Rows<'_> = &[("a", &[]), ("b", &["a"]), ("c", &["b"])];
     let graph = built(&rt, rt.alloc(), rows);
-    expect_last_of_three(&rt, &graph);
-    expect_all_decided(&rt, &graph);
+    expect_chain(&rt, &graph);
 }
 
 /// The id of the job of this number.
-fn id_of(alloc: Global, job: u32) -> Result<Chars, Refusal> {
-    Ok(Chars::new(format!(in alloc; "j{job:02}")?))
+fn id_of(rt: &impl Abort, alloc: Global, job: u32) -> Chars {
+    Chars::new(format!(in alloc; "j{job:02}").expect(rt, "an id"))
 }
 
 /// The job of this number, which needs the one before it.
-fn link(alloc: Global, job: u32) -> Result<Listed, Refusal> {
+fn link(rt: &impl Abort, alloc: Global, job: u32) -> Listed {
     let mut needs = Vec::new(alloc);
     if job > 0 {
-        needs.push(id_of(alloc, job - 1)?)?;
+        needs.push(id_of(rt, alloc, job - 1)).expect(rt, "memory");
     }
-    let id = id_of(alloc, job)?;
-    Ok(Listed { id, needs })
+    let id = id_of(rt, alloc, job);
+    Listed { id, needs }
 }
 
-fn chain(alloc: Global, length: u32) -> Result<Vec<Listed>, Refusal> {
+/// The graph of a chain of so many jobs.
+fn chained(rt: &impl Abort, alloc: Global, length: u32) -> Graph {
     let mut listed = Vec::new(alloc);
     for job in 0..length {
-        listed.push(link(alloc, job)?)?;
+        listed.push(link(rt, alloc, job)).expect(rt, "memory");
     }
-    Ok(listed)
-}
-
-fn chained(rt: &impl Abort, alloc: Global, length: u32) -> Result<Graph, Refusal> {
-    let listed = chain(alloc, length)?;
-    graph(rt, alloc, listed.as_slice())
+    graph(rt, alloc, listed.as_slice()).expect(rt, "a graph")
 }
 
 /// That the ancestors of a job are those before it, of 70 jobs.
@@ -264,7 +250,7 @@ fn expect_all_before(rt: &impl Abort, graph: &Graph, job: usize) {
 /// A chain of 70 jobs, whose places are more than the bits of a word.
 #[test]
 fn sees_along_a_long_chain(rt: HostRuntime) {
-    let graph = chained(&rt, rt.alloc(), 70).expect(&rt, "a graph");
+    let graph = chained(&rt, rt.alloc(), 70);
     for job in 0..70 {
         expect_all_before(&rt, &graph, job);
     }
@@ -276,7 +262,7 @@ fn builds_from_no_jobs(rt: HostRuntime) {
 }
 
 /// Jobs, and whether their ids rise.
-static IDS: [(Rows<'static>, bool); 5] = [
+const IDS: &[(Rows<'static>, bool)] = &[
     (&[], true),
     (&[("b", &[])], true),
     (&[("B", &[]), ("a", &[]), ("ab", &[])], true),
@@ -284,21 +270,11 @@ static IDS: [(Rows<'static>, bool); 5] = [
     (&[("a", &[]), ("c", &[]), ("b", &[])], false),
 ];
 
-fn rise_in_jobs(alloc: Global, listed: &[Listed]) -> Result<bool, Refusal> {
-    let jobs = jobs(alloc, listed)?;
-    Ok(ids_rise(jobs.as_slice()))
-}
-
-/// Whether the ids of jobs rise.
-fn rise(alloc: Global, rows: Rows<'_>) -> Result<bool, Refusal> {
-    let listed = texts_of(alloc, rows)?;
-    rise_in_jobs(alloc, listed.as_slice())
-}
-
 #[test]
 fn tells_the_order_of_ids(rt: HostRuntime) {
     for (row, (rows, want)) in IDS.iter().enumerate() {
-        let rise = rise(rt.alloc(), rows).expect(&rt, "jobs");
-        holds!(rt; rise == *want, row);
+        let listed = texts_of(rt.alloc(), rows).expect(&rt, "texts");
+        let jobs = jobs(rt.alloc(), listed.as_slice()).expect(&rt, "jobs");
+        holds!(rt; ids_rise(jobs.as_slice()) == *want, row);
     }
 }

@@ -6,7 +6,7 @@ use wf_value::{Condition, JobResult, Outcome};
 
 /// A leg's end, and how much it weighs in its job's result: 0 for nothing, 1 for cancelled and 2
 /// for a failure that counts.
-static LEGS: [(Outcome, bool, u8); 6] = [
+const LEGS: &[(Outcome, bool, u8)] = &[
     (Outcome::Success, false, 0),
     (Outcome::Success, true, 0),
     (Outcome::Failure, true, 0),
@@ -44,12 +44,12 @@ fn result_of_weight(weight: u8) -> JobResult {
 
 #[test]
 fn gathers_up_to_three_legs(rt: HostRuntime) {
-    for &a in &LEGS {
+    for &a in LEGS {
         holds!(rt; gather(&[ended_leg(a)]) == result_of_weight(a.2));
-        for &b in &LEGS {
+        for &b in LEGS {
             let two = a.2.max(b.2);
             holds!(rt; gather(&[ended_leg(a), ended_leg(b)]) == result_of_weight(two));
-            for &c in &LEGS {
+            for &c in LEGS {
                 let three = [ended_leg(a), ended_leg(b), ended_leg(c)];
                 holds!(rt; gather(&three) == result_of_weight(two.max(c.2)));
             }
@@ -61,7 +61,7 @@ fn gathers_up_to_three_legs(rt: HostRuntime) {
 #[test]
 fn gathers_what_has_ended(rt: HostRuntime) {
     let running = Leg(None);
-    for &a in &LEGS {
+    for &a in LEGS {
         holds!(rt; gather(&[running, ended_leg(a), running]) == result_of_weight(a.2));
     }
     let none: [Leg; 0] = [];
@@ -77,7 +77,7 @@ const CANCELLED: Option<JobResult> = Some(JobResult::Cancelled);
 const SKIPPED: Option<JobResult> = Some(JobResult::Skipped);
 
 /// The results of a run's jobs, and its conclusion.
-static CONCLUSIONS: [(&[Settled], Outcome); 7] = [
+const CONCLUSIONS: &[(&[Settled], Outcome)] = &[
     (&[], Outcome::Success),
     (&[Settled(SUCCEEDED), Settled(SKIPPED)], Outcome::Success),
     (&[Settled(SKIPPED)], Outcome::Success),
@@ -146,7 +146,7 @@ fn decides_while_running(rt: HostRuntime) {
 const WHILE_STOPPING: [bool; 6] = [false, false, true, true, false, false];
 
 /// The results of a job's ancestors.
-static STOPPING: [&[Option<JobResult>]; 9] = [
+const STOPPING: &[&[Option<JobResult>]] = &[
     &[],
     &[SUCCEEDED],
     &[SUCCEEDED, FAILED],

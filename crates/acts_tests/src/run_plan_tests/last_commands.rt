@@ -70,8 +70,14 @@ fn keeps_a_lease(rt: &impl Abort, alloc: Global) -> Result<(), Refusal> {
 
 fn keeps_a_report(rt: &impl Abort, alloc: Global) -> Result<(), Refusal> {
     let done = done(alloc, "r1", "2", "1", Outcome::Success)?;
-    let last = LastCommand::Done(done).copy(alloc)?;
-    expect_report(rt, alloc, &last)
+    let last = LastCommand::Done(done);
+    expect_copied_report(rt, alloc, &last)
+}
+
+/// Of a copy of a report, what `expect_report` wants.
+fn expect_copied_report(rt: &impl Abort, alloc: Global, last: &LastCommand) -> Result<(), Refusal> {
+    let copy = last.copy(alloc)?;
+    expect_report(rt, alloc, &copy)
 }
 
 /// The report of success under lease 1 with number 2 is kept.

@@ -98,13 +98,15 @@ const DIAMOND: &str =
     \"c\":{\"runs-on\":\"x\",\"needs\":\"a\"},\
     \"b\":{\"runs-on\":\"x\",\"needs\":[\"a\"],\"if\":\"failure()\"},\"a\":{\"runs-on\":\"x\"}}}";
 
+/// Of each of its jobs the places of those that it needs.
+const DIAMOND_NEEDS: &[&[usize]] = &[&[], &[0], &[0], &[1, 2]];
+
 fn expect_diamond(rt: &impl Abort, graph: &Graph) {
-    holds!(rt; graph.job_count() == 4);
-    let none: [usize; 0] = [];
-    holds!(rt; graph.needs(0) == none.as_slice());
-    holds!(rt; graph.needs(1) == [0].as_slice());
-    holds!(rt; graph.needs(2) == [0].as_slice());
-    holds!(rt; graph.needs(3) == [1, 2].as_slice());
+    holds!(rt; graph.job_count() == DIAMOND_NEEDS.len());
+    for (job, needs) in DIAMOND_NEEDS.iter().enumerate() {
+        holds!(rt; job < graph.job_count());
+        holds!(rt; graph.needs(job) == *needs, job);
+    }
     holds!(rt; graph.has_ancestor(3, 0));
     holds!(rt; !graph.has_ancestor(2, 1));
 }
@@ -119,7 +121,8 @@ fn expect_conditions(rt: &impl Abort, jobs: &[PlannedJob]) {
 }
 
 fn plans(rt: &impl Abort, alloc: Global) -> Result<(), Refusal> {
-    let plan = plan(alloc, read_workflow(alloc, DIAMOND.as_bytes())?)?;
+    let workflow = read_workflow(alloc, DIAMOND.as_bytes())?;
+    let plan = plan(alloc, workflow)?;
     expect_diamond(rt, plan.graph());
     expect_conditions(rt, plan.as_slice());
     Ok(())

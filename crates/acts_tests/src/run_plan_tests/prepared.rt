@@ -65,13 +65,17 @@ fn prepares_the_first_body(rt: HostRuntime) {
 const THREE_JOBS: &str =
     "{\"jobs\":{\"b\":{\"runs-on\":[\"linux\",\"x64\"]},\"B\":{\"runs-on\":\"gpu\"},\"a\":{\"runs-on\":\"\"}}}";
 
-fn plans(rt: &impl Abort, alloc: Global) -> Result<(), Refusal> {
-    let three = plan(alloc, read_workflow(alloc, THREE_JOBS.as_bytes())?)?;
-    let jobs = three.as_slice();
+fn expect_three(rt: &impl Abort, jobs: &[PlannedJob]) {
     holds!(rt; jobs.len() == 3);
     expect_job(rt, &jobs[0], "B", &["gpu"]);
     expect_job(rt, &jobs[1], "a", &[""]);
     expect_job(rt, &jobs[2], "b", &["linux", "x64"]);
+}
+
+fn plans(rt: &impl Abort, alloc: Global) -> Result<(), Refusal> {
+    let workflow = read_workflow(alloc, THREE_JOBS.as_bytes())?;
+    let plan = plan(alloc, workflow)?;
+    expect_three(rt, plan.as_slice());
     Ok(())
 }
 

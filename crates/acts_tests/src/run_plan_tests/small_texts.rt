@@ -1,5 +1,5 @@
 use crate::commands::labels;
-use crate::holds::holds;
+use crate::holds::{expect_text, holds};
 use crate::run_plan_tests::expect_twice;
 use run_plan::{DeliveryId, EventName, Labels, Number, RunnerName};
 use std::alloc::Global;
@@ -128,8 +128,13 @@ fn reads_labels(rt: &impl Abort, alloc: Global) -> Result<(), Refusal> {
 /// Labels stand as they were read, and in that order.
 fn expect_two(rt: &impl Abort, alloc: Global) -> Result<(), Refusal> {
     let two = labels(alloc, "X64,linux")?;
-    holds!(rt; two.as_slice().len() == 2);
-    holds!(rt; two.as_slice()[0].as_str() == "X64" && two.as_slice()[1].as_str() == "linux");
+    match two.as_slice() {
+        [first, second] => {
+            expect_text(rt, first.as_str(), "X64");
+            expect_text(rt, second.as_str(), "linux");
+        }
+        _ => panic!(rt; "other labels"),
+    }
     Ok(())
 }
 

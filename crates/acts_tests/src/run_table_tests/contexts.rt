@@ -2,39 +2,16 @@ use crate::run_table_tests::{BUILD_ELSEWHERE, Row, Words, expect_replies, play, 
 use run_table::Table;
 use std::alloc::Global;
 use std::process::Abort;
-use std::test::Fail;
-use wf_value::Outcome;
+use wf_value::{Outcome, Refusal};
 
 /// The body of an event of one job, `j`, behind the contexts that its sender hands in.
-fn body_of(alloc: Global, contexts: &str, job: &str) -> Result<String, Fail> {
+fn body_of(alloc: Global, contexts: &str, job: &str) -> Result<String, Refusal> {
     let mut body = String::from_str(alloc, "{\"repo\":\"o/r\",\"path\":\"ci.json\",")?;
     body.push_str(contexts)?;
     body.push_str("\"workflow\":{\"jobs\":{\"j\":{")?;
     body.push_str(job)?;
     body.push_str("}}}}")?;
     Ok(body)
-}
-
-/// Claims the leg of such an event with some labels.
-fn expect_claim(
-    rt: &impl Abort,
-    alloc: Global,
-    contexts: &str,
-    job: &str,
-    labels: &str,
-    want: &str,
-) -> Result<(), Fail> {
-    let body = body_of(alloc, contexts, job)?;
-    let mut table = Table::new(alloc);
-    admit(rt, alloc, &mut table, "d1", body.as_str(), "created 1");
-    play_one(
-        rt,
-        alloc,
-        &mut table,
-        &Words::Claim("r1", "1", labels),
-        want,
-    );
-    Ok(())
 }
 
 /// Admits an event with this body.
@@ -49,12 +26,38 @@ fn admit(
     play_one(rt, alloc, table, &Words::Admit(delivery, body), want);
 }
 
+/// A table whose run 1 is that of such an event.
+fn admitted(rt: &impl Abort, alloc: Global, contexts: &str, job: &str) -> Table {
+    let body = body_of(alloc, contexts, job).expect(rt, "a body");
+    let mut table = Table::new(alloc);
+    admit(rt, alloc, &mut table, "d1", body.as_str(), "created 1");
+    table
+}
+
+/// Claims the leg of such an event with some labels.
+fn expect_claim(
+    rt: &impl Abort,
+    alloc: Global,
+    contexts: &str,
+    job: &str,
+    labels: &str,
+    want: &str,
+) {
+    let mut table = admitted(rt, alloc, contexts, job);
+    play_one(
+        rt,
+        alloc,
+        &mut table,
+        &Words::Claim("r1", "1", labels),
+        want,
+    );
+}
+
 /// Contexts, a job, and labels that fit it.
-fn expect_fits(rt: &impl Abort, alloc: Global, rows: &[(&str, &str, &str)]) -> Result<(), Fail> {
+fn expect_fits(rt: &impl Abort, alloc: Global, rows: &[(&str, &str, &str)]) {
     for (contexts, job, labels) in rows {
-        expect_claim(rt, alloc, contexts, job, labels, "lease 1 1 j 0 {}")?;
+        expect_claim(rt, alloc, contexts, job, labels, "lease 1 1 j 0 {}");
     }
-    Ok(())
 }
 
 /// The leg of run 1 fails.
@@ -64,32 +67,17 @@ const FAILED: &[Row] = &[
 ];
 
 /// Fails the leg of an event whose job asks for `linux`, and looks at its run.
-fn expect_failed(
-    rt: &impl Abort,
-    alloc: Global,
-    contexts: &str,
-    job: &str,
-    want: &str,
-) -> Result<(), Fail> {
-    let body = body_of(alloc, contexts, job)?;
-    let mut table = Table::new(alloc);
-    admit(rt, alloc, &mut table, "d1", body.as_str(), "created 1");
+fn expect_failed(rt: &impl Abort, alloc: Global, contexts: &str, job: &str, want: &str) {
+    let mut table = admitted(rt, alloc, contexts, job);
     play(rt, alloc, &mut table, FAILED);
     play_one(rt, alloc, &mut table, &Words::Look("1"), want);
-    Ok(())
 }
 
 /// The same of each of some contexts and jobs.
-fn expect_all_failed(
-    rt: &impl Abort,
-    alloc: Global,
-    rows: &[(&str, &str)],
-    want: &str,
-) -> Result<(), Fail> {
+fn expect_all_failed(rt: &impl Abort, alloc: Global, rows: &[(&str, &str)], want: &str) {
     for (contexts, job) in rows {
-        expect_failed(rt, alloc, contexts, job, want)?;
+        expect_failed(rt, alloc, contexts, job, want);
     }
-    Ok(())
 }
 
 /// What stands before a workflow, its job, and labels that fit it.
@@ -124,8 +112,8 @@ const BY_THE_SERVICE: &[(&str, &str, &str)] = &[
 
 /// What the service says of a run, and of a leg without a matrix.
 #[test]
-fn labels_by_the_service(rt: HostRuntime) -> Result<(), Fail> {
-    expect_fits(&rt, rt.alloc(), BY_THE_SERVICE)
+fn labels_by_the_service(rt: HostRuntime) {
+    expect_fits(&rt, rt.alloc(), BY_THE_SERVICE);
 }
 
 const VARS: &str = "\"vars\":{\"n\":null,\"l\":[1],\"f\":1.5,\"b\":false,\"w\":7},";
@@ -185,17 +173,17 @@ const BY_THE_SENDER: &[(&str, &str, &str)] = &[
 /// Null, truth values, texts and whole numbers of the sender have values, lists and fractions none. What
 /// the service sets is the service's, and only that. A label may be as long as a runner's, and there may be more than a runner has.
 #[test]
-fn labels_by_the_sender(rt: HostRuntime) -> Result<(), Fail> {
-    expect_fits(&rt, rt.alloc(), BY_THE_SENDER)
+fn labels_by_the_sender(rt: HostRuntime) {
+    expect_fits(&rt, rt.alloc(), BY_THE_SENDER);
 }
 
 /// The number of the first leg is no text, which would count as true, and an empty label fits no runner.
 #[test]
-fn labels_that_do_not_fit(rt: HostRuntime) -> Result<(), Fail> {
+fn labels_that_do_not_fit(rt: HostRuntime) {
     let index = "\"runs-on\":\"${{ strategy.job-index || 'x' }}\"";
-    expect_claim(&rt, rt.alloc(), "", index, "0", "nothing")?;
+    expect_claim(&rt, rt.alloc(), "", index, "0", "nothing");
     let none = "\"runs-on\":\"${{ vars.none }}\"";
-    expect_claim(&rt, rt.alloc(), "", none, "linux", "nothing")
+    expect_claim(&rt, rt.alloc(), "", none, "linux", "nothing");
 }
 
 const NAMED: &str =
@@ -218,19 +206,20 @@ const SECOND_RUN: &[Row] = &[
     (Words::Claim("r1", "2", "n2"), "lease 1 3 j 0 {}"),
 ];
 
-fn expect_second_run(rt: &impl Abort, alloc: Global, table: &mut Table, body: &str) {
-    admit(rt, alloc, table, "d1", body, "created 1");
-    admit(rt, alloc, table, "d2", BUILD_ELSEWHERE, "created 2");
-    admit(rt, alloc, table, "d3", body, "created 3");
-    play(rt, alloc, table, SECOND_RUN);
+fn expect_second_run(rt: &impl Abort, alloc: Global, body: &str) {
+    let mut table = Table::new(alloc);
+    admit(rt, alloc, &mut table, "d1", body, "created 1");
+    admit(rt, alloc, &mut table, "d2", BUILD_ELSEWHERE, "created 2");
+    admit(rt, alloc, &mut table, "d3", body, "created 3");
+    play(rt, alloc, &mut table, SECOND_RUN);
 }
 
 /// The number of a run counts those of its repository and path.
 #[test]
-fn the_second_run_of_a_workflow(rt: HostRuntime) -> Result<(), Fail> {
-    let body = body_of(rt.alloc(), "", "\"runs-on\":\"n${{ github.run_number }}\"")?;
-    expect_second_run(&rt, rt.alloc(), &mut Table::new(rt.alloc()), body.as_str());
-    Ok(())
+fn the_second_run_of_a_workflow(rt: HostRuntime) {
+    let job = "\"runs-on\":\"n${{ github.run_number }}\"";
+    let body = body_of(rt.alloc(), "", job).expect(&rt, "a body");
+    expect_second_run(&rt, rt.alloc(), body.as_str());
 }
 
 const PASSED_OVER: &[(&str, &str)] = &[
@@ -249,9 +238,9 @@ const PASSED_OVER: &[(&str, &str)] = &[
 ];
 
 #[test]
-fn failures_that_are_passed_over(rt: HostRuntime) -> Result<(), Fail> {
+fn failures_that_are_passed_over(rt: HostRuntime) {
     let want = "run 1 1 completed success j:success(failure)";
-    expect_all_failed(&rt, rt.alloc(), PASSED_OVER, want)
+    expect_all_failed(&rt, rt.alloc(), PASSED_OVER, want);
 }
 
 const NOT_PASSED_OVER: &[(&str, &str)] = &[
@@ -271,7 +260,7 @@ const NOT_PASSED_OVER: &[(&str, &str)] = &[
 ];
 
 #[test]
-fn failures_that_are_not(rt: HostRuntime) -> Result<(), Fail> {
+fn failures_that_are_not(rt: HostRuntime) {
     let want = "run 1 1 completed failure j:failure(failure)";
-    expect_all_failed(&rt, rt.alloc(), NOT_PASSED_OVER, want)
+    expect_all_failed(&rt, rt.alloc(), NOT_PASSED_OVER, want);
 }

@@ -60,18 +60,16 @@ const ROWS: &[Row] = &[
 
 fn job_parts(alloc: Global, waits: bool) -> Result<JobParts, Refusal> {
     let mut legs = Vec::new(alloc);
-    if waits {
-        return Ok(JobParts {
-            phase: JobPhase::Blocked,
-            legs: Sequence::new(legs),
-        });
+    let mut phase = JobPhase::Blocked;
+    if !waits {
+        phase = JobPhase::Open;
+        legs.push(Leg {
+            phase: LegPhase::Ready,
+            lease: None,
+        })?;
     }
-    legs.push(Leg {
-        phase: LegPhase::Ready,
-        lease: None,
-    })?;
     Ok(JobParts {
-        phase: JobPhase::Open,
+        phase,
         legs: Sequence::new(legs),
     })
 }
@@ -105,16 +103,14 @@ fn parts(alloc: Global, runs: &[Run]) -> Result<Parts, Refusal> {
     })
 }
 
-fn expect_row(rt: &impl Abort, alloc: Global, row: &Row) -> Result<(), Refusal> {
-    let parts = parts(alloc, row.0)?;
-    let found = Table::of(alloc, &parts)?;
-    holds!(rt; found.is_some() == row.1);
-    Ok(())
+fn make_a_table(rt: &impl Abort, alloc: Global, parts: &Parts) -> bool {
+    Table::of(alloc, parts).expect(rt, "memory").is_some()
 }
 
 #[test]
 fn parts_make_a_table_by_who_holds_a_group(rt: HostRuntime) {
-    for row in ROWS {
-        expect_row(&rt, rt.alloc(), row).expect(&rt, "memory");
+    for &(runs, is_table) in ROWS {
+        let parts = parts(rt.alloc(), runs).expect(&rt, "parts");
+        holds!(rt; make_a_table(&rt, rt.alloc(), &parts) == is_table);
     }
 }

@@ -1,10 +1,10 @@
 use crate::commands::Words;
 use crate::holds::holds;
 use crate::run_table_tests::{
-    BUILD, BUILD_ELSEWHERE, Row, THREE, expect_replies, expect_shown, expect_view, play, played,
+    BUILD, BUILD_ELSEWHERE, Row, THREE, copied, expect_replies, expect_view, play, played,
 };
 use run_plan::Number;
-use wf_value::{Outcome, TryCopy};
+use wf_value::Outcome;
 
 const TO_ITS_END: &[Row] = &[
     (Words::Admit("d1", BUILD), "created 1"),
@@ -35,7 +35,7 @@ const KEPT: &[Row] = &[(Words::Claim("r1", "1", "linux"), "nothing")];
 #[test]
 fn refusals_leave_the_table(rt: HostRuntime) {
     let table = played(&rt, rt.alloc(), REFUSED);
-    let mut copy = table.copy(rt.alloc()).expect(&rt, "a copy");
+    let mut copy = copied(&rt, rt.alloc(), &table);
     play(&rt, rt.alloc(), &mut copy, KEPT);
 }
 
@@ -61,8 +61,9 @@ const REPEATED: &[Row] = &[
 
 #[test]
 fn repeats_are_answered_again(rt: HostRuntime) {
+    let table = played(&rt, rt.alloc(), REPEATED);
     let want = "run 1 1 completed failure build:failure(failure)";
-    expect_shown(&rt, rt.alloc(), REPEATED, "1", want);
+    expect_view(&rt, rt.alloc(), &table, "1", want);
 }
 
 /// Each refusal of the table but 48, which takes a hundred thousand runs, with a lease out: the lease

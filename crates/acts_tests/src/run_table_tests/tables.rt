@@ -1,11 +1,11 @@
 use crate::commands::Words;
 use crate::holds::holds;
-use crate::run_table_tests::{BUILD, BUILD_ELSEWHERE, Row, expect_view, play, played};
+use crate::run_table_tests::{BUILD, BUILD_ELSEWHERE, Row, copied, expect_view, play, played};
 use run_plan::Number;
 use run_table::Table;
 use std::alloc::Global;
 use std::process::Abort;
-use wf_value::{Outcome, TryCopy};
+use wf_value::Outcome;
 
 /// Runs of two workflows, the third the second of its own, each of whose legs a runner has.
 pub const LEASED: &[Row] = &[
@@ -52,11 +52,16 @@ pub const GONE_ON: &[Row] = &[
     ),
 ];
 
+/// That a copy of the table has the same runs, and goes on by itself.
+fn expect_copy(rt: &impl Abort, alloc: Global, table: &Table) {
+    let mut copy = copied(rt, alloc, table);
+    expect_runs(rt, alloc, &copy);
+    play(rt, alloc, &mut copy, GONE_ON);
+}
+
 #[test]
 fn copies_a_table(rt: HostRuntime) {
     let table = played(&rt, rt.alloc(), LEASED);
-    let mut copy = table.copy(rt.alloc()).expect(&rt, "a copy");
-    expect_runs(&rt, rt.alloc(), &copy);
-    play(&rt, rt.alloc(), &mut copy, GONE_ON);
+    expect_copy(&rt, rt.alloc(), &table);
     expect_runs(&rt, rt.alloc(), &table);
 }

@@ -1,12 +1,12 @@
 use crate::commands::Words;
-use crate::run_table_tests::{BUILD, BUILD_ELSEWHERE, Row, THREE, expect_replies, play, played};
+use crate::run_table_tests::{BUILD, BUILD_ELSEWHERE, Row, THREE, expect_replies};
 use wf_value::Outcome;
 
 /// As `BUILD`, with another label.
 const BUILD_ON_GPU: &str =
     "{\"repo\":\"o/r\",\"path\":\"ci.json\",\"workflow\":{\"jobs\":{\"build\":{\"runs-on\":\"gpu\"}}}}";
 
-/// Twelve runs, of which the last is the third of its workflow, and alone needs `gpu`.
+/// Twelve runs, of which the last is the third of its workflow, and alone needs `gpu`. That one goes on to its end.
 const TWELVE: &[Row] = &[
     (Words::Admit("d1", BUILD), "created 1"),
     (Words::Admit("d2", BUILD), "created 2"),
@@ -20,9 +20,6 @@ const TWELVE: &[Row] = &[
     (Words::Admit("d10", BUILD_ELSEWHERE), "created 10"),
     (Words::Admit("d11", BUILD_ELSEWHERE), "created 11"),
     (Words::Admit("d12", BUILD_ON_GPU), "created 12"),
-];
-
-const THE_TWELFTH: &[Row] = &[
     (Words::Look("12"), "run 12 3 queued - build:open(ready)"),
     (Words::Claim("r1", "1", "gpu"), "lease 1 12 build 0 {}"),
     (
@@ -38,8 +35,7 @@ const THE_TWELFTH: &[Row] = &[
 
 #[test]
 fn prints_a_run_as_it_goes_on(rt: HostRuntime) {
-    let mut table = played(&rt, rt.alloc(), TWELVE);
-    play(&rt, rt.alloc(), &mut table, THE_TWELFTH);
+    expect_replies(&rt, rt.alloc(), TWELVE);
 }
 
 const IN_ORDER: &[Row] = &[

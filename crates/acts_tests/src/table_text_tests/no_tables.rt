@@ -1,7 +1,7 @@
 //! Bytes that spell no table, each a row of the written tables with one byte changed. The offsets are those of the format, worked out by
 //! hand.
 
-use super::tables::{ROWS, Row, bytes_of};
+use super::tables::{ROWS, bytes_of};
 use crate::holds::holds;
 use crate::run_plan_tests::expect_twice;
 use std::alloc::Global;
@@ -10,7 +10,9 @@ use table_text::read_parts;
 use wf_value::Refusal;
 
 /// A row, the offset of the byte that is changed, and the byte that stands there then.
-const CHANGES: &[(usize, usize, u8)] = &[
+pub type Change = (usize, usize, u8);
+
+const CHANGES: &[Change] = &[
     // the last lease is above 999,999,999; a run more than there are; the body is none
     (0, 0, 0x3C),
     (0, 7, 2),
@@ -62,19 +64,25 @@ pub const OTHER_COUNTS: &[&[u8]] = &[
 ];
 
 /// The bytes of a row with the byte at an offset changed.
-pub fn changed(alloc: Global, row: &Row<'_>, offset: usize, byte: u8) -> Result<Vec<u8>, Refusal> {
-    let mut bytes = bytes_of(alloc, row)?;
+pub fn changed(rt: &impl Abort, alloc: Global, change: &Change) -> Result<Vec<u8>, Refusal> {
+    let &(row, offset, byte) = change;
+    holds!(rt; row < ROWS.len());
+    let mut bytes = bytes_of(alloc, &ROWS[row])?;
     if offset < bytes.len() {
         bytes[offset] = byte;
     }
     Ok(bytes)
 }
 
+/// Whether the bytes begin with the parts of a table.
+pub fn has_parts(alloc: Global, bytes: &[u8]) -> Result<bool, Refusal> {
+    Ok(read_parts(alloc, bytes)?.is_some())
+}
+
 fn reads_no_change(rt: &impl Abort, alloc: Global) -> Result<(), Refusal> {
-    for &(row, offset, byte) in CHANGES {
-        holds!(rt; row < ROWS.len());
-        let bytes = changed(alloc, &ROWS[row], offset, byte)?;
-        holds!(rt; read_parts(alloc, bytes.as_slice())?.is_none(), offset);
+    for change in CHANGES {
+        let bytes = changed(rt, alloc, change)?;
+        holds!(rt; !has_parts(alloc, bytes.as_slice())?, change.1);
     }
     Ok(())
 }
@@ -82,7 +90,7 @@ fn reads_no_change(rt: &impl Abort, alloc: Global) -> Result<(), Refusal> {
 fn reads_no_other_count(rt: &impl Abort, alloc: Global) -> Result<(), Refusal> {
     for &behind in OTHER_COUNTS {
         let bytes = bytes_of(alloc, &(&[], 0, behind))?;
-        holds!(rt; read_parts(alloc, bytes.as_slice())?.is_none());
+        holds!(rt; !has_parts(alloc, bytes.as_slice())?);
     }
     Ok(())
 }
@@ -92,7 +100,7 @@ fn reads_no_front(rt: &impl Abort, alloc: Global) -> Result<(), Refusal> {
     let bytes = bytes_of(alloc, &ROWS[1])?;
     holds!(rt; bytes.len() == 166);
     for count in 0..166 {
-        holds!(rt; read_parts(alloc, &bytes[..count])?.is_none(), count);
+        holds!(rt; !has_parts(alloc, &bytes[..count])?, count);
     }
     Ok(())
 }

@@ -1,6 +1,6 @@
 //! Tables are read from their stored bytes. What is read, and what is not, is worked out by hand from the format.
 
-use super::tables::{ROWS, Row, bytes_of};
+use super::tables::{ROWS, Row, bytes_and_7};
 use crate::holds::holds;
 use crate::run_plan_tests::expect_twice;
 use run_plan::Number;
@@ -125,33 +125,34 @@ fn expect_runners(rt: &impl Abort, runners: &[RunnerParts], seen: &[RunnerSeen])
     }
 }
 
-/// The parts at the front of the bytes, which have to be there, and how many bytes are left behind them.
-fn parts_of(rt: &impl Abort, alloc: Global, bytes: &[u8]) -> Result<(Parts, usize), Refusal> {
-    match read_parts(alloc, bytes)? {
-        Some((parts, rest)) => Ok((parts, rest.len())),
-        None => panic!(rt; "no table"),
-    }
+/// The parts at the front of the bytes, which have to be there, and so many bytes behind them.
+fn parts_of(rt: &impl Abort, alloc: Global, bytes: &[u8], left: usize) -> Result<Parts, Refusal> {
+    let (parts, rest) = read_parts(alloc, bytes)?.expect(rt, "a table");
+    holds!(rt; rest.len() == left);
+    Ok(parts)
 }
 
 fn expect_empty(rt: &impl Abort, alloc: Global) -> Result<(), Refusal> {
-    let (parts, left) = parts_of(rt, alloc, &[0; 14])?;
-    holds!(rt; left == 2);
+    let parts = parts_of(rt, alloc, &[0; 14], 2)?;
     holds!(rt; parts.last_lease == 0);
     holds!(rt; parts.runs.is_empty());
     holds!(rt; parts.runners.is_empty());
     Ok(())
 }
 
-/// That the bytes of a row, with one more behind them, are read as its table, and that this one is left.
-fn expect_row(rt: &impl Abort, alloc: Global, row: &Row<'_>, seen: &Seen) -> Result<(), Refusal> {
-    let mut bytes = bytes_of(alloc, row)?;
-    bytes.push(7)?;
-    let (parts, left) = parts_of(rt, alloc, bytes.as_slice())?;
-    holds!(rt; left == 1);
-    holds!(rt; parts.last_lease == row.1 as u32);
+/// That the parts are those of a table of one run, with this last lease, and are as this says.
+fn expect_parts(rt: &impl Abort, parts: &Parts, last_lease: u8, seen: &Seen) {
+    holds!(rt; parts.last_lease == last_lease as u32);
     holds!(rt; parts.runs.len() == 1);
     expect_run(rt, &parts.runs.as_slice()[0], &seen.0);
     expect_runners(rt, parts.runners.as_slice(), seen.1);
+}
+
+/// That the bytes of a row, with one more behind them, are read as its table, and that this one is left.
+fn expect_row(rt: &impl Abort, alloc: Global, row: &Row<'_>, seen: &Seen) -> Result<(), Refusal> {
+    let bytes = bytes_and_7(alloc, row)?;
+    let parts = parts_of(rt, alloc, bytes.as_slice(), 1)?;
+    expect_parts(rt, &parts, row.1, seen);
     Ok(())
 }
 

@@ -105,6 +105,13 @@ pub fn bytes_of(alloc: Global, row: &Row<'_>) -> Result<Vec<u8>, Refusal> {
     Ok(bytes)
 }
 
+/// The bytes of a row's table, and one more.
+pub fn bytes_and_7(alloc: Global, row: &Row<'_>) -> Result<Vec<u8>, Refusal> {
+    let mut bytes = bytes_of(alloc, row)?;
+    bytes.push(7)?;
+    Ok(bytes)
+}
+
 /// What stands before a table that is written.
 const BEFORE: &[u8] = &[9];
 
@@ -125,8 +132,13 @@ fn expect_table(rt: &impl Abort, alloc: Global, table: &Table, want: &[u8]) -> R
     written
 }
 
+fn expect_empty(rt: &impl Abort, alloc: Global) -> Result<(), Refusal> {
+    let table = Table::new(alloc);
+    expect_table(rt, alloc, &table, &[0; 12])
+}
+
 fn writes_tables(rt: &impl Abort, alloc: Global) -> Result<(), Refusal> {
-    expect_table(rt, alloc, &Table::new(alloc), &[0; 12])?;
+    expect_empty(rt, alloc)?;
     for row in ROWS {
         expect_row(rt, alloc, row)?;
     }

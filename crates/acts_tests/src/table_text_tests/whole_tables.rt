@@ -1,47 +1,48 @@
 //! Whole tables are read from their stored bytes, and from parts that are those of no sound table none is. The offsets are those of the
 //! format, worked out by hand.
 
-use super::no_tables::changed;
-use super::tables::{ROWS, Row, bytes_of};
+use super::no_tables::{Change, changed, has_parts};
+use super::tables::{ROWS, Row, bytes_and_7, bytes_of};
 use crate::holds::{expect_bytes, holds};
 use crate::run_plan_tests::expect_twice;
 use run_table::Table;
 use std::alloc::Global;
 use std::process::Abort;
-use table_text::{read_parts, read_table, write_table};
+use table_text::{read_table, write_table};
 use wf_value::Refusal;
 
-/// The table at the front of the bytes, which has to be there, and how many bytes are left behind it.
-fn table_of(rt: &impl Abort, alloc: Global, bytes: &[u8]) -> Result<(Table, usize), Refusal> {
-    match read_table(alloc, bytes)? {
-        Some((table, rest)) => Ok((table, rest.len())),
-        None => panic!(rt; "no table"),
-    }
+/// The table at the front of the bytes, which has to be there, and so many bytes behind it.
+fn table_of(rt: &impl Abort, alloc: Global, bytes: &[u8], left: usize) -> Result<Table, Refusal> {
+    let (table, rest) = read_table(alloc, bytes)?.expect(rt, "a table");
+    holds!(rt; rest.len() == left);
+    Ok(table)
+}
+
+/// The bytes of a table.
+pub fn text_of(rt: &impl Abort, alloc: Global, table: &Table) -> Result<Vec<u8>, Refusal> {
+    holds!(rt; table.runners().len() <= 4_294_967_295);
+    let mut text = Vec::new(alloc);
+    write_table(&mut text, table)?;
+    Ok(text)
 }
 
 /// That the bytes of a row, with one more behind them, are read as a table that is written as these bytes.
 fn expect_row(rt: &impl Abort, alloc: Global, row: &Row<'_>) -> Result<(), Refusal> {
     let want = bytes_of(alloc, row)?;
-    let mut bytes = bytes_of(alloc, row)?;
-    bytes.push(7)?;
-    let out = written_again(rt, alloc, bytes.as_slice())?;
+    let out = written_again(rt, alloc, row)?;
     expect_bytes(rt, out.as_slice(), want.as_slice());
     Ok(())
 }
 
-/// The bytes of the table that is read. One byte is left behind it.
-fn written_again(rt: &impl Abort, alloc: Global, bytes: &[u8]) -> Result<Vec<u8>, Refusal> {
-    let (table, left) = table_of(rt, alloc, bytes)?;
-    holds!(rt; left == 1);
-    holds!(rt; table.runners().len() <= 4_294_967_295);
-    let mut out = Vec::new(alloc);
-    write_table(&mut out, &table)?;
-    Ok(out)
+/// The bytes of the table that is read of a row. One byte is left behind it.
+fn written_again(rt: &impl Abort, alloc: Global, row: &Row<'_>) -> Result<Vec<u8>, Refusal> {
+    let bytes = bytes_and_7(alloc, row)?;
+    let table = table_of(rt, alloc, bytes.as_slice(), 1)?;
+    text_of(rt, alloc, &table)
 }
 
 fn expect_empty(rt: &impl Abort, alloc: Global) -> Result<(), Refusal> {
-    let (empty, left) = table_of(rt, alloc, &[0; 14])?;
-    holds!(rt; left == 2);
+    let empty = table_of(rt, alloc, &[0; 14], 2)?;
     holds!(rt; empty.last_lease() == 0);
     holds!(rt; empty.runs().is_empty() && empty.runners().is_empty());
     Ok(())
@@ -66,7 +67,7 @@ fn whole_tables_are_read_again(rt: HostRuntime) {
 
 /// A row, the offset of the byte that is changed, and the byte that stands there then: the parts are read, but they are those of no
 /// sound table.
-const CHANGES: &[(usize, usize, u8)] = &[
+const CHANGES: &[Change] = &[
     // a waiting run and an ended one with an open job; a blocked job with a leg, and a successful one whose leg is ready
     (0, 107, 0),
     (0, 107, 2),
@@ -86,20 +87,26 @@ const CHANGES: &[(usize, usize, u8)] = &[
     (1, 165, 0),
 ];
 
-fn has_parts(alloc: Global, bytes: &[u8]) -> Result<bool, Refusal> {
-    Ok(read_parts(alloc, bytes)?.is_some())
-}
-
 fn is_table(alloc: Global, bytes: &[u8]) -> Result<bool, Refusal> {
     Ok(read_table(alloc, bytes)?.is_some())
 }
 
+/// That the bytes begin with parts, but with no table.
+fn expect_parts_alone(
+    rt: &impl Abort,
+    alloc: Global,
+    bytes: &[u8],
+    offset: usize,
+) -> Result<(), Refusal> {
+    holds!(rt; has_parts(alloc, bytes)?, offset);
+    holds!(rt; !is_table(alloc, bytes)?, offset);
+    Ok(())
+}
+
 fn reads_no_unsound_table(rt: &impl Abort, alloc: Global) -> Result<(), Refusal> {
-    for &(row, offset, byte) in CHANGES {
-        holds!(rt; row < ROWS.len());
-        let bytes = changed(alloc, &ROWS[row], offset, byte)?;
-        holds!(rt; has_parts(alloc, bytes.as_slice())?, offset);
-        holds!(rt; !is_table(alloc, bytes.as_slice())?, offset);
+    for change in CHANGES {
+        let bytes = changed(rt, alloc, change)?;
+        expect_parts_alone(rt, alloc, bytes.as_slice(), change.1)?;
     }
     Ok(())
 }

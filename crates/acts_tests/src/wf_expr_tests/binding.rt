@@ -4,8 +4,8 @@ use crate::holds::holds;
 use crate::wf_expr_tests::{example, template_of};
 use std::alloc::Global;
 use std::process::Abort;
-use wf_expr::{BoundTemplate, NeedResults, Needs, Properties};
-use wf_value::{Chars, JobResult, Refusal, TryCopy, copy_items};
+use wf_expr::{BoundTemplate, NeedResults, Needs};
+use wf_value::{Chars, JobResult, TryCopy, copy_items};
 
 /// A path of three names is that of a need, whose number is the length of its second name.
 struct ByLength;
@@ -45,19 +45,11 @@ impl NeedResults for Ended {
     }
 }
 
-/// What is bound of a text as a job's template in a context.
-fn bound_in(alloc: Global, text: &str, context: &Properties) -> Result<BoundTemplate, Refusal> {
-    template_of(alloc, text)?.bind(alloc, context, &ByLength)
-}
-
 /// What is bound of a text as a job's template in the context of the rows.
-pub fn bound_of(alloc: Global, text: &str) -> Result<BoundTemplate, Refusal> {
-    bound_in(alloc, text, &example(alloc)?)
-}
-
-/// A template that is bound and not refused.
-fn bound(rt: &impl Abort, alloc: Global, text: &str) -> BoundTemplate {
-    bound_of(alloc, text).expect(rt, text)
+pub fn bound_of(rt: &impl Abort, alloc: Global, text: &str) -> BoundTemplate {
+    let context = example(rt, alloc);
+    let template = template_of(rt, alloc, text);
+    template.bind(alloc, &context, &ByLength).expect(rt, text)
 }
 
 /// Whether a template has by its results the text that another has by its own.
@@ -86,7 +78,7 @@ const BOTH: Ended = Ended {
 };
 
 /// A template, results, and the text that it has by them.
-static ROWS: [(&str, Ended, &str); 14] = [
+const ROWS: &[(&str, Ended, &str)] = &[
     ("", NONE, ""),
     ("plain", BOTH, "plain"),
     ("${{ needs.a.result }}", NONE, ""),
@@ -131,32 +123,19 @@ static ROWS: [(&str, Ended, &str); 14] = [
     ),
 ];
 
-/// That a template has the text of the row by its results, as a template too that needs none.
-fn expect_text_of(
-    rt: &impl Abort,
-    row: &(&str, Ended, &str),
-    bound: &BoundTemplate,
-    want_bound: &BoundTemplate,
-) {
-    let (text, ended, want) = row;
-    holds!(rt; is_same(bound, ended, want_bound, &NONE), text);
-    holds!(rt; bound.has_text(ended) == !want.is_empty(), text);
-}
-
-fn expect_bound(rt: &impl Abort, alloc: Global, row: &(&str, Ended, &str)) {
-    let want_bound = bound(rt, alloc, row.2);
-    expect_text_of(rt, row, &bound(rt, alloc, row.0), &want_bound);
-}
-
+/// The text is that of a template too that needs no results.
 #[test]
 fn binds_to_the_text_by_results(rt: HostRuntime) {
-    for row in &ROWS {
-        expect_bound(&rt, rt.alloc(), row);
+    for (text, ended, want) in ROWS {
+        let bound = bound_of(&rt, rt.alloc(), text);
+        let plain = bound_of(&rt, rt.alloc(), want);
+        holds!(rt; is_same(&bound, ended, &plain, &NONE), text);
+        holds!(rt; bound.has_text(ended) == !want.is_empty(), text);
     }
 }
 
 /// Two templates, results for both, and whether they have the same text.
-static COMPARED: [(&str, &str, Ended, bool); 5] = [
+const COMPARED: &[(&str, &str, Ended, bool)] = &[
     ("a${{ 'bc' }}", "${{ 'ab' }}c", NONE, true),
     ("${{ needs.a.result }}", "failure", FAILED, true),
     ("${{ needs.a.result }}d", "failure", FAILED, false),
@@ -164,21 +143,16 @@ static COMPARED: [(&str, &str, Ended, bool); 5] = [
     ("abd", "abc", NONE, false),
 ];
 
-/// Whether two templates have the same text by the same results.
-fn are_same_by(rt: &impl Abort, alloc: Global, texts: (&str, &str), ended: &Ended) -> bool {
-    let other = bound(rt, alloc, texts.1);
-    is_same(&bound(rt, alloc, texts.0), ended, &other, ended)
-}
-
 #[test]
 fn compares_bound_texts(rt: HostRuntime) {
-    for (text, other, ended, same) in &COMPARED {
-        let is_same = are_same_by(&rt, rt.alloc(), (*text, *other), ended);
-        holds!(rt; is_same == *same, text);
+    for (text, other, ended, same) in COMPARED {
+        let bound = bound_of(&rt, rt.alloc(), text);
+        let other = bound_of(&rt, rt.alloc(), other);
+        holds!(rt; is_same(&bound, ended, &other, ended) == *same, text);
     }
 }
 
-static FLAGS: [(&str, Ended, bool); 6] = [
+const FLAGS: &[(&str, Ended, bool)] = &[
     ("${{ inputs.yes }}", NONE, true),
     ("tr${{ 'ue' }}", NONE, true),
     ("${{ inputs.a-b_C9 }}", NONE, false),
@@ -189,15 +163,10 @@ static FLAGS: [(&str, Ended, bool); 6] = [
 
 #[test]
 fn sets_a_bound_flag(rt: HostRuntime) {
-    for (text, ended, set) in &FLAGS {
-        let sets_flag = bound(&rt, rt.alloc(), text).sets_flag(ended);
+    for (text, ended, set) in FLAGS {
+        let sets_flag = bound_of(&rt, rt.alloc(), text).sets_flag(ended);
         holds!(rt; sets_flag == *set, text);
     }
-}
-
-/// A template of copied pieces.
-fn remade(alloc: Global, bound: &BoundTemplate) -> Result<BoundTemplate, Refusal> {
-    Ok(BoundTemplate::new(copy_items(alloc, bound.pieces())?))
 }
 
 /// That a copy has the text of its template by the results of a failure, and no other.
@@ -209,7 +178,9 @@ fn expect_copy(rt: &impl Abort, copy: &BoundTemplate, bound: &BoundTemplate) {
 #[test]
 fn copies_a_bound_template(rt: HostRuntime) {
     let text = "x-${{ needs.a.result || 'none' }}";
-    let bound = bound(&rt, rt.alloc(), text);
-    expect_copy(&rt, &bound.copy(rt.alloc()).expect(&rt, text), &bound);
-    expect_copy(&rt, &remade(rt.alloc(), &bound).expect(&rt, text), &bound);
+    let bound = bound_of(&rt, rt.alloc(), text);
+    let copy = bound.copy(rt.alloc()).expect(&rt, text);
+    expect_copy(&rt, &copy, &bound);
+    let pieces = copy_items(rt.alloc(), bound.pieces()).expect(&rt, text);
+    expect_copy(&rt, &BoundTemplate::new(pieces), &bound);
 }

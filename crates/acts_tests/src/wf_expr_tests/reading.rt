@@ -15,7 +15,7 @@ fn expect_read(rt: &impl Abort, alloc: Global, text: &str, place: Place, want: u
     holds!(rt; number == want, format_args!("{text}: {number}"));
 }
 
-static NO_TEMPLATES: [&str; 35] = [
+const NO_TEMPLATES: &[&str] = &[
     "${{",
     "${{ ",
     "${{ }}",
@@ -55,14 +55,14 @@ static NO_TEMPLATES: [&str; 35] = [
 
 #[test]
 fn refuses_what_spells_no_template(rt: HostRuntime) {
-    for &text in &NO_TEMPLATES {
+    for &text in NO_TEMPLATES {
         expect_read(&rt, rt.alloc(), text, Place::Job, 17);
         expect_read(&rt, rt.alloc(), text, Place::Workflow, 17);
     }
 }
 
 /// A text, and the numbers with which it is refused at a job and at a workflow, 0 where it is read.
-static PLACES: [(&str, u64, u64); 10] = [
+const PLACES: &[(&str, u64, u64)] = &[
     ("${{ needs.a.result }}", 0, 18),
     ("${{ strategy.job-index }}", 0, 18),
     ("x${{ github.ref || matrix.os }}", 0, 18),
@@ -77,7 +77,7 @@ static PLACES: [(&str, u64, u64); 10] = [
 
 #[test]
 fn refuses_contexts_of_jobs_elsewhere(rt: HostRuntime) {
-    for &(text, at_job, at_workflow) in &PLACES {
+    for &(text, at_job, at_workflow) in PLACES {
         expect_read(&rt, rt.alloc(), text, Place::Job, at_job);
         expect_read(&rt, rt.alloc(), text, Place::Workflow, at_workflow);
     }
@@ -85,7 +85,7 @@ fn refuses_contexts_of_jobs_elsewhere(rt: HostRuntime) {
 
 /// The pieces of a text, each with how often it stands there, the place, and the number with which the
 /// text is refused, 0 where it is read.
-static COUNTED: [(&[(&str, usize)], Place, u64); 5] = [
+const COUNTED: &[(&[(&str, usize)], Place, u64)] = &[
     (
         &[("${{ github.x", 1), (" || github.x", 31), (" }}", 1)],
         Place::Job,
@@ -111,7 +111,7 @@ static COUNTED: [(&[(&str, usize)], Place, u64); 5] = [
 
 #[test]
 fn counts_references_each_time(rt: HostRuntime) {
-    for &(pieces, place, want) in &COUNTED {
+    for &(pieces, place, want) in COUNTED {
         let text = spelled(rt.alloc(), pieces).expect(&rt, "a text");
         expect_read(&rt, rt.alloc(), text.as_str(), place, want);
     }
@@ -121,7 +121,7 @@ fn expect_operands(rt: &impl Abort, alloc: Global, operands: &[Operand]) {
     match operands {
         [Operand::Quoted(text), Operand::Reference(path)] => {
             expect_text(rt, text.as_str(), "b");
-            let want = path_of(alloc, "github.c-d.e").expect(rt, "a path");
+            let want = path_of(rt, alloc, "github.c-d.e");
             holds!(rt; same_items(path.as_slice(), want.as_slice()));
         }
         _ => panic!(rt; "other operands"),

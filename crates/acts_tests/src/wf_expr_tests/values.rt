@@ -4,18 +4,18 @@ use crate::wf_expr_tests::{example, path_of, properties, template_of, value_of};
 use std::alloc::Global;
 use std::process::Abort;
 use wf_expr::{Over, Properties, Template, is_flag_set};
-use wf_value::{Chars, Refusal, Same, Scalar, TryCopy};
+use wf_value::{Chars, Same, Scalar, TryCopy};
 
 /// Templates, and their values.
 fn expect_values(rt: &impl Abort, alloc: Global, rows: &[(&str, Given)]) {
     for (text, want) in rows {
         let want = scalar(alloc, want).expect(rt, "a scalar");
-        let value = value_of(alloc, text).expect(rt, text);
+        let value = value_of(rt, alloc, text);
         holds!(rt; value.same(&want), text);
     }
 }
 
-static JOINED: [(&str, Given); 23] = [
+const JOINED: &[(&str, Given)] = &[
     ("", Given::Text("")),
     ("plain", Given::Text("plain")),
     (
@@ -52,10 +52,10 @@ static JOINED: [(&str, Given); 23] = [
 
 #[test]
 fn joins_pieces(rt: HostRuntime) {
-    expect_values(&rt, rt.alloc(), &JOINED);
+    expect_values(&rt, rt.alloc(), JOINED);
 }
 
-static KEPT: [(&str, Given); 12] = [
+const KEPT: &[(&str, Given)] = &[
     ("${{ inputs.most }}", Given::Whole(i64::MAX)),
     ("${{ inputs.zero }}", Given::Whole(0)),
     ("${{ inputs.none }}", Given::Null),
@@ -75,7 +75,7 @@ static KEPT: [(&str, Given); 12] = [
 
 #[test]
 fn keeps_the_scalar_of_a_sole_piece(rt: HostRuntime) {
-    expect_values(&rt, rt.alloc(), &KEPT);
+    expect_values(&rt, rt.alloc(), KEPT);
 }
 
 /// Whether that is the whole number, or that nothing is there.
@@ -95,77 +95,60 @@ fn expect_at(
     rows: &[(&str, Option<i64>)],
 ) {
     for (names, want) in rows {
-        let path = path_of(alloc, names).expect(rt, "a path");
+        let path = path_of(rt, alloc, names);
         holds!(rt; is_whole(properties.get(path.as_slice()), *want), names);
     }
 }
 
-static SET_AGAIN: [(&str, Given); 3] = [
+const SET_AGAIN: &[(&str, Given)] = &[
     ("github.workflow", Given::Whole(1)),
     ("github.workflow.x", Given::Whole(2)),
     ("github.workflow", Given::Whole(3)),
 ];
 
 /// Paths, and the newest values that they were set to.
-static NEWEST: [(&str, Option<i64>); 4] = [
+const NEWEST: &[(&str, Option<i64>)] = &[
     ("github.workflow", Some(3)),
     ("github.workflow.x", Some(2)),
     ("github", None),
     ("github.workflow.y", None),
 ];
 
-/// Properties that are not refused.
-fn tree(rt: &impl Abort, alloc: Global, rows: &[(&str, Given)]) -> Properties {
-    properties(alloc, rows).expect(rt, "properties")
-}
-
-/// That properties have these whole numbers once they are set in turn.
-fn expect_tree(
-    rt: &impl Abort,
-    alloc: Global,
-    set: &[(&str, Given)],
-    rows: &[(&str, Option<i64>)],
-) {
-    expect_at(rt, alloc, &tree(rt, alloc, set), rows);
-}
-
 #[test]
 fn keeps_the_newest_value_of_a_path(rt: HostRuntime) {
-    expect_tree(&rt, rt.alloc(), &[], &[("github.workflow", None)]);
-    expect_tree(&rt, rt.alloc(), &SET_AGAIN, &NEWEST);
+    let none = Properties::new(rt.alloc());
+    expect_at(&rt, rt.alloc(), &none, &[("github.workflow", None)]);
+    let set = properties(&rt, rt.alloc(), SET_AGAIN);
+    expect_at(&rt, rt.alloc(), &set, NEWEST);
 }
 
-static INNER: [(&str, Given); 2] = [("a", Given::Whole(1)), ("b.c", Given::Whole(2))];
+const INNER: &[(&str, Given)] = &[("a", Given::Whole(1)), ("b.c", Given::Whole(2))];
 
-static OUTER: [(&str, Given); 2] = [("inputs.old", Given::Whole(3)), ("vars.a", Given::Whole(4))];
+const OUTER: &[(&str, Given)] = &[("inputs.old", Given::Whole(3)), ("vars.a", Given::Whole(4))];
 
 /// Paths, and their values where the inner tree is put at `inputs` of the outer.
-static NESTED: [(&str, Option<i64>); 4] = [
+const NESTED: &[(&str, Option<i64>)] = &[
     ("inputs.a", Some(1)),
     ("inputs.b.c", Some(2)),
     ("vars.a", Some(4)),
     ("inputs.old", None),
 ];
 
-/// Puts the inner tree at `inputs`.
-fn put(alloc: Global, outer: &mut Properties) -> Result<(), Refusal> {
-    let name = Chars::from_str(alloc, "inputs")?;
-    outer.nest(alloc, &name, properties(alloc, &INNER)?)
-}
-
 #[test]
 fn puts_a_tree_at_a_name(rt: HostRuntime) {
-    let mut outer = tree(&rt, rt.alloc(), &OUTER);
-    put(rt.alloc(), &mut outer).expect(&rt, "a tree");
-    expect_at(&rt, rt.alloc(), &outer, &NESTED);
+    let mut outer = properties(&rt, rt.alloc(), OUTER);
+    let inner = properties(&rt, rt.alloc(), INNER);
+    let name = Chars::from_str(rt.alloc(), "inputs").expect(&rt, "a name");
+    outer.nest(rt.alloc(), &name, inner).expect(&rt, "a tree");
+    expect_at(&rt, rt.alloc(), &outer, NESTED);
 }
 
-static UPPER: [(&str, Given); 2] = [
+const UPPER: &[(&str, Given)] = &[
     ("matrix.os", Given::Text("linux")),
     ("github.run_id", Given::Null),
 ];
 
-static OVER: [(&str, &str); 3] = [
+const OVER: &[(&str, &str)] = &[
     ("${{ matrix.os }}-${{ github.workflow }}", "linux-ci.json"),
     ("<${{ github.run_id }}>", "<>"),
     ("${{ matrix.x || inputs.most }}", "9223372036854775807"),
@@ -176,26 +159,18 @@ fn is_text_over(template: &Template, upper: &Properties, lower: &Properties, tex
     template.is_text(&Over { upper, lower }, text.as_bytes())
 }
 
-fn expect_over(rt: &impl Abort, alloc: Global, upper: &Properties, lower: &Properties) {
-    for (text, want) in &OVER {
-        let template = template_of(alloc, text).expect(rt, text);
-        holds!(rt; is_text_over(&template, upper, lower, want), text);
+#[test]
+fn looks_from_the_upper_layer_down(rt: HostRuntime) {
+    let upper = properties(&rt, rt.alloc(), UPPER);
+    let lower = example(&rt, rt.alloc());
+    for (text, want) in OVER {
+        let template = template_of(&rt, rt.alloc(), text);
+        holds!(rt; is_text_over(&template, &upper, &lower, want), text);
     }
 }
 
-/// The properties of the example.
-fn example_tree(rt: &impl Abort, alloc: Global) -> Properties {
-    example(alloc).expect(rt, "properties")
-}
-
-#[test]
-fn looks_from_the_upper_layer_down(rt: HostRuntime) {
-    let lower = example_tree(&rt, rt.alloc());
-    expect_over(&rt, rt.alloc(), &tree(&rt, rt.alloc(), &UPPER), &lower);
-}
-
 /// A template, another text, whether that is its text, and whether it is but for letter case.
-static COMPARED: [(&str, &str, bool, bool); 13] = [
+const COMPARED: &[(&str, &str, bool, bool)] = &[
     ("Linux", "Linux", true, true),
     ("Linux", "linux", false, true),
     ("Linux", "linu", false, false),
@@ -216,11 +191,6 @@ static COMPARED: [(&str, &str, bool, bool); 13] = [
     ("é", "É", false, false),
 ];
 
-/// A copy of a template.
-fn copied(alloc: Global, text: &str) -> Result<Template, Refusal> {
-    template_of(alloc, text)?.copy(alloc)
-}
-
 fn is_text(template: &Template, context: &Properties, other: &str) -> bool {
     template.is_text(context, other.as_bytes())
 }
@@ -230,32 +200,29 @@ fn is_alike(template: &Template, context: &Properties, other: &str) -> bool {
     template.is_text_ignoring_ascii_case(context, other.as_bytes())
 }
 
+/// That the row holds of a copy of its template in a context.
 fn expect_compared(
     rt: &impl Abort,
-    template: &Template,
+    alloc: Global,
     context: &Properties,
     row: &(&str, &str, bool, bool),
 ) {
     let (text, other, same, alike) = row;
-    holds!(rt; is_text(template, context, other) == *same, text);
-    holds!(rt; is_alike(template, context, other) == *alike, text);
-}
-
-/// That the rows hold in a context.
-fn expect_all_compared(rt: &impl Abort, alloc: Global, context: &Properties) {
-    for row in &COMPARED {
-        let template = copied(alloc, row.0).expect(rt, row.0);
-        expect_compared(rt, &template, context, row);
-    }
+    let copy = template_of(rt, alloc, text).copy(alloc).expect(rt, text);
+    holds!(rt; is_text(&copy, context, other) == *same, text);
+    holds!(rt; is_alike(&copy, context, other) == *alike, text);
 }
 
 #[test]
 fn compares_with_a_text(rt: HostRuntime) {
-    expect_all_compared(&rt, rt.alloc(), &example_tree(&rt, rt.alloc()));
+    let context = example(&rt, rt.alloc());
+    for row in COMPARED {
+        expect_compared(&rt, rt.alloc(), &context, row);
+    }
 }
 
 /// A template, and whether its value sets a flag.
-static FLAGS: [(&str, bool); 10] = [
+const FLAGS: &[(&str, bool)] = &[
     ("${{ inputs.yes }}", true),
     ("true", true),
     ("${{ 'true' }}", true),
@@ -270,8 +237,8 @@ static FLAGS: [(&str, bool); 10] = [
 
 #[test]
 fn sets_flags(rt: HostRuntime) {
-    for &(text, want) in &FLAGS {
-        let value = value_of(rt.alloc(), text).expect(&rt, text);
+    for &(text, want) in FLAGS {
+        let value = value_of(&rt, rt.alloc(), text);
         holds!(rt; is_flag_set(&value) == want, text);
     }
 }

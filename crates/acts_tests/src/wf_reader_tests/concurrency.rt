@@ -1,11 +1,10 @@
 //! The `concurrency` of a workflow and of a job, as it is read.
 
-use super::{ACCEPTED, Around, expect_answers};
+use super::{ACCEPTED, Around, expect_answer, read};
 use crate::holds::holds;
-use std::alloc::Global;
 use std::process::Abort;
 use wf_expr::{Piece, Template};
-use wf_reader::{Concurrency, Flag, Workflow, read_workflow};
+use wf_reader::{Concurrency, Flag, Workflow};
 
 /// The text is the `concurrency` of the workflow.
 const IN_WORKFLOW: Around = (
@@ -74,8 +73,8 @@ const VALUES: &[(&str, u64, u64)] = &[
 #[test]
 fn answers_each_fault_of_a_concurrency(rt: HostRuntime) {
     for &(value, workflow, job) in VALUES {
-        expect_answers(&rt, rt.alloc(), IN_WORKFLOW, &[(value, workflow)]);
-        expect_answers(&rt, rt.alloc(), IN_THE_JOB, &[(value, job)]);
+        expect_answer(&rt, rt.alloc(), IN_WORKFLOW, value, workflow);
+        expect_answer(&rt, rt.alloc(), IN_THE_JOB, value, job);
     }
 }
 
@@ -95,26 +94,20 @@ fn is_expression(template: &Template) -> bool {
     }
 }
 
-fn expect_fixed(rt: &impl Abort, concurrency: &Concurrency, group: &str, want: bool) {
+/// A group of this name, whose flag is set or not.
+fn expect_fixed(rt: &impl Abort, found: Option<&Concurrency>, group: &str, want: bool) {
+    let concurrency = found.expect(rt, "a concurrency");
     holds!(rt; is_plain(&concurrency.group, group));
-    match &concurrency.cancel_in_progress {
-        Flag::Fixed(set) => holds!(rt; *set == want),
-        Flag::Template(_) => panic!(rt; "a template"),
-    }
+    holds!(rt; matches!(&concurrency.cancel_in_progress, Flag::Fixed(set) if *set == want));
 }
 
-fn expect_by_template(rt: &impl Abort, concurrency: &Concurrency, group: &str) {
+/// A group of this name, whose flag is an expression.
+fn expect_by_template(rt: &impl Abort, found: Option<&Concurrency>, group: &str) {
+    let concurrency = found.expect(rt, "a concurrency");
     holds!(rt; is_plain(&concurrency.group, group));
     match &concurrency.cancel_in_progress {
         Flag::Template(template) => holds!(rt; is_expression(template)),
         Flag::Fixed(_) => panic!(rt; "no template"),
-    }
-}
-
-fn read(rt: &impl Abort, alloc: Global, body: &str) -> Workflow {
-    match read_workflow(alloc, body.as_bytes()) {
-        Ok(workflow) => workflow,
-        Err(_) => read_workflow(alloc, body.as_bytes()).expect(rt, "a workflow"),
     }
 }
 
@@ -134,14 +127,8 @@ const BOTH: &str =
 #[test]
 fn reads_a_concurrency(rt: HostRuntime) {
     let workflow = read(&rt, rt.alloc(), BOTH);
-    match &workflow.concurrency {
-        Some(concurrency) => expect_fixed(&rt, concurrency, "g", true),
-        None => panic!(rt; "no concurrency"),
-    }
-    match of_the_job(&workflow) {
-        Some(concurrency) => expect_by_template(&rt, concurrency, "h"),
-        None => panic!(rt; "no concurrency of the job"),
-    }
+    expect_fixed(&rt, workflow.concurrency.as_ref(), "g", true);
+    expect_by_template(&rt, of_the_job(&workflow), "h");
 }
 
 /// A text alone names a group that stops nothing.
@@ -150,8 +137,5 @@ fn reads_a_text_as_a_group(rt: HostRuntime) {
     let body = "{\"jobs\":{\"a\":{\"runs-on\":\"x\",\"concurrency\":\"k\"}}}";
     let workflow = read(&rt, rt.alloc(), body);
     holds!(rt; workflow.concurrency.is_none());
-    match of_the_job(&workflow) {
-        Some(concurrency) => expect_fixed(&rt, concurrency, "k", false),
-        None => panic!(rt; "no concurrency"),
-    }
+    expect_fixed(&rt, of_the_job(&workflow), "k", false);
 }

@@ -1,62 +1,71 @@
 //! What an event shows: its names, and the labels of its jobs with the sender's contexts alone.
 
-use crate::holds::expect_text;
+use super::framed;
+use crate::holds::{expect_text, holds};
 use std::alloc::Global;
 use std::process::Abort;
 use wf_expr::Template;
 use wf_reader::{Contexts, Event, Job, read_event};
 use wf_value::{Chars, Refusal};
 
+/// The event, which is not refused.
+fn read(rt: &impl Abort, alloc: Global, body: &str) -> Event {
+    match read_event(alloc, body.as_bytes()) {
+        Ok(event) => event,
+        Err(_) => read_event(alloc, body.as_bytes()).expect(rt, "an event"),
+    }
+}
+
 fn label_text(alloc: Global, label: &Template, contexts: &Contexts) -> Result<Chars, Refusal> {
     let value = label.eval(alloc, contexts)?;
     value.text(alloc)
 }
 
-fn push_labels(
-    alloc: Global,
-    text: &mut String,
-    labels: &[Template],
-    contexts: &Contexts,
-) -> Result<(), Refusal> {
-    for label in labels {
-        text.push_str(":")?;
-        text.push_str(label_text(alloc, label, contexts)?.as_str())?;
+fn expect_label(rt: &impl Abort, alloc: Global, label: &Template, contexts: &Contexts, want: &str) {
+    let text = match label_text(alloc, label, contexts) {
+        Ok(text) => text,
+        Err(_) => label_text(alloc, label, contexts).expect(rt, "a label"),
+    };
+    expect_text(rt, text.as_str(), want);
+}
+
+/// The id of a job, and the texts of its labels.
+type ShownJob<'a> = (&'a str, &'a [&'a str]);
+
+fn expect_job(rt: &impl Abort, alloc: Global, job: &Job, contexts: &Contexts, want: &ShownJob<'_>) {
+    let (id, labels) = want;
+    expect_text(rt, job.id.as_str(), id);
+    holds!(rt; job.labels.len() == labels.len(), id);
+    for (label, want) in job.labels.as_slice().iter().zip(*labels) {
+        expect_label(rt, alloc, label, contexts, want);
     }
-    Ok(())
 }
 
-/// The jobs, each with the texts of its labels.
-fn jobs_shown(alloc: Global, jobs: &[Job], contexts: &Contexts) -> Result<String, Refusal> {
-    let mut text = String::new(alloc);
-    for job in jobs {
-        text.push_str(" ")?;
-        text.push_str(job.id.as_str())?;
-        push_labels(alloc, &mut text, job.labels.as_slice(), contexts)?;
+/// A repository, a path, the name of a workflow, and the jobs in the order of their ids.
+type Shown<'a> = (&'a str, &'a str, &'a str, &'a [ShownJob<'a>]);
+
+fn expect_event(rt: &impl Abort, alloc: Global, event: &Event, want: &Shown<'_>) {
+    let (repo, path, name, jobs) = want;
+    expect_text(rt, event.repo.as_str(), repo);
+    expect_text(rt, event.path.as_str(), path);
+    expect_text(rt, event.workflow.name.as_str(), name);
+    let found = event.workflow.jobs.as_slice();
+    holds!(rt; found.len() == jobs.len());
+    for (job, want) in found.iter().zip(*jobs) {
+        expect_job(rt, alloc, job, &event.contexts, want);
     }
-    Ok(text)
 }
 
-fn labels_shown(alloc: Global, event: &Event) -> Result<String, Refusal> {
-    jobs_shown(alloc, event.workflow.jobs.as_slice(), &event.contexts)
-}
-
-fn event_shown(alloc: Global, event: &Event) -> Result<String, Refusal> {
-    let labels = labels_shown(alloc, event)?;
-    let (repo, path) = (event.repo.as_str(), event.path.as_str());
-    let name = event.workflow.name.as_str();
-    Ok(format!(in alloc; "{repo} {path} [{name}]{labels}")?)
-}
-
-fn shown(alloc: Global, body: &str) -> Result<String, Refusal> {
-    let event = read_event(alloc, body.as_bytes())?;
-    event_shown(alloc, &event)
+/// What the event of a body shows.
+fn expect_shown(rt: &impl Abort, alloc: Global, body: &str, want: &Shown<'_>) {
+    expect_event(rt, alloc, &read(rt, alloc, body), want);
 }
 
 /// A body, and what it shows.
-const SHOWN: &[(&str, &str)] = &[
+const SHOWN: &[(&str, Shown<'static>)] = &[
     (
         "{\"repo\":\"o/r\",\"path\":\"ci.json\",\"workflow\":{\"jobs\":{\"build\":{\"runs-on\":\"linux\"}}}}",
-        "o/r ci.json [] build:linux",
+        ("o/r", "ci.json", "", &[("build", &["linux"])]),
     ),
     (
         concat!(
@@ -64,18 +73,24 @@ const SHOWN: &[(&str, &str)] = &[
             "{\"b\":{\"runs-on\":[\"linux\",\"x64\"]},\"B\":{\"runs-on\":\"y\"},",
             "\"a-\":{\"runs-on\":\"z\"},\"a\":{\"runs-on\":\"w\"}}}}",
         ),
-        "r p [n] B:y a:w a-:z b:linux:x64",
+        (
+            "r",
+            "p",
+            "n",
+            &[
+                ("B", &["y"]),
+                ("a", &["w"]),
+                ("a-", &["z"]),
+                ("b", &["linux", "x64"]),
+            ],
+        ),
     ),
 ];
 
 #[test]
 fn reads_an_event(rt: HostRuntime) {
-    for &(body, want) in SHOWN {
-        let text = match shown(rt.alloc(), body) {
-            Ok(text) => text,
-            Err(_) => shown(rt.alloc(), body).expect(&rt, "an event"),
-        };
-        expect_text(&rt, text.as_str(), want);
+    for (body, want) in SHOWN {
+        expect_shown(&rt, rt.alloc(), body, want);
     }
 }
 
@@ -88,43 +103,29 @@ const BEFORE: &str = concat!(
 
 const BEHIND: &str = " }}>\"}}}}";
 
-/// The event whose label has this reference.
-fn event_with(alloc: Global, reference: &str) -> Result<Event, Refusal> {
-    let body = format!(in alloc; "{BEFORE}{reference}{BEHIND}")?;
-    read_event(alloc, body.as_bytes())
-}
-
-/// The labels with this reference.
-fn sent(alloc: Global, reference: &str) -> Result<String, Refusal> {
-    let event = event_with(alloc, reference)?;
-    labels_shown(alloc, &event)
-}
-
-/// A reference, and the text of the label.
+/// A reference, and the text of the only label of the only job.
 const FOUND: &[(&str, &str)] = &[
-    ("vars.l", " a:<linux>"),
-    ("github.t", " a:<true>"),
-    ("github.i", " a:<-9223372036854775808>"),
-    ("github.o.x.y", " a:<deep>"),
-    ("github.n || 'none'", " a:<none>"),
-    ("github.u || 'none'", " a:<none>"),
-    ("github.f || 'none'", " a:<none>"),
-    ("github.e || 'none'", " a:<none>"),
-    ("github.l || 'none'", " a:<none>"),
-    ("github.o.x || 'none'", " a:<none>"),
-    ("github.t.x || 'none'", " a:<none>"),
-    ("github.o.x.y.z || 'none'", " a:<none>"),
-    ("inputs.l || 'none'", " a:<none>"),
-    ("matrix.l || 'none'", " a:<none>"),
+    ("vars.l", "<linux>"),
+    ("github.t", "<true>"),
+    ("github.i", "<-9223372036854775808>"),
+    ("github.o.x.y", "<deep>"),
+    ("github.n || 'none'", "<none>"),
+    ("github.u || 'none'", "<none>"),
+    ("github.f || 'none'", "<none>"),
+    ("github.e || 'none'", "<none>"),
+    ("github.l || 'none'", "<none>"),
+    ("github.o.x || 'none'", "<none>"),
+    ("github.t.x || 'none'", "<none>"),
+    ("github.o.x.y.z || 'none'", "<none>"),
+    ("inputs.l || 'none'", "<none>"),
+    ("matrix.l || 'none'", "<none>"),
 ];
 
 #[test]
 fn finds_values_of_contexts(rt: HostRuntime) {
     for &(reference, want) in FOUND {
-        let text = match sent(rt.alloc(), reference) {
-            Ok(text) => text,
-            Err(_) => sent(rt.alloc(), reference).expect(&rt, "a label"),
-        };
-        expect_text(&rt, text.as_str(), want);
+        let body = framed(&rt, rt.alloc(), (BEFORE, BEHIND), reference);
+        let want: &Shown<'_> = &("r", "p", "", &[("a", &[want])]);
+        expect_shown(&rt, rt.alloc(), body.as_str(), want);
     }
 }

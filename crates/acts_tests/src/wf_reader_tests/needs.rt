@@ -1,85 +1,74 @@
 //! The `needs` and the `if` of a job, as they are read.
 
 use super::{ACCEPTED, Around, BEHIND_LABELS, expect_answers, workflow_with};
-use crate::holds::holds;
-use std::alloc::Global;
+use crate::holds::{expect_text, holds};
+use std::process::Abort;
 use wf_reader::Job;
-use wf_value::{Condition, Refusal};
+use wf_value::{Chars, Condition};
 
-fn word_of(condition: Condition) -> &'static str {
-    match condition {
-        Condition::Success => "success",
-        Condition::Failure => "failure",
-        Condition::Always => "always",
-        Condition::Cancelled => "cancelled",
-        Condition::NotCancelled => "not cancelled",
-        Condition::Never => "never",
+/// When the only job runs, and the ids that it needs.
+fn expect_read(rt: &impl Abort, jobs: &[Job], row: &(&str, Condition, &[&str])) {
+    let (members, condition, needs) = row;
+    holds!(rt; jobs.len() == 1);
+    holds!(rt; jobs[0].condition == *condition, members);
+    expect_texts(rt, jobs[0].needs.as_slice(), needs);
+}
+
+fn expect_texts(rt: &impl Abort, texts: &[Chars], want: &[&str]) {
+    holds!(rt; texts.len() == want.len());
+    for (text, want) in texts.iter().zip(want) {
+        expect_text(rt, text.as_str(), want);
     }
 }
 
-/// When a job runs, and behind it each id that it needs.
-fn shown_job(alloc: Global, job: &Job) -> Result<String, Refusal> {
-    let mut text = String::from_str(alloc, word_of(job.condition))?;
-    for need in job.needs.as_slice() {
-        text.push_str(" ")?;
-        text.push_str(need.as_str())?;
-    }
-    Ok(text)
-}
-
-fn shown_jobs(alloc: Global, jobs: &[Job]) -> Result<String, Refusal> {
-    match jobs {
-        [job] => shown_job(alloc, job),
-        _ => Ok(String::from_str(alloc, "other jobs")?),
-    }
-}
-
-fn shown(alloc: Global, members: &str) -> Result<String, Refusal> {
-    let workflow = workflow_with(alloc, members)?;
-    shown_jobs(alloc, workflow.jobs.as_slice())
-}
-
-fn is_shown(alloc: Global, members: &str, want: &str) -> bool {
-    match shown(alloc, members) {
-        Ok(text) => text.as_str() == want,
-        Err(_) => match shown(alloc, members) {
-            Ok(text) => text.as_str() == want,
-            Err(_) => false,
-        },
-    }
-}
-
-/// The forms of the documentation, bare and in braces. Spaces are free around both.
-const READ: &[(&str, &str)] = &[
-    ("", "success"),
-    (",\"if\":\"success()\"", "success"),
-    (",\"if\":\"failure()\"", "failure"),
-    (",\"if\":\"always()\"", "always"),
-    (",\"if\":\"cancelled()\"", "cancelled"),
-    (",\"if\":\"!cancelled()\"", "not cancelled"),
-    (",\"if\":\"true\"", "success"),
-    (",\"if\":\"false\"", "never"),
-    (",\"if\":true", "success"),
-    (",\"if\":false", "never"),
-    (",\"if\":\"${{ always() }}\"", "always"),
-    (",\"if\":\"${{failure()}}\"", "failure"),
-    (",\"if\":\"  ${{   !cancelled()}}  \"", "not cancelled"),
-    (",\"if\":\"   false \"", "never"),
-    (",\"if\":\"\\u0020true\"", "success"),
-    (",\"needs\":\"b\"", "success b"),
-    (",\"needs\":[]", "success"),
-    (",\"needs\":[\"b\"]", "success b"),
-    (",\"needs\":[\"c\",\"b\",\"c\",\"a\"]", "success c b c a"),
-    (",\"needs\":\"\"", "success "),
-    (",\"needs\":\"1 ${{ x }}\"", "success 1 ${{ x }}"),
-    (",\"if\":\"cancelled()\",\"needs\":[\"b\"]", "cancelled b"),
+/// The forms of the documentation, bare and in braces, when the job runs then, and the ids that it needs. Spaces are
+/// free around both forms.
+const READ: &[(&str, Condition, &[&str])] = &[
+    ("", Condition::Success, &[]),
+    (",\"if\":\"success()\"", Condition::Success, &[]),
+    (",\"if\":\"failure()\"", Condition::Failure, &[]),
+    (",\"if\":\"always()\"", Condition::Always, &[]),
+    (",\"if\":\"cancelled()\"", Condition::Cancelled, &[]),
+    (",\"if\":\"!cancelled()\"", Condition::NotCancelled, &[]),
+    (",\"if\":\"true\"", Condition::Success, &[]),
+    (",\"if\":\"false\"", Condition::Never, &[]),
+    (",\"if\":true", Condition::Success, &[]),
+    (",\"if\":false", Condition::Never, &[]),
+    (",\"if\":\"${{ always() }}\"", Condition::Always, &[]),
+    (",\"if\":\"${{failure()}}\"", Condition::Failure, &[]),
+    (
+        ",\"if\":\"  ${{   !cancelled()}}  \"",
+        Condition::NotCancelled,
+        &[],
+    ),
+    (",\"if\":\"   false \"", Condition::Never, &[]),
+    (",\"if\":\"\\u0020true\"", Condition::Success, &[]),
+    (",\"needs\":\"b\"", Condition::Success, &["b"]),
+    (",\"needs\":[]", Condition::Success, &[]),
+    (",\"needs\":[\"b\"]", Condition::Success, &["b"]),
+    (
+        ",\"needs\":[\"c\",\"b\",\"c\",\"a\"]",
+        Condition::Success,
+        &["c", "b", "c", "a"],
+    ),
+    (",\"needs\":\"\"", Condition::Success, &[""]),
+    (
+        ",\"needs\":\"1 ${{ x }}\"",
+        Condition::Success,
+        &["1 ${{ x }}"],
+    ),
+    (
+        ",\"if\":\"cancelled()\",\"needs\":[\"b\"]",
+        Condition::Cancelled,
+        &["b"],
+    ),
 ];
 
 #[test]
 fn reads_needs_and_conditions(rt: HostRuntime) {
-    for &(members, want) in READ {
-        let shown = is_shown(rt.alloc(), members, want);
-        holds!(rt; shown, members);
+    for row in READ {
+        let workflow = workflow_with(&rt, rt.alloc(), row.0);
+        expect_read(&rt, workflow.jobs.as_slice(), row);
     }
 }
 

@@ -1,8 +1,8 @@
-use super::{ACCEPTED, Around, BEHIND_LABELS, expect_answers, workflow_with};
-use crate::holds::holds;
-use std::alloc::Global;
+use super::{ACCEPTED, Around, expect_answers, workflow_with};
+use crate::holds::{expect_text, holds};
+use std::process::Abort;
 use wf_reader::{Job, Strategy};
-use wf_value::{Matrix, Refusal};
+use wf_value::Matrix;
 
 /// The text is the strategy of the one job.
 const IN_STRATEGY: Around = ("{\"jobs\":{\"a\":{\"runs-on\":\"x\",\"strategy\":", "}}}");
@@ -122,71 +122,61 @@ fn answers_the_earlier_of_two_parts_of_a_matrix(rt: HostRuntime) {
     expect_answers(&rt, rt.alloc(), IN_MATRIX, EARLIER_IN_MATRIX);
 }
 
-fn push_matrix(alloc: Global, text: &mut String, matrix: &Matrix) -> Result<(), Refusal> {
-    for variable in matrix.variables() {
-        let (name, values) = (variable.name().as_str(), variable.values().len());
-        let shown = format!(in alloc; " {name}:{values}")?;
-        text.push_str(shown.as_str())?;
-    }
-    let (include, exclude) = (matrix.include().len(), matrix.exclude().len());
-    let shown = format!(in alloc; " +{include} -{exclude}")?;
-    text.push_str(shown.as_str())?;
-    Ok(())
-}
+/// Of a matrix its variables, each with how many values it has, and how many objects are included and excluded.
+type Counted = (&'static [(&'static str, usize)], usize, usize);
 
-fn shown(alloc: Global, strategy: &Strategy) -> Result<String, Refusal> {
-    let (fail_fast, limit) = (strategy.fail_fast, strategy.max_parallel.unwrap_or(0));
-    let mut text = format!(in alloc; "{fail_fast} {limit}")?;
-    if let Some(matrix) = &strategy.matrix {
-        push_matrix(alloc, &mut text, matrix)?;
-    }
-    Ok(text)
-}
-
-fn shown_of(alloc: Global, jobs: &[Job]) -> Result<String, Refusal> {
-    match jobs {
-        [job] => match &job.strategy {
-            Some(strategy) => shown(alloc, strategy),
-            None => Ok(String::from_str(alloc, "none")?),
-        },
-        _ => Ok(String::from_str(alloc, "other jobs")?),
+fn expect_matrix(rt: &impl Abort, matrix: &Matrix, want: &Counted) {
+    let (variables, include, exclude) = want;
+    holds!(rt; matrix.include().len() == *include);
+    holds!(rt; matrix.exclude().len() == *exclude);
+    holds!(rt; matrix.variables().len() == variables.len());
+    for (variable, (name, values)) in matrix.variables().iter().zip(*variables) {
+        expect_text(rt, variable.name().as_str(), name);
+        holds!(rt; variable.values().len() == *values, name);
     }
 }
 
-/// What the strategy of the one job of a workflow says.
-fn shown_of_job(alloc: Global, strategy: &str) -> Result<String, Refusal> {
-    let workflow = workflow_with(alloc, strategy)?;
-    shown_of(alloc, workflow.jobs.as_slice())
-}
+/// Whether a strategy is fail-fast, the most legs that run at a time, and its matrix.
+type Said = (bool, Option<u16>, Option<Counted>);
 
-/// A second call has the memory that the first was refused.
-fn is_shown(alloc: Global, strategy: &str, want: &str) -> bool {
-    match shown_of_job(alloc, strategy) {
-        Ok(text) => text.as_str() == want,
-        Err(_) => match shown_of_job(alloc, strategy) {
-            Ok(text) => text.as_str() == want,
-            Err(_) => false,
-        },
+fn expect_strategy(rt: &impl Abort, strategy: &Strategy, want: &Said) {
+    let (fail_fast, max_parallel, matrix) = want;
+    holds!(rt; strategy.fail_fast == *fail_fast);
+    holds!(rt; strategy.max_parallel == *max_parallel);
+    match (&strategy.matrix, matrix) {
+        (Some(matrix), Some(want)) => expect_matrix(rt, matrix, want),
+        (None, None) => {}
+        _ => panic!(rt; "another matrix"),
     }
 }
 
-const SAID: &[(&str, &str)] = &[
-    ("", "none"),
-    (",\"strategy\":{}", "true 0"),
+/// What the strategy of the only job says, where it has one.
+fn expect_said(rt: &impl Abort, jobs: &[Job], want: &Option<Said>) {
+    holds!(rt; jobs.len() == 1);
+    match (&jobs[0].strategy, want) {
+        (Some(strategy), Some(want)) => expect_strategy(rt, strategy, want),
+        (None, None) => {}
+        _ => panic!(rt; "another strategy"),
+    }
+}
+
+const SAID: &[(&str, Option<Said>)] = &[
+    ("", None),
+    (",\"strategy\":{}", Some((true, None, None))),
     (
         ",\"strategy\":{\"fail-fast\":false,\"max-parallel\":2}",
-        "false 2",
+        Some((false, Some(2), None)),
     ),
     (
         ",\"strategy\":{\"matrix\":{\"v\":[1,2],\"os\":[null],\"include\":[{\"n\":1}],\"exclude\":[{\"v\":1},{\"v\":2}]}}",
-        "true 0 os:1 v:2 +1 -2",
+        Some((true, None, Some((&[("os", 1), ("v", 2)], 1, 2)))),
     ),
 ];
 
 #[test]
 fn gives_what_a_strategy_says(rt: HostRuntime) {
-    for &(strategy, want) in SAID {
-        let shown = is_shown(rt.alloc(), strategy, want);
-        holds!(rt; shown, strategy);
+    for (strategy, want) in SAID {
+        let workflow = workflow_with(&rt, rt.alloc(), strategy);
+        expect_said(&rt, workflow.jobs.as_slice(), want);
     }
 }
