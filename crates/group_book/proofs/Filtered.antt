@@ -6,15 +6,17 @@ use Rattle.std.proofs.Common.{Option, Some, None, refl, ap, ap₂, sym, ◌∙�
 
 -- ---- the first that is found
 
-found_none : {X : Type 0} (b : Bool) (x : X) (f : Option X) (ys : List X) → cond b (Some x) f ≡ None → (f ≡ None → ys ≡ [])
+-- nothing is kept where what is said cannot be so of a first that passes, and leaves nothing of the others behind one that does not
+none_by : {X : Type 0} (Says : Bool → Type 0) (b : Bool) (x : X) (ys : List X) → (Says true → ⊥) → (Says false → ys ≡ []) → Says b
     → cond b (x ∷ ys) ys ≡ []
-found_none true x f ys is next = absurd (cc)
-found_none false x f ys is next = next is
+none_by Says true x ys not_so next says = absurd (not_so says)
+none_by Says false x ys not_so next says = next says
 
 -- where none is found, a filter keeps none
 pub filter_of_none : {X : Type 0} (p : X → Bool) (xs : List X) → find p xs ≡ None → filter p xs ≡ []
 filter_of_none p [] is = refl
-filter_of_none p (x ∷ xs) is = found_none (p x) x (find p xs) (filter p xs) is (filter_of_none p xs)
+filter_of_none p (x ∷ xs) is =
+    none_by (λ b. cond b (Some x) (find p xs) ≡ None) (p x) x (filter p xs) (λ e. cc) (filter_of_none p xs) is
 
 nil_behind : {X : Type 0} (x : X) (ys : List X) → length (x ∷ ys) ≤ 1 → ys ≡ []
 nil_behind x [] le = refl
@@ -31,15 +33,10 @@ pub filter_of_some : {X : Type 0} (p : X → Bool) (xs : List X) (y : X) → fin
 filter_of_some p [] y is le = absurd (cc)
 filter_of_some p (x ∷ xs) y is le = found_one (p x) x y (find p xs) (filter p xs) is le (filter_of_some p xs y)
 
-none_by : {X : Type 0} (b : Bool) (x : X) (others : Bool) (ys : List X) → (b || others) ≡ false → (others ≡ false → ys ≡ [])
-    → cond b (x ∷ ys) ys ≡ []
-none_by true x others ys is next = absurd (cc)
-none_by false x others ys is next = next is
-
 -- where no element passes, a filter keeps none
 pub filter_of_no : {X : Type 0} (p : X → Bool) (xs : List X) → list_any p xs ≡ false → filter p xs ≡ []
 filter_of_no p [] is = refl
-filter_of_no p (x ∷ xs) is = none_by (p x) x (list_any p xs) (filter p xs) is (filter_of_no p xs)
+filter_of_no p (x ∷ xs) is = none_by (λ b. (b || list_any p xs) ≡ false) (p x) x (filter p xs) (λ e. cc) (filter_of_no p xs) is
 
 witness_by : {X : Type 0} (p t : X → Bool) (b c : Bool) (x : X) (xs : List X) → p x ≡ b → t x ≡ c → (c && list_all t xs) ≡ true
     → (list_all t xs ≡ true → (filter p xs ≡ []) ⊎ ((y : X) × ((p y ≡ true) × (t y ≡ true))))

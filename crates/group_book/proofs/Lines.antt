@@ -31,43 +31,24 @@ own_group g =
 
 -- ---- told to stop
 
-pending_told_by : (g : Group) (b : Bool) (group : Group) (holder : Holder) (phase : HolderPhase)
-    → is_pending_in g (told_to_stop (λ _. b) (record { group = group; holder = holder; phase = phase }))
-    ≡ is_pending_in g (record { group = group; holder = holder; phase = phase })
-pending_told_by g true group holder Pending = refl
-pending_told_by g true group holder Running = refl
-pending_told_by g true group holder Stopping = refl
-pending_told_by g false group holder Pending = refl
-pending_told_by g false group holder Running = refl
-pending_told_by g false group holder Stopping = refl
-
-started_told_by : (g : Group) (b : Bool) (group : Group) (holder : Holder) (phase : HolderPhase)
-    → has_started_in g (told_to_stop (λ _. b) (record { group = group; holder = holder; phase = phase }))
-    ≡ has_started_in g (record { group = group; holder = holder; phase = phase })
-started_told_by g true group holder Pending = refl
-started_told_by g true group holder Running = refl
-started_told_by g true group holder Stopping = refl
-started_told_by g false group holder Pending = refl
-started_told_by g false group holder Running = refl
-started_told_by g false group holder Stopping = refl
-
-holder_told_by : (b : Bool) (group : Group) (holder : Holder) (phase : HolderPhase)
-    → (told_to_stop (λ _. b) (record { group = group; holder = holder; phase = phase })).holder ≡ holder
-holder_told_by true group holder Pending = refl
-holder_told_by true group holder Running = refl
-holder_told_by true group holder Stopping = refl
-holder_told_by false group holder Pending = refl
-holder_told_by false group holder Running = refl
-holder_told_by false group holder Stopping = refl
+-- what reads the same of a running and of a stopping holder is left as it was
+told_by : {Y : Type 0} (read : HoldingState → Y) (b : Bool) (group : Group) (holder : Holder) (phase : HolderPhase)
+    → read (record { group = group; holder = holder; phase = Stopping }) ≡ read (record { group = group; holder = holder; phase = Running })
+    → read (told_to_stop (λ _. b) (record { group = group; holder = holder; phase = phase }))
+    ≡ read (record { group = group; holder = holder; phase = phase })
+told_by read true group holder Pending same = refl
+told_by read true group holder Running same = same
+told_by read true group holder Stopping same = refl
+told_by read false group holder phase same = refl
 
 pub pending_told : (g : Group) (test : HoldingState → Bool) (h : HoldingState) → is_pending_in g (told_to_stop test h) ≡ is_pending_in g h
-pending_told g test h = pending_told_by g (test h) h.group h.holder h.phase
+pending_told g test h = told_by (is_pending_in g) (test h) h.group h.holder h.phase refl
 
 pub started_told : (g : Group) (test : HoldingState → Bool) (h : HoldingState) → has_started_in g (told_to_stop test h) ≡ has_started_in g h
-started_told g test h = started_told_by g (test h) h.group h.holder h.phase
+started_told g test h = told_by (has_started_in g) (test h) h.group h.holder h.phase refl
 
 pub holder_told : (test : HoldingState → Bool) (h : HoldingState) → (told_to_stop test h).holder ≡ h.holder
-holder_told test h = holder_told_by (test h) h.group h.holder h.phase
+holder_told test h = told_by (λ k. k.holder) (test h) h.group h.holder h.phase refl
 
 -- ---- started
 
@@ -133,18 +114,8 @@ other_by other g k false apart is own = own
 pub apart_in : (other g : Group) (h : HoldingState) → other ≢ g → is_in other h ≡ true → is_in g h ≡ false
 apart_in other g h apart is = other_by other g h.group (is_in g h) apart is refl
 
-group_told_by : (g : Group) (b : Bool) (group : Group) (holder : Holder) (phase : HolderPhase)
-    → is_in g (told_to_stop (λ _. b) (record { group = group; holder = holder; phase = phase }))
-    ≡ is_in g (record { group = group; holder = holder; phase = phase })
-group_told_by g true group holder Pending = refl
-group_told_by g true group holder Running = refl
-group_told_by g true group holder Stopping = refl
-group_told_by g false group holder Pending = refl
-group_told_by g false group holder Running = refl
-group_told_by g false group holder Stopping = refl
-
 pub group_told : (g : Group) (test : HoldingState → Bool) (h : HoldingState) → is_in g (told_to_stop test h) ≡ is_in g h
-group_told g test h = group_told_by g (test h) h.group h.holder h.phase
+group_told g test h = told_by (is_in g) (test h) h.group h.holder h.phase refl
 
 -- who fails the test is told nothing
 pub told_nothing : (test : HoldingState → Bool) (h : HoldingState) → test h ≡ false → told_to_stop test h ≡ h

@@ -6,7 +6,6 @@ use Rattle.std.specs.Cmp.Lexicographic.{pointwise}
 use Rattle.std.specs.Option.{option_map}
 use Rattle.std.specs.Str.{bytes_eq}
 use Rattle.wf_value.specs.declared.outcome.JobResult.TheVariants.{Failure, Skipped}
-use Rattle.wf_value.specs.declared.scalar.Scalar.{Scalar}
 use Rattle.wf_value.specs.declared.scalar.Scalar.TheVariants.{Null, Truth, Text}
 use Rattle.wf_expr.specs.Bound.{NeedOf, Results, bound_of, bound_text, with_results}
 use Rattle.wf_expr.specs.ContextValue.{Values}

@@ -1,10 +1,11 @@
 -- Rows of the documentation and of the issue, computed from the definitions alone.
 use Rattle.std.proofs.Common.{◌≡◌, ℕ, List, [], ◌∷◌, refl, false}
-use Rattle.std.specs.Prelude.{Ok, Err, codes, find}
+use Rattle.std.specs.Prelude.{Result, Ok, Err, codes, find, map}
 use Rattle.std.specs.Cmp.Lexicographic.{pointwise}
 use Rattle.std.specs.Option.{option_map}
 use Rattle.std.specs.Str.{bytes_eq, chars}
 use lib.Utf8.{encode}
+use Rattle.wf_value.specs.declared.refusal.Refusal.{Refusal}
 use Rattle.wf_value.specs.declared.scalar.Scalar.{Scalar}
 use Rattle.wf_value.specs.declared.scalar.Scalar.TheVariants.{Null, Truth, Text}
 use Rattle.wf_expr.specs.ContextValue.{Values}
@@ -13,6 +14,7 @@ use Rattle.wf_expr.specs.Letters.{begins_name, continues_name}
 use Rattle.wf_expr.specs.Parsing.{template_of}
 use Rattle.wf_expr.specs.Reading.{run}
 use Rattle.wf_expr.specs.TemplateValue.{template_value}
+use Rattle.wf_expr.specs.declared.place.Place.{Place}
 use Rattle.wf_expr.specs.declared.place.Place.TheVariants.{Workflow, Job}
 use Rattle.wf_expr.specs.declared.piece.Operand.TheVariants.{Quoted, Reference}
 use Rattle.wf_expr.specs.declared.piece.Piece.{Piece}
@@ -25,9 +27,26 @@ run_name =
     ∷ Braced (Reference (codes "github" ∷ codes "head_ref" ∷ []) ∷ Reference (codes "github" ∷ codes "run_id" ∷ []) ∷ [])
     ∷ []
 
-row-read : template_of (codes "${{ github.workflow }}-${{ github.head_ref || github.run_id }}") Workflow ≡ Ok run_name
+-- each text, its place, and what it is read as
+abbrev texts : List (List ℕ × Place × Result (List Piece) Refusal)
+texts =
+    (codes "${{ github.workflow }}-${{ github.head_ref || github.run_id }}", Workflow, Ok run_name)
+    ∷ (codes "${{ 'it''s' }}", Workflow, Ok (Braced (Quoted (codes "it's") ∷ []) ∷ []))
+    -- an opening in quotes
+    ∷ (codes "$${{ '${{ }}' }}", Workflow, Ok (Plain (codes "$") ∷ Braced (Quoted (codes "${{ }}") ∷ []) ∷ []))
+    ∷ (codes "${{github . ref}}", Workflow, Ok (Braced (Reference (codes "github" ∷ codes "ref" ∷ []) ∷ []) ∷ []))
+    ∷ ([], Workflow, Ok [])
+    ∷ (codes "${{ github }}", Job, Err wrong_expression)
+    ∷ (codes "${{ secrets.x }}", Job, Err wrong_expression)
+    ∷ (codes "${{ needs.a }}", Workflow, Err wrong_expression)
+    ∷ (codes "${{ needs.a.result }}", Workflow, Err wrong_place)
+    -- the first fault
+    ∷ (codes "${{ matrix.x }}${{", Workflow, Err wrong_expression)
+    ∷ []
+
+rows-read : map (λ row. template_of row.0 row.1) texts ≡ map (λ row. row.2) texts
 unfolding run chars encode begins_name continues_name
-row-read = refl
+rows-read = refl
 
 -- the values of these paths alone
 abbrev of_list : List (List (List ℕ) × Scalar) → Values
@@ -37,43 +56,6 @@ row-value : template_value
     (of_list ((codes "github" ∷ codes "workflow" ∷ [], Text (codes "ci.json")) ∷ (codes "github" ∷ codes "run_id" ∷ [], Text (codes "1"))
     ∷ [])) run_name ≡ Text (codes "ci.json-1")
 row-value = refl
-
-row-quote : template_of (codes "${{ 'it''s' }}") Workflow ≡ Ok (Braced (Quoted (codes "it's") ∷ []) ∷ [])
-unfolding run chars encode begins_name continues_name
-row-quote = refl
-
-row-opening_in_quotes : template_of (codes "$${{ '${{ }}' }}") Workflow
-    ≡ Ok (Plain (codes "$") ∷ Braced (Quoted (codes "${{ }}") ∷ []) ∷ [])
-unfolding run chars encode begins_name continues_name
-row-opening_in_quotes = refl
-
-row-spaces : template_of (codes "${{github . ref}}") Workflow ≡ Ok (Braced (Reference (codes "github" ∷ codes "ref" ∷ []) ∷ []) ∷ [])
-unfolding run chars encode begins_name continues_name
-row-spaces = refl
-
-row-empty : template_of [] Workflow ≡ Ok []
-unfolding run chars
-row-empty = refl
-
-row-no_name : template_of (codes "${{ github }}") Job ≡ Err wrong_expression
-unfolding run chars encode begins_name continues_name
-row-no_name = refl
-
-row-secrets : template_of (codes "${{ secrets.x }}") Job ≡ Err wrong_expression
-unfolding run chars encode begins_name continues_name
-row-secrets = refl
-
-row-needs : template_of (codes "${{ needs.a }}") Workflow ≡ Err wrong_expression
-unfolding run chars encode begins_name continues_name
-row-needs = refl
-
-row-needs_elsewhere : template_of (codes "${{ needs.a.result }}") Workflow ≡ Err wrong_place
-unfolding run chars encode begins_name continues_name
-row-needs_elsewhere = refl
-
-row-first_fault : template_of (codes "${{ matrix.x }}${{") Workflow ≡ Err wrong_expression
-unfolding run chars encode begins_name continues_name
-row-first_fault = refl
 
 abbrev falses : Values
 falses = of_list ((codes "inputs" ∷ codes "none" ∷ [], Null) ∷ (codes "inputs" ∷ codes "no" ∷ [], Truth false) ∷ [])

@@ -1,37 +1,28 @@
 -- Strategies of jobs, worked through: each list is all that is wrong, in the order of the checks.
-use Rattle.std.proofs.Common.{◌≡◌, ℕ, List, [], ◌∷◌, ◌++◌, true, codes, Some, refl}
+use Rattle.std.proofs.Common.{◌≡◌, [], ◌∷◌, ◌++◌, true, codes, Some, refl}
 use Rattle.std.specs.Prelude.{pos, negsuc}
-use Rattle.std.specs.Str.{is_utf8, chars}
-use Rattle.serde_json.proofs.OnLiterals.{serde_json_on_literals}
 use Rattle.wf_value.specs.declared.code.Code.TheVariants.{MatrixValue, EmptyList, StrategyMember}
-use Rattle.wf_value.specs.declared.refusal.Refusal.{Refusal}
-use Rattle.wf_value.specs.declared.refusal.Refusal.TheVariants.{Numbered}
 use Rattle.wf_value.specs.declared.scalar.Scalar.TheVariants.{Null, Truth, Whole, Text}
 use Rattle.wf_reader.specs.Body.{body_value}
 use Rattle.wf_reader.specs.Strategy.{strategy_faults, strategy_of}
+use Rattle.wf_reader.proofs.OnLiterals.{FaultsAre, wf_reader_on_literals}
 
-abbrev faults_of : List ℕ → List Refusal
-faults_of text = strategy_faults (body_value text)
-
-no_object : faults_of (codes "null") ≡ Numbered StrategyMember ∷ []
-unfolding serde_json_on_literals is_utf8 chars
-no_object = refl
-
-nothing_asked : faults_of (codes "{}") ≡ []
-unfolding serde_json_on_literals is_utf8 chars
-nothing_asked = refl
-
-each_check_in_turn : faults_of (codes "{\"x\":1,\"matrix\":{\"n\":[],\"exclude\":5,\"include\":[{},5]}," ++ codes
-    "\"max-parallel\":0,\"fail-fast\":null}")
-    ≡ Numbered StrategyMember ∷ Numbered StrategyMember ∷ Numbered StrategyMember ∷ Numbered EmptyList ∷ Numbered MatrixValue
-    ∷ Numbered MatrixValue ∷ Numbered EmptyList ∷ []
-unfolding serde_json_on_literals is_utf8 chars
-each_check_in_turn = refl
-
-variables_by_name : faults_of (codes "{\"matrix\":{\"b\":[1,[],9223372036854775808],\"a\":[],\"B\":{}}}")
-    ≡ Numbered MatrixValue ∷ Numbered EmptyList ∷ Numbered MatrixValue ∷ Numbered MatrixValue ∷ []
-unfolding serde_json_on_literals is_utf8 chars
-variables_by_name = refl
+of_strategies : FaultsAre (λ text. strategy_faults (body_value text)) (
+    -- no object
+    (codes "null", StrategyMember ∷ [])
+    -- nothing asked
+    ∷ (codes "{}", [])
+    -- each check in turn
+    ∷ (
+      codes "{\"x\":1,\"matrix\":{\"n\":[],\"exclude\":5,\"include\":[{},5]}," ++ codes
+          "\"max-parallel\":0,\"fail-fast\":null}",
+      StrategyMember ∷ StrategyMember ∷ StrategyMember ∷ EmptyList ∷ MatrixValue ∷ MatrixValue ∷ EmptyList ∷ [],
+    )
+    -- variables by name
+    ∷ (codes "{\"matrix\":{\"b\":[1,[],9223372036854775808],\"a\":[],\"B\":{}}}", MatrixValue ∷ EmptyList ∷ MatrixValue ∷ MatrixValue ∷ [])
+    ∷ [])
+unfolding wf_reader_on_literals
+of_strategies = refl
 
 whole : strategy_of (body_value (codes "{\"max-parallel\":2,\"matrix\":{\"v\":[null,true,\"t\",-1],\"os\":[1,1]," ++ codes
     "\"include\":[{\"n\":1,\"a\":null}],\"exclude\":[]}}"))
@@ -45,5 +36,5 @@ whole : strategy_of (body_value (codes "{\"max-parallel\":2,\"matrix\":{\"v\":[n
       fail_fast = true;
       max_parallel = Some 2;
     }
-unfolding serde_json_on_literals is_utf8 chars
+unfolding wf_reader_on_literals
 whole = refl
