@@ -4,7 +4,7 @@ use Rattle.std.specs.Prelude.{option_to_list, if◌then◌else◌, refl}
 use Rattle.std.specs.List.{last_or}
 use Rattle.std.specs.Option.{option_map_or}
 use Rattle.std.proofs.Common.{ap, ap₂, append_assoc, inl, inr, sym, ◌∙◌, subst}
-use Rattle.std.proofs.lemmas.Bool.{and_parts, true≢false}
+use Rattle.std.proofs.lemmas.Bool.{and_parts, not-true, true≢false}
 use Rattle.std.proofs.lemmas.List.{append-nil}
 use Rattle.std.proofs.lemmas.List.Elements.{filter_map-append}
 use Rattle.wf_value.specs.declared.outcome.Outcome.TheVariants.{Cancelled}
@@ -24,7 +24,7 @@ use Rattle.run_table.proofs.ChangesTold.{only_one, stop_tells}
 use Rattle.run_table.proofs.GroupFollows.{displaced_waits, next_shown}
 use Rattle.run_table.proofs.GroupLawWalk.{Lawful, law_goes_on}
 use Rattle.run_table.proofs.GroupSaid.{arrived_on, latest_on, own_holder}
-use Rattle.run_table.proofs.GroupTruths.{not_both, not_yes, or_false}
+use Rattle.run_table.proofs.GroupTruths.{not_both, or_false}
 use Rattle.run_table.proofs.HolderStatus.{Fits, Status, fits_pending, fits_running, fits_stopped, held_is, holds_as, is_held}
 use Rattle.run_table.proofs.HolderStatus.{is_waiting, running_by, status, waiting_is, waits_as}
 use Rattle.workflow_runs.proofs.HoldersFade.{each_fades, holder_stop_fades}
@@ -82,7 +82,7 @@ beside_by runs g n d e =
     let parts = and_parts (is_pending_in runs g d) (not (same_holder d n)) e in
     record {
       pends = parts.0;
-      other = (λ same. not_both (same_holder d n) (ap (λ h. same_holder h n) same ∙ own_holder n) (not_yes (same_holder d n) parts.1));
+      other = (λ same. not_both (same_holder d n) (ap (λ h. same_holder h n) same ∙ own_holder n) (not-true (same_holder d n) parts.1));
     }
 
 some_same : (d k : Holder) → Some d ≡ Some k → d ≡ k

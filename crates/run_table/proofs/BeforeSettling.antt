@@ -76,26 +76,34 @@ entered_may_settle t event s = record {
   one_each = entered_one_each t event (table_fits t s) s.one_of_each_group;
 }
 
--- the same of what the code has in its hands
-pub entering_arrives : (t : TableState) (event : Admitted) (runs added : List RunState) (run : RunState) (place : ℕ) → IsSound t
-    → runs ≡ t.runs → added ≡ runs ++ run ∷ [] → run ≡ new_run event → place ≡ length runs → MayArrive added (Holder.a_run place)
-entering_arrives t event runs added run place s runs_are added_is run_is place_is =
-    let same : added ≡ t.runs ++ new_run event ∷ [] =
-    added_is ∙ ap (λ v. runs ++ v ∷ []) run_is ∙ ap (λ xs. xs ++ new_run event ∷ []) runs_are in
-    let at : place ≡ length t.runs = place_is ∙ ap (λ (xs : List RunState). length xs) runs_are in
-    subst (λ (xs : List RunState). MayArrive xs (Holder.a_run place)) (sym same)
-    (subst (λ (n : ℕ). MayArrive (t.runs ++ new_run event ∷ []) (Holder.a_run n)) (sym at) (new_run_arrives t event s))
+-- runs to which the one of the event was added, at its place
+pub record Enters (t : TableState) (event : Admitted) (added : List RunState) (place : ℕ) : Type 0 where
+  pub sound : IsSound t
+  pub added_is : added ≡ t.runs ++ new_run event ∷ []
+  pub at_end : place ≡ length t.runs
 
-pub entering_settles : (t : TableState) (event : Admitted) (runs added new : List RunState) (run : RunState) (place : ℕ) → IsSound t
-    → runs ≡ t.runs → added ≡ runs ++ run ∷ [] → run ≡ new_run event → place ≡ length runs
-    → new ≡ (arrived (Holder.a_run place) added).runs → MaySettle new
-entering_settles t event runs added new run place s runs_are added_is run_is place_is new_is =
-    let same : added ≡ t.runs ++ new_run event ∷ [] =
-    added_is ∙ ap (λ v. runs ++ v ∷ []) run_is ∙ ap (λ xs. xs ++ new_run event ∷ []) runs_are in
-    let at : place ≡ length t.runs = place_is ∙ ap (λ (xs : List RunState). length xs) runs_are in
+-- the same of what the code has in its hands
+pub enters : (t : TableState) (event : Admitted) (runs added : List RunState) (run : RunState) (place : ℕ) → IsSound t
+    → runs ≡ t.runs → added ≡ runs ++ run ∷ [] → run ≡ new_run event → place ≡ length runs → Enters t event added place
+enters t event runs added run place s runs_are added_is run_is place_is = record {
+  sound = s;
+  added_is = added_is ∙ ap (λ v. runs ++ v ∷ []) run_is ∙ ap (λ xs. xs ++ new_run event ∷ []) runs_are;
+  at_end = place_is ∙ ap (λ (xs : List RunState). length xs) runs_are;
+}
+
+pub entering_arrives : {t : TableState} {event : Admitted} {added : List RunState} {place : ℕ} → Enters t event added place
+    → MayArrive added (Holder.a_run place)
+entering_arrives {t} {event} {added} {place} e =
+    subst (λ (xs : List RunState). MayArrive xs (Holder.a_run place)) (sym e.added_is)
+    (subst (λ (n : ℕ). MayArrive (t.runs ++ new_run event ∷ []) (Holder.a_run n)) (sym e.at_end) (new_run_arrives t event e.sound))
+
+pub entering_settles : {t : TableState} {event : Admitted} {added : List RunState} {place : ℕ} → Enters t event added place
+    → (new : List RunState) → new ≡ (arrived (Holder.a_run place) added).runs → MaySettle new
+entering_settles {t} {event} {added} {place} e new new_is =
     let is : new ≡ (entered t event).runs =
-    new_is ∙ ap (λ n. (arrived (Holder.a_run n) added).runs) at ∙ ap (λ xs. (arrived (Holder.a_run (length t.runs)) xs).runs) same in
-    subst MaySettle (sym is) (entered_may_settle t event s)
+    new_is ∙ ap (λ n. (arrived (Holder.a_run n) added).runs) e.at_end
+    ∙ ap (λ xs. (arrived (Holder.a_run (length t.runs)) xs).runs) e.added_is in
+    subst MaySettle (sym is) (entered_may_settle t event e.sound)
 
 -- ---- a leg is leased
 

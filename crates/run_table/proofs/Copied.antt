@@ -1,9 +1,9 @@
 -- Where a reply holds a text, and the command is no claim, the table is as it was. What is answered from the table without a text is a
 -- reply without one.
-use Rattle.std.specs.Prelude.{◌≡◌, Bool, true, false, not, List, ℕ, IsOk, OnErr, Option, Some, None, Result, Ok, Err, refl}
+use Rattle.std.specs.Prelude.{◌≡◌, true, false, List, ℕ, IsOk, OnErr, Option, Some, None, Result, Ok, Err, refl}
 use Rattle.std.specs.Option.{option_map_or}
 use Rattle.std.proofs.Common.{inl, inr, ap, sym, ◌∙◌}
-use Rattle.std.proofs.lemmas.Bool.{cases_Bool}
+use Rattle.std.proofs.lemmas.Bool.{cases_Bool, not-true}
 use Rattle.wf_value.specs.declared.code.Code.TheVariants.{LeaseNotHeld, NoRunner}
 use Rattle.wf_value.specs.declared.refusal.Refusal.{Refusal}
 use Rattle.run_plan.specs.ReplyText.{carries_text}
@@ -79,13 +79,9 @@ no_claim (command.Look id) other = refl
 abbrev IsPlain : Step → Type 0
 IsPlain s = carries_text s.reply ≡ false
 
-not_true : (b : Bool) → not b ≡ true → b ≡ false
-not_true true is = sym is
-not_true false is = refl
-
 plain_answer : (t : TableState) (answer : Option Reply) (change : Step) → is_free answer ≡ true
     → IsPlain (option_map_or (unchanged t) answer change)
-plain_answer t (Some reply) change free = not_true (carries_text reply) free
+plain_answer t (Some reply) change free = not-true (carries_text reply) free
 plain_answer t None change free = absurd (cc free)
 
 lost_plain : (t : TableState) (name : List ℕ) → IsPlain (lost t name)
@@ -105,11 +101,11 @@ free_plain : (t : TableState) (c : Command) → is_free (answer_of t c) ≡ true
 free_plain t (command.Admit event) free = plain_answer t (admission_answer t event) (admitting t event) free
 free_plain t (command.Claim claim) free = plain_answer t (claim_answer t claim) (claiming t claim) free
 free_plain t (command.Done report) free = plain_answer t (report_answer t report) (reporting t report) free
-free_plain t (command.Beat beat) free = not_true (carries_text (beat_answer t beat)) free
+free_plain t (command.Beat beat) free = not-true (carries_text (beat_answer t beat)) free
 free_plain t (command.Cancel id) free = plain_answer t (cancel_answer t id) (cancelling t id) free
 free_plain t (command.Lost name) free = lost_plain t name
-free_plain t (command.Fetch id) free = not_true (carries_text (fetch_answer t id)) free
-free_plain t (command.Look id) free = not_true (carries_text (look_answer t id)) free
+free_plain t (command.Fetch id) free = not-true (carries_text (fetch_answer t id)) free
+free_plain t (command.Look id) free = not-true (carries_text (look_answer t id)) free
 
 -- A reply that was answered so can be copied.
 pub copied_free : {T : Type 0} (t next : TableState) (reply : Reply) (c : Command) (r : Result T Refusal)

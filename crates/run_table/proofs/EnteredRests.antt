@@ -18,6 +18,7 @@ use Rattle.run_table.specs.TableState.{TableState}
 use Rattle.workflow_runs.specs.RunState.{RunState}
 use Rattle.workflow_runs.specs.WithinRun.{first_in_run}
 use Rattle.workflow_runs.specs.declared.place.JobPlace.{JobPlace}
+use Rattle.run_table.proofs.BeforeSettling.{Enters}
 use Rattle.run_table.proofs.Entered.{groups_before}
 use Rattle.workflow_runs.proofs.Found.{before_the_end}
 use Rattle.workflow_runs.proofs.HoldersFade.{by_run, passes, run_passes}
@@ -62,14 +63,10 @@ new_run_rests t event s =
     )
 
 -- the same of what the code has in its hands
-pub entering_rests : (t : TableState) (event : Admitted) (runs added new : List RunState) (run : RunState) (place : ℕ) (from : JobPlace)
-    → IsSound t
-    → runs ≡ t.runs → added ≡ runs ++ run ∷ [] → run ≡ new_run event → place ≡ length runs
-    → new ≡ (arrived (Holder.a_run place) added).runs → from ≡ look_first added place → RestBefore new from
-entering_rests t event runs added new run place from s runs_are added_is run_is place_is new_is from_is =
-    let same : added ≡ t.runs ++ new_run event ∷ [] =
-    added_is ∙ ap (λ v. runs ++ v ∷ []) run_is ∙ ap (λ xs. xs ++ new_run event ∷ []) runs_are in
-    let at : place ≡ length t.runs = place_is ∙ ap (λ (xs : List RunState). length xs) runs_are in
+pub entering_rests : {t : TableState} {event : Admitted} {added : List RunState} {place : ℕ} → Enters t event added place
+    → (new : List RunState) (from : JobPlace) → new ≡ (arrived (Holder.a_run place) added).runs → from ≡ look_first added place
+    → RestBefore new from
+entering_rests {t} {event} {added} {place} e new from new_is from_is =
     let h = Holder.a_run place in
     elim (group_at added h) as (λ o. group_at added h ≡ o → RestBefore new from) [
       | Some g ↦ λ is.
@@ -79,10 +76,11 @@ entering_rests t event runs added new run place from s runs_are added_is run_is 
       | None ↦ λ is.
           let start : from ≡ record { run = length t.runs; job = 0 } =
           from_is ∙ ap (λ (o : Option Group). record { run = if is_some o then 0 else place; job = 0 }) is
-          ∙ ap (λ (n : ℕ). record { run = n; job = 0 }) at in
+          ∙ ap (λ (n : ℕ). record { run = n; job = 0 }) e.at_end in
           let stay : new ≡ t.runs ++ new_run event ∷ [] = new_is
           ∙ ap (λ (o : Option Group). (option_map_or (room_made (cancels_in_progress added h) h added) o (without_moves added)).runs) is
-          ∙ same in
+          ∙ e.added_is in
           subst (RestBefore new) (sym start)
-          (subst (λ (xs : List RunState). RestBefore xs (record { run = length t.runs; job = 0 })) (sym stay) (new_run_rests t event s))
+          (subst (λ (xs : List RunState). RestBefore xs (record { run = length t.runs; job = 0 })) (sym stay)
+          (new_run_rests t event e.sound))
     ] refl

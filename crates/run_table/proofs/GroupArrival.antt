@@ -3,6 +3,7 @@ use Rattle.std.specs.List.{last_or, list_any}
 use Rattle.std.specs.Prelude.{filter_map, map, option_and_then, option_to_list, cond}
 use Rattle.std.proofs.Common.{◌≡◌, List, [], ◌∷◌, ◌++◌, Bool, true, false, ◌&&◌, ◌||◌, not, Option, Some, None}
 use Rattle.std.proofs.Common.{refl, ap, ap₂, sym, subst, ◌∙◌}
+use Rattle.std.proofs.lemmas.Bool.{false_from_ne_true, not-true, or_parts}
 use Rattle.std.proofs.lemmas.List.{append-nil}
 use Rattle.wf_value.specs.declared.outcome.Outcome.TheVariants.{Cancelled}
 use Rattle.run_table.specs.GroupChanges.{Change, Matches, changed, is_new, moves_of, stopped_at_arrival}
@@ -13,8 +14,9 @@ use Rattle.workflow_runs.specs.GroupWords.{holder_of, is_pending, is_running, is
 use Rattle.workflow_runs.specs.Moves.{Holder, Move}
 use Rattle.run_table.proofs.GroupLawWalk.{Lawful}
 use Rattle.run_table.proofs.GroupSaid.{latest_on, one_holder, pending_on, running_on, some_one, stopped_on, own_holder, the_one, the_same}
-use Rattle.run_table.proofs.GroupTruths.{not_yes, or_false, or_neither, pending_after_arrival, running_after_arrival}
+use Rattle.run_table.proofs.GroupTruths.{not_both, or_false, pending_after_arrival, running_after_arrival}
 use Rattle.run_table.proofs.ListWalk.{Walk}
+use Rattle.run_table.proofs.OwnMoves.{arrival_is_own, end_is_own, start_is_own, stop_is_own}
 
 -- ---- whom the next arrival displaces
 
@@ -105,35 +107,12 @@ arrival_walks cancels g moves k is =
 
 -- ---- a newcomer
 
-any_weaker : {X : Type 0} (p q : X → Bool) → ((x : X) → q x ≡ false → p x ≡ false) → (xs : List X) → list_any q xs ≡ false
+any_weaker : {X : Type 0} (p q : X → Bool) → ((x : X) → p x ≡ true → q x ≡ true) → (xs : List X) → list_any q xs ≡ false
     → list_any p xs ≡ false
 any_weaker p q so [] none = refl
 any_weaker p q so (x ∷ xs) none =
-    let parts = or_neither (q x) (list_any q xs) none in ap₂ (λ a b. a || b) (so x parts.0) (any_weaker p q so xs parts.1)
-
-no_arrival : (k : Holder) (m : Move) → same_holder k (holder_of m) ≡ false → is_the (arrival_of m) k ≡ false
-no_arrival k (Move.arrive h) isnt = isnt
-no_arrival k (Move.start h) isnt = refl
-no_arrival k (Move.stop h) isnt = refl
-no_arrival k (Move.end_with r h) isnt = refl
-
-no_start : (k : Holder) (m : Move) → same_holder k (holder_of m) ≡ false → is_the (start_of m) k ≡ false
-no_start k (Move.arrive h) isnt = refl
-no_start k (Move.start h) isnt = isnt
-no_start k (Move.stop h) isnt = refl
-no_start k (Move.end_with r h) isnt = refl
-
-no_stop : (k : Holder) (m : Move) → same_holder k (holder_of m) ≡ false → is_the (stop_of m) k ≡ false
-no_stop k (Move.arrive h) isnt = refl
-no_stop k (Move.start h) isnt = refl
-no_stop k (Move.stop h) isnt = isnt
-no_stop k (Move.end_with r h) isnt = refl
-
-no_end : (k : Holder) (m : Move) → same_holder k (holder_of m) ≡ false → is_the (end_of m) k ≡ false
-no_end k (Move.arrive h) isnt = refl
-no_end k (Move.start h) isnt = refl
-no_end k (Move.stop h) isnt = refl
-no_end k (Move.end_with r h) isnt = isnt
+    let parts = or_parts (q x) (list_any q xs) none in
+    ap₂ (λ a b. a || b) (false_from_ne_true (p x) (λ is. not_both (q x) (so x is) parts.0)) (any_weaker p q so xs parts.1)
 
 -- what is false of the newcomer is so of every holder that is the newcomer
 apart_by : (f : Holder → Bool) (h k : Holder) (b : Bool) → same_holder h k ≡ b → f k ≡ false → (b && f h) ≡ false
@@ -148,12 +127,12 @@ record NothingOf (k : Holder) (moves : List Move) : Type 0 where
 
 nothing_of : (k : Holder) (moves : List Move) → is_new k moves ≡ true → NothingOf k moves
 nothing_of k moves new =
-    let none = not_yes (list_any (λ m. same_holder k (holder_of m)) moves) new in
+    let none = not-true (list_any (λ m. same_holder k (holder_of m)) moves) new in
     record {
-      arrived = any_weaker (λ m. is_the (arrival_of m) k) (λ m. same_holder k (holder_of m)) (no_arrival k) moves none;
-      started = any_weaker (λ m. is_the (start_of m) k) (λ m. same_holder k (holder_of m)) (no_start k) moves none;
-      stopped = any_weaker (λ m. is_the (stop_of m) k) (λ m. same_holder k (holder_of m)) (no_stop k) moves none;
-      ended = any_weaker (λ m. is_the (end_of m) k) (λ m. same_holder k (holder_of m)) (no_end k) moves none;
+      arrived = any_weaker (λ m. is_the (arrival_of m) k) (λ m. same_holder k (holder_of m)) (arrival_is_own k) moves none;
+      started = any_weaker (λ m. is_the (start_of m) k) (λ m. same_holder k (holder_of m)) (start_is_own k) moves none;
+      stopped = any_weaker (λ m. is_the (stop_of m) k) (λ m. same_holder k (holder_of m)) (stop_is_own k) moves none;
+      ended = any_weaker (λ m. is_the (end_of m) k) (λ m. same_holder k (holder_of m)) (end_is_own k) moves none;
     }
 
 -- ---- the state

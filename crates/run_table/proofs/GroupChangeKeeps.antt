@@ -2,6 +2,7 @@
 use Rattle.std.proofs.Common.{◌≡◌, List, [], ◌∷◌, ◌++◌, Bool, true, false, ◌&&◌, ◌||◌, not, Some, None}
 use Rattle.std.proofs.Common.{refl, ap, ap₂, sym, subst, ◌∙◌, append_assoc}
 use Rattle.std.proofs.lemmas.List.{append-nil}
+use Rattle.std.proofs.lemmas.Bool.{not-true}
 use Rattle.wf_value.specs.declared.outcome.Outcome.{Outcome}
 use Rattle.wf_value.specs.declared.outcome.Outcome.TheVariants.{Cancelled}
 use Rattle.run_table.specs.GroupChanges.{Change, Matches, MayAllBe, MayBe, after_all, changed, moves_of, moves_of_all}
@@ -13,8 +14,7 @@ use Rattle.run_table.proofs.GroupArrival.{arrival_matches, arrival_walks}
 use Rattle.run_table.proofs.GroupLawWalk.{Lawful, law_goes_on}
 use Rattle.run_table.proofs.GroupSaid.{latest_on, none_is_not, own_holder, pending_on, running_on, runs_started, stopped_on}
 use Rattle.run_table.proofs.GroupSaid.{the_same, waits_unstarted}
-use Rattle.run_table.proofs.GroupTruths.{and_false, not_both, not_yes, or_false, or_true, pending_after_end, pending_after_start}
-use Rattle.run_table.proofs.GroupTruths.{pending_after_stop}
+use Rattle.run_table.proofs.GroupTruths.{and_false, not_both, or_false, or_true, pending_after_end, pending_after_start, pending_after_stop}
 use Rattle.run_table.proofs.GroupTruths.{pending_after_withdrawal, running_after_arrival, running_after_end, running_after_start}
 use Rattle.run_table.proofs.GroupTruths.{running_after_stop}
 use Rattle.run_table.proofs.ListWalk.{Walk}
@@ -30,7 +30,7 @@ runs g moves h is one = is.running h ∙ the_same g.running h one
 waiting_runs_not : (g : GroupState) (moves : List Move) (h : Holder) → Matches g moves → g.pending ≡ Some h → is_the g.running h ≡ false
 waiting_runs_not g moves h is one =
     sym (is.running h)
-    ∙ ap (λ s. s && not (has_ended h moves)) (not_yes (has_started h moves) (waits_unstarted h moves (waits g moves h is one)).0)
+    ∙ ap (λ s. s && not (has_ended h moves)) (not-true (has_started h moves) (waits_unstarted h moves (waits g moves h is one)).0)
 
 running_waits_not : (g : GroupState) (moves : List Move) (h : Holder) → Matches g moves → g.running ≡ Some h → is_the g.pending h ≡ false
 running_waits_not g moves h is one =
@@ -46,7 +46,7 @@ start_walks cancels g moves k idle one is = (
   (
     λ other. is.running other ∙ ap (λ o. is_the o other) idle,
     is.latest k one,
-    not_yes (has_ended k moves) (waits_unstarted k moves (waits g moves k is one)).1,
+    not-true (has_ended k moves) (waits_unstarted k moves (waits g moves k is one)).1,
   ),
   tt,
 )

@@ -3,6 +3,7 @@ use Rattle.std.specs.List.{last_or}
 use Rattle.std.specs.Prelude.{filter_map, option_and_then, cond, ◌⊎◌}
 use Rattle.std.proofs.Common.{◌≡◌, List, [], ◌∷◌, ◌++◌, Bool, true, false, ◌&&◌, ◌||◌, not, Option, Some, None}
 use Rattle.std.proofs.Common.{refl, ap, ap₂, sym, subst, ◌∙◌, append_assoc, inl, inr}
+use Rattle.std.proofs.lemmas.Bool.{and_parts, false≢true, not-true, or_parts}
 use Rattle.wf_value.specs.declared.outcome.Outcome.{Outcome}
 use Rattle.wf_value.specs.declared.outcome.Outcome.TheVariants.{Cancelled}
 use Rattle.run_table.specs.GroupLaw.{BeginsWith, KeepsLaw}
@@ -11,7 +12,7 @@ use Rattle.workflow_runs.specs.GroupWords.{is_pending, is_running, is_the, lates
 use Rattle.workflow_runs.specs.Moves.{Holder, Move}
 use Rattle.run_table.proofs.GroupSaid.{none_is_not, some_one}
 use Rattle.run_table.proofs.GroupSaid.{arrived_on, ended_on, latest_on, one_holder, own_holder, started_on, runs_started, waits_unstarted}
-use Rattle.run_table.proofs.GroupTruths.{no_is_yes, and_parts, not_both, not_yes, or_second, or_true, or_neither}
+use Rattle.run_table.proofs.GroupTruths.{not_both, or_second, or_true}
 
 -- ---- where a move is
 
@@ -100,7 +101,7 @@ ended_is_over cancels moves before after h law e ended starts =
     not_both (has_ended h (before ++ spot.0)) (ended_on h before spot.0 ∙ ap (λ b. b || has_ended h spot.0) ended) own.2
 
 runs_unended : (h : Holder) (moves : List Move) → is_running h moves ≡ true → has_ended h moves ≡ false
-runs_unended h moves is = not_yes (has_ended h moves) (and_parts (has_started h moves) (not (has_ended h moves)) is).1
+runs_unended h moves is = not-true (has_ended h moves) (and_parts (has_started h moves) (not (has_ended h moves)) is).1
 
 -- of two that have started, in this order, the first has ended
 in_order : (cancels : Holder → Bool) (moves before after x y : List Move) (h k : Holder) → KeepsLaw cancels moves
@@ -137,7 +138,7 @@ one_by cancels moves before after x y h k law e is one other true false false in
     ∙ or_true (has_started h spot.1) in
     absurd (not_both (has_ended k before)
     (in_order cancels moves before after spot.0 (spot.1 ++ Move.start h ∷ y) k h law e parts later) (runs_unended k before other))
-one_by cancels moves before after x y h k law e is one other false false false in_x same in_y found = absurd (no_is_yes found)
+one_by cancels moves before after x y h k law e is one other false false false in_x same in_y found = absurd (false≢true found)
 
 -- at no moment do two run
 pub one_runs : (cancels : Holder → Bool) (moves before after : List Move) (h k : Holder) → KeepsLaw cancels moves
@@ -172,9 +173,9 @@ displaced_waits moves h is = next_by moves h (latest moves) is
 waits_before : (h : Holder) (x y : List Move) → has_arrived h x ≡ true → is_pending h (x ++ y) ≡ true → is_pending h x ≡ true
 waits_before h x y arrived is =
     let parts = waits_unstarted h (x ++ y) is in
-    let started = or_neither (has_started h x) (has_started h y)
-    (sym (started_on h x y) ∙ not_yes (has_started h (x ++ y)) parts.0) in
-    let ended = or_neither (has_ended h x) (has_ended h y) (sym (ended_on h x y) ∙ not_yes (has_ended h (x ++ y)) parts.1) in
+    let started = or_parts (has_started h x) (has_started h y)
+    (sym (started_on h x y) ∙ not-true (has_started h (x ++ y)) parts.0) in
+    let ended = or_parts (has_ended h x) (has_ended h y) (sym (ended_on h x y) ∙ not-true (has_ended h (x ++ y)) parts.1) in
     ap₂ (λ a b. a && b) arrived (ap₂ (λ a b. not a && not b) started.0 ended.0)
 
 latest_then : (h : Holder) (x y : List Move) → filter_map arrival_of y ≡ [] → latest (x ++ Move.arrive h ∷ y) ≡ Some h
@@ -212,7 +213,7 @@ latest_by cancels moves before after x y h law e is waits (first p q k spot none
     e ∙ ap (λ ms. ms ++ after) parts ∙ append_assoc earlier (Move.arrive k ∷ q) after in
     let begins = law.displaced_are_cancelled earlier (q ++ after) k h whole (next_shown earlier h (latest_then h x p none) waited) in
     inr (end_is_next before (earlier ++ Move.arrive k ∷ []) q after h (parts ∙ sym (append_assoc earlier (Move.arrive k ∷ []) q))
-    (not_yes (has_ended h before) (waits_unstarted h before waits).1) begins)
+    (not-true (has_ended h before) (waits_unstarted h before waits).1) begins)
 
 -- who waits is the latest arrival, or is displaced by the next move
 pub waits_as_latest : (cancels : Holder → Bool) (moves before after : List Move) (h : Holder) → KeepsLaw cancels moves
@@ -255,7 +256,7 @@ displaced_never_starts cancels moves before after newcomer h law e is =
     let ended : has_ended h (before ++ pair) ≡ true =
     ended_on h before pair ∙ ap (λ b. has_ended h before || (b || false)) (own_holder h) ∙ or_true (has_ended h before) in
     let unstarted : has_started h before ≡ false =
-    not_yes (has_started h before) (waits_unstarted h before (displaced_waits before h is)).0 in
+    not-true (has_started h before) (waits_unstarted h before (displaced_waits before h is)).0 in
     let started : has_started h moves ≡ has_started h rest =
     ap (λ ms. has_started h ms) whole
     ∙ started_on h (before ++ pair) rest

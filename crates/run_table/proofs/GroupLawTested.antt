@@ -4,6 +4,7 @@ use Rattle.std.specs.Prelude.{map}
 use Rattle.std.proofs.Common.{◌≡◌, List, [], ◌∷◌, ◌++◌, Bool, true, false, ◌&&◌, ◌||◌, not, Option, Some, None}
 use Rattle.std.proofs.Common.{refl, ap, ap₂, sym, subst, ◌∙◌, append_assoc}
 use Rattle.std.proofs.lemmas.List.{append-nil}
+use Rattle.std.proofs.lemmas.Bool.{and_parts, not-true}
 use Rattle.wf_value.specs.declared.outcome.Outcome.{Outcome}
 use Rattle.wf_value.specs.declared.outcome.Outcome.TheVariants.{Success, Failure, Cancelled}
 use Rattle.run_table.specs.GroupLaw.{BeginsWith, IsJustDisplaced, KeepsLaw, cancelled_end}
@@ -14,7 +15,7 @@ use Rattle.workflow_runs.specs.GroupWords.{same_holder, was_stopped}
 use Rattle.workflow_runs.specs.Moves.{Holder, Move}
 use Rattle.run_table.proofs.GroupLawWalk.{Lawful, law_walks, walk_is_law}
 use Rattle.run_table.proofs.GroupSaid.{one_holder, own_holder, runs_started, the_one, the_same}
-use Rattle.run_table.proofs.GroupTruths.{and_parts, not_yes, or_second}
+use Rattle.run_table.proofs.GroupTruths.{or_second}
 use Rattle.run_table.proofs.ListWalk.{Walk}
 
 -- ---- from the test to the law
@@ -76,7 +77,7 @@ named test h (Move.end_with r k ∷ moves) is all = named test h moves is (and_p
 never_runs : (moves : List Move) (h : Holder) (b : Bool) → is_running h moves ≡ b
     → list_all (λ other. not (is_running other moves)) (map holder_of moves) ≡ true → is_running h moves ≡ false
 never_runs moves h true is all =
-    not_yes (is_running h moves) (named (λ other. not (is_running other moves)) h moves (runs_started h moves is) all)
+    not-true (is_running h moves) (named (λ other. not (is_running other moves)) h moves (runs_started h moves is) all)
 never_runs moves h false is all = is
 
 last_shown_by : (h k : Holder) (before : List Move) → is_the (next_displaced before) h ≡ true
@@ -120,7 +121,7 @@ lawful_by_test cancels before (Move.start h) after is =
     let own = and_parts (is_the (latest before) h) (not (has_ended h before)) parts.1 in (
       λ other. never_runs before other (is_running other before) refl parts.0,
       the_one (latest before) h own.0,
-      not_yes (has_ended h before) own.1,
+      not-true (has_ended h before) own.1,
     )
 lawful_by_test cancels before (Move.stop h) after is = tt
 lawful_by_test cancels before (Move.end_with r h) after is =

@@ -6,13 +6,13 @@ use Rattle.workflow_runs.specs.GroupState.{GroupState}
 use Rattle.run_table.specs.GroupLawTest.{keeps_law}
 use Rattle.workflow_runs.specs.Moves.{Holder, Move}
 
-abbrev run1 : Holder
+abbrev pub run1 : Holder
 run1 = Holder.a_run 0
 
-abbrev run2 : Holder
+abbrev pub run2 : Holder
 run2 = Holder.a_run 1
 
-abbrev run3 : Holder
+abbrev pub run3 : Holder
 run3 = Holder.a_run 2
 
 abbrev leg : Holder

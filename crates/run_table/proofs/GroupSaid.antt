@@ -1,23 +1,18 @@
 -- What a list of moves says of a holder once more moves stand behind it.
 use Rattle.std.specs.List.{last_or}
 use Rattle.std.specs.Prelude.{filter_map, nat_eq}
-use Rattle.std.proofs.Common.{◌≡◌, ℕ, List, [], ◌∷◌, ◌++◌, Bool, true, ◌&&◌, ◌||◌, not, Option, Some, None}
+use Rattle.std.proofs.Common.{◌≡◌, List, [], ◌∷◌, ◌++◌, Bool, true, ◌&&◌, ◌||◌, not, Option, Some, None}
 use Rattle.std.proofs.Common.{refl, ap, ap₂, sym, ◌∙◌}
-use Rattle.std.proofs.lemmas.Bool.{eq-eqb, eqb-true}
+use Rattle.std.proofs.lemmas.Bool.{and_parts, eq-eqb, eqb-true}
 use Rattle.std.proofs.lemmas.List.Elements.{filter_map-append}
 use Rattle.std.proofs.lemmas.List.Folds.{list_any-append}
 use Rattle.workflow_runs.specs.GroupWords.{arrival_of, end_of, start_of, stop_of, has_arrived, has_ended, has_started, was_stopped}
 use Rattle.workflow_runs.specs.GroupWords.{is_pending, is_running, is_the, latest, same_holder, same_place}
 use Rattle.workflow_runs.specs.Moves.{Holder, Move}
 use Rattle.workflow_runs.specs.Places.{LegPlace}
-use Rattle.run_table.proofs.GroupTruths.{and_parts}
+use Rattle.workflow_runs.proofs.LeaseReads.{same_place as place_by}
 
 -- ---- the same holder
-
-place_by : (p q : LegPlace) → p.run ≡ q.run → p.job ≡ q.job → p.leg ≡ q.leg → p ≡ q
-place_by p q runs jobs legs =
-    let spot : ℕ → ℕ → ℕ → LegPlace = λ r j l. record { run = r; job = j; leg = l } in
-    ap (λ r. spot r p.job p.leg) runs ∙ ap (λ j. spot q.run j p.leg) jobs ∙ ap (λ l. spot q.run q.job l) legs
 
 one_place : (p q : LegPlace) → same_place p q ≡ true → p ≡ q
 one_place p q is =

@@ -1,8 +1,5 @@
 -- Facts about truth values, each by its cases.
-use Rattle.std.proofs.Common.{◌≡◌, Bool, true, false, ◌&&◌, ◌||◌, not, refl}
-
-pub no_is_yes : false ≡ true → ⊥
-no_is_yes is = cc
+use Rattle.std.proofs.Common.{◌≡◌, Bool, true, false, ◌&&◌, ◌||◌, not, refl, ap}
 
 pub or_false : (b : Bool) → (b || false) ≡ b
 or_false true = refl
@@ -20,52 +17,34 @@ pub and_false : (b : Bool) → (b && false) ≡ false
 and_false true = refl
 and_false false = refl
 
-pub and_parts : (a b : Bool) → (a && b) ≡ true → (a ≡ true) × (b ≡ true)
-and_parts true b is = (refl, is)
-and_parts false b is = absurd (cc)
-
 pub not_both : (b : Bool) → b ≡ true → b ≡ false → ⊥
 not_both true is isnt = cc
 not_both false is isnt = cc
 
-pub not_yes : (b : Bool) → not b ≡ true → b ≡ false
-not_yes true is = absurd (cc)
-not_yes false is = refl
-
-pub or_neither : (a b : Bool) → (a || b) ≡ false → (a ≡ false) × (b ≡ false)
-or_neither true b is = absurd (cc)
-or_neither false b is = (refl, is)
-
 -- ---- whether a holder runs or waits, from whether it has arrived, started and ended, after each change
 
 pub running_after_arrival : (a s e : Bool) → ((s || false) && not (e || (a && (not s && not e)))) ≡ (s && not e)
-running_after_arrival true true true = refl
-running_after_arrival true true false = refl
-running_after_arrival true false true = refl
-running_after_arrival true false false = refl
-running_after_arrival false true true = refl
-running_after_arrival false true false = refl
-running_after_arrival false false true = refl
-running_after_arrival false false false = refl
+running_after_arrival a true true = refl
+running_after_arrival a true false = ap not (and_false a)
+running_after_arrival a false e = refl
+
+pub pending_after_withdrawal : (a s e : Bool) → ((a || false) && (not (s || false) && not (e || (a && (not s && not e))))) ≡ false
+pending_after_withdrawal true true true = refl
+pending_after_withdrawal true true false = refl
+pending_after_withdrawal true false true = refl
+pending_after_withdrawal true false false = refl
+pending_after_withdrawal false true true = refl
+pending_after_withdrawal false true false = refl
+pending_after_withdrawal false false true = refl
+pending_after_withdrawal false false false = refl
 
 pub pending_after_arrival : (a s e q : Bool) → (q && a) ≡ false → (q && s) ≡ false → (q && e) ≡ false
     → ((a || q) && (not (s || false) && not (e || (a && (not s && not e))))) ≡ q
-pending_after_arrival true true true true p0 p1 p2 = absurd (cc)
-pending_after_arrival true true true false p0 p1 p2 = refl
-pending_after_arrival true true false true p0 p1 p2 = absurd (cc)
-pending_after_arrival true true false false p0 p1 p2 = refl
-pending_after_arrival true false true true p0 p1 p2 = absurd (cc)
-pending_after_arrival true false true false p0 p1 p2 = refl
-pending_after_arrival true false false true p0 p1 p2 = absurd (cc)
-pending_after_arrival true false false false p0 p1 p2 = refl
-pending_after_arrival false true true true p0 p1 p2 = absurd (cc)
-pending_after_arrival false true true false p0 p1 p2 = refl
-pending_after_arrival false true false true p0 p1 p2 = absurd (cc)
-pending_after_arrival false true false false p0 p1 p2 = refl
+pending_after_arrival a s e false p0 p1 p2 = pending_after_withdrawal a s e
+pending_after_arrival true s e true p0 p1 p2 = absurd (cc)
+pending_after_arrival false true e true p0 p1 p2 = absurd (cc)
 pending_after_arrival false false true true p0 p1 p2 = absurd (cc)
-pending_after_arrival false false true false p0 p1 p2 = refl
 pending_after_arrival false false false true p0 p1 p2 = refl
-pending_after_arrival false false false false p0 p1 p2 = refl
 
 pub running_after_start : (a s e : Bool) → (s && not e) ≡ false
     → ((s || (a && (not s && not e))) && not (e || false)) ≡ (a && (not s && not e))
@@ -89,20 +68,10 @@ pending_after_start false false true = refl
 pending_after_start false false false = refl
 
 pub running_after_stop : (s e : Bool) → ((s || false) && not (e || false)) ≡ (s && not e)
-running_after_stop true true = refl
-running_after_stop true false = refl
-running_after_stop false true = refl
-running_after_stop false false = refl
+running_after_stop s e = simp or_false
 
 pub pending_after_stop : (a s e : Bool) → ((a || false) && (not (s || false) && not (e || false))) ≡ (a && (not s && not e))
-pending_after_stop true true true = refl
-pending_after_stop true true false = refl
-pending_after_stop true false true = refl
-pending_after_stop true false false = refl
-pending_after_stop false true true = refl
-pending_after_stop false true false = refl
-pending_after_stop false false true = refl
-pending_after_stop false false false = refl
+pending_after_stop a s e = simp or_false
 
 pub running_after_end : (s e : Bool) → ((s || false) && not (e || (s && not e))) ≡ false
 running_after_end true true = refl
@@ -119,13 +88,3 @@ pending_after_end false true true = refl
 pending_after_end false true false = refl
 pending_after_end false false true = refl
 pending_after_end false false false = refl
-
-pub pending_after_withdrawal : (a s e : Bool) → ((a || false) && (not (s || false) && not (e || (a && (not s && not e))))) ≡ false
-pending_after_withdrawal true true true = refl
-pending_after_withdrawal true true false = refl
-pending_after_withdrawal true false true = refl
-pending_after_withdrawal true false false = refl
-pending_after_withdrawal false true true = refl
-pending_after_withdrawal false true false = refl
-pending_after_withdrawal false false true = refl
-pending_after_withdrawal false false false = refl

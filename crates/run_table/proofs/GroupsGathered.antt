@@ -5,8 +5,10 @@ use Rattle.std.proofs.Common.{arith, ap, sym, subst, ◌∙◌, inl, inr}
 use Rattle.std.proofs.lemmas.Bool.{cases_eq, true≢false}
 use Rattle.wf_value.specs.declared.refusal.Refusal.{Refusal}
 use Rattle.group_name.specs.Group.{Group}
-use Rattle.run_table.specs.GroupSets.{AddsEach, AreGroupsOf, Clash, DifferInGroup, Gathered, HasOneOf, IsALeg, IsARun, has_group}
+use Rattle.run_table.specs.GroupSets.{AddsEach, AreGroupsOf, Clash, DifferInGroup, Gathered, HasOneOf, IsALegOfRun, IsAny, IsOfRun}
+use Rattle.run_table.specs.GroupSets.{has_group}
 use Rattle.workflow_runs.specs.Groups.{same_group}
+use Rattle.workflow_runs.specs.Holders.{run_of}
 use Rattle.workflow_runs.specs.Moves.{Holder}
 use Rattle.run_table.proofs.GroupSetReads.{either_true, own_group}
 use Rattle.workflow_runs.proofs.OneEach.{same_is_one}
@@ -173,39 +175,20 @@ module _ (group_of : Holder → Option Group) where
 
   -- ---- all of them
 
-  abbrev Each : Holder → Type 0
-  Each h = Unit {0}
-
-  run_or_leg : (h : Holder) → IsARun h ⊎ IsALeg h
-  run_or_leg (Holder.a_run r) = inl tt
-  run_or_leg (Holder.a_leg p) = inr tt
-
-  not_both : (h : Holder) → IsARun h → IsALeg h → ⊥
-  not_both (Holder.a_run r) is also = also
-  not_both (Holder.a_leg p) is also = is
-
-  two_clash : Clash group_of [] Each → DifferInGroup group_of → ⊥
+  pub two_clash : Clash group_of [] IsAny → DifferInGroup group_of → ⊥
   two_clash clash differ = elim (clash.other) [
     | inl there ↦ absurd (true≢false (sym there))
     | inr s ↦ s.is_one.1 (differ s.one clash.one clash.group s.has_it clash.has_it)
   ]
 
-  pub all_differ : (b c : List Group) → Gathered group_of [] b IsARun → Gathered group_of b c IsALeg
-      → DifferInGroup group_of × AreGroupsOf group_of c
-  all_differ b c of_runs of_legs =
-      let all = and_others [] b c IsARun IsALeg Each of_runs of_legs (λ h is. run_or_leg h) (λ h is. tt) (λ h is. tt) in (
-        (λ h k g e f. all.each_once h k g tt tt e f),
-        record {
-          has_each = (λ h g e. all.has_each h g tt e);
-          no_other = (λ g e. elim (all.no_other g e) [ inl there ↦ absurd (true≢false (sym there)) | inr s ↦ s ]);
-        },
-      )
-
-  pub runs_clash : Clash group_of [] IsARun → DifferInGroup group_of → ⊥
-  runs_clash clash = two_clash (some_clash [] IsARun Each clash (λ h is. tt))
-
-  pub legs_clash : (b : List Group) → Gathered group_of [] b IsARun → Clash group_of b IsALeg → DifferInGroup group_of → ⊥
-  legs_clash b of_runs clash = two_clash (others_clash [] b IsARun IsALeg Each of_runs clash (λ h is. tt) (λ h is. tt) not_both)
+  pub all_differ : (b : List Group) → Gathered group_of [] b IsAny → DifferInGroup group_of × AreGroupsOf group_of b
+  all_differ b all = (
+    (λ h k g e f. all.each_once h k g tt tt e f),
+    record {
+      has_each = (λ h g e. all.has_each h g tt e);
+      no_other = (λ g e. elim (all.no_other g e) [ inl there ↦ absurd (true≢false (sym there)) | inr s ↦ s ]);
+    },
+  )
 
   pub all_new : (a b : List Group) (these : Holder → Type 0) (new : Bool) → AddsEach group_of a b these new → new ≡ true
       → Gathered group_of a b these
@@ -216,6 +199,31 @@ module _ (group_of : Holder → Option Group) where
       → Clash group_of a these
   one_not_new a b these true adds is = cc
   one_not_new a b these false adds is = adds
+
+  -- ---- a run, and then its legs
+
+  run_or_leg : (r : ℕ) (h : Holder) → IsOfRun r h → (h ≡ Holder.a_run r) ⊎ IsALegOfRun r h
+  run_or_leg r (Holder.a_run s) is = inl (ap Holder.a_run is)
+  run_or_leg r (Holder.a_leg p) is = inr is
+
+  the_run : (r : ℕ) (h : Holder) → h ≡ Holder.a_run r → IsOfRun r h
+  the_run r h is = ap run_of is
+
+  its_leg : (r : ℕ) (h : Holder) → IsALegOfRun r h → IsOfRun r h
+  its_leg r (Holder.a_run s) is = absurd is
+  its_leg r (Holder.a_leg p) is = is
+
+  pub run_clashes : (r : ℕ) (a : List Group) → Clash group_of a (λ h. h ≡ Holder.a_run r) → Clash group_of a (IsOfRun r)
+  run_clashes r a clash = some_clash a (λ h. h ≡ Holder.a_run r) (IsOfRun r) clash (the_run r)
+
+  pub legs_put : (r : ℕ) (a b c : List Group) (result : Result Bool Refusal) → Gathered group_of a b (λ h. h ≡ Holder.a_run r)
+      → IfOk result (AddsEach group_of b c (IsALegOfRun r)) → IfOk result (AddsEach group_of a c (IsOfRun r))
+  legs_put r a b c (Err e) one legs = tt
+  legs_put r a b c (Ok true) one legs =
+      and_others a b c (λ h. h ≡ Holder.a_run r) (IsALegOfRun r) (IsOfRun r) one legs (run_or_leg r) (the_run r) (its_leg r)
+  legs_put r a b c (Ok false) one legs =
+      others_clash a b (λ h. h ≡ Holder.a_run r) (IsALegOfRun r) (IsOfRun r) one legs (the_run r) (its_leg r)
+      (λ h is its. subst (IsALegOfRun r) is its)
 
   -- ---- what putting one in says
 

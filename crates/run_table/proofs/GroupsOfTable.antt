@@ -11,7 +11,7 @@ use Rattle.std.proofs.lemmas.Option.{slice_get_within}
 use Rattle.wf_value.specs.declared.refusal.Refusal.{Refusal}
 use Rattle.group_name.specs.Group.{Group}
 use Rattle.workflow_runs.specs.GroupOf.{group_at}
-use Rattle.run_table.specs.GroupSets.{AreGroupsOf, AreTaken, DifferInGroup, IsALeg, IsALegOfJob, IsALegOfRun, IsARun, group_as, has_group}
+use Rattle.run_table.specs.GroupSets.{AreGroupsOf, AreTaken, DifferInGroup, IsALegOfJob, IsALegOfRun, group_as, has_group}
 use Rattle.run_table.specs.GroupSets.{stands}
 use Rattle.workflow_runs.specs.Groups.{HasOneEach, all_holders, holds, is_in, is_pending_in, is_running_in, is_taken, same_group, waits}
 use Rattle.workflow_runs.specs.Holders.{run_of}
@@ -183,13 +183,6 @@ module _ (runs : List RunState) where
 
 -- ---- which of them stands at a place
 
-pub a_run_is : (r : ℕ) (h : Holder) → h ≡ Holder.a_run r → IsARun h × (run_of h ≡ r)
-a_run_is r h is = subst (λ k. IsARun k × (run_of k ≡ r)) (sym is) (tt, refl)
-
-pub is_that_run : (r : ℕ) (h : Holder) → IsARun h → run_of h ≡ r → h ≡ Holder.a_run r
-is_that_run r (Holder.a_run q) is at = ap Holder.a_run at
-is_that_run r (Holder.a_leg p) is at = absurd is
-
 pub a_leg_is : (r j l : ℕ) (h : Holder) → h ≡ Holder.a_leg (leg_place r j l) → IsALegOfJob r j h × (leg_of h ≡ l)
 a_leg_is r j l h is = subst (λ k. IsALegOfJob r j k × (leg_of k ≡ l)) (sym is) ((refl, refl), refl)
 
@@ -204,11 +197,3 @@ leg_of_its_run r j (Holder.a_leg p) is = (is.0, is.1)
 pub leg_of_that_job : (r j : ℕ) (h : Holder) → IsALegOfRun r h → job_of h ≡ j → IsALegOfJob r j h
 leg_of_that_job r j (Holder.a_run q) is at = absurd is
 leg_of_that_job r j (Holder.a_leg p) is at = (is, at)
-
-pub a_leg_of_run : (r : ℕ) (h : Holder) → IsALegOfRun r h → IsALeg h × (run_of h ≡ r)
-a_leg_of_run r (Holder.a_run q) is = absurd is
-a_leg_of_run r (Holder.a_leg p) is = (tt, is)
-
-pub leg_of_that_run : (r : ℕ) (h : Holder) → IsALeg h → run_of h ≡ r → IsALegOfRun r h
-leg_of_that_run r (Holder.a_run q) is at = absurd is
-leg_of_that_run r (Holder.a_leg p) is at = at

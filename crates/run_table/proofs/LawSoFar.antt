@@ -4,6 +4,7 @@ use Rattle.std.specs.Prelude.{if◌then◌else◌, refl}
 use Rattle.std.specs.List.{last_or}
 use Rattle.std.proofs.Common.{ap, sym, ◌∙◌, subst, append_assoc}
 use Rattle.std.proofs.lemmas.List.{append-nil}
+use Rattle.std.proofs.lemmas.Bool.{or_parts}
 use Rattle.wf_value.specs.declared.outcome.Outcome.{Outcome}
 use Rattle.group_name.specs.Group.{Group}
 use Rattle.run_table.specs.GroupLaw.{KeepsLaw}
@@ -15,7 +16,7 @@ use Rattle.workflow_runs.specs.RunState.{RunState}
 use Rattle.run_table.proofs.ChangesTold.{stop_tells}
 use Rattle.run_table.proofs.GroupLawWalk.{Lawful, law_goes_on}
 use Rattle.run_table.proofs.GroupSaid.{arrived_on, latest_on, runs_started, started_on}
-use Rattle.run_table.proofs.GroupTruths.{not_both, or_false, or_neither}
+use Rattle.run_table.proofs.GroupTruths.{not_both, or_false}
 use Rattle.run_table.proofs.HolderStatus.{Fits, Status, fits_running, fits_unended, holds_as, status, waiting_is, waits_as}
 use Rattle.workflow_runs.proofs.HoldersFade.{holder_stop_fades}
 use Rattle.run_table.proofs.ListWalk.{Walk}
@@ -79,7 +80,7 @@ module _ (in_group cancels : Holder → Bool) where
 
   pub started_before : (h : Holder) (moves more : List Move) → has_started h (moves ++ more) ≡ false → has_started h moves ≡ false
   started_before h moves more unstarted =
-      (or_neither (has_started h moves) (has_started h more) (sym (started_on h moves more) ∙ unstarted)).0
+      (or_parts (has_started h moves) (has_started h more) (sym (started_on h moves more) ∙ unstarted)).0
 
   pub quiet_goes_on : (runs : List RunState) (m : Moved) → IsQuiet runs m → GoesOn runs m
   quiet_goes_on runs m quiet moves so_far = record {

@@ -39,25 +39,25 @@ own_of_another in_group h moves isnt =
 
 -- ---- what is said of a holder its own moves say
 
-arrival_is_own : (h : Holder) (m : Move) → is_the (arrival_of m) h ≡ true → same_holder h (holder_of m) ≡ true
+pub arrival_is_own : (h : Holder) (m : Move) → is_the (arrival_of m) h ≡ true → same_holder h (holder_of m) ≡ true
 arrival_is_own h (Move.arrive k) is = is
 arrival_is_own h (Move.start k) is = cc
 arrival_is_own h (Move.stop k) is = cc
 arrival_is_own h (Move.end_with r k) is = cc
 
-start_is_own : (h : Holder) (m : Move) → is_the (start_of m) h ≡ true → same_holder h (holder_of m) ≡ true
+pub start_is_own : (h : Holder) (m : Move) → is_the (start_of m) h ≡ true → same_holder h (holder_of m) ≡ true
 start_is_own h (Move.arrive k) is = cc
 start_is_own h (Move.start k) is = is
 start_is_own h (Move.stop k) is = cc
 start_is_own h (Move.end_with r k) is = cc
 
-stop_is_own : (h : Holder) (m : Move) → is_the (stop_of m) h ≡ true → same_holder h (holder_of m) ≡ true
+pub stop_is_own : (h : Holder) (m : Move) → is_the (stop_of m) h ≡ true → same_holder h (holder_of m) ≡ true
 stop_is_own h (Move.arrive k) is = cc
 stop_is_own h (Move.start k) is = cc
 stop_is_own h (Move.stop k) is = is
 stop_is_own h (Move.end_with r k) is = cc
 
-end_is_own : (h : Holder) (m : Move) → is_the (end_of m) h ≡ true → same_holder h (holder_of m) ≡ true
+pub end_is_own : (h : Holder) (m : Move) → is_the (end_of m) h ≡ true → same_holder h (holder_of m) ≡ true
 end_is_own h (Move.arrive k) is = cc
 end_is_own h (Move.start k) is = cc
 end_is_own h (Move.stop k) is = cc

@@ -13,7 +13,6 @@ use Rattle.run_plan.specs.declared.command.Done.{Done as Reported}
 use Rattle.run_plan.specs.declared.command.Command.{Command}
 use Rattle.run_plan.specs.declared.command.Command.TheVariants as command
 use Rattle.run_plan.specs.declared.last_command.ClaimReply.TheVariants as given
-use Rattle.run_plan.specs.declared.planned.PlannedJob.{PlannedJob}
 use Rattle.run_plan.specs.declared.reply.Reply.{Reply}
 use Rattle.run_plan.specs.declared.reply.Reply.TheVariants as reply
 use Rattle.workflow_runs.specs.FirstOf.{changed_at}
@@ -38,7 +37,7 @@ use Rattle.run_table.proofs.AdmitKeeps.{same_reads}
 use Rattle.run_table.proofs.ClaimKeeps.{fitting_leg, had_changes, leasing_keeps, serving_keeps}
 use Rattle.run_table.proofs.Entered.{entered_keeps, entered_settles}
 use Rattle.workflow_runs.proofs.Found.{before_the_end}
-use Rattle.run_table.proofs.Kept.{IsKept, kept_from_sound, kept_settles}
+use Rattle.run_table.proofs.Kept.{IsKept, kept_from_sound, kept_settles, told_the_same}
 use Rattle.workflow_runs.proofs.JobKeeps.{leg_in}
 use Rattle.workflow_runs.proofs.LeaseReads.{none_is_not_some, place_or_another}
 use Rattle.workflow_runs.proofs.LegReads.{had_at, had_in, had_in_job, had_from_leg}
@@ -297,13 +296,7 @@ events_after t (c ∷ cs) s r a e =
 same_lease : (runs next : List RunState) (p : LegPlace) (n : ℕ) (a : Admitted) → admitted_at runs p.run ≡ Some a
     → admitted_at next p.run ≡ Some a → lease_at runs p n ≡ lease_at next p n
 same_lease runs next p n a before now =
-    ap (λ (o : Option PlannedJob). record {
-      lease = n;
-      run = p.run + 1;
-      job = option_map_or (λ planned. planned.id) o [];
-      leg = p.leg;
-      combo = option_map_or (λ leg. leg.combo) (option_and_then (λ planned. slice_get planned.legs p.leg) o) [];
-    }) (plan_at_same next runs p.run p.job (before ∙ sym now))
+    told_the_same runs next p n (plan_at_same runs next p.run p.job (now ∙ sym before))
 
 leased_from : (t : TableState) (commands : List Command) → IsSound t → (p : LegPlace) (n : ℕ) → had_at (after t commands).runs p ≡ Some n
     → (had_at t.runs p ≡ Some n) ⊎ WasAnswered commands (replies t commands) (lease_at (after t commands).runs p n)

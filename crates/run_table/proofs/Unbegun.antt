@@ -285,21 +285,27 @@ stop_legs run.Ended j l x all = all
 
 -- ---- one leg
 
+-- a run that has not begun, of which the legs of a job change
+legs_changed : (j : ℕ) (f : List LegState → List LegState) → f [] ≡ [] → (x : RunState) → RunUnbegun x
+    → RunUnbegun (with_job_of j (λ y. record y { legs = f y.legs }) x)
+legs_changed j f none_stay x un =
+    let change : JobState → JobState = λ y. record y { legs = f y.legs } in
+    record {
+      no_legs = (λ k.
+          changed_there (λ (y : JobState). y.legs ≡ []) (λ (y : JobState). y.legs ≡ []) j change x.jobs k
+          (λ y at none. ap f none ∙ none_stay) (λ y at none. none) (un.no_legs k));
+      cancelled = (λ e k.
+          changed_there (λ (y : JobState). y.phase ≡ job.Settled result.Cancelled)
+          (λ (y : JobState). y.phase ≡ job.Settled result.Cancelled) j change x.jobs k (λ y at is. is) (λ y at is. is) (un.cancelled e k));
+    }
+
 -- where the leg at the place stays one that has not begun
 pub leg_all_still : (runs : List RunState) (p : LegPlace) (f : LegState → LegState) → ((z : LegState) → LegUnbegun z → LegUnbegun (f z))
     → AllStill runs (with_leg p f runs)
 leg_all_still runs p f so =
     run_all_still runs p.run (with_job_of p.job (with_leg_of p.leg f))
     (record {
-      of_it = (λ x un. record {
-        no_legs = (λ j.
-            changed_there (λ (y : JobState). y.legs ≡ []) (λ (y : JobState). y.legs ≡ []) p.job (with_leg_of p.leg f) x.jobs j
-            (λ y at none. ap (changed_at p.leg f) none) (λ y at none. none) (un.no_legs j));
-        cancelled = (λ e j.
-            changed_there (λ (y : JobState). y.phase ≡ job.Settled result.Cancelled) (λ (y : JobState). y.phase
-            ≡ job.Settled result.Cancelled) p.job
-            (with_leg_of p.leg f) x.jobs j (λ y at is. is) (λ y at is. is) (un.cancelled e j));
-      });
+      of_it = legs_changed p.job (changed_at p.leg f) refl;
       of_legs = (λ j l x all.
           changed_there (OfJob l) (OfJob l) p.job (with_leg_of p.leg f) x.jobs j
           (λ y at un. changed_there LegUnbegun LegUnbegun p.leg f y.legs l (λ z is. so z) (λ z is un. un) un) (λ y at un. un) all);
@@ -315,15 +321,7 @@ pub leg_still : (runs : List RunState) (p : LegPlace) (z : LegState) (f : LegSta
     → (leg_holds z.phase ≡ false → leg_holds (f z).phase ≡ false → ⊥) → Still runs (with_leg p f runs)
 leg_still runs p z f was now elsewhere never (Holder.a_run r) before after all =
     changed_there RunUnbegun RunUnbegun p.run (with_job_of p.job (with_leg_of p.leg f)) runs r
-    (λ x at un. record {
-      no_legs = (λ j.
-          changed_there (λ (y : JobState). y.legs ≡ []) (λ (y : JobState). y.legs ≡ []) p.job (with_leg_of p.leg f) x.jobs j
-          (λ y at none. ap (changed_at p.leg f) none) (λ y at none. none) (un.no_legs j));
-      cancelled = (λ e j.
-          changed_there (λ (y : JobState). y.phase ≡ job.Settled result.Cancelled) (λ (y : JobState). y.phase
-          ≡ job.Settled result.Cancelled) p.job
-          (with_leg_of p.leg f) x.jobs j (λ y at is. is) (λ y at is. is) (un.cancelled e j));
-    }) (λ x at un. un) all
+    (λ x at. legs_changed p.job (changed_at p.leg f) refl x) (λ x at un. un) all
 leg_still runs p z f was now elsewhere never (Holder.a_leg q) before after all =
     elim (place_or_another q p) [
       | inl same ↦
@@ -338,15 +336,7 @@ pub legs_all_still : (runs : List RunState) (r j : ℕ) → AllStill runs (with_
 legs_all_still runs r j =
     run_all_still runs r (with_job_of j with_stopped_legs)
     (record {
-      of_it = (λ x un. record {
-        no_legs = (λ k.
-            changed_there (λ (y : JobState). y.legs ≡ []) (λ (y : JobState). y.legs ≡ []) j with_stopped_legs x.jobs k
-            (λ y at none. ap (map stopped) none) (λ y at none. none) (un.no_legs k));
-        cancelled = (λ e k.
-            changed_there (λ (y : JobState). y.phase ≡ job.Settled result.Cancelled) (λ (y : JobState). y.phase
-            ≡ job.Settled result.Cancelled) j
-            with_stopped_legs x.jobs k (λ y at is. is) (λ y at is. is) (un.cancelled e k));
-      });
+      of_it = legs_changed j (map stopped) refl;
       of_legs = (λ k l x all.
           changed_there (OfJob l) (OfJob l) j with_stopped_legs x.jobs k (λ y at. legs_stopped l y) (λ y at un. un) all);
     })

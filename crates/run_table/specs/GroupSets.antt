@@ -5,6 +5,7 @@ use Rattle.std.specs.List.{list_any}
 use Rattle.group_name.specs.Group.{Group}
 use Rattle.workflow_runs.specs.GroupOf.{group_at}
 use Rattle.workflow_runs.specs.Groups.{holds, is_taken, same_group, waits}
+use Rattle.workflow_runs.specs.Holders.{run_of}
 use Rattle.workflow_runs.specs.Moves.{Holder}
 use Rattle.workflow_runs.specs.RunState.{RunState}
 use Rattle.run_table.specs.declared.sound.groups.Standing.{Standing}
@@ -53,13 +54,12 @@ AddsEach group_of before after these all_new = MatchBool all_new (Gathered group
 
 -- ---- which runs and legs
 
-abbrev pub IsARun : Holder → Type 0
-IsARun (Holder.a_run r) = Unit {0}
-IsARun (Holder.a_leg p) = ⊥
+abbrev pub IsAny : Holder → Type 0
+IsAny h = Unit {0}
 
-abbrev pub IsALeg : Holder → Type 0
-IsALeg (Holder.a_run r) = ⊥
-IsALeg (Holder.a_leg p) = Unit {0}
+-- the run, or one of its legs
+abbrev pub IsOfRun : ℕ → Holder → Type 0
+IsOfRun r h = run_of h ≡ r
 
 abbrev pub IsALegOfRun : ℕ → Holder → Type 0
 IsALegOfRun r (Holder.a_run s) = ⊥
@@ -78,7 +78,7 @@ DifferInGroup group_of = (h k : Holder) (g : Group) → group_of h ≡ Some g �
 -- the groups are exactly those that somebody has
 pub record AreGroupsOf (group_of : Holder → Option Group) (groups : List Group) : Type 0 where
   pub has_each : (h : Holder) (g : Group) → group_of h ≡ Some g → has_group groups g ≡ true
-  pub no_other : (g : Group) → has_group groups g ≡ true → HasOneOf group_of (λ h. Unit {0}) g
+  pub no_other : (g : Group) → has_group groups g ≡ true → HasOneOf group_of IsAny g
 
 -- the groups are exactly those in which somebody runs
 abbrev pub AreTaken : List RunState → List Group → Type 0

@@ -113,6 +113,10 @@ group_by x o = option_and_then (λ a. bound_group_at (results_by_place x) a.grou
 abbrev pub flag_by : RunState → Option Asked → Bool
 flag_by x o = option_map_or (λ a. is_set_by (results_by_place x) a.cancels) o false
 
+-- that it says both of a holder, whose run this is
+abbrev pub SaysBoth : List RunState → Holder → RunState → RunAsks → Type 0
+SaysBoth runs h x k = (group_by x (asked_of k h) ≡ group_at runs h) × (flag_by x (asked_of k h) ≡ cancels_in_progress runs h)
+
 module _ (runs : List RunState) (kept : List RunAsks) (bound : AreBound runs kept) where
   pub run_says : (r : ℕ) (x : RunState) (k : RunAsks) → run_at runs r ≡ Some x → slice_get kept r ≡ Some k
       → RunSays (facts_of_run runs r x) k
@@ -146,33 +150,26 @@ module _ (runs : List RunState) where
             ∙ sym (ap (λ o. option_map_or leg_cancels o false) told),
       )
 
-  group_said : (h : Holder) (x : RunState) (k : RunAsks) → run_at runs (run_of h) ≡ Some x
-      → RunSays (facts_of_run runs (run_of h) x) k → group_by x (asked_of k h) ≡ group_at runs h
-  unfolding group_at
-  group_said (Holder.a_run r) x k at says =
+  both_said : (h : Holder) (x : RunState) (k : RunAsks) → run_at runs (run_of h) ≡ Some x
+      → RunSays (facts_of_run runs (run_of h) x) k → SaysBoth runs h x k
+  unfolding group_at cancels_in_progress
+  both_said (Holder.a_run r) x k at says =
       let f = facts_of_run runs r x in
       let event = event_of f.event.body in
-      says_group event.repo (λ results. run_context f) event.workflow.concurrency k.own says.own (results_by_place x)
-      ∙ sym (ap (option_and_then run_group) (run_told runs r x at))
-  group_said (Holder.a_leg p) x k at says = (leg_says p x k at says (slice_get (plan_of x.admitted.body) p.job) refl).0
-
-  flag_said : (h : Holder) (x : RunState) (k : RunAsks) → run_at runs (run_of h) ≡ Some x
-      → RunSays (facts_of_run runs (run_of h) x) k → flag_by x (asked_of k h) ≡ cancels_in_progress runs h
-  unfolding cancels_in_progress
-  flag_said (Holder.a_run r) x k at says =
-      let f = facts_of_run runs r x in
-      let event = event_of f.event.body in
-      says_flag event.repo (λ results. run_context f) event.workflow.concurrency k.own says.own (results_by_place x)
-      ∙ sym (ap (λ o. option_map_or run_cancels o false) (run_told runs r x at))
-  flag_said (Holder.a_leg p) x k at says = (leg_says p x k at says (slice_get (plan_of x.admitted.body) p.job) refl).1
+      let told = run_told runs r x at in (
+        says_group event.repo (λ results. run_context f) event.workflow.concurrency k.own says.own (results_by_place x)
+            ∙ sym (ap (option_and_then run_group) told),
+        says_flag event.repo (λ results. run_context f) event.workflow.concurrency k.own says.own (results_by_place x)
+            ∙ sym (ap (λ o. option_map_or run_cancels o false) told),
+      )
+  both_said (Holder.a_leg p) x k at says = leg_says p x k at says (slice_get (plan_of x.admitted.body) p.job) refl
 
   -- both, by what is kept at the place of the holder's run
   pub said_there : (h : Holder) (x : RunState) (k : RunAsks) (r : ℕ) → r ≡ run_of h → run_at runs (run_of h) ≡ Some x
       → ((facts : RunFacts) → run_facts_at runs r ≡ Some facts → RunSays facts k)
-      → (group_by x (asked_of k h) ≡ group_at runs h) × (flag_by x (asked_of k h) ≡ cancels_in_progress runs h)
+      → SaysBoth runs h x k
   said_there h x k r is at says =
-      let its = says (facts_of_run runs (run_of h) x) (ap (run_facts_at runs) is ∙ run_told runs (run_of h) x at) in
-      (group_said h x k at its, flag_said h x k at its)
+      both_said h x k at (says (facts_of_run runs (run_of h) x) (ap (run_facts_at runs) is ∙ run_told runs (run_of h) x at))
 
 -- ---- where there is no run there is nothing
 

@@ -41,6 +41,14 @@ changed_within f [] i x y lt is so = absurd (omega arith)
 changed_within f (z ∷ xs) zero x y lt is so = ap (λ w. w ∷ xs) (so ∙ ap f is)
 changed_within f (z ∷ xs) (suc i) x y lt is so = ap (λ ys. z ∷ ys) (changed_within f xs i x y (omega arith) is so)
 
+-- the same of a list that is seen as another
+pub written_there : {X : Type 0} (f : X → X) (xs ys : List X) (i : ℕ) (x y : X) → xs ≡ ys → i < length xs → x ≡ get_or xs i x → y ≡ f x
+    → slice_set xs i y ≡ changed_at i f ys
+written_there f xs ys i x y same lt is so = changed_within f xs i x y lt is so ∙ ap (changed_at i f) same
+
+pub past_there : {X : Type 0} (f : X → X) (xs ys : List X) (i : ℕ) → xs ≡ ys → length xs ≤ i → ys ≡ changed_at i f ys
+past_there f xs ys i same le = subst (λ zs. zs ≡ changed_at i f zs) same (changed_past f xs i le)
+
 -- what is read is read again, whatever stands for the place past the end
 pub read_again : {X : Type 0} (xs : List X) (i : ℕ) (d : X) → get_or xs i d ≡ get_or xs i (get_or xs i d)
 read_again [] i d = refl

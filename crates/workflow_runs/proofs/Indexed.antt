@@ -89,48 +89,52 @@ some_place a b e = cc
 none_is_kept : (r : ℕ) → None ≡ Some r → ⊥
 none_is_kept r e = cc
 
-module _ (runs : List RunState) (places : Places) (d : List ℕ) (finds : FindsFirst (events runs) places) where
-  abbrev place : Option ℕ
-  place = position (is_delivered_as d) runs
+module _ (items runs : List RunState) (places : Places) (d : List ℕ) (same : items ≡ runs) (of_items : FindsFirst (events items) places)
+  where
+    abbrev place : Option ℕ
+    place = position (is_delivered_as d) runs
 
-  pub found_nothing : get_by_text places d ≡ None → place ≡ None
-  found_nothing none =
-      elim place as (λ o. place ≡ o → o ≡ None) [
-        | None ↦ λ is. refl
-        | Some r ↦ λ is. absurd (none_is_kept r (sym none ∙ finds d r (is_first runs d r is)))
-      ] refl
+    of_runs : FindsFirst (events runs) places
+    of_runs = subst (λ (xs : List RunState). FindsFirst (events xs) places) same of_items
 
-  pub found_there : (p : ℕ) → get_by_text places d ≡ Some p → option_map_or (is_delivered_as d) (slice_get runs p) false ≡ true
-      → place ≡ Some p
-  found_there p kept there =
-      elim place as (λ o. place ≡ o → o ≡ Some p) [
-        | None ↦ λ is. absurd (nowhere is)
-        | Some r ↦ λ is. sym (finds d r (is_first runs d r is)) ∙ kept
-      ] refl
-    where
-      nowhere : place ≡ None → ⊥
-      nowhere is =
-          elim (slice_get runs p) as (λ o. slice_get runs p ≡ o → option_map_or (is_delivered_as d) o false ≡ true → ⊥) [
-            | None ↦ λ at passes. true≢false (sym passes)
-            | Some x ↦ λ at passes.
-                true≢false
-                (sym passes
-                ∙ each_at (λ y. is_delivered_as d y ≡ false) runs p x
-                (none_found (is_delivered_as d) runs (found_nowhere (is_delivered_as d) runs is)) at)
-          ] refl there
+    pub found_nothing : get_by_text places d ≡ None → place ≡ None
+    found_nothing none =
+        elim place as (λ o. place ≡ o → o ≡ None) [
+          | None ↦ λ is. refl
+          | Some r ↦ λ is. absurd (none_is_kept r (sym none ∙ of_runs d r (is_first runs d r is)))
+        ] refl
 
-  pub found_elsewhere : (p : ℕ) → get_by_text places d ≡ Some p → option_map_or (is_delivered_as d) (slice_get runs p) false ≡ false
-      → place ≡ None
-  found_elsewhere p kept there =
-      elim place as (λ o. place ≡ o → o ≡ None) [
-        | None ↦ λ is. refl
-        | Some r ↦ λ is.
-            let found = first_one (is_delivered_as d) runs r is in
-            let same : p ≡ r = some_place p r (sym kept ∙ finds d r (is_first runs d r is)) in
-            absurd
-            (true≢false
-            (sym (ap (λ o. option_map_or (is_delivered_as d) o false) (ap (slice_get runs) same ∙ found.at) ∙ found.passes) ∙ there))
-      ] refl
+    pub found_there : (p : ℕ) → get_by_text places d ≡ Some p → option_map_or (is_delivered_as d) (slice_get runs p) false ≡ true
+        → place ≡ Some p
+    found_there p kept there =
+        elim place as (λ o. place ≡ o → o ≡ Some p) [
+          | None ↦ λ is. absurd (nowhere is)
+          | Some r ↦ λ is. sym (of_runs d r (is_first runs d r is)) ∙ kept
+        ] refl
+      where
+        nowhere : place ≡ None → ⊥
+        nowhere is =
+            elim (slice_get runs p) as (λ o. slice_get runs p ≡ o → option_map_or (is_delivered_as d) o false ≡ true → ⊥) [
+              | None ↦ λ at passes. true≢false (sym passes)
+              | Some x ↦ λ at passes.
+                  true≢false
+                  (sym passes
+                  ∙ each_at (λ y. is_delivered_as d y ≡ false) runs p x
+                  (none_found (is_delivered_as d) runs (found_nowhere (is_delivered_as d) runs is)) at)
+            ] refl there
+
+    pub found_elsewhere : (p : ℕ) → get_by_text places d ≡ Some p → option_map_or (is_delivered_as d) (slice_get runs p) false ≡ false
+        → place ≡ None
+    found_elsewhere p kept there =
+        elim place as (λ o. place ≡ o → o ≡ None) [
+          | None ↦ λ is. refl
+          | Some r ↦ λ is.
+              let found = first_one (is_delivered_as d) runs r is in
+              let same : p ≡ r = some_place p r (sym kept ∙ of_runs d r (is_first runs d r is)) in
+              absurd
+              (true≢false
+              (sym (ap (λ o. option_map_or (is_delivered_as d) o false) (ap (slice_get runs) same ∙ found.at) ∙ found.passes) ∙ there))
+        ] refl
 
 -- ---- one event more
 

@@ -48,6 +48,37 @@ pub record ChangesAt {P : Type 0} (before after : P → Option ℕ) (at : P) (ne
   pub here : after at ≡ new
   pub elsewhere : (p : P) → (p ≡ at → ⊥) → after p ≡ before p
 
+is_new : (new n : ℕ) → Some new ≡ Some n → n ≡ new
+is_new new n e = cc
+
+-- Where a new one is read, each is still read at one place.
+still_once : {P : Type 0} → ((p q : P) → (p ≡ q) ⊎ (p ≡ q → ⊥)) → (before after : P → Option ℕ) (at : P) (new : ℕ)
+    → ((p : P) → before p ≡ Some new → ⊥) → ChangesAt before after at (Some new)
+    → ((p q : P) (n : ℕ) → before p ≡ Some n → before q ≡ Some n → p ≡ q)
+    → (p q : P) (n : ℕ) → after p ≡ Some n → after q ≡ Some n → p ≡ q
+still_once {P = P} one_or_another before after at new fresh change once p q n e f =
+    let was_new : (k : P) → (k ≡ at → ⊥) → after k ≡ Some n → Some new ≡ Some n → ⊥ =
+    λ k t g is. fresh k (sym (change.elsewhere k t) ∙ g ∙ ap Some (is_new new n is)) in
+    elim (one_or_another p at) [
+      | inl s ↦ elim (one_or_another q at) [
+        | inl t ↦ s ∙ sym t
+        | inr t ↦ absurd (was_new q t f (sym change.here ∙ ap after (sym s) ∙ e))
+      ]
+      | inr s ↦ elim (one_or_another q at) [
+        | inl t ↦ absurd (was_new p s e (sym change.here ∙ ap after (sym t) ∙ f))
+        | inr t ↦ once p q n (sym (change.elsewhere p s) ∙ e) (sym (change.elsewhere q t) ∙ f)
+      ]
+    ]
+
+-- Where none is read any more, what is read is read elsewhere, as before.
+read_elsewhere : {P : Type 0} → ((p q : P) → (p ≡ q) ⊎ (p ≡ q → ⊥)) → (before after : P → Option ℕ) (at : P)
+    → ChangesAt before after at None → (p : P) (n : ℕ) → after p ≡ Some n → (p ≡ at → ⊥) × (before p ≡ Some n)
+read_elsewhere one_or_another before after at change p n e =
+    elim (one_or_another p at) [
+      | inl s ↦ absurd (none_is_not_some n (sym change.here ∙ ap after (sym s) ∙ e))
+      | inr s ↦ (s, sym (change.elsewhere p s) ∙ e)
+    ]
+
 -- ---- a lease is given
 
 module _ (last : ℕ) (had works had' works' : LegPlace → Option ℕ) (holds holds' : List ℕ → Option ℕ) (at : LegPlace) (runner : List ℕ)
@@ -58,27 +89,11 @@ module _ (last : ℕ) (had works had' works' : LegPlace → Option ℕ) (holds h
   new_not_had : (p : LegPlace) → had p ≡ Some (last + 1) → ⊥
   new_not_had p e = let g = (agree.given p (last + 1) e).1 in omega (arith, g)
 
-  is_new : (n : ℕ) → Some (last + 1) ≡ Some n → n ≡ last + 1
-  is_new n e = cc
-
   given' : (p : LegPlace) (n : ℕ) → had' p ≡ Some n → (1 ≤ n) × (n ≤ last + 1)
   given' p n e =
       elim (place_or_another p at) [
-        | inl s ↦ let is = is_new n (sym h.here ∙ ap had' (sym s) ∙ e) in omega (arith, is)
+        | inl s ↦ let is = is_new (last + 1) n (sym h.here ∙ ap had' (sym s) ∙ e) in omega (arith, is)
         | inr s ↦ let g = agree.given p n (sym (h.elsewhere p s) ∙ e) in omega (arith, g)
-      ]
-
-  differ' : (p q : LegPlace) (n : ℕ) → had' p ≡ Some n → had' q ≡ Some n → p ≡ q
-  differ' p q n e f =
-      elim (place_or_another p at) [
-        | inl s ↦ elim (place_or_another q at) [
-          | inl t ↦ s ∙ sym t
-          | inr t ↦ absurd (new_not_had q (sym (h.elsewhere q t) ∙ f ∙ ap Some (is_new n (sym h.here ∙ ap had' (sym s) ∙ e))))
-        ]
-        | inr s ↦ elim (place_or_another q at) [
-          | inl t ↦ absurd (new_not_had p (sym (h.elsewhere p s) ∙ e ∙ ap Some (is_new n (sym h.here ∙ ap had' (sym t) ∙ f))))
-          | inr t ↦ agree.differ p q n (sym (h.elsewhere p s) ∙ e) (sym (h.elsewhere q t) ∙ f)
-        ]
       ]
 
   work_is_had' : (p : LegPlace) (n : ℕ) → works' p ≡ Some n → had' p ≡ Some n
@@ -109,29 +124,15 @@ module _ (last : ℕ) (had works had' works' : LegPlace → Option ℕ) (holds h
   new_not_held : (k : List ℕ) → holds k ≡ Some (last + 1) → ⊥
   new_not_held k e = let (p, f) = agree.held_is_work k (last + 1) e in new_not_had p (agree.work_is_had p (last + 1) f)
 
-  held_once' : (a b : List ℕ) (n : ℕ) → holds' a ≡ Some n → holds' b ≡ Some n → a ≡ b
-  held_once' a b n e f =
-      elim (names_same a runner) [
-        | inl s ↦ elim (names_same b runner) [
-          | inl t ↦ s ∙ sym t
-          | inr t ↦ absurd (new_not_held b (sym (r.elsewhere b t) ∙ f ∙ ap Some (is_new n (sym r.here ∙ ap holds' (sym s) ∙ e))))
-        ]
-        | inr s ↦ elim (names_same b runner) [
-          | inl t ↦ absurd (new_not_held a (sym (r.elsewhere a s) ∙ e ∙ ap Some (is_new n (sym r.here ∙ ap holds' (sym t) ∙ f))))
-          | inr t ↦ agree.held_once a b n (sym (r.elsewhere a s) ∙ e) (sym (r.elsewhere b t) ∙ f)
-        ]
-      ]
-
   pub lease_given : LeasesAgree (last + 1) had' works' holds'
   lease_given =
       record {
         given = given';
-        differ = differ';
+        differ = still_once place_or_another had had' at (last + 1) new_not_had h agree.differ;
         work_is_had = work_is_had';
         work_is_held = work_is_held';
-        held_is_work =
-            held_is_work';
-        held_once = held_once';
+        held_is_work = held_is_work';
+        held_once = still_once names_same holds holds' runner (last + 1) new_not_held r agree.held_once;
       }
 
 -- ---- the leg of a lease ends
@@ -142,18 +143,10 @@ module _ (last : ℕ) (had works works' : LegPlace → Option ℕ) (holds holds'
     (work_here : works at ≡ Some lease) (held_here : holds runner ≡ Some lease) (w : ChangesAt works works' at None)
     (r : ChangesAt holds holds' runner None) where
   works_elsewhere : (p : LegPlace) (n : ℕ) → works' p ≡ Some n → (p ≡ at → ⊥) × (works p ≡ Some n)
-  works_elsewhere p n e =
-      elim (place_or_another p at) [
-        | inl s ↦ absurd (none_is_not_some n (sym w.here ∙ ap works' (sym s) ∙ e))
-        | inr s ↦ (s, sym (w.elsewhere p s) ∙ e)
-      ]
+  works_elsewhere = read_elsewhere place_or_another works works' at w
 
   holds_elsewhere : (k : List ℕ) (n : ℕ) → holds' k ≡ Some n → (k ≡ runner → ⊥) × (holds k ≡ Some n)
-  holds_elsewhere k n e =
-      elim (names_same k runner) [
-        | inl s ↦ absurd (none_is_not_some n (sym r.here ∙ ap holds' (sym s) ∙ e))
-        | inr s ↦ (s, sym (r.elsewhere k s) ∙ e)
-      ]
+  holds_elsewhere = read_elsewhere names_same holds holds' runner r
 
   still_held : (p : LegPlace) (n : ℕ) → works' p ≡ Some n → (k : List ℕ) × (holds' k ≡ Some n)
   still_held p n e =

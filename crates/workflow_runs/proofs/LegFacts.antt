@@ -27,16 +27,18 @@ use Rattle.workflow_runs.specs.Words.{all_have_results, is_set, label_texts, nee
 use Rattle.workflow_runs.proofs.NeedsSettled.{KeepsResults, result_of_job}
 
 -- what is told of a leg: by its run's event, the events up to it, and the needs of its job
+abbrev told_of : LegPlace → Admitted → List Admitted → List (List ℕ × Option JobResult) → PlannedJob → LegFacts
+told_of p event all needs job = record {
+  event = event;
+  run_id = decimal (p.run + 1);
+  run_number = decimal (count_by (same_workflow event) all);
+  job = job;
+  leg = p.leg;
+  needs = needs;
+}
+
 abbrev told : LegPlace → Admitted → List Admitted → List (List ℕ × Option JobResult) → Option LegFacts
-told p event all needs =
-    option_map (λ job. record {
-      event = event;
-      run_id = decimal (p.run + 1);
-      run_number = decimal (count_by (same_workflow event) all);
-      job = job;
-      leg = p.leg;
-      needs = needs;
-    }) (slice_get (plan_of event.body) p.job)
+told p event all needs = option_map (told_of p event all needs) (slice_get (plan_of event.body) p.job)
 
 abbrev told_in : LegPlace → List Admitted → RunState → Option LegFacts
 told_in p all run = told p run.admitted all (direct_needs run p.job)
@@ -49,14 +51,7 @@ facts_are runs p = refl
 -- ---- where it is told of a leg, its job is planned
 
 job_told : (p : LegPlace) (event : Admitted) (all : List Admitted) (needs : List (List ℕ × Option JobResult)) (o : Option PlannedJob)
-    → o ≡ option_map (λ (f : LegFacts). f.job) (option_map (λ job. record {
-      event = event;
-      run_id = decimal (p.run + 1);
-      run_number = decimal (count_by (same_workflow event) all);
-      job = job;
-      leg = p.leg;
-      needs = needs;
-    }) o)
+    → o ≡ option_map (λ (f : LegFacts). f.job) (option_map (told_of p event all needs) o)
 job_told p event all needs None = refl
 job_told p event all needs (Some job) = refl
 

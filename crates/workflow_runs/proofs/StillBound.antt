@@ -1,24 +1,21 @@
 -- A run that changes is still kept with its number and with what it asks of groups.
 use Rattle.std.specs.Prelude.{◌≡◌, ℕ, zero, suc, ◌+◌, ◌<◌, List, [], ◌∷◌, ◌++◌, length, count_by, Some, option_map, slice_get, slice_set}
-use Rattle.std.specs.Prelude.{Result, Ok, Err, OnOk, OnErr, refl}
+use Rattle.std.specs.Prelude.{refl}
 use Rattle.std.specs.Fmt.{decimal}
 use Rattle.std.proofs.Common.{arith, ap, sym, subst, ◌∙◌, get_or}
 use Rattle.std.proofs.lemmas.List.{length-append, length-map, map-append}
 use Rattle.std.proofs.lemmas.Option.{slice_get_within}
-use Rattle.wf_value.specs.Gives.{Gives}
-use Rattle.wf_value.specs.declared.refusal.Refusal.{Refusal}
 use Rattle.run_plan.specs.Admitted.{Admitted}
 use Rattle.workflow_runs.specs.Asks.{AreBound, RunSays}
 use Rattle.workflow_runs.specs.Counted.{AreCounted}
 use Rattle.workflow_runs.specs.Delivered.{FindsFirst}
 use Rattle.workflow_runs.specs.GroupOf.{RunFacts, run_facts_at}
-use Rattle.workflow_runs.specs.RunNumber.{AreNumbered, events, numbers_after, run_number, same_workflow}
+use Rattle.workflow_runs.specs.RunNumber.{AreNumbered, events, number_of_next, numbers_after, run_number, same_workflow}
 use Rattle.workflow_runs.specs.RunState.{RunState}
 use Rattle.workflow_runs.specs.declared.asks.RunAsks.{RunAsks}
 use Rattle.workflow_runs.specs.declared.runs.index.Index.{Index}
 use Rattle.workflow_runs.proofs.Binding.{one_more as one_more_bound}
 use Rattle.workflow_runs.proofs.BoundSays.{run_told}
-use Rattle.workflow_runs.proofs.Doors.{given}
 use Rattle.workflow_runs.proofs.GroupStays.{run_facts_stay}
 use Rattle.workflow_runs.proofs.RunNumbers.{events_kept, length_kept, number_at, one_more, still_numbered}
 
@@ -33,11 +30,13 @@ still_bound xs kept r x y lt is same are = record {
       are.each k run groups (sym (facts_same xs (slice_set xs r y) k (events_kept xs r x y lt is same)) ∙ told) is_kept);
 }
 
+-- what is kept of runs: their numbers, what they ask, and where they are found and counted
+abbrev pub AreKept : List RunState → List ℕ → List RunAsks → Index → Type 0
+AreKept xs numbers kept index = AreNumbered xs numbers × AreBound xs kept × FindsFirst (events xs) index.places.places
+    × AreCounted (events xs) index.counts.counts
+
 pub still_kept : (xs : List RunState) (numbers : List ℕ) (kept : List RunAsks) (index : Index) (r : ℕ) (x y : RunState) → r < length xs
-    → x ≡ get_or xs r x → y.admitted ≡ x.admitted
-    → AreNumbered xs numbers × AreBound xs kept × FindsFirst (events xs) index.places.places × AreCounted (events xs) index.counts.counts
-    → AreNumbered (slice_set xs r y) numbers × AreBound (slice_set xs r y) kept × FindsFirst (events (slice_set xs r y)) index.places.places
-    × AreCounted (events (slice_set xs r y)) index.counts.counts
+    → x ≡ get_or xs r x → y.admitted ≡ x.admitted → AreKept xs numbers kept index → AreKept (slice_set xs r y) numbers kept index
 still_kept xs numbers kept index r x y lt is same are =
     let stay : events (slice_set xs r y) ≡ events xs = events_kept xs r x y lt is same in (
       still_numbered xs numbers r x y lt is same are.0,
@@ -45,6 +44,16 @@ still_kept xs numbers kept index r x y lt is same are =
       subst (λ (es : List Admitted). FindsFirst es index.places.places) (sym stay) are.2,
       subst (λ (es : List Admitted). AreCounted es index.counts.counts) (sym stay) are.3,
     )
+
+-- the same runs, as the code sees them, in another index
+pub kept_in : (xs seen : List RunState) (numbers : List ℕ) (kept : List RunAsks) (old new : Index) → seen ≡ xs → AreKept xs numbers kept old
+    → FindsFirst (events seen) new.places.places → AreCounted (events seen) new.counts.counts → AreKept xs numbers kept new
+kept_in xs seen numbers kept old new same are finds counted = (
+  are.0,
+  are.1,
+  subst (λ (rs : List RunState). FindsFirst (events rs) new.places.places) same finds,
+  subst (λ (rs : List RunState). AreCounted (events rs) new.counts.counts) same counted,
+)
 
 -- ---- one run more
 
@@ -114,27 +123,13 @@ module _ (runs : List RunState) (run : RunState) (numbers : List ℕ) (n : ℕ) 
             subst (λ (v : RunFacts). RunSays v asked) same says) r groups is facts of_run);
       }
 
--- a run that was added with its number and with what it asks, or none of these
-pub all_added : {X : Type 0} (runs : List RunState) (run : RunState) (numbers : List ℕ) (kept : List RunAsks) (number : ℕ)
-    (asked : RunAsks)
-    (new_runs : List RunState) (new_numbers : List ℕ) (new_kept : List RunAsks) (result : Result X Refusal) → length runs < 100000
-    → AreNumbered runs numbers × AreBound runs kept → number ≡ count_by (λ other. same_workflow run.admitted other.admitted) runs + 1
+-- a run that is added with its number and with what it asks
+pub all_added : (runs : List RunState) (run : RunState) (numbers : List ℕ) (kept : List RunAsks) (number : ℕ) (asked : RunAsks)
+    → length runs < 100000 → AreNumbered runs numbers × AreBound runs kept → number ≡ number_of_next runs run.admitted
     → RunSays (record { event = run.admitted; run_id = decimal (length runs + 1); run_number = decimal number }) asked
-    → Gives (λ _. new_runs) result (Ok (runs ++ run ∷ [])) → OnOk result (new_numbers ≡ numbers ++ number ∷ [])
-    → OnOk result (new_kept ≡ kept ++ asked ∷ []) → OnErr result (new_runs ≡ runs) → OnErr result (new_numbers ≡ numbers)
-    → OnErr result (new_kept ≡ kept) → AreNumbered new_runs new_numbers × AreBound new_runs new_kept
-all_added runs run numbers kept number asked new_runs new_numbers new_kept (Ok x) room are is says run_added number_added kept_added
-    same_runs same_numbers same_kept =
-    let next = given (runs ++ run ∷ []) new_runs run_added in
+    → AreNumbered (runs ++ run ∷ []) (numbers ++ number ∷ []) × AreBound (runs ++ run ∷ []) (kept ++ asked ∷ [])
+all_added runs run numbers kept number asked room are is says =
     let count = count_by (λ (other : RunState). same_workflow run.admitted other.admitted) runs in
     let numbered = subst (λ (n : ℕ). AreNumbered (runs ++ run ∷ []) (numbers ++ n ∷ [])) (sym is)
-    (one_more runs run numbers count room are.0 refl) in (
-      subst (λ (rs : List RunState). AreNumbered rs new_numbers) next (subst (AreNumbered (runs ++ run ∷ [])) (sym number_added) numbered),
-      subst (λ (rs : List RunState). AreBound rs new_kept) next
-          (subst (AreBound (runs ++ run ∷ [])) (sym kept_added) (added_bound runs run numbers number are.0 numbered kept asked are.1 says)),
-    )
-all_added runs run numbers kept number asked new_runs new_numbers new_kept (Err e) room are is says run_added number_added kept_added
-    same_runs same_numbers same_kept = (
-      subst (λ (rs : List RunState). AreNumbered rs new_numbers) (sym same_runs) (subst (AreNumbered runs) (sym same_numbers) are.0),
-      subst (λ (rs : List RunState). AreBound rs new_kept) (sym same_runs) (subst (AreBound runs) (sym same_kept) are.1),
-    )
+    (one_more runs run numbers count room are.0 refl) in
+    (numbered, added_bound runs run numbers number are.0 numbered kept asked are.1 says)

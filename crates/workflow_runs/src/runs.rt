@@ -1,14 +1,12 @@
-ghost use Rattle.std.specs.Prelude.{◌≡◌, ◌+◌, ◌≤◌, ◌<◌, ◌∷◌, ◌++◌, [], length, IfSome, OnErr, OnOk};
+ghost use Rattle.std.specs.Prelude.{◌≡◌, ◌≤◌, ◌<◌, ◌∷◌, ◌++◌, [], length, IfSome, OnErr};
 ghost use Rattle.std.specs.Prelude.{option_map, option_copied, slice_get, Ok, ◌^◌, false, true};
-ghost use Rattle.std.specs.Fmt.{decimal};
 ghost use Rattle.std.specs.List.{position};
 ghost use Rattle.std.specs.Option.{option_map_or};
 ghost use Rattle.wf_value.specs.Gives.{Gives};
-ghost use Rattle.workflow_runs.specs.Asks.{AreBound, RunSays};
 ghost use Rattle.workflow_runs.specs.LegContext.{facts_at};
 ghost use Rattle.workflow_runs.specs.Places.{job_at, leg_at, plan_at};
 ghost use Rattle.workflow_runs.specs.Counted.{IsOf};
-ghost use Rattle.workflow_runs.specs.RunNumber.{AreNumbered, events, number_of_next, run_number};
+ghost use Rattle.workflow_runs.specs.RunNumber.{events, run_number};
 ghost use Rattle.workflow_runs.specs.Parallel.{most_at_work};
 ghost use Rattle.workflow_runs.specs.NewRun.{is_delivered_as};
 ghost use Rattle.workflow_runs.specs.Words.{combo_at, job_id, passes_over};
@@ -233,8 +231,12 @@ impl Runs {
             .index
             .make_room(alloc, runs, run.prepared(), &workflow, found)?;
         let asked = RunAsks::bind(alloc, &run, self.runs.len() + 1, number)?;
-        let numbers = &mut self.numbers;
-        add_kept(&mut self.runs, numbers, &mut self.asks, run, number, asked)?;
+        self.runs.reserve(1)?;
+        self.numbers.reserve(1)?;
+        self.asks.reserve(1)?;
+        self.runs.push_reserved(run);
+        self.numbers.push_reserved(number);
+        self.asks.push_reserved(asked);
         self.index.counts.add(workflow, number);
         Ok(())
     }
@@ -267,73 +269,4 @@ fn number_at(numbers: &[usize], r: usize) -> Option<usize>
         Some(number) => Some(*number),
         None => None,
     }
-}
-
-/// Adds a run and its number, or neither.
-fn push_both(
-    runs: &mut Vec<Run>,
-    numbers: &mut Vec<usize>,
-    run: Run,
-    number: usize,
-) -> Result<(), Refusal>
-    ensures run { Gives (λ _. runs.new.items) result (Ok (runs.old.items ++ run ∷ [])) }
-    ensures number { OnOk result (numbers.new.items ≡ numbers.old.items ++ number ∷ []) }
-    ensures same_runs { OnErr result (runs.new.items ≡ runs.old.items) }
-    ensures same_numbers { OnErr result (numbers.new.items ≡ numbers.old.items) }
-{
-    numbers.push(number)?;
-    match runs.push(run) {
-        Ok(()) => Ok(()),
-        Err(error) => {
-            let _ = numbers.pop();
-            Err(Refusal::from(error))
-        }
-    }
-}
-
-/// Adds a run with its number and what it asks, or none of these.
-fn push_all(
-    runs: &mut Vec<Run>,
-    numbers: &mut Vec<usize>,
-    asks: &mut Vec<RunAsks>,
-    run: Run,
-    number: usize,
-    asked: RunAsks,
-) -> Result<(), Refusal>
-    ensures run { Gives (λ _. runs.new.items) result (Ok (runs.old.items ++ run ∷ [])) }
-    ensures number { OnOk result (numbers.new.items ≡ numbers.old.items ++ number ∷ []) }
-    ensures asked { OnOk result (asks.new.items ≡ asks.old.items ++ asked ∷ []) }
-    ensures same_runs { OnErr result (runs.new.items ≡ runs.old.items) }
-    ensures same_numbers { OnErr result (numbers.new.items ≡ numbers.old.items) }
-    ensures same_asks { OnErr result (asks.new.items ≡ asks.old.items) }
-{
-    asks.push(asked)?;
-    match push_both(runs, numbers, run, number) {
-        Ok(()) => Ok(()),
-        Err(refusal) => {
-            let _ = asks.pop();
-            Err(refusal)
-        }
-    }
-}
-
-/// The same of runs that are kept with their numbers and with what they ask: they stay so.
-fn add_kept(
-    runs: &mut Vec<Run>,
-    numbers: &mut Vec<usize>,
-    asks: &mut Vec<RunAsks>,
-    run: Run,
-    number: usize,
-    asked: RunAsks,
-) -> Result<(), Refusal>
-    requires room { length runs.old.items < 100000 }
-    requires kept { AreNumbered runs.old.items numbers.old.items × AreBound runs.old.items asks.old.items }
-    requires number { number ≡ number_of_next runs.old.items run.admitted }
-    requires says { RunSays (record { event = run.admitted; run_id = decimal (length runs.old.items + 1); run_number = decimal number })
-        asked }
-    ensures added { Gives (λ _. runs.new.items) result (Ok (runs.old.items ++ run ∷ [])) }
-    ensures err { OnErr result (runs.new.items ≡ runs.old.items) }
-    ensures kept { AreNumbered runs.new.items numbers.new.items × AreBound runs.new.items asks.new.items }
-{
-    push_all(runs, numbers, asks, run, number, asked)
 }

@@ -3,7 +3,7 @@
 ghost use Rattle.std.specs.Prelude.{◌≡◌, IfOk, MatchOption, Ok};
 ghost use Rattle.wf_value.specs.Gives.{Gives};
 ghost use Rattle.workflow_runs.specs.BoundGroups.{ErrsOnlyByMemory};
-ghost use Rattle.run_table.specs.GroupSets.{AddsEach, AreGroupsOf, AreTaken, DifferInGroup, IsALeg, IsALegOfJob, IsALegOfRun, IsARun};
+ghost use Rattle.run_table.specs.GroupSets.{AddsEach, AreGroupsOf, AreTaken, DifferInGroup, IsALegOfJob, IsALegOfRun, IsAny, IsOfRun};
 ghost use Rattle.run_table.specs.GroupSets.{group_as, stands};
 ghost use Rattle.workflow_runs.specs.Groups.{HasOneEach};
 ghost use Rattle.workflow_runs.specs.Holders.{holder_in_words};
@@ -66,38 +66,40 @@ fn put(
     }
 }
 
-fn put_runs(
+/// Adds the groups of all runs and legs that stand so.
+fn put_all(
     alloc: Global,
     groups: &mut GroupSet,
     runs: &Runs,
     standing: Standing,
 ) -> Result<bool, Refusal>
     ensures err { ErrsOnlyByMemory result }
-    ensures put { IfOk result (AddsEach (group_as runs.now standing) groups.old groups.new IsARun) }
+    ensures put { IfOk result (AddsEach (group_as runs.now standing) groups.old groups.new IsAny) }
 {
     for r in 0..runs.len() {
-        if !put(alloc, groups, runs, standing, &Holder::Run(r))? {
+        if !put_of_run(alloc, groups, runs, standing, r)? {
             return Ok(false);
         }
     }
     Ok(true)
 }
 
-fn put_legs(
+/// Those of the run and of its legs.
+fn put_of_run(
     alloc: Global,
     groups: &mut GroupSet,
     runs: &Runs,
     standing: Standing,
+    r: usize,
 ) -> Result<bool, Refusal>
     ensures err { ErrsOnlyByMemory result }
-    ensures put { IfOk result (AddsEach (group_as runs.now standing) groups.old groups.new IsALeg) }
+    ensures put { IfOk result (AddsEach (group_as runs.now standing) groups.old groups.new (IsOfRun r)) }
 {
-    for r in 0..runs.len() {
-        if !put_legs_of_run(alloc, groups, runs, standing, r)? {
-            return Ok(false);
-        }
+    if put(alloc, groups, runs, standing, &Holder::Run(r))? {
+        put_legs_of_run(alloc, groups, runs, standing, r)
+    } else {
+        Ok(false)
     }
-    Ok(true)
 }
 
 fn put_legs_of_run(
@@ -149,13 +151,11 @@ fn groups_of(alloc: Global, runs: &Runs, standing: Standing) -> Result<Option<Gr
         (λ groups. DifferInGroup (group_as runs.now standing) × AreGroupsOf (group_as runs.now standing) groups)) }
 {
     let mut groups = GroupSet::new(alloc);
-    if !put_runs(alloc, &mut groups, runs, standing)? {
-        return Ok(None);
+    if put_all(alloc, &mut groups, runs, standing)? {
+        Ok(Some(groups))
+    } else {
+        Ok(None)
     }
-    if !put_legs(alloc, &mut groups, runs, standing)? {
-        return Ok(None);
-    }
-    Ok(Some(groups))
 }
 
 /// The groups in which somebody runs, where each group has at most one pending and one running holder.

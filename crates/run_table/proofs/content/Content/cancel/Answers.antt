@@ -6,18 +6,12 @@ use Rattle.workflow_runs.specs.Stops.{stopped_run}
 use Rattle.run_table.proofs.BeforeSettling.{so_settles, stopped_may_settle}
 use Rattle.run_table.proofs.content.Content.cancel.Goals as goal
 
-pub settle-requires-clause-sound : goal.settle-requires-clause-sound
-settle-requires-clause-sound c =
+pub settle-requires : goal.settle-requires
+settle-requires c =
     let t = c.args.self.now in
-    (so_settles (with_run (c.args.id - 1) stopped_run t.runs) c.stop.new.self
+    let may =
+    so_settles (with_run (c.args.id - 1) stopped_run t.runs) c.stop.new.self
     (c.stop.ensures ∙ ap (λ n. with_run n stopped_run c.self.inside.runs) c.place_of.ensures
     ∙ ap (λ (s : TableState). with_run (c.args.id - 1) stopped_run s.runs) c.self.view_is)
-    (stopped_may_settle t (c.args.id - 1) c.requires)).sound
-
-pub settle-requires-clause-one_each : goal.settle-requires-clause-one_each
-settle-requires-clause-one_each c =
-    let t = c.args.self.now in
-    (so_settles (with_run (c.args.id - 1) stopped_run t.runs) c.stop.new.self
-    (c.stop.ensures ∙ ap (λ n. with_run n stopped_run c.self.inside.runs) c.place_of.ensures
-    ∙ ap (λ (s : TableState). with_run (c.args.id - 1) stopped_run s.runs) c.self.view_is)
-    (stopped_may_settle t (c.args.id - 1) c.requires)).one_each
+    (stopped_may_settle t (c.args.id - 1) c.requires) in
+    record { sound = may.sound; one_each = may.one_each }

@@ -5,22 +5,13 @@ use Rattle.run_table.specs.Turns.{runner_named}
 use Rattle.run_table.proofs.BeforeSettling.{lost_may_settle}
 use Rattle.run_table.proofs.content.Content.lose.Goals as goal
 
-pub end_lost-requires-clause-ends : goal.end_lost-requires-clause-ends
-end_lost-requires-clause-ends c =
+pub end_lost-requires : goal.end_lost-requires
+end_lost-requires c =
     let name = c.args.name.now in
     let named : runner_named c.args.self.now.runners name ≡ Some c.in-Some.runner.now =
     ap (λ (t : TableState). runner_named t.runners name) (sym c.self.view_is)
     ∙ sym c.in-Some.ensures in
     let holds : c.in-Some.runner.now.holds ≡ Some c.in-Some-holds.lease =
     ap (λ (r : RunnerState). r.holds) (sym c.runner.view_is) ∙ c.in-Some-holds.is in
-    (lost_may_settle c.args.self.now name c.in-Some.runner.now c.in-Some-holds.lease c.requires named holds).sound
-
-pub end_lost-requires-clause-one_each : goal.end_lost-requires-clause-one_each
-end_lost-requires-clause-one_each c =
-    let name = c.args.name.now in
-    let named : runner_named c.args.self.now.runners name ≡ Some c.in-Some.runner.now =
-    ap (λ (t : TableState). runner_named t.runners name) (sym c.self.view_is)
-    ∙ sym c.in-Some.ensures in
-    let holds : c.in-Some.runner.now.holds ≡ Some c.in-Some-holds.lease =
-    ap (λ (r : RunnerState). r.holds) (sym c.runner.view_is) ∙ c.in-Some-holds.is in
-    (lost_may_settle c.args.self.now name c.in-Some.runner.now c.in-Some-holds.lease c.requires named holds).one_each
+    let may = lost_may_settle c.args.self.now name c.in-Some.runner.now c.in-Some-holds.lease c.requires named holds in
+    record { ends = may.sound; one_each = may.one_each }

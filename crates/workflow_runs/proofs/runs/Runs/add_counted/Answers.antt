@@ -1,23 +1,34 @@
-use Rattle.std.proofs.Common.{◌≡◌, ◌+◌, ◌++◌, ◌∷◌, [], ℕ, List, ap, sym, subst, ◌∙◌, rules}
+use Rattle.std.proofs.Common.{◌≡◌, ◌+◌, ◌++◌, ◌∷◌, ◌<◌, [], ℕ, List, length, ap, sym, subst, ◌∙◌, rules}
+use Rattle.std.specs.Fmt.{decimal}
 use Rattle.run_plan.specs.Admitted.{Admitted}
-use Rattle.workflow_runs.specs.Counted.{AreCounted, count_of}
+use Rattle.workflow_runs.specs.Asks.{RunSays}
+use Rattle.workflow_runs.specs.Counted.{count_of}
 use Rattle.workflow_runs.specs.Delivered.{FindsFirst}
 use Rattle.workflow_runs.specs.RunNumber.{events, number_of_next, same_workflow}
 use Rattle.workflow_runs.specs.RunState.{RunState}
-use Rattle.workflow_runs.proofs.Doors.{given}
 use Rattle.workflow_runs.proofs.Indexed.{counted_more, events_more}
 use Rattle.workflow_runs.proofs.RunNumbers.{count_of_map}
+use Rattle.workflow_runs.proofs.StillBound.{AreKept, all_added, kept_in}
 use Rattle.workflow_runs.proofs.runs.Runs.add_counted.Goals as goal
+use Rattle.workflow_runs.proofs.runs.Runs.add_counted.Goals.{In_ok-reserve}
 
--- the number is that of one run more
-pub add_kept-requires-clause-number : goal.add_kept-requires-clause-number
-add_kept-requires-clause-number c =
-    let same : c.prepared.result.now ≡ c.args.run.admitted = search rules in
-    c.in_ok-number.ensures.number
-    ∙ ap (λ (runs : List RunState). number_of_next runs c.prepared.result.now) c.as_slice-runs.ensures.value
-    ∙ ap (number_of_next c.self.inside.runs.items) same
+-- the runs are kept as before where memory is refused
+still_kept : (c : In_ok-reserve)
+    → AreKept c.self.inside.runs.items c.self.inside.numbers.items c.self.inside.asks.items c.make_room.new.self
+still_kept c =
+    kept_in c.self.inside.runs.items c.as_slice-runs.result.now c.self.inside.numbers.items c.self.inside.asks.items c.self.inside.index
+    c.make_room.new.self c.as_slice-runs.ensures.value c.self.invariant c.make_room.ensures.finds c.make_room.ensures.counted
 
--- the run is found by its delivery, and counted
+pub invariant_of-self-in_err-reserve-2 : goal.invariant_of-self-in_err-reserve-2
+invariant_of-self-in_err-reserve-2 c =
+    rw (c.reserve.ensures.items, c.reserve-2.ensures.items) (still_kept (goal.at.invariant_of-self-in_err-reserve-2 c).In_ok-reserve)
+
+pub invariant_of-self-in_err-reserve-3 : goal.invariant_of-self-in_err-reserve-3
+invariant_of-self-in_err-reserve-3 c =
+    rw (c.reserve.ensures.items, c.reserve-2.ensures.items, c.reserve-3.ensures.items)
+    (still_kept (goal.at.invariant_of-self-in_err-reserve-3 c).In_ok-reserve)
+
+-- the run is kept with its number and with what it asks; it is found by its delivery, and counted
 pub invariant_of-self-2 : goal.invariant_of-self-2
 invariant_of-self-2 c =
     let items = c.self.inside.runs.items in
@@ -26,21 +37,34 @@ invariant_of-self-2 c =
     let counts = c.make_room.new.self.counts.counts in
     let same : c.prepared.result.now ≡ event = search rules in
     let all : c.as_slice-runs.result.now ≡ items = c.as_slice-runs.ensures.value in
-    let more = given _ _ c.in_ok-add_kept.ensures.added in
     let found : FindsFirst (events (items ++ c.args.run ∷ [])) places =
     subst (λ (es : List Admitted). FindsFirst es places)
     (ap (λ (runs : List RunState). events runs ++ c.prepared.result.now ∷ []) all ∙ ap (λ (e : Admitted). events items ++ e ∷ []) same
     ∙ sym (events_more items c.args.run)) c.in_ok-number.ensures.one_more in
-    let counted = subst (λ (runs : List RunState). AreCounted (events runs) counts) all c.make_room.ensures.counted in
-    let number : c.in_ok-number.number ≡ count_of counts event + 1 =
+    let counted = (still_kept (goal.at.invariant_of-self-2 c).In_ok-reserve).3 in
+    let next : c.in_ok-number.number ≡ number_of_next items event =
     c.in_ok-number.ensures.number
     ∙ ap (λ (runs : List RunState). number_of_next runs c.prepared.result.now) all
-    ∙ ap (number_of_next items) same
-    ∙ ap (λ (n : ℕ). n + 1) (count_of_map (same_workflow event) (λ (run : RunState). run.admitted) items ∙ sym (counted event)) in (
-      c.add_kept.ensures.kept.0,
-      c.add_kept.ensures.kept.1,
-      subst (λ (runs : List RunState). FindsFirst (events runs) places) more found,
-      subst (λ (runs : List RunState). AreCounted (events runs) c.add.new.self.counts) more
-          (counted_more items c.args.run counts c.add.new.self.counts counted
-          (λ other. c.add.ensures.counted event other c.requires.workflow number)),
+    ∙ ap (number_of_next items) same in
+    let number : c.in_ok-number.number ≡ count_of counts event + 1 =
+    next ∙ ap (λ (n : ℕ). n + 1) (count_of_map (same_workflow event) (λ (run : RunState). run.admitted) items ∙ sym (counted event)) in
+    let room : length items < 100000 = subst (λ (runs : List RunState). length runs < 100000) (sym c.self.view_is) c.requires.room in
+    let says : RunSays (record { event = event; run_id = decimal (length items + 1); run_number = decimal c.in_ok-number.number })
+    c.in_ok-asked.asked = search rules in
+    let kept =
+    all_added items c.args.run c.self.inside.numbers.items c.self.inside.asks.items c.in_ok-number.number c.in_ok-asked.asked room
+    (c.self.invariant.0, c.self.invariant.1) next says in
+    rw (
+      c.push_reserved.ensures.items,
+      c.push_reserved-2.ensures.items,
+      c.push_reserved-3.ensures.items,
+      c.reserve.ensures.items,
+      c.reserve-2.ensures.items,
+      c.reserve-3.ensures.items,
+    ) (
+      kept.0,
+      kept.1,
+      found,
+      counted_more items c.args.run counts c.add.new.self.counts counted
+          (λ other. c.add.ensures.counted event other c.requires.workflow number),
     )

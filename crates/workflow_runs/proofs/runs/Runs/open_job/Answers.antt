@@ -1,10 +1,5 @@
-use Rattle.std.proofs.Common.{◌≡◌, ap, subst, List, rules}
-use Rattle.std.specs.Prelude.{slice_set}
-use Rattle.workflow_runs.specs.FirstOf.{changed_at}
-use Rattle.workflow_runs.specs.RunState.{RunState}
-use Rattle.workflow_runs.specs.Rules.{opened}
-use Rattle.workflow_runs.specs.Words.{planned_legs}
-use Rattle.workflow_runs.proofs.Doors.{changed_within, changed_past, opened_in_run}
+use Rattle.std.proofs.Common.{ap, rules}
+use Rattle.workflow_runs.proofs.Doors.{opened_in_run, past_there, written_there}
 use Rattle.workflow_runs.proofs.StillBound.{still_kept}
 use Rattle.workflow_runs.proofs.runs.Runs.open_job.Goals as goal
 
@@ -16,18 +11,10 @@ invariant_of-self c =
 
 pub returns-then-r-len : goal.returns-then-r-len
 returns-then-r-len c =
-    let change : RunState → RunState =
-    λ run. record run { jobs = changed_at c.args.j (opened (planned_legs c.args.self.now c.args.r c.args.j)) run.jobs } in
-    subst (λ (xs : List RunState). slice_set c.self.inside.runs.items c.args.r c.open_job.new.self
-    ≡ changed_at c.args.r change xs) c.self.view_is
-    (changed_within change c.self.inside.runs.items c.args.r c.index_mut-run.result.now c.open_job.new.self
-    (search rules) c.index_mut-run.ensures.value
+    written_there _ c.self.inside.runs.items c.args.self.now c.args.r c.index_mut-run.result.now c.open_job.new.self
+    c.self.view_is (search rules) c.index_mut-run.ensures.value
     (opened_in_run c.self.inside.runs.items c.args.self.now c.args.r c.args.j c.index_mut-run.result.now c.open_job.new.self
-    c.self.view_is (search rules) c.index_mut-run.ensures.value c.open_job.ensures))
+    c.self.view_is (search rules) c.index_mut-run.ensures.value c.open_job.ensures)
 
 pub returns-else-r-len : goal.returns-else-r-len
-returns-else-r-len c =
-    let change : RunState → RunState =
-    λ run. record run { jobs = changed_at c.args.j (opened (planned_legs c.args.self.now c.args.r c.args.j)) run.jobs } in
-    subst (λ (xs : List RunState). xs ≡ changed_at c.args.r change xs) c.self.view_is
-    (changed_past change c.self.inside.runs.items c.args.r (search rules))
+returns-else-r-len c = past_there _ c.self.inside.runs.items c.args.self.now c.args.r c.self.view_is (search rules)

@@ -1,8 +1,5 @@
-use Rattle.std.proofs.Common.{◌≡◌, ap, subst, List, rules}
-use Rattle.std.specs.Prelude.{slice_set}
-use Rattle.workflow_runs.specs.FirstOf.{changed_at}
-use Rattle.workflow_runs.specs.RunState.{RunState}
-use Rattle.workflow_runs.proofs.Doors.{changed_within, changed_past}
+use Rattle.std.proofs.Common.{ap, rules}
+use Rattle.workflow_runs.proofs.Doors.{past_there, written_there}
 use Rattle.workflow_runs.proofs.StillBound.{still_kept}
 use Rattle.workflow_runs.proofs.runs.Runs.set_leg.Goals as goal
 
@@ -14,22 +11,8 @@ invariant_of-self c =
 
 pub returns-then-r-len : goal.returns-then-r-len
 returns-then-r-len c =
-    let change : RunState → RunState =
-    λ run. record run {
-      jobs =
-          changed_at c.args.j (λ job. record job { legs = changed_at c.args.l (λ _. c.args.leg) job.legs }) run.jobs;
-    } in
-    subst (λ (xs : List RunState). slice_set c.self.inside.runs.items c.args.r c.set_leg.new.self
-    ≡ changed_at c.args.r change xs) c.self.view_is
-    (changed_within change c.self.inside.runs.items c.args.r c.index_mut-run.result.now c.set_leg.new.self
-    (search rules) c.index_mut-run.ensures.value (c.set_leg.ensures))
+    written_there _ c.self.inside.runs.items c.args.self.now c.args.r c.index_mut-run.result.now c.set_leg.new.self
+    c.self.view_is (search rules) c.index_mut-run.ensures.value c.set_leg.ensures
 
 pub returns-else-r-len : goal.returns-else-r-len
-returns-else-r-len c =
-    let change : RunState → RunState =
-    λ run. record run {
-      jobs =
-          changed_at c.args.j (λ job. record job { legs = changed_at c.args.l (λ _. c.args.leg) job.legs }) run.jobs;
-    } in
-    subst (λ (xs : List RunState). xs ≡ changed_at c.args.r change xs) c.self.view_is
-    (changed_past change c.self.inside.runs.items c.args.r (search rules))
+returns-else-r-len c = past_there _ c.self.inside.runs.items c.args.self.now c.args.r c.self.view_is (search rules)

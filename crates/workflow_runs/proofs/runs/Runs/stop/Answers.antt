@@ -1,9 +1,5 @@
-use Rattle.std.proofs.Common.{◌≡◌, ap, subst, ◌∙◌, List, rules}
-use Rattle.std.specs.Prelude.{slice_set}
-use Rattle.workflow_runs.specs.FirstOf.{changed_at}
-use Rattle.workflow_runs.specs.RunState.{RunState}
-use Rattle.workflow_runs.specs.Stops.{stopped_run}
-use Rattle.workflow_runs.proofs.Doors.{changed_within, changed_past}
+use Rattle.std.proofs.Common.{ap, ◌∙◌, rules}
+use Rattle.workflow_runs.proofs.Doors.{past_there, written_there}
 use Rattle.workflow_runs.proofs.StoppedRuns.{stopped_admitted}
 use Rattle.workflow_runs.proofs.StillBound.{still_kept}
 use Rattle.workflow_runs.proofs.runs.Runs.stop.Goals as goal
@@ -17,14 +13,8 @@ invariant_of-self c =
 
 pub returns-then-r-len : goal.returns-then-r-len
 returns-then-r-len c =
-    let change : RunState → RunState = stopped_run in
-    subst (λ (xs : List RunState). slice_set c.self.inside.runs.items c.args.r c.stop.new.self
-    ≡ changed_at c.args.r change xs) c.self.view_is
-    (changed_within change c.self.inside.runs.items c.args.r c.index_mut-run.result.now c.stop.new.self
-    (search rules) c.index_mut-run.ensures.value (c.stop.ensures))
+    written_there _ c.self.inside.runs.items c.args.self.now c.args.r c.index_mut-run.result.now c.stop.new.self
+    c.self.view_is (search rules) c.index_mut-run.ensures.value c.stop.ensures
 
 pub returns-else-r-len : goal.returns-else-r-len
-returns-else-r-len c =
-    let change : RunState → RunState = stopped_run in
-    subst (λ (xs : List RunState). xs ≡ changed_at c.args.r change xs) c.self.view_is
-    (changed_past change c.self.inside.runs.items c.args.r (search rules))
+returns-else-r-len c = past_there _ c.self.inside.runs.items c.args.self.now c.args.r c.self.view_is (search rules)
