@@ -1,10 +1,11 @@
 -- What a commit leaves.
 use Rattle.std.proofs.Common.{◌≡◌, ⊎_elim, ℕ, ◌+◌, ◌-◌, ◌<◌, ◌≤◌, List, [], ◌∷◌, ◌++◌, length, drop}
-use Rattle.std.proofs.Common.{refl, sym, ◌∙◌, ap, subst, arith, drop_of_length-le}
+use Rattle.std.proofs.Common.{false, refl, sym, ◌∙◌, ap, subst, arith, drop_of_length-le}
 use Rattle.std.specs.List.{AllByRecursion}
 use Rattle.std.proofs.lemmas.List.{take_all, length-drop, length-map}
 use Rattle.act_disk.specs.Images.{EachSince}
 use Rattle.act_disk.specs.Moments.{weakened}
+use Rattle.gated_journal.specs.Layout.{Head, opened}
 use Rattle.gated_journal.specs.Whole.{StandsWhole, WholeOrGrew}
 use Rattle.gated_journal.specs.declared.gate.Gate.{Gate}
 use Rattle.gated_journal.specs.declared.side.Side.{Side}
@@ -95,14 +96,6 @@ module _ {D : Type 0} (s : Kept D) (table : TableState) (waiting : Waits) (count
           grown images side gate s counted.size settled takes c
           (subst (λ (b : List ℕ). WholeOrGrew s.area side gate settled.head settled.bodies b c) waits either)
 
-      pub commit_moments : (moment : D → ℕ) (images_since : D → ℕ → List ℕ → Type 0) (disk : D)
-          → EachSince moment images_since s.disk disk (WholeOrGrew s.area side gate settled.head settled.bodies (body_of waiting))
-          → EachSince moment images_since s.disk disk (StandsForEither s)
-      commit_moments moment images_since disk since =
-          weakened moment images_since s.disk disk (WholeOrGrew s.area side gate settled.head settled.bodies (body_of waiting))
-          (StandsForEither s)
-          since commit_each
-
       pub commit_settled : (disk : D)
           → ((c : List ℕ) → images disk c → StandsWhole s.area side gate c settled.head (settled.bodies ++ body_of waiting ∷ []))
           → IsSettled s.area side gate s.generation (used_after s) (table_of s) (images disk)
@@ -128,3 +121,18 @@ pub same_committed : {D : Type 0} (s : Kept D) (disk : D) (covered used : ℕ) �
 same_committed s disk covered used all is =
     ap (λ (n : ℕ). record s { disk = disk; covered = n; used = used_after s }) (sym all)
     ∙ ap (λ (n : ℕ). record s { disk = disk; covered = covered; used = n }) (sym is)
+
+-- Each image since a commit began, as a store of this view says it, where the disk grew from what was settled.
+pub commit_moments : {D : Type 0} (s v : Kept D) (table : TableState) (waiting : Waits) → IsCounted s table waiting → 0 < waiting.count
+    → s.failed ≡ false → (images : D → List ℕ → Type 0) (side : Side) (gate : Gate) (honest : D → Type 0)
+    → (honest s.disk → IsStanding images side gate s) → (moment : D → ℕ) (images_since : D → ℕ → List ℕ → Type 0) (disk : D)
+    → ((head : Head) (bodies : List (List ℕ)) → honest s.disk
+    → ((c : List ℕ) → images s.disk c → StandsWhole s.area side gate c head bodies) → s.used ≡ length (opened head bodies)
+    → EachSince moment images_since s.disk disk (WholeOrGrew s.area side gate head bodies (body_of waiting)))
+    → s ≡ v → honest v.disk → EachSince moment images_since v.disk disk (StandsForEither v)
+commit_moments {D} s v table waiting counted some live images side gate honest standing moment images_since disk grows is =
+    subst (λ (k : Kept D). honest k.disk → EachSince moment images_since k.disk disk (StandsForEither k)) is (λ is_honest.
+    let settled = (standing is_honest).settled live in
+    weakened moment images_since s.disk disk (WholeOrGrew s.area side gate settled.head settled.bodies (body_of waiting))
+    (StandsForEither s) (grows settled.head settled.bodies is_honest settled.each settled.used_is)
+    (commit_each s table waiting counted some images side gate settled))

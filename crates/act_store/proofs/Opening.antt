@@ -1,9 +1,9 @@
 -- What a disk that is opened stands for.
 use Rattle.std.proofs.Common.{◌≡◌, ℕ, ◌+◌, List, length, sym, subst, arith}
-use Rattle.std.specs.Prelude.{Some, None, IfErr, Result, Ok, Err}
+use Rattle.std.specs.Prelude.{Some}
 use Rattle.act_disk.specs.Images.{Only}
 use Rattle.gated_journal.specs.Layout.{Head, Reads}
-use Rattle.gated_journal.specs.TwoAreas.{area_on, standing, Spells}
+use Rattle.gated_journal.specs.TwoAreas.{area_on, Spells}
 use Rattle.gated_journal.specs.Whole.{IsChosen, StandsWhole}
 use Rattle.gated_journal.specs.declared.chosen.Chosen.{Chosen}
 use Rattle.gated_journal.specs.declared.side.Side.{Side}
@@ -12,28 +12,15 @@ use Rattle.act_store.specs.Opened.{IsFound}
 use Rattle.act_store.specs.Promise.{IsSettled}
 use Rattle.act_store.specs.Spelled.{SpellsArea}
 use Rattle.act_store.specs.declared.found.Found.{Found}
-use Rattle.act_store.specs.declared.spelled.Spelled.{Spelled}
 use Rattle.act_store.proofs.Spelling.{SpellsNone}
-
--- what holds of each error
-pub of_any_err : {T E : Type 0} (r : Result T E) (P : E → Type 0) → ((e : E) → P e) → IfErr r P
-of_any_err (Ok x) P each = tt
-of_any_err (Err e) P each = each e
 
 module _ (len : ℕ) (file : List ℕ) (long : length file ≡ len + len) where
   same_len : (other : ℕ) → length file ≡ other + other → other ≡ len
   same_len other is = omega (arith, long, is)
 
-  pub no_area_in : standing len file ≡ None → HasNoArea file
-  no_area_in none other is size = subst (λ (n : ℕ). standing n file ≡ None) (sym (same_len other is)) none
-
   module _ (chosen : Chosen) (is_chosen : IsChosen len (Some chosen) file) where
-    pub one_stands : IsAreaLength len → HasNoArea file → ⊥
+    one_stands : IsAreaLength len → HasNoArea file → ⊥
     one_stands size nothing = let shut = nothing len long size in absurd (cc (shut, is_chosen.0))
-
-    pub found_in : (spelled : Spelled) → SpellsArea (area_on len chosen.side file) spelled.generation spelled.used spelled.table
-        → IsFound (record { area = len; chosen = chosen; spelled = spelled }) file
-    found_in spelled spells = record { long = long; stands = is_chosen.0; gate = is_chosen.1; spelled = spells }
 
     reads_there : (side : Side) (head : Head) (bodies : List (List ℕ)) → Spells len side file head bodies
         → Reads (area_on len chosen.side file) head bodies

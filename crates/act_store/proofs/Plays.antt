@@ -49,14 +49,12 @@ module _ {D : Type 0} (during : Kept D → Played → Kept D → Type 0) (old : 
       (subst (λ (l : List Played). Plays during old (take i steps ++ step ∷ []) l new) (sym all_is)
       (plays_more during old mid new (take i steps) answers step answer plays takes so))
 
-  pub first_played : (new : Kept D) (i : ℕ) (answers : List Played) → Plays during old (take i steps) answers new
-      → PlaysSome during old steps new
-  first_played new i answers plays =
+  -- where no more of them are played
+  pub first_played : {T E : Type 0} (r : Result T E) (new : Kept D) (i : ℕ) (answers : List Played)
+      → Plays during old (take i steps) answers new → OnErr r (PlaysSome during old steps new)
+  first_played (Ok x) new i answers plays = tt
+  first_played (Err e) new i answers plays =
       record { first = take i steps; others = drop i steps; split = sym (take-append-drop i steps); answers = answers; plays = plays }
-
-pub on_err : {T E : Type 0} (r : Result T E) (P : Type 0) → P → OnErr r P
-on_err (Ok x) P p = tt
-on_err (Err e) P p = p
 
 -- ---- why a command is refused
 
@@ -171,7 +169,7 @@ module _ {D : Type 0} where
 
   -- ---- whatever came of the steps
 
-  pub some_played : (during : Kept D → Played → Kept D → Type 0) {V E : Type 0} (items : V → List Played) (result : Result V E)
+  some_played : (during : Kept D → Played → Kept D → Type 0) {V E : Type 0} (items : V → List Played) (result : Result V E)
       (old new : Kept D)
       (steps : List Step) → IfOk result (λ v. Plays during old steps (items v) new) → OnErr result (PlaysSome during old steps new)
       → PlaysSome during old steps new
@@ -239,20 +237,27 @@ module _ {D : Type 0} where
 
     -- ---- what a play leaves, whatever came of it
 
-    module _ (images : D → List ℕ → Type 0) (only : (disk : D) → honest disk → (c : List ℕ) → images_since disk (moment disk) c
-        → images disk c)
-        (old new : Kept D) (steps : List Step) (part : PlaysSome during old steps new) (within : old.covered ≤ length old.history)
-        (promise : honest new.disk → (c : List ℕ) → images new.disk c → StandsForEither new c) where
-      pub play_grows : Grows old new
-      play_grows = plays_grows during old new part.first part.answers part.plays within
+    pub record PlayLeaves (images : D → List ℕ → Type 0) (old new : Kept D) : Type 0 where
+      pub grows : Grows old new
+      pub stays_honest : honest new.disk ↔ honest old.disk
+      pub any_moment : honest old.disk → EachSince moment images_since old.disk new.disk (StandsForSome new.base new.history old.covered)
+      pub stands : honest new.disk → (c : List ℕ) → images new.disk c → StandsForSome new.base new.history new.covered c
 
-      pub play_honest : honest new.disk ↔ honest old.disk
-      play_honest = honest_of old new part.first part.answers part.plays
-
-      pub play_moments : honest old.disk → EachSince moment images_since old.disk new.disk (StandsForSome new.base new.history old.covered)
-      play_moments is_honest =
-          let still = play_honest.1 is_honest in
-          moments_of old new part.first part.answers part.plays within is_honest (λ c left. promise still c (only new.disk still c left))
-
-      pub play_stands : honest new.disk → (c : List ℕ) → images new.disk c → StandsForSome new.base new.history new.covered c
-      play_stands still c now = either_now new play_grows.within c (promise still c now)
+    pub play_leaves : (images : D → List ℕ → Type 0) → ((disk : D) → honest disk → (c : List ℕ) → images_since disk (moment disk) c
+        → images disk c) → {V E : Type 0} (items : V → List Played) (result : Result V E) (old new : Kept D) (steps : List Step)
+        → IfOk result (λ v. Plays during old steps (items v) new) → OnErr result (PlaysSome during old steps new)
+        → old.covered ≤ length old.history → (honest new.disk → (c : List ℕ) → images new.disk c → StandsForEither new c)
+        → PlayLeaves images old new
+    play_leaves images only items result old new steps all part within promise =
+        let some = some_played during items result old new steps all part in
+        let grows = plays_grows during old new some.first some.answers some.plays within in
+        let stays = honest_of old new some.first some.answers some.plays in
+        record {
+          grows = grows;
+          stays_honest = stays;
+          any_moment = λ is_honest.
+              let still = stays.1 is_honest in
+              moments_of old new some.first some.answers some.plays within is_honest
+              (λ c left. promise still c (only new.disk still c left));
+          stands = λ still c now. either_now new grows.within c (promise still c now);
+        }

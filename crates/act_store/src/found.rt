@@ -57,39 +57,6 @@ fn spelled_at<D: Disk>(alloc: Global, disk: &mut D, area: Area) -> Result<Option
     spelled_in(alloc, bytes.as_slice())
 }
 
-/// Finds what stands on a disk of two areas, each `len` bytes long.
-fn find_in<D: Disk>(alloc: Global, disk: &mut D, len: u64) -> Result<Found, Refusal>
-    requires countable { D.fault_count disk.old < u64.MAX }
-    requires size { D.size disk.old ≡ len + len }
-    requires area { IsAreaLength len }
-    ensures found { IfOk result (λ found. D.honest disk.new → IsFound found (D.seen disk.old)) }
-    ensures area { IfOk result (λ found. (found.area ≡ len) × (found.spelled.used < len)) }
-    ensures no_area { result ≡ Err no_area → D.honest disk.new → HasNoArea (D.seen disk.old) }
-    ensures no_table { result ≡ Err no_table → D.honest disk.new → HasNoTable (D.seen disk.old) }
-    ensures nothing_stands { IfErr result (λ e. D.honest disk.new → HasNoArea (D.seen disk.old) → TellsNoArea e) }
-    ensures refused { IfErr result RefusesOpening }
-    ensures stable { OnOk result (D.honest disk.new → Only (D.seen disk.old) (D.images disk.new)) }
-    ensures any_moment { D.honest disk.new → EachSince D.moment D.images_since disk.old disk.new (D.images disk.old) }
-    ensures faults { TellsFault result (D.fault_count disk.old) (D.fault_count disk.new) }
-    ensures honest { D.honest disk.new → D.honest disk.old }
-{
-    let Some(chosen) = choose(disk, len)? else {
-        return Err(Refusal::Numbered(Code::NoArea));
-    };
-    let areas = Standing {
-        len,
-        side: chosen.side,
-    };
-    match spelled_at(alloc, disk, areas.area(chosen.side))? {
-        Some(spelled) => Ok(Found {
-            area: len,
-            chosen,
-            spelled,
-        }),
-        None => Err(Refusal::Numbered(Code::NoTable)),
-    }
-}
-
 /// Syncs, and finds what stands on a disk. No image comes to those that a stop might have left before.
 pub(crate) fn find<D: Disk>(alloc: Global, disk: &mut D) -> Result<Found, Refusal>
     requires { D.fault_count disk.old < u64.MAX }
@@ -105,8 +72,18 @@ pub(crate) fn find<D: Disk>(alloc: Global, disk: &mut D) -> Result<Found, Refusa
     ensures faults { TellsFault result (D.fault_count disk.old) (D.fault_count disk.new) }
     ensures honest { D.honest disk.new → D.honest disk.old }
 {
-    match area_length(disk.len()) {
-        Some(len) => find_in(alloc, disk, len),
-        None => Err(Refusal::Numbered(Code::NoArea)),
+    let len = area_length(disk.len()).ok_or(Refusal::Numbered(Code::NoArea))?;
+    let chosen = choose(disk, len)?.ok_or(Refusal::Numbered(Code::NoArea))?;
+    let areas = Standing {
+        len,
+        side: chosen.side,
+    };
+    match spelled_at(alloc, disk, areas.area(chosen.side))? {
+        Some(spelled) => Ok(Found {
+            area: len,
+            chosen,
+            spelled,
+        }),
+        None => Err(Refusal::Numbered(Code::NoTable)),
     }
 }

@@ -7,13 +7,19 @@ use Rattle.gated_journal.specs.Choice.{part}
 use Rattle.gated_journal.specs.Layout.{Head, IsClosed, Fits}
 use Rattle.gated_journal.specs.OnDisk.{WouldReadAt}
 use Rattle.gated_journal.specs.TwoAreas.{behind_gate}
-use Rattle.gated_journal.specs.Whole.{AreLaid, StandsWhole}
+use Rattle.gated_journal.specs.Whole.{StandsWhole}
 use Rattle.gated_journal.specs.declared.gate.Gate.TheVariants.{Closed}
 use Rattle.gated_journal.specs.declared.side.Side.TheVariants.{First}
 use Rattle.gated_journal.proofs.Filled.{would_of}
 use Rattle.gated_journal.proofs.Frames.{length-part, part_held}
 use Rattle.gated_journal.proofs.Gates.{gate_opened}
 use Rattle.gated_journal.proofs.TwoAreas.{shut_beside}
+
+-- Two areas without an open gate: the first begins with these bytes.
+pub record AreLaid (len : ℕ) (front disk : List ℕ) : Type 0 where
+  pub whole : length disk ≡ len + len
+  pub front_is : Holds disk 0 front
+  pub other_gate : Holds disk len (0 ∷ [])
 
 -- what stands behind the first byte
 holds_behind : (file : List ℕ) (at first : ℕ) (rest : List ℕ) → Holds file at (first ∷ rest) → Holds file (at + 1) rest

@@ -52,28 +52,32 @@ or_more moment images_since old new len side head bodies more since =
 module _ (len : ℕ) (side : Side) (head : Head) (bodies : List (List ℕ)) (front : List ℕ) (used at : ℕ) (seen_old seen_new : List ℕ)
     (images_old images_new : List ℕ → Type 0)
     (under : IsUnderWay len side head bodies front used at seen_old images_old) (here : images_old seen_old) where
-  pub long : len + len ≤ length seen_old
+  long : len + len ≤ length seen_old
   long = (under.each seen_old here).spells.long
 
   pub put_on : (bytes : List ℕ) (next : ℕ) → next ≡ at + length bytes
       → ((c : List ℕ) → images_new c → Stands len side Closed c head bodies)
-      → Holds seen_new (start_of len (other side) + 1) (front ++ bytes)
+      → (at ≡ 1 + length front → len + len ≤ length seen_old → Holds seen_old (start_of len (other side) + 1) front
+      → Holds seen_new (start_of len (other side) + 1) (front ++ bytes))
       → IsUnderWay len side head (bodies ++ []) (front ++ bytes) used next seen_new images_new
-  put_on bytes next is each held = record {
+  put_on bytes next is each grown = record {
     each = λ c now. subst (λ (l : List (List ℕ)). Stands len side Closed c head l) (sym (append-nil bodies)) (each c now);
     used_is = under.used_is ∙ ap (λ (l : List (List ℕ)). length (opened head l)) (sym (append-nil bodies));
     at_is = omega (arith, is, under.at_is, length-append front bytes);
-    held = held;
+    held = grown under.at_is long under.held;
   }
 
   pub append_on : (body : List ℕ) (next : ℕ) → next ≡ used + length (record_of body) → Only seen_new images_new
-      → Stands len side Closed seen_new head (bodies ++ body ∷ []) → Holds seen_new (start_of len (other side) + 1) front
+      → Stands len side Closed seen_new head (bodies ++ body ∷ []) → at ≤ len
+      → (len + len ≤ length seen_old → 1 + length front ≤ len → Holds seen_old (start_of len (other side) + 1) front
+      → Holds seen_new (start_of len (other side) + 1) front)
       → IsUnderWay len side head (bodies ++ body ∷ []) (front ++ []) next at seen_new images_new
-  append_on body next is only stands held = record {
+  append_on body next is only stands within beside = record {
     each = λ c now. subst (λ (l : List ℕ). Stands len side Closed l head (bodies ++ body ∷ [])) (sym ((only c).0 now)) stands;
     used_is = omega (arith, is, under.used_is, used_more head bodies body);
     at_is = under.at_is ∙ ap (λ (l : List ℕ). 1 + length l) (sym (append-nil front));
-    held = subst (λ (l : List ℕ). Holds seen_new (start_of len (other side) + 1) l) (sym (append-nil front)) held;
+    held = subst (λ (l : List ℕ). Holds seen_new (start_of len (other side) + 1) l) (sym (append-nil front))
+        (beside long (omega (arith, under.at_is, within)) under.held);
   }
 
 -- one call of a list and those behind it
@@ -184,10 +188,12 @@ module _ {D : Type 0} (moment : D → ℕ) (images_since : D → ℕ → List �
           stands = subst (λ (l : List (List ℕ)). StandsEither len side head l c) (sym (append-nil bodies)) stands;
         }))
 
-    pub then_made : (old mid new : D) → EachSince moment images_since old mid Ever
+    -- and the calls behind it
+    pub then_made : (old mid new : D) → EachSince moment images_since old mid (StandsEither len side head bodies)
         → EachSince moment images_since mid new (StandsBefore len side head bodies appended) → EachSince moment images_since old new Ever
     then_made old mid new first second =
-        joined moment images_since old mid new Ever (StandsBefore len side head bodies appended) first second (λ c before. inl before)
+        joined moment images_since old mid new Ever (StandsBefore len side head bodies appended) (closed_first old mid first) second
+        (λ c before. inl before)
 
     pub then_turned : (old mid new : D) → EachSince moment images_since old mid Ever
         → EachSince moment images_since mid new (StandsOrTurned len side head (bodies ++ appended) next others)

@@ -1,6 +1,5 @@
 -- A disk that has two areas and no byte more.
 use Rattle.std.specs.Prelude.{◌≡◌, ◌⊎◌, ℕ, ◌+◌, List, [], ◌∷◌, ◌++◌, length, Option, Some, None}
-use Rattle.act_disk.specs.Images.{Holds}
 use Rattle.gated_journal.specs.Choice.{newer}
 use Rattle.gated_journal.specs.Layout.{Head}
 use Rattle.gated_journal.specs.TwoAreas.{area_on, other, standing, IsGate, Stands}
@@ -40,9 +39,3 @@ abbrev pub StandsBetween : Option ℕ → Option ℕ → Option Chosen → Type 
 StandsBetween first second None = newer first second ≡ None
 StandsBetween first second (Some chosen) =
     (newer first second ≡ Some chosen.side) × (chosen.other ≡ gate_of (beside first second chosen.side))
-
--- Two areas without an open gate: the first begins with these bytes.
-pub record AreLaid (len : ℕ) (front disk : List ℕ) : Type 0 where
-  pub whole : length disk ≡ len + len
-  pub front_is : Holds disk 0 front
-  pub other_gate : Holds disk len (0 ∷ [])

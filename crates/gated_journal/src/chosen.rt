@@ -53,34 +53,13 @@ fn gate_of(generation: Option<u64>) -> Gate
     }
 }
 
-/// Syncs, and reads the generation of the first area, where its gate is open.
-fn first_generation<D: Disk>(disk: &mut D) -> Result<Option<u64>, DiskFault>
-    requires countable { D.fault_count disk.old < u64.MAX }
-    requires within { 10 ≤ D.size disk.old }
-    ensures generation { IfOk result (λ found. D.honest disk.new → found ≡ open_generation (part 0 10 (D.seen disk.old))) }
-    ensures stable { OnOk result (D.honest disk.new → Only (D.seen disk.old) (D.images disk.new)) }
-    ensures any_moment { D.honest disk.new
-        → EachSince D.moment D.images_since disk.old disk.new (D.images disk.old) }
-    ensures seen { D.honest disk.new → D.seen disk.new ≡ D.seen disk.old }
-    ensures size { D.size disk.new ≡ D.size disk.old }
-    ensures calls { D.calls disk.new ≤ D.calls disk.old + 2 }
-    ensures faults { CountsFault result (D.fault_count disk.old) (D.fault_count disk.new) }
-    ensures honest { D.honest disk.new → D.honest disk.old }
-{
-    let mut front = [0; FRONT];
-    let area = Area { start: 0, len: 10 };
-    area.read_synced(disk, &mut front)?;
-    Ok(generation_of(&front))
-}
-
 /// Reads the generation of the area that begins at `start`, where its gate is open. No image comes.
 fn generation_at<D: Disk>(disk: &mut D, start: u64) -> Result<Option<u64>, DiskFault>
     requires countable { D.fault_count disk.old < u64.MAX }
     requires within { start + 10 ≤ D.size disk.old }
     ensures generation { IfOk result (λ found. D.honest disk.new → found ≡ open_generation (part start 10 (D.seen disk.old))) }
     ensures images { D.honest disk.new → SameImages (D.images disk.old) (D.images disk.new) }
-    ensures any_moment { D.honest disk.new
-        → EachSince D.moment D.images_since disk.old disk.new (D.images disk.old) }
+    ensures any_moment { D.honest disk.new → EachSince D.moment D.images_since disk.old disk.new (D.images disk.old) }
     ensures seen { D.honest disk.new → D.seen disk.new ≡ D.seen disk.old }
     ensures size { D.size disk.new ≡ D.size disk.old }
     ensures calls { D.calls disk.new ≡ D.calls disk.old + 1 }
@@ -102,15 +81,15 @@ pub fn choose<D: Disk>(disk: &mut D, len: u64) -> Result<Option<Chosen>, DiskFau
     requires long { 10 ≤ len }
     ensures found { IfOk result (λ found. D.honest disk.new → IsChosen len found (D.seen disk.old)) }
     ensures stable { OnOk result (D.honest disk.new → Only (D.seen disk.old) (D.images disk.new)) }
-    ensures any_moment { D.honest disk.new
-        → EachSince D.moment D.images_since disk.old disk.new (D.images disk.old) }
+    ensures any_moment { D.honest disk.new → EachSince D.moment D.images_since disk.old disk.new (D.images disk.old) }
     ensures seen { D.honest disk.new → D.seen disk.new ≡ D.seen disk.old }
     ensures size { D.size disk.new ≡ D.size disk.old }
     ensures calls { D.calls disk.new ≤ D.calls disk.old + 3 }
     ensures faults { CountsFault result (D.fault_count disk.old) (D.fault_count disk.new) }
     ensures honest { D.honest disk.new → D.honest disk.old }
 {
-    let first = first_generation(disk)?;
+    disk.sync()?;
+    let first = generation_at(disk, 0)?;
     let second = generation_at(disk, len)?;
     Ok(chosen_of(first, second))
 }

@@ -20,10 +20,7 @@ fn long_number_at(bytes: &[u8]) -> Option<(u64, &[u8])>
     ensures rest { IfSome result (λ found. found.1.now ≡ drop 8 bytes.now) }
     ensures none { IsNone result → length bytes.now < 8 }
 {
-    if bytes.len() < 8 {
-        return None;
-    }
-    let (front, rest) = bytes.split_at(8);
+    let (front, rest) = bytes.split_at_checked(8)?;
     let number = u64::from_be_bytes([
         front[0], front[1], front[2], front[3], front[4], front[5], front[6], front[7],
     ]);

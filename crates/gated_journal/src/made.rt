@@ -1,34 +1,14 @@
 ghost use Rattle.std.specs.Prelude.{◌≡◌, ◌↔◌, ◌+◌, ◌<◌, ◌≤◌, ◌^◌, ℕ, List, [], ◌∷◌, length, OnOk};
-ghost use Rattle.act_disk.specs.Images.{Holds, Only, CountsFault};
+ghost use Rattle.act_disk.specs.Images.{CountsFault};
 ghost use Rattle.gated_journal.specs.Layout.{Head, Fits};
 ghost use Rattle.gated_journal.specs.TwoAreas.{behind_gate};
-ghost use Rattle.gated_journal.specs.Whole.{AreLaid, StandsWhole};
+ghost use Rattle.gated_journal.specs.Whole.{StandsWhole};
 ghost use Rattle.gated_journal.specs.declared.gate.Gate.TheVariants.{Closed};
 ghost use Rattle.gated_journal.specs.declared.side.Side.TheVariants.{First};
 
 use crate::append::OPEN;
 use crate::gate::CLOSED;
 use act_disk::{Disk, DiskFault, write_synced};
-
-/// Lays two areas on an empty disk, each `len` long and with a closed gate: the first begins with these bytes.
-fn lay_areas<D: Disk>(disk: &mut D, len: u64, front: &[u8]) -> Result<(), DiskFault>
-    requires countable { D.fault_count disk.old < u64.MAX }
-    requires addressed { len + len < 2 ^ 64 }
-    requires empty { D.size disk.old ≡ 0 }
-    requires fits { length front.now ≤ len }
-    requires some { 0 < length front.now }
-    requires long { 2 ≤ len }
-    ensures laid { OnOk result (D.honest disk.old → AreLaid len front.now (D.seen disk.new)) }
-    ensures stable { OnOk result (D.honest disk.old → Only (D.seen disk.new) (D.images disk.new)) }
-    ensures size { OnOk result (D.size disk.new ≡ len + len) }
-    ensures calls { D.calls disk.new ≤ D.calls disk.old + 4 }
-    ensures faults { CountsFault result (D.fault_count disk.old) (D.fault_count disk.new) }
-    ensures honest { D.honest disk.new ↔ D.honest disk.old }
-{
-    disk.write_at(0, front)?;
-    disk.write_at(len, &[CLOSED])?;
-    write_synced(disk, len + len - 1, &[CLOSED])
-}
 
 /// Makes two areas on an empty disk, each `len` long. The bytes are what the first one is to hold, behind a closed
 /// gate, which is opened once they are stable. The second one's gate is closed.
@@ -46,6 +26,8 @@ pub fn make_areas<D: Disk>(disk: &mut D, len: u64, front: &[u8]) -> Result<(), D
     ensures faults { CountsFault result (D.fault_count disk.old) (D.fault_count disk.new) }
     ensures honest { D.honest disk.new ↔ D.honest disk.old }
 {
-    lay_areas(disk, len, front)?;
+    disk.write_at(0, front)?;
+    disk.write_at(len, &[CLOSED])?;
+    write_synced(disk, len + len - 1, &[CLOSED])?;
     write_synced(disk, 0, &[OPEN])
 }

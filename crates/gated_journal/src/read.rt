@@ -15,8 +15,7 @@ impl Area {
         requires within { self.now.start + self.now.len ≤ D.size disk.old }
         ensures bytes { OnOk result (D.honest disk.new → bytes.new ≡ part self.now.start self.now.len (D.seen disk.old)) }
         ensures images { D.honest disk.new → SameImages (D.images disk.old) (D.images disk.new) }
-        ensures any_moment { D.honest disk.new
-            → EachSince D.moment D.images_since disk.old disk.new (D.images disk.old) }
+        ensures any_moment { D.honest disk.new → EachSince D.moment D.images_since disk.old disk.new (D.images disk.old) }
         ensures seen { D.honest disk.new → D.seen disk.new ≡ D.seen disk.old }
         ensures size { D.size disk.new ≡ D.size disk.old }
         ensures calls { D.calls disk.new ≡ D.calls disk.old + 1 }
@@ -36,8 +35,7 @@ impl Area {
         requires within { self.now.start + self.now.len ≤ D.size disk.old }
         ensures bytes { OnOk result (D.honest disk.new → bytes.new ≡ part self.now.start self.now.len (D.seen disk.old)) }
         ensures stable { OnOk result (D.honest disk.new → Only (D.seen disk.old) (D.images disk.new)) }
-        ensures any_moment { D.honest disk.new
-            → EachSince D.moment D.images_since disk.old disk.new (D.images disk.old) }
+        ensures any_moment { D.honest disk.new → EachSince D.moment D.images_since disk.old disk.new (D.images disk.old) }
         ensures seen { D.honest disk.new → D.seen disk.new ≡ D.seen disk.old }
         ensures size { D.size disk.new ≡ D.size disk.old }
         ensures calls { D.calls disk.new ≤ D.calls disk.old + 2 }
@@ -61,8 +59,7 @@ impl Area {
         ensures spells { IfOk result (λ found. D.honest disk.new
             → EachSpells self.now.start self.now.len (D.images disk.new) found) }
         ensures stable { OnOk result (D.honest disk.new → Only (D.seen disk.old) (D.images disk.new)) }
-        ensures any_moment { D.honest disk.new
-            → EachSince D.moment D.images_since disk.old disk.new (D.images disk.old) }
+        ensures any_moment { D.honest disk.new → EachSince D.moment D.images_since disk.old disk.new (D.images disk.old) }
         ensures seen { D.honest disk.new → D.seen disk.new ≡ D.seen disk.old }
         ensures size { D.size disk.new ≡ D.size disk.old }
         ensures calls { D.calls disk.new ≤ D.calls disk.old + 2 }

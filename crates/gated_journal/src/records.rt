@@ -13,10 +13,7 @@ fn number_at(bytes: &[u8]) -> Option<(u32, &[u8])>
     ensures rest { IfSome result (λ found. found.1.now ≡ drop 4 bytes.now) }
     ensures none { IsNone result → length bytes.now < 4 }
 {
-    if bytes.len() < 4 {
-        return None;
-    }
-    let (front, rest) = bytes.split_at(4);
+    let (front, rest) = bytes.split_at_checked(4)?;
     let number = u32::from_be_bytes([front[0], front[1], front[2], front[3]]);
     Some((number, rest))
 }

@@ -13,64 +13,6 @@ use crate::standing::Standing;
 use act_disk::{Disk, DiskFault};
 
 impl Standing {
-    /// Puts the next part of what the other area is to hold.
-    fn put_next<D: Disk>(
-        &self,
-        disk: &mut D,
-        places: Places,
-        bytes: &[u8],
-    ) -> Result<Places, DiskFault>
-        requires countable { D.fault_count disk.old < u64.MAX }
-        requires addressed { self.now.len + self.now.len < 2 ^ 64 }
-        requires behind { 0 < places.at }
-        requires fits { places.at + length bytes.now ≤ self.now.len }
-        ensures any_moment { (head : Head) (bodies : List (List ℕ)) (front : List ℕ) → D.honest disk.old
-            → IsUnderWay self.now.len self.now.side head bodies front places.used places.at (D.seen disk.old) (D.images disk.old)
-            → EachSince D.moment D.images_since disk.old disk.new (StandsOrMore self.now.len self.now.side head bodies []) }
-        ensures under_way { IfOk result (λ next. D.honest disk.old → GoesOn self.now.len self.now.side [] bytes.now places next
-            (D.seen disk.old) (D.images disk.old) (D.seen disk.new) (D.images disk.new)) }
-        ensures places { IfOk result (λ next. (next.used ≡ places.used) × (next.at ≡ places.at + length bytes.now)) }
-        ensures calls { D.calls disk.new ≡ D.calls disk.old + 1 }
-        ensures faults { CountsFault result (D.fault_count disk.old) (D.fault_count disk.new) }
-        ensures honest { D.honest disk.new ↔ D.honest disk.old }
-    {
-        self.put(disk, places.at, bytes)?;
-        Ok(Places {
-            used: places.used,
-            at: places.at + bytes.len() as u64,
-        })
-    }
-
-    /// Appends the next record to the area that stands.
-    fn append_next<D: Disk>(
-        &self,
-        disk: &mut D,
-        places: Places,
-        added: &Record,
-    ) -> Result<Places, DiskFault>
-        requires countable { D.fault_count disk.old < u64.MAX }
-        requires addressed { self.now.len + self.now.len < 2 ^ 64 }
-        requires put { places.at ≤ self.now.len }
-        requires fits { places.used + length (record_bytes (added.now ∷ [])) < self.now.len }
-        ensures any_moment { (head : Head) (bodies : List (List ℕ)) (front : List ℕ) → D.honest disk.old
-            → IsUnderWay self.now.len self.now.side head bodies front places.used places.at (D.seen disk.old) (D.images disk.old)
-            → EachSince D.moment D.images_since disk.old disk.new
-            (StandsOrMore self.now.len self.now.side head bodies (added.now ∷ [])) }
-        ensures under_way { IfOk result (λ next. D.honest disk.old → GoesOn self.now.len self.now.side (added.now ∷ []) [] places next
-            (D.seen disk.old) (D.images disk.old) (D.seen disk.new) (D.images disk.new)) }
-        ensures places { IfOk result (λ next. (next.used ≡ places.used + length (record_bytes (added.now ∷ []))) × (next.at ≡ places.at)) }
-        ensures calls { D.calls disk.new ≤ D.calls disk.old + 4 }
-        ensures faults { CountsFault result (D.fault_count disk.old) (D.fault_count disk.new) }
-        ensures honest { D.honest disk.new ↔ D.honest disk.old }
-    {
-        let bytes = added.as_slice();
-        self.append(disk, places.used, bytes)?;
-        Ok(Places {
-            used: places.used + bytes.len() as u64,
-            at: places.at,
-        })
-    }
-
     /// Makes one call.
     fn make<D: Disk>(
         &self,
@@ -97,8 +39,22 @@ impl Standing {
         ensures honest { D.honest disk.new ↔ D.honest disk.old }
     {
         match call {
-            AreaCall::Put(bytes) => self.put_next(disk, places, bytes.as_slice()),
-            AreaCall::Append(added) => self.append_next(disk, places, added),
+            AreaCall::Put(bytes) => {
+                let bytes = bytes.as_slice();
+                self.put(disk, places.at, bytes)?;
+                Ok(Places {
+                    used: places.used,
+                    at: places.at + bytes.len() as u64,
+                })
+            }
+            AreaCall::Append(added) => {
+                let bytes = added.as_slice();
+                self.append(disk, places.used, bytes)?;
+                Ok(Places {
+                    used: places.used + bytes.len() as u64,
+                    at: places.at,
+                })
+            }
         }
     }
 

@@ -142,61 +142,33 @@ kind_complete : {A : Type 0} (format : Format A) (at : Reader A) (made : A → C
 kind_complete format at made reads x rest fits =
     some_bind (at (format.spelling x ++ rest)) (λ y. Some (made y.0, y.1)) (x, rest) (reads.complete x rest fits)
 
-last_kinds : (kind : ℕ) (rest : List ℕ) (found : Command × List ℕ) → AreBytes rest
-    → (if kind == 7 then parts_at (λ (n : ℕ). asked.Look n) number_at rest
-    else (if kind == 8 then parts_at (λ (n : ℕ). asked.Fetch n) number_at rest else None)) ≡ Some found → Fronts command (kind ∷ rest) found
-last_kinds kind rest found are h =
-    let fetch : Option (Command × List ℕ) = if kind == 8 then parts_at (λ (n : ℕ). asked.Fetch n) number_at rest else None in
-    elim (chosen (kind == 7) (parts_at (λ (n : ℕ). asked.Look n) number_at rest) fetch (Some found) h) [
-      | inl seven ↦ subst (λ (k : ℕ). Fronts command (k ∷ rest) found) (sym (eqb-true kind 7 seven.0))
-          (kind_sound 7 number number_at (λ (n : ℕ). asked.Look n) number_reads (λ x t. t) (λ _. refl) rest found are seven.1)
-      | inr not_seven ↦ elim (chosen (kind == 8) (parts_at (λ (n : ℕ). asked.Fetch n) number_at rest) None (Some found) not_seven.1) [
-        | inl eight ↦ subst (λ (k : ℕ). Fronts command (k ∷ rest) found) (sym (eqb-true kind 8 eight.0))
-            (kind_sound 8 number number_at (λ (n : ℕ). asked.Fetch n) number_reads (λ x t. t) (λ _. refl) rest found are eight.1)
-        | inr none ↦ absurd (none-some found none.1)
-      ]
+-- what is read where the byte is of this kind, and else as others read it
+kind_or : {A : Type 0} (this : ℕ) (format : Format A) (at : Reader A) (made : A → Command) → Reads format at
+    → ((x : A) → format.Takes x → IsSpelled (made x)) → ((x : A) → command_bytes (made x) ≡ this ∷ format.spelling x)
+    → (kind : ℕ) (rest : List ℕ) (found : Command × List ℕ) (others : Option (Command × List ℕ)) → AreBytes rest
+    → (if kind == this then parts_at made at rest else others) ≡ Some found
+    → (others ≡ Some found → Fronts command (kind ∷ rest) found) → Fronts command (kind ∷ rest) found
+kind_or this format at made reads takes spelled kind rest found others are h left =
+    elim (chosen (kind == this) (parts_at made at rest) others (Some found) h) [
+      | inl is ↦ subst (λ (k : ℕ). Fronts command (k ∷ rest) found) (sym (eqb-true kind this is.0))
+          (kind_sound this format at made reads takes spelled rest found are is.1)
+      | inr isnt ↦ left isnt.1
     ]
 
 kinds_sound : (kind : ℕ) (rest : List ℕ) (found : Command × List ℕ) → AreBytes rest → command_of kind rest ≡ Some found
     → Fronts command (kind ∷ rest) found
 unfolding command_of
 kinds_sound kind rest found are h =
-    let fetch : Option (Command × List ℕ) = if kind == 8 then parts_at (λ (n : ℕ). asked.Fetch n) number_at rest else None in
-    let look : Option (Command × List ℕ) = if kind == 7 then parts_at (λ (n : ℕ). asked.Look n) number_at rest else fetch in
-    let lost : Option (Command × List ℕ) =
-    if kind == 6 then parts_at (λ (r : List ℕ). asked.Lost r) (small_text_at is_runner_byte) rest else look in
-    let cancel : Option (Command × List ℕ) = if kind == 5 then parts_at (λ (n : ℕ). asked.Cancel n) number_at rest else lost in
-    let beats : Option (Command × List ℕ) = if kind == 4 then parts_at (λ (b : Beat). asked.Beat b) beat_at rest else cancel in
-    let report : Option (Command × List ℕ) = if kind == 3 then parts_at (λ (d : Done). asked.Done d) done_at rest else beats in
-    let asks : Option (Command × List ℕ) = if kind == 2 then parts_at (λ (c : Claim). asked.Claim c) claim_at rest else report in
-    elim (chosen (kind == 1) (parts_at (λ (a : Admitted). asked.Admit a) admit_at rest) asks (Some found) h) [
-      | inl one ↦ subst (λ (k : ℕ). Fronts command (k ∷ rest) found) (sym (eqb-true kind 1 one.0))
-          (kind_sound 1 admit admit_at (λ (a : Admitted). asked.Admit a) admit_reads (λ x t. t) (λ _. refl) rest found are one.1)
-      | inr not_one ↦ elim (chosen (kind == 2) (parts_at (λ (c : Claim). asked.Claim c) claim_at rest) report (Some found) not_one.1) [
-        | inl two ↦ subst (λ (k : ℕ). Fronts command (k ∷ rest) found) (sym (eqb-true kind 2 two.0))
-            (kind_sound 2 claim claim_at (λ (c : Claim). asked.Claim c) claim_reads (λ x t. t) (λ _. refl) rest found are two.1)
-        | inr not_two ↦ elim (chosen (kind == 3) (parts_at (λ (d : Done). asked.Done d) done_at rest) beats (Some found) not_two.1) [
-          | inl three ↦ subst (λ (k : ℕ). Fronts command (k ∷ rest) found) (sym (eqb-true kind 3 three.0))
-              (kind_sound 3 done done_at (λ (d : Done). asked.Done d) done_reads (λ x t. t) (λ _. refl) rest found are three.1)
-          | inr not_three ↦ elim (chosen (kind == 4) (parts_at (λ (b : Beat). asked.Beat b) beat_at rest) cancel (Some found) not_three.1) [
-            | inl four ↦ subst (λ (k : ℕ). Fronts command (k ∷ rest) found) (sym (eqb-true kind 4 four.0))
-                (kind_sound 4 beat beat_at (λ (b : Beat). asked.Beat b) beat_reads (λ x t. t) (λ _. refl) rest found are four.1)
-            | inr not_four ↦ elim (chosen (kind == 5) (parts_at (λ (n : ℕ). asked.Cancel n) number_at rest) lost (Some found) not_four.1) [
-              | inl five ↦ subst (λ (k : ℕ). Fronts command (k ∷ rest) found) (sym (eqb-true kind 5 five.0))
-                  (kind_sound 5 number number_at (λ (n : ℕ). asked.Cancel n) number_reads (λ x t. t) (λ _. refl) rest found are five.1)
-              | inr not_five ↦
-                  elim (chosen (kind == 6) (parts_at (λ (r : List ℕ). asked.Lost r) (small_text_at is_runner_byte) rest) look
-                  (Some found) not_five.1) [
-                    | inl six ↦ subst (λ (k : ℕ). Fronts command (k ∷ rest) found) (sym (eqb-true kind 6 six.0))
-                        (kind_sound 6 (small_text is_runner_byte) (small_text_at is_runner_byte) (λ (r : List ℕ). asked.Lost r)
-                        (small_text_reads is_runner_byte) (λ x t. t) (λ _. refl) rest found are six.1)
-                    | inr not_six ↦ last_kinds kind rest found are not_six.1
-                  ]
-            ]
-          ]
-        ]
-      ]
-    ]
+    kind_or 1 admit admit_at (λ (a : Admitted). asked.Admit a) admit_reads (λ x t. t) (λ _. refl) kind rest found _ are h (λ h2.
+    kind_or 2 claim claim_at (λ (c : Claim). asked.Claim c) claim_reads (λ x t. t) (λ _. refl) kind rest found _ are h2 (λ h3.
+    kind_or 3 done done_at (λ (d : Done). asked.Done d) done_reads (λ x t. t) (λ _. refl) kind rest found _ are h3 (λ h4.
+    kind_or 4 beat beat_at (λ (b : Beat). asked.Beat b) beat_reads (λ x t. t) (λ _. refl) kind rest found _ are h4 (λ h5.
+    kind_or 5 number number_at (λ (n : ℕ). asked.Cancel n) number_reads (λ x t. t) (λ _. refl) kind rest found _ are h5 (λ h6.
+    kind_or 6 (small_text is_runner_byte) (small_text_at is_runner_byte) (λ (r : List ℕ). asked.Lost r)
+    (small_text_reads is_runner_byte) (λ x t. t) (λ _. refl) kind rest found _ are h6 (λ h7.
+    kind_or 7 number number_at (λ (n : ℕ). asked.Look n) number_reads (λ x t. t) (λ _. refl) kind rest found _ are h7 (λ h8.
+    kind_or 8 number number_at (λ (n : ℕ). asked.Fetch n) number_reads (λ x t. t) (λ _. refl) kind rest found _ are h8
+    (λ none. absurd (none-some found none)))))))))
 
 command_finds : (bytes : List ℕ) (found : Command × List ℕ) → AreBytes bytes → command_at bytes ≡ Some found → Fronts command bytes found
 unfolding command_at

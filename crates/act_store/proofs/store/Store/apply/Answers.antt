@@ -11,23 +11,19 @@ use Rattle.act_store.proofs.Entering.{IsAdmitted, counted_entered, few_wait, is_
 use Rattle.act_store.proofs.Settling.{standing_entered}
 use Rattle.act_store.proofs.store.Store.apply.Goals as goal
 
-pub enter-requires-clause-few : goal.enter-requires-clause-few
-enter-requires-clause-few g c =
+pub enter-requires : goal.enter-requires
+enter-requires g c =
     let s = c.self.inside in
     let k = as_kept s in
+    let counted = c.self.invariant.0 in
     let command = c.args.command in
     let none : refusal_of_apply c.args.self.now command ≡ None = search rules in
-    few_wait k s.table s.waiting c.self.invariant.0 command
-    (is_admitted k command (subst (λ (v : Kept g.row.D.Denot). refusal_of_apply v command ≡ None) (sym c.self.view_is) none))
-
-pub enter-requires-clause-fits : goal.enter-requires-clause-fits
-enter-requires-clause-fits g c =
-    let s = c.self.inside in
-    let k = as_kept s in
-    let command = c.args.command in
-    let none : refusal_of_apply c.args.self.now command ≡ None = search rules in
-    record_is_short k s.table s.waiting c.self.invariant.0 command
-    (is_admitted k command (subst (λ (v : Kept g.row.D.Denot). refusal_of_apply v command ≡ None) (sym c.self.view_is) none))
+    let admitted = is_admitted k command
+    (subst (λ (v : Kept g.row.D.Denot). refusal_of_apply v command ≡ None) (sym c.self.view_is) none) in
+    record {
+      few = few_wait k s.table s.waiting counted command admitted;
+      fits = record_is_short k s.table s.waiting counted command admitted;
+    }
 
 pub invariant_of-self-2 : goal.invariant_of-self-2
 invariant_of-self-2 g c =

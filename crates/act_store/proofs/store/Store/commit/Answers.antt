@@ -1,8 +1,7 @@
 use Rattle.std.proofs.Common.{rules, ◌≡◌, ℕ, List, ◌+◌, ◌<◌, ◌^◌, ◌∙◌, ◌-◌, length, false, arith, ap, subst, sym}
-use Rattle.act_disk.specs.Images.{EachSince}
 use Rattle.gated_journal.specs.Whole.{WholeOrGrew}
 use Rattle.act_store.specs.Images.{StandsFor}
-use Rattle.act_store.specs.Kept.{Kept, StandsForEither, table_of}
+use Rattle.act_store.specs.Kept.{Kept, table_of}
 use Rattle.act_store.specs.Plain.{committed}
 use Rattle.act_store.specs.Promise.{IsCounted, IsStanding}
 use Rattle.act_store.specs.StoreSeen.{as_kept}
@@ -11,6 +10,7 @@ use Rattle.act_store.proofs.Committing.{now_of, none_waits, all_stands, counted_
 use Rattle.act_store.proofs.Committing.{commit_standing, commit_stands, more, used_is, same_committed}
 use Rattle.act_store.proofs.Records.{length_record}
 use Rattle.act_store.proofs.Settling.{standing_broken}
+use Rattle.act_store.proofs.store.Store.commit.Given.{Over}
 use Rattle.act_store.proofs.store.Store.commit.Goals as goal
 
 pub returns-then-is_empty-clause-stands : goal.returns-then-is_empty-clause-stands
@@ -43,39 +43,23 @@ pub returns-in-Err-clause-any_moment : goal.returns-in-Err-clause-any_moment
 returns-in-Err-clause-any_moment g c =
     let s = c.self.inside in
     let disk = g.D.Disk in
-    let k = as_kept s in
-    let live : s.failed ≡ false = search rules in
     let some : 0 < s.waiting.count = search (rules, arith) in
-    let body = body_of s.waiting in
     let bytes = c.as_slice-bytes.ensures in
-    subst (λ (v : Kept g.row.D.Denot). disk.honest v.disk
-    → EachSince disk.moment disk.images_since v.disk c.grow.new.disk (StandsForEither v))
-    c.self.view_is
-    (λ honest.
-    let settled = (c.self.invariant.2 honest).settled live in
-    commit_moments k s.table s.waiting c.self.invariant.0 some disk.images s.areas.side s.other settled disk.moment disk.images_since
-    c.grow.new.disk
-    (c.grow.ensures.any_moment s.other settled.head settled.bodies body honest settled.each settled.used_is (bytes.bytes some)
-    (bytes.short some)))
+    commit_moments (as_kept s) c.args.self.now s.table s.waiting c.self.invariant.0 some (search rules) disk.images s.areas.side s.other
+    disk.honest c.self.invariant.2 disk.moment disk.images_since c.grow.new.disk
+    (λ head bodies honest each used. c.grow.ensures.any_moment s.other head bodies (body_of s.waiting) honest each used
+    (bytes.bytes some) (bytes.short some)) c.self.view_is
 
 pub returns-in-Ok-clause-any_moment : goal.returns-in-Ok-clause-any_moment
 returns-in-Ok-clause-any_moment g c =
     let s = c.self.inside in
     let disk = g.D.Disk in
-    let k = as_kept s in
-    let live : s.failed ≡ false = search rules in
     let some : 0 < s.waiting.count = search (rules, arith) in
-    let body = body_of s.waiting in
     let bytes = c.as_slice-bytes.ensures in
-    subst (λ (v : Kept g.row.D.Denot). disk.honest v.disk
-    → EachSince disk.moment disk.images_since v.disk c.grow.new.disk (StandsForEither v))
-    c.self.view_is
-    (λ honest.
-    let settled = (c.self.invariant.2 honest).settled live in
-    commit_moments k s.table s.waiting c.self.invariant.0 some disk.images s.areas.side s.other settled disk.moment disk.images_since
-    c.grow.new.disk
-    (c.grow.ensures.any_moment s.other settled.head settled.bodies body honest settled.each settled.used_is (bytes.bytes some)
-    (bytes.short some)))
+    commit_moments (as_kept s) c.args.self.now s.table s.waiting c.self.invariant.0 some (search rules) disk.images s.areas.side s.other
+    disk.honest c.self.invariant.2 disk.moment disk.images_since c.grow.new.disk
+    (λ head bodies honest each used. c.grow.ensures.any_moment s.other head bodies (body_of s.waiting) honest each used
+    (bytes.bytes some) (bytes.short some)) c.self.view_is
 
 pub invariant_of-self : goal.invariant_of-self
 invariant_of-self g c =
@@ -102,6 +86,23 @@ invariant_of-self g c =
           (g.met.D.Disk.counts_now d1 honest1) since image now)),
     )
 
+-- the counts are those after a commit
+is_committed : (g : Over) (c : goal.After-keep g)
+    → committed (as_kept c.self.inside) c.grow.new.disk
+    ≡ record (as_kept c.self.inside) {
+      disk = c.grow.new.disk;
+      covered = c.len-self-inside.result;
+      used = c.self.inside.used + length c.as_slice-bytes.result.now;
+    }
+is_committed g c =
+    let s = c.self.inside in
+    let some : 0 < s.waiting.count = search (rules, arith) in
+    let bytes = c.as_slice-bytes.result.now in
+    let all : c.len-self-inside.result ≡ length s.history.items = search rules in
+    same_committed (as_kept s) c.grow.new.disk c.len-self-inside.result (s.used + length bytes) all
+    (used_is (as_kept s) s.table s.waiting c.self.invariant.0 some (length bytes)
+    (ap (λ (l : List ℕ). length l) (c.as_slice-bytes.ensures.bytes some) ∙ length_record (body_of s.waiting)))
+
 pub invariant_of-self-in-Ok : goal.invariant_of-self-in-Ok
 invariant_of-self-in-Ok g c =
     let s = c.self.inside in
@@ -113,14 +114,9 @@ invariant_of-self-in-Ok g c =
     let body = body_of s.waiting in
     let bytes = c.as_slice-bytes.ensures in
     let d1 = c.grow.new.disk in
-    let covered = c.len-self-inside.result in
-    let all : covered ≡ length s.history.items = search rules in
-    let used = s.used + length c.as_slice-bytes.result.now in
-    let grows : used ≡ _ = used_is k s.table s.waiting counted some (length c.as_slice-bytes.result.now)
-    (ap (λ (l : List ℕ). length l) (bytes.bytes some) ∙ length_record body) in
     subst (λ (v : Kept g.row.D.Denot). IsCounted v s.table c.keep.new.self × (v.failed ≡ false → disk.fault_count v.disk < 2 ^ 64 - 1)
     × (disk.honest v.disk → IsStanding disk.images s.areas.side s.other v))
-    (same_committed k d1 covered used all grows) (
+    (is_committed g c) (
       counted_committed k s.table s.waiting counted some d1 c.keep.new.self c.keep.ensures.count c.keep.ensures.spelled,
       (λ _. search (rules, arith)),
       λ honest1.
@@ -150,17 +146,11 @@ returns-in-Ok-clause-stands g c = λ honest1.
 
 pub returns-in-Ok-clause-some : goal.returns-in-Ok-clause-some
 returns-in-Ok-clause-some g c =
-    let s = c.self.inside in
-    let k = as_kept s in
-    let some : 0 < s.waiting.count = search (rules, arith) in
-    let bytes = c.as_slice-bytes.ensures in
-    let d1 = c.grow.new.disk in
-    let covered = c.len-self-inside.result in
-    let all : covered ≡ length s.history.items = search rules in
-    let used = s.used + length c.as_slice-bytes.result.now in
-    let grows : used ≡ _ = used_is k s.table s.waiting c.self.invariant.0 some (length c.as_slice-bytes.result.now)
-    (ap (λ (l : List ℕ). length l) (bytes.bytes some) ∙ length_record (body_of s.waiting)) in
     subst (λ (v : Kept g.row.D.Denot). v.covered < length v.history
-    → record k { disk = d1; covered = covered; used = used } ≡ committed v d1)
+    → record (as_kept c.self.inside) {
+      disk = c.grow.new.disk;
+      covered = c.len-self-inside.result;
+      used = c.self.inside.used + length c.as_slice-bytes.result.now;
+    } ≡ committed v c.grow.new.disk)
     c.self.view_is
-    (λ _. sym (same_committed k d1 covered used all grows))
+    (λ _. sym (is_committed g c))

@@ -15,13 +15,10 @@ returns-in_err-places-clause-any_moment g c = λ head next bodies others honest 
     let disk = g.D.Disk in
     let len = c.args.self.now.len in
     let side = c.args.self.now.side in
-    let all = appended_by c.args.calls.now in
-    let d0 = c.args.disk.now in
     let d1 = c.close_other.new.disk in
     let shut = c.in_ok-close_other.ensures.closed head bodies honest each in
-    then_made disk.moment disk.images_since disk.images disk.seen len side head bodies next others all d0 d1 c.make_all.new.disk
-    (closed_first disk.moment disk.images_since disk.images disk.seen len side head bodies next others all d0 d1
-    (c.close_other.ensures.any_moment head bodies honest each))
+    then_made disk.moment disk.images_since disk.images disk.seen len side head bodies next others (appended_by c.args.calls.now)
+    c.args.disk.now d1 c.make_all.new.disk (c.close_other.ensures.any_moment head bodies honest each)
     (c.make_all.ensures.any_moment head bodies (c.close_other.ensures.honest.1 honest)
     (begun len side head bodies c.args.used (disk.seen d1) (disk.images d1) shut used))
 
@@ -35,16 +32,13 @@ returns-clause-any_moment g c = λ head next bodies others honest each used newe
     let d1 = c.close_other.new.disk in
     let d2 = c.make_all.new.disk in
     let honest1 = c.close_other.ensures.honest.1 honest in
-    let honest2 = c.make_all.ensures.honest.1 honest1 in
     let shut = c.in_ok-close_other.ensures.closed head bodies honest each in
     let first = begun len side head bodies c.args.used (disk.seen d1) (disk.images d1) shut used in
     let under = c.in_ok-places.ensures.under_way head bodies honest1 first in
     then_turned disk.moment disk.images_since disk.images disk.seen len side head bodies next others all d0 d2 c.turn.new.disk
     (then_made disk.moment disk.images_since disk.images disk.seen len side head bodies next others all d0 d1 d2
-    (closed_first disk.moment disk.images_since disk.images disk.seen len side head bodies next others all d0 d1
-    (c.close_other.ensures.any_moment head bodies honest each))
-    (c.make_all.ensures.any_moment head bodies honest1 first))
-    (c.turn.ensures.any_moment head next (bodies ++ all) others honest2 under.each
+    (c.close_other.ensures.any_moment head bodies honest each) (c.make_all.ensures.any_moment head bodies honest1 first))
+    (c.turn.ensures.any_moment head next (bodies ++ all) others (c.make_all.ensures.honest.1 honest1) under.each
     (made_whole len side head next (bodies ++ all) others (put_by c.args.calls.now) c.args.last.now _ _ (disk.seen d2)
     (disk.images d2) under newer))
 
