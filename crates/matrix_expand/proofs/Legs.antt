@@ -136,3 +136,12 @@ added_are m axes objects patterns includes kept added a b c d e f =
     ∙ ap (new_objects includes) e
     ∙ ap (λ ps. new_objects ps (kept_of m)) (d ∙ sym (same_Ok _ _ c) ∙ ap (map (pattern_of axes)) b
     ∙ ap (λ xs. map (pattern_of xs) m.include) a)
+
+-- each combination, as the code makes it when it is asked for
+pub all_are : (m : MatrixLists) (axes : List AxisValue) (includes : List PatternValue) (entries : List EntryValue) (kept : List ℕ)
+    (added : List Combination) → axes ≡ numbered_axes m.variables → includes ≡ map (pattern_of axes) m.include → kept ≡ kept_of m
+    → added ≡ added_of m → names_rise axes ≡ true → SortsEntries 0 m.include entries
+    → combinations m ≡ map (final_from axes includes entries) kept ++ added
+all_are m axes includes entries kept added a b c d rise sorts =
+    rw (b, a, c, d) (combinations_are m
+    ∙ ap (λ os. os ++ added_of m) (sym (finals_are m entries (ap names_rise (sym a) ∙ rise) sorts)))

@@ -1,4 +1,4 @@
-ghost use Rattle.std.specs.Prelude.{◌≡◌, ◌++◌, ◌∷◌, [], map, true, false, None, Ok, slice_index_or, IsTrue};
+ghost use Rattle.std.specs.Prelude.{◌≡◌, true, false, None, Ok, slice_index_or, IsTrue};
 ghost use Rattle.std.specs.Option.{option_copied};
 ghost use Rattle.wf_value.specs.Gives.{Gives};
 ghost use Rattle.wf_value.specs.Names.{names_rise};
@@ -77,7 +77,7 @@ fn firsts<'a>(alloc: Global, entries: &[Entry<'a>], flags: &[bool]) -> Result<Co
 }
 
 /// The final combination of the original of a number.
-fn final_combination(
+pub fn final_combination(
     alloc: Global,
     axes: &[Axis],
     patterns: &[Pattern],
@@ -92,24 +92,4 @@ fn final_combination(
     let original = original_entries(alloc, axes, number, patterns.len())?;
     let all = merge(alloc, entries, original.as_slice())?;
     firsts(alloc, all.as_slice(), flags.as_slice())
-}
-
-/// The final combinations of the originals of some numbers, in order.
-pub fn final_combinations(
-    alloc: Global,
-    axes: &[Axis],
-    patterns: &[Pattern],
-    entries: &[Entry],
-    numbers: &[usize],
-) -> Result<Vec<Combo>, Refusal>
-    requires entries { IsTrue (names_ascend (pairs_of entries.now)) }
-    requires axes { IsTrue (names_rise axes.now) }
-    ensures { Gives (λ v. v.items) result
-        (Ok (map (final_from axes.now patterns.now entries.now) numbers.now)) }
-{
-    let mut combos = Vec::with_capacity(alloc, numbers.len())?;
-    for number in numbers {
-        combos.push(final_combination(alloc, axes, patterns, entries, *number)?)?;
-    }
-    Ok(combos)
 }

@@ -1,43 +1,115 @@
-ghost use Rattle.std.specs.List.{list_any};
-ghost use Rattle.std.specs.Prelude.{◌≡◌, ◌↔◌, ◌+◌, ◌<◌, ◌≤◌, ◌++◌, map, IsTrue, IfOk, Ok};
+ghost use Rattle.std.specs.List.{list_any, slice_index_or};
+ghost use Rattle.std.specs.Prelude.{◌≡◌, ◌↔◌, ◌+◌, ◌<◌, ◌≤◌, [], length, map, IsTrue, IfOk, Ok};
 ghost use Rattle.wf_value.specs.Gives.{Gives};
 ghost use Rattle.wf_value.specs.Names.{names_rise};
-ghost use Rattle.matrix_expand.specs.Combinations.{choice_count, kept, final_combination, combinations};
-ghost use Rattle.matrix_expand.specs.Combinations.{legs_or_refusal, combinations_or_refusal};
-ghost use Rattle.matrix_expand.specs.Numbered.{original_count, numbered_axes, pattern_of, pattern_agrees, kept_of, kept_or_refusal};
-ghost use Rattle.matrix_expand.specs.Numbered.{new_objects};
+ghost use Rattle.matrix_expand.specs.Combinations.{choice_count, combinations, legs_or_refusal, combinations_or_refusal};
+ghost use Rattle.matrix_expand.specs.Numbered.{original_count, numbered_axes, pattern_agrees, kept_of, kept_or_refusal, new_objects};
 
 use crate::axis::{Axis, axes};
-use crate::combination::final_combinations;
-use crate::entry::entries;
+use crate::combination::final_combination;
+use crate::entry::{Entry, entries};
 use crate::original::{MOST_CHOICES, MOST_LEGS, capped_choices, kept_originals};
 use crate::pattern::{Pattern, patterns};
 use std::alloc::Global;
+use std::marker::Model;
 use wf_value::{Code, Combo, Matrix, Refusal, TryCopy, Variable};
 
-/// The combinations of a matrix, in order. Refused 21 where the lengths of its variables' lists
-/// multiply to over 4,096, else 22 where there is no combination or more than 256.
-/// GitHub Docs, "Running variations of jobs in a workflow".
+/// The combinations of a matrix, each of which is made when it is asked for.
+#[derive(Drop)]
+pub struct Expansion<'a> {
+    axes: Vec<Axis<'a>>,
+    includes: Vec<Pattern<'a>>,
+    /// The pairs of the include objects.
+    entries: Vec<Entry<'a>>,
+    /// The numbers of the kept originals.
+    kept: Vec<usize>,
+    /// The new combinations.
+    added: Vec<&'a Combo>,
+}
+
+impl<'a> Model for Expansion<'a> {
+    ghost use Rattle.std.specs.Prelude.{◌+◌, ◌≤◌, ◌++◌, List, length, map, IsTrue};
+    ghost use Rattle.wf_value.specs.Names.{names_rise};
+    ghost use Rattle.matrix_expand.specs.Combinations.{Combination};
+    ghost use Rattle.matrix_expand.specs.Entries.{names_ascend, pairs_of, final_from};
+
+    ghost Value = { List Combination };
+
+    ghost view = { λ e. map (final_from e.axes.items e.includes.items e.entries.items) e.kept.items
+        ++ map (λ c. c.now) e.added.items };
+
+    ghost invariant = { λ e. IsTrue (names_ascend (pairs_of e.entries.items)) × IsTrue (names_rise e.axes.items)
+        × (length e.kept.items + length e.added.items ≤ 256) };
+}
+
+impl<'a> Expansion<'a> {
+    /// The combinations of a matrix, in order. Refused 21 where the lengths of its variables' lists
+    /// multiply to over 4,096, else 22 where there is no combination or more than 256.
+    /// GitHub Docs, "Running variations of jobs in a workflow".
+    pub fn of(alloc: Global, matrix: &'a Matrix) -> Result<Self, Refusal>
+        ensures { Gives (λ e. e) result (combinations_or_refusal matrix.entry.now) }
+    {
+        let choices = capped_choices(matrix.variables());
+        if choices > MOST_CHOICES {
+            return Err(Refusal::Numbered(Code::MatrixTooLarge));
+        }
+        legs(alloc, matrix, choices)
+    }
+
+    pub fn len(&self) -> usize
+        ensures { result ≡ length self.now }
+    {
+        self.kept.len() + self.added.len()
+    }
+
+    /// The combination of a leg, by the leg's number.
+    pub fn combination(&self, alloc: Global, leg: usize) -> Result<Combo, Refusal>
+        requires { leg < length self.now }
+        ensures { Gives (λ c. c) result (Ok (slice_index_or self.now leg [])) }
+    {
+        if leg < self.kept.len() {
+            final_combination(
+                alloc,
+                self.axes.as_slice(),
+                self.includes.as_slice(),
+                self.entries.as_slice(),
+                self.kept[leg],
+            )
+        } else {
+            self.added[leg - self.kept.len()].copy(alloc)
+        }
+    }
+}
+
+/// All combinations of a matrix, in order, refused as by `Expansion::of`.
 pub fn expand(alloc: Global, matrix: &Matrix) -> Result<Vec<Combo>, Refusal>
     ensures { Gives (λ v. v.items) result (combinations_or_refusal matrix.now) }
 {
-    let choices = capped_choices(matrix.variables());
-    if choices > MOST_CHOICES {
-        return Err(Refusal::Numbered(Code::MatrixTooLarge));
+    let expansion = Expansion::of(alloc, matrix)?;
+    all_of(alloc, &expansion)
+}
+
+/// Each combination, in order.
+fn all_of(alloc: Global, expansion: &Expansion) -> Result<Vec<Combo>, Refusal>
+    ensures { Gives (λ v. v.items) result (Ok expansion.now) }
+{
+    let mut combos = Vec::with_capacity(alloc, expansion.len())?;
+    for leg in 0..expansion.len() {
+        combos.push(expansion.combination(alloc, leg)?)?;
     }
-    legs(alloc, matrix, choices)
+    Ok(combos)
 }
 
 /// The combinations of a matrix of so many choices.
-fn legs(alloc: Global, matrix: &Matrix, choices: usize) -> Result<Vec<Combo>, Refusal>
+fn legs<'a>(alloc: Global, matrix: &'a Matrix, choices: usize) -> Result<Expansion<'a>, Refusal>
     requires { choices ≡ choice_count matrix.now.variables }
-    ensures { Gives (λ v. v.items) result (legs_or_refusal (combinations matrix.now)) }
+    ensures { Gives (λ e. e) result (legs_or_refusal (combinations matrix.entry.now)) }
 {
     let variables = matrix.variables();
     let originals = count_originals(variables, choices);
     let axes = number_variables(alloc, variables, originals)?;
     let kept = kept_numbers(alloc, matrix, axes.as_slice(), originals)?;
-    kept_and_added(alloc, matrix, axes.as_slice(), kept.as_slice())
+    kept_and_added(alloc, matrix, axes, kept)
 }
 
 /// The numbers of the originals that no exclude object removes.
@@ -60,22 +132,27 @@ fn kept_numbers<'a>(
 fn kept_and_added<'a>(
     alloc: Global,
     matrix: &'a Matrix,
-    axes: &[Axis<'a>],
-    kept: &[usize],
-) -> Result<Vec<Combo>, Refusal>
-    requires axes { axes.now ≡ numbered_axes matrix.now.variables }
-    requires in_order { IsTrue (names_rise axes.now) }
-    requires kept { kept.now ≡ kept_of matrix.now }
-    ensures { Gives (λ v. v.items) result (legs_or_refusal (combinations matrix.now)) }
+    axes: Vec<Axis<'a>>,
+    kept: Vec<usize>,
+) -> Result<Expansion<'a>, Refusal>
+    requires axes { axes.items ≡ numbered_axes matrix.now.variables }
+    requires in_order { IsTrue (names_rise axes.items) }
+    requires kept { kept.items ≡ kept_of matrix.now }
+    ensures { Gives (λ e. e) result (legs_or_refusal (combinations matrix.entry.now)) }
 {
-    let includes = patterns(alloc, axes, matrix.include())?;
-    let added = new_combinations(alloc, includes.as_slice(), kept)?;
+    let includes = patterns(alloc, axes.as_slice(), matrix.include())?;
+    let added = new_combinations(alloc, includes.as_slice(), kept.as_slice())?;
     if !is_leg_count(kept.len(), added.len()) {
         return Err(Refusal::Numbered(Code::LegCount));
     }
-    let mut combos = kept_combinations(alloc, matrix, axes, includes.as_slice(), kept)?;
-    push_copies(alloc, &mut combos, added.as_slice())?;
-    Ok(combos)
+    let entries = entries(alloc, 0, matrix.include())?;
+    Ok(Expansion {
+        axes,
+        includes,
+        entries,
+        kept,
+        added,
+    })
 }
 
 /// How many originals there are: without variables none, and else as many as choices.
@@ -111,24 +188,6 @@ fn is_leg_count(kept: usize, added: usize) -> bool
     (kept > 0 || added > 0) && kept <= MOST_LEGS && added <= MOST_LEGS - kept
 }
 
-/// The final combinations of the kept originals, in order.
-fn kept_combinations(
-    alloc: Global,
-    matrix: &Matrix,
-    axes: &[Axis],
-    includes: &[Pattern],
-    numbers: &[usize],
-) -> Result<Vec<Combo>, Refusal>
-    requires axes { axes.now ≡ numbered_axes matrix.now.variables }
-    requires in_order { IsTrue (names_rise axes.now) }
-    requires includes { includes.now ≡ map (pattern_of axes.now) matrix.now.include }
-    requires numbers { numbers.now ≡ kept_of matrix.now }
-    ensures { Gives (λ v. v.items) result (Ok (map (final_combination matrix.now) (kept matrix.now))) }
-{
-    let entries = entries(alloc, 0, matrix.include())?;
-    final_combinations(alloc, axes, includes, entries.as_slice(), numbers)
-}
-
 /// Whether an include object agrees with some of the originals.
 fn agrees_with_some(include: &Pattern, kept: &[usize]) -> bool
     ensures { result ≡ list_any (λ number. pattern_agrees number include.now) kept.now }
@@ -151,14 +210,4 @@ fn new_combinations<'a>(
         }
     }
     Ok(added)
-}
-
-/// Adds copies at the end.
-fn push_copies(alloc: Global, combos: &mut Vec<Combo>, added: &[&Combo]) -> Result<(), Refusal>
-    ensures { Gives (λ _. combos.new.items) result (Ok (combos.old.items ++ map (λ c. c.now) added.now)) }
-{
-    for combo in added {
-        combos.push(combo.copy(alloc)?)?;
-    }
-    Ok(())
 }

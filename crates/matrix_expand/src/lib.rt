@@ -8,4 +8,4 @@ mod expansion;
 mod original;
 mod pattern;
 
-pub use expansion::expand;
+pub use expansion::{Expansion, expand};

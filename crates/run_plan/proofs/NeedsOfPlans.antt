@@ -20,21 +20,20 @@ rises_over name f [] = refl
 rises_over name f (x ∷ []) = refl
 rises_over name f (x ∷ y ∷ ys) = ap (λ b. is_lt (slice_cmp nat_cmp (name (f x)) (name (f y))) && b) (rises_over name f (y ∷ ys))
 
--- planned jobs keep their ids
-pub ids_still_rise : (jobs : List Job) → IsTrue (read.ids_rise jobs) → IsTrue (ids_rise (needs_listed (map planned_job jobs)))
-ids_still_rise jobs rise =
-    rises_over (λ n. n.id) needs_of_planned (map planned_job jobs) ∙ rises_over (λ p. p.id) planned_job jobs ∙ rise
+-- jobs that are listed with what they need keep their order
+pub listed_rise : (jobs : List Job) → IsTrue (read.ids_rise jobs) → IsTrue (ids_rise (map needs_of_job jobs))
+listed_rise jobs rise = rises_over (λ n. n.id) needs_of_job jobs ∙ rise
+
+-- planned jobs need what they needed
+pub planned_needs : (jobs : List Job) (planned : List PlannedJob) → unless_faulty (legs_faults jobs) (map planned_job jobs) ≡ Ok planned
+    → needs_listed planned ≡ map needs_of_job jobs
+planned_needs jobs planned told =
+    ap needs_listed (sym (same_value (legs_faults jobs) (map planned_job jobs) planned told)) ∙ map-map needs_of_planned planned_job jobs
 
 -- where no matrix has a fault, the needs decide
-pub plan_with_needs : (jobs : List Job) (planned : List PlannedJob) → unless_faulty (legs_faults jobs) (map planned_job jobs) ≡ Ok planned
-    → unless_faulty (outcome_faults (graph_of (needs_listed planned))) planned ≡ unless_faulty (jobs_faults jobs) (map planned_job jobs)
-plan_with_needs jobs planned told =
-    let listed : needs_listed (map planned_job jobs) ≡ map needs_of_job jobs = map-map needs_of_planned planned_job jobs in
-    ap (λ p. unless_faulty (outcome_faults (graph_of (needs_listed p))) p)
-    (sym (same_value (legs_faults jobs) (map planned_job jobs) planned told))
-    ∙ ap (λ ns. unless_faulty (outcome_faults (graph_of ns)) (map planned_job jobs)) listed
-    ∙ ap (λ fs. unless_faulty (fs ++ needs_faults jobs) (map planned_job jobs))
-    (sym (no_fault (legs_faults jobs) (map planned_job jobs) planned told))
+pub needs_decide : {X Y : Type 0} (jobs : List Job) (x v : X) (y : Y) → unless_faulty (legs_faults jobs) x ≡ Ok v
+    → unless_faulty (jobs_faults jobs) y ≡ unless_faulty (needs_faults jobs) y
+needs_decide jobs x v y told = ap (λ fs. unless_faulty (fs ++ needs_faults jobs) y) (no_fault (legs_faults jobs) x v told)
 
 -- a graph that is there is that of the needs
 of_parts : (known : Bool) (ids needs g : List (List ℕ)) → (if known then unless_cycle ids needs else Err unknown_need) ≡ Ok g → g ≡ needs

@@ -2,9 +2,12 @@
 #![tactic(auto)]
 
 mod boxed_lease;
+mod checking;
 mod combo_text;
 mod command;
 mod form;
+mod job_graph;
+mod job_legs;
 mod labels;
 mod last_command;
 mod number;
@@ -15,9 +18,11 @@ mod reply;
 mod small_text;
 
 pub use boxed_lease::BoxedLease;
+pub use checking::check_plan;
 pub use combo_text::text_of_combo;
 pub use command::{Beat, Claim, Command, Done};
 pub use form::{DeliveryForm, EventForm, Form, LabelForm, RunnerForm};
+pub use job_legs::JobLegs;
 pub use labels::Labels;
 pub use last_command::{ClaimReply, LastCommand};
 pub use number::Number;

@@ -1,15 +1,12 @@
-ghost use Rattle.std.specs.Prelude.{◌≡◌, IsTrue, Ok};
-ghost use Rattle.wf_value.specs.Gives.{Gives};
-ghost use Rattle.wf_reader.specs.Faults.{unless_faulty, outcome_faults};
-ghost use Rattle.needs_graph.specs.Needs.{graph_of, ids_rise};
+ghost use Rattle.std.specs.Prelude.{◌≡◌, Ok};
+ghost use Rattle.needs_graph.specs.Needs.{graph_of};
 ghost use Rattle.run_plan.specs.PlanOf.{needs_listed, plan_graph};
 
-use needs_graph::{Graph, JobNeeds};
-use std::alloc::Global;
+use needs_graph::Graph;
 use std::marker::Model;
 use wf_expr::Template;
 use wf_reader::{Concurrency, Flag};
-use wf_value::{Chars, Combo, Condition, Refusal, Sequence};
+use wf_value::{Chars, Combo, Condition, Sequence};
 
 /// A leg of a job as it is planned: one combination of its matrix.
 #[derive(Drop)]
@@ -61,14 +58,12 @@ impl Model for Plan {
 }
 
 impl Plan {
-    /// The plan of the jobs: refused 13 where one needs what is no job, else 14 where one is its own
-    /// ancestor.
-    pub(crate) fn of_jobs(alloc: Global, jobs: Sequence<PlannedJob>) -> Result<Self, Refusal>
-        requires { IsTrue (ids_rise (needs_listed jobs)) }
-        ensures { Gives (λ p. p) result (unless_faulty (outcome_faults (graph_of (needs_listed jobs))) jobs) }
+    /// The plan of jobs, with the graph of what they need.
+    pub(crate) fn new(jobs: Sequence<PlannedJob>, graph: Graph) -> Self
+        requires { graph_of (needs_listed jobs) ≡ Ok graph }
+        ensures { result ≡ jobs }
     {
-        let graph = graph_of(alloc, jobs.as_slice())?;
-        Ok(Plan { jobs, graph })
+        Plan { jobs, graph }
     }
 
     pub fn as_slice(&self) -> &[PlannedJob]
@@ -84,16 +79,4 @@ impl Plan {
     {
         &self.graph
     }
-}
-
-/// The graph of what the jobs need.
-fn graph_of(alloc: Global, jobs: &[PlannedJob]) -> Result<Graph, Refusal>
-    requires { IsTrue (ids_rise (needs_listed jobs.now)) }
-    ensures { Gives (λ g. g) result (graph_of (needs_listed jobs.now)) }
-{
-    let mut needs = Vec::with_capacity(alloc, jobs.len())?;
-    for job in jobs {
-        needs.push(JobNeeds::new(&job.id, job.needs.as_slice()))?;
-    }
-    Graph::build(alloc, needs.as_slice())
 }

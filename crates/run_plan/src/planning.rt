@@ -1,11 +1,11 @@
-ghost use Rattle.std.specs.Prelude.{◌≡◌, IsTrue, IfOk, Ok, map, true};
+ghost use Rattle.std.specs.Prelude.{◌≡◌, Ok, map, true};
 ghost use Rattle.std.specs.Option.{option_and_then, option_map_or};
 ghost use Rattle.wf_value.specs.Gives.{Gives};
 ghost use Rattle.wf_reader.specs.Faults.{unless_faulty};
-ghost use Rattle.needs_graph.specs.Needs.{ids_rise};
 ghost use Rattle.run_plan.specs.PlanOf.{combinations_where, job_faults, jobs_faults};
-ghost use Rattle.run_plan.specs.PlanOf.{legs_faults, legs_of, needs_listed, plan_faults, planned_job, workflow_plan};
+ghost use Rattle.run_plan.specs.PlanOf.{legs_faults, legs_of, plan_faults, planned_job, workflow_plan};
 
+use crate::job_graph::graph_of;
 use crate::planned::{Plan, PlannedJob, PlannedLeg};
 use matrix_expand::expand;
 use std::alloc::Global;
@@ -28,14 +28,15 @@ pub fn plan(alloc: Global, workflow: Workflow) -> Result<Plan, Refusal>
 pub fn plan_jobs(alloc: Global, jobs: Jobs) -> Result<Plan, Refusal>
     ensures { Gives (λ p. p) result (unless_faulty (jobs_faults jobs) (map planned_job jobs)) }
 {
+    // The legs of all jobs are judged before what they need.
+    let graph = graph_of(alloc, jobs.as_slice());
     let planned = planned_jobs(alloc, jobs)?;
-    Plan::of_jobs(alloc, planned)
+    Ok(Plan::new(planned, graph?))
 }
 
 /// Each job as it is planned, up to the first fault of a matrix.
 fn planned_jobs(alloc: Global, jobs: Jobs) -> Result<Sequence<PlannedJob>, Refusal>
-    ensures gives { Gives (λ p. p) result (unless_faulty (legs_faults jobs) (map planned_job jobs)) }
-    ensures rising { IfOk result (λ p. IsTrue (ids_rise (needs_listed p))) }
+    ensures { Gives (λ p. p) result (unless_faulty (legs_faults jobs) (map planned_job jobs)) }
 {
     let mut planned = Vec::new(alloc);
     for job in jobs.into_vec() {

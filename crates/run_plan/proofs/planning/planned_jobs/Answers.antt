@@ -1,17 +1,14 @@
-use Rattle.std.proofs.Common.{◌≡◌, ◌++◌, [], IsTrue, length, map, Ok, sym, ap, ◌∙◌, subst, arith}
+use Rattle.std.proofs.Common.{◌≡◌, ◌++◌, [], length, map, Ok, sym, ap, ◌∙◌, arith}
 use Rattle.std.specs.Vec.Iter.{into_iter_items}
 use Rattle.wf_value.proofs.PassedOn.{passed_on}
 use Rattle.wf_reader.proofs.InTurn.{first_of_rest, none_of_first, one_more, same_value}
-use Rattle.needs_graph.specs.Needs.{ids_rise}
-use Rattle.run_plan.specs.PlanOf.{job_faults, legs_faults, needs_listed, planned_job}
+use Rattle.run_plan.specs.PlanOf.{job_faults, legs_faults, planned_job}
 use Rattle.wf_reader.specs.Faults.{unless_faulty}
-use Rattle.wf_reader.specs.JobCode as read
 use Rattle.run_plan.proofs.Jobs.{all_done, nothing_left}
-use Rattle.run_plan.proofs.NeedsOfPlans.{ids_still_rise}
 use Rattle.run_plan.proofs.planning.planned_jobs.Goals as goal
 
-pub returns-in_err-planned_job-clause-gives : goal.returns-in_err-planned_job-clause-gives
-returns-in_err-planned_job-clause-gives c =
+pub returns-in_err-planned_job : goal.returns-in_err-planned_job
+returns-in_err-planned_job c =
     passed_on _ _ _ _ c.in_err-planned_job.field-0.0 c.from_residual.ensures.1 c.in_err-planned_job.ensures
     (λ refused. first_of_rest job_faults c.args.jobs (into_iter_items c.loop-job.job-iterator) (into_iter_items c.next.new.self)
     c.in-Some.job (planned_job c.in-Some.job) _ c.in_err-planned_job.field-0.0 c.loop-job.invariant.left c.in-Some.ensures.steps.0 refused)
@@ -33,18 +30,10 @@ loop-job-preserved c =
       counted = omega arith;
     }
 
-pub returns-clause-gives : goal.returns-clause-gives
-returns-clause-gives c =
+pub returns : goal.returns
+returns c =
     let at = c.loop-job in
     let none = nothing_left (into_iter_items at.job-iterator) (sym c.in-None.ensures.steps.0 ∙ at.invariant.counted) in
     let no_faults : legs_faults c.args.jobs ≡ [] = at.invariant.left ∙ ap legs_faults none in
     let planned = all_done planned_job at.planned.items (into_iter_items at.job-iterator) c.args.jobs at.invariant.done none in
     ap (λ fs. unless_faulty fs (map planned_job c.args.jobs)) no_faults ∙ ap Ok (sym planned ∙ sym c.new.ensures)
-
-pub returns-clause-rising : goal.returns-clause-rising
-returns-clause-rising c =
-    let at = c.loop-job in
-    let none = nothing_left (into_iter_items at.job-iterator) (sym c.in-None.ensures.steps.0 ∙ at.invariant.counted) in
-    let planned = all_done planned_job at.planned.items (into_iter_items at.job-iterator) c.args.jobs at.invariant.done none in
-    let rising = subst (λ js. IsTrue (read.ids_rise js)) c.into_vec-job-items.ensures.jobs c.into_vec-job-items.ensures.rising in
-    subst (λ ps. IsTrue (ids_rise (needs_listed ps))) (sym planned ∙ sym c.new.ensures) (ids_still_rise c.args.jobs rising)
