@@ -1,82 +1,67 @@
 -- What a check has written, part by part.
-use Rattle.std.proofs.Common.{◌≡◌, ◌⊎◌, inl, inr, ℕ, suc, ◌+◌, ◌<◌, ◌≤◌, List, [], ◌∷◌, ◌++◌, length, drop, get_or}
-use Rattle.std.proofs.Common.{Result, Ok, Err, IfErr, refl, sym, ap, subst, ◌∙◌, append_assoc, append-nil, arith}
+use Rattle.std.proofs.Common.{◌≡◌, ◌⊎◌, inl, inr, ℕ, suc, ◌+◌, ◌<◌, ◌≤◌, List, [], ◌∷◌, ◌++◌, length, map, drop, get_or, Option}
+use Rattle.std.proofs.Common.{Result, Ok, Err, refl, sym, ap, subst, ◌∙◌, arith}
 use Rattle.std.proofs.Math.Seq.{drop-cons}
+use Rattle.std.specs.Io.KnownBytes.{Appends}
 use Rattle.std.specs.List.{flat_map, enumerate_from}
 use Rattle.std.specs.Prelude.{IsErrAnd}
-use Rattle.wf_value.specs.Gives.{Gives, no_memory}
+use Rattle.std.specs.Result.{result_unwrap_or}
+use Rattle.wf_value.specs.Gives.{no_memory}
 use Rattle.wf_value.specs.declared.refusal.Refusal.{Refusal}
-use Rattle.wf_reader.specs.Faults.{unless_faulty}
+use Rattle.wf_reader.specs.Faults.{outcome_faults, unless_faulty}
 use Rattle.wf_reader.specs.Workflow.{workflow_faults, workflow_of}
+use Rattle.wf_reader.specs.declared.job.Job.{Job}
 use Rattle.wf_reader.specs.declared.workflow.Workflow.{Workflow}
 use Rattle.wf_reader.proofs.InTurn.{no_fault, same_value}
-use Rattle.run_plan.specs.PlanOf.{plan_faults, workflow_plan}
+use Rattle.wf_value.specs.declared.combo.Combo.{Combo}
+use Rattle.run_plan.specs.PlanOf.{combinations_where, job_faults, legs_faults, legs_of, matrix_of, needs_faults, plan_faults, planned_job}
+use Rattle.run_plan.specs.PlanOf.{workflow_plan}
 use Rattle.run_plan.proofs.Prepares.{same_refusal}
-use Rattle.run_plan.specs.declared.planned.PlannedJob.{PlannedJob}
-use Rattle.run_plan.specs.declared.planned.PlannedLeg.{PlannedLeg}
-use Rattle.acts_cli.specs.Check.{leg_line, job_lines, plan_lines, checked, Written, ChecksTo}
+use Rattle.acts_cli.specs.Check.{leg_line, leg_lines, job_lines, plan_lines, checked, Written, ChecksTo}
 use Rattle.acts_cli.specs.Input.{RefusesInput}
 use Rattle.acts_cli.specs.Play.{most_bytes, stream_failed}
-
--- one part more has been written whole
-pub past_part : (out part more all : List ℕ) → out ++ (part ++ more) ≡ all → (out ++ part) ++ more ≡ all
-past_part out part more all h = append_assoc out part more ∙ h
-
--- a front of one part more
-pub within_part : (out front back part more all : List ℕ) → out ++ (part ++ more) ≡ all → front ++ back ≡ part
-    → (out ++ front) ++ (back ++ more) ≡ all
-within_part out front back part more all h joined =
-    append_assoc out front (back ++ more)
-    ∙ ap (λ x. out ++ x) (sym (append_assoc front back more) ∙ ap (λ x. x ++ more) joined)
-    ∙ h
+use Rattle.acts_cli.specs.Writes.{Writes}
 
 -- ---- legs
 
--- the lines of legs that are numbered from a number on
-abbrev pub numbered_lines : List ℕ → ℕ → List PlannedLeg → List ℕ
-numbered_lines job number legs = flat_map (λ p. leg_line job p.0 p.1) (enumerate_from number legs)
+-- the lines of combinations that are numbered from a number on
+abbrev pub numbered_lines : List ℕ → ℕ → List Combo → List ℕ
+numbered_lines job number combinations = flat_map (λ p. leg_line job p.0 p.1) (enumerate_from number combinations)
 
-next_leg : (job : List ℕ) (n : ℕ) (legs : List PlannedLeg) (leg : PlannedLeg) → n < length legs → leg ≡ get_or legs n leg
-    → numbered_lines job n (drop n legs) ≡ leg_line job n leg ++ numbered_lines job (n + 1) (drop (n + 1) legs)
-next_leg job n legs leg lt is =
+pub next_leg : (job : List ℕ) (n : ℕ) (legs : List Combo) (combo : Combo) → n < length legs → get_or legs n [] ≡ combo
+    → numbered_lines job n (drop n legs) ≡ leg_line job n combo ++ numbered_lines job (n + 1) (drop (n + 1) legs)
+next_leg job n legs combo lt is =
     let step : suc n ≡ n + 1 = omega arith in
     ap (numbered_lines job n)
-    (drop-cons legs n leg lt ∙ ap (λ x. x ∷ drop (suc n) legs) (sym is) ∙ ap (λ k. leg ∷ drop k legs) step)
+    (drop-cons legs n [] lt ∙ ap (λ c. c ∷ drop (suc n) legs) is ∙ ap (λ k. combo ∷ drop k legs) step)
 
-pub one_leg_more : (job out all : List ℕ) (n : ℕ) (legs : List PlannedLeg) (leg : PlannedLeg) → n < length legs
-    → leg ≡ get_or legs n leg → out ++ numbered_lines job n (drop n legs) ≡ all
-    → (out ++ leg_line job n leg) ++ numbered_lines job (n + 1) (drop (n + 1) legs) ≡ all
-one_leg_more job out all n legs leg lt is h =
-    past_part out (leg_line job n leg) (numbered_lines job (n + 1) (drop (n + 1) legs)) all
-    (ap (λ x. out ++ x) (sym (next_leg job n legs leg lt is)) ∙ h)
+-- the combinations of legs that are made of combinations
+pub combinations_again : (cs : List Combo) → map (λ leg. leg.combo) (legs_of cs) ≡ cs
+combinations_again [] = refl
+combinations_again (c ∷ cs) = ap (λ rest. c ∷ rest) (combinations_again cs)
 
-pub within_leg : (job out front back all : List ℕ) (n : ℕ) (legs : List PlannedLeg) (leg : PlannedLeg) → n < length legs
-    → leg ≡ get_or legs n leg → out ++ numbered_lines job n (drop n legs) ≡ all → front ++ back ≡ leg_line job n leg
-    → (out ++ front) ++ (back ++ numbered_lines job (n + 1) (drop (n + 1) legs)) ≡ all
-within_leg job out front back all n legs leg lt is h joined =
-    within_part out front back (leg_line job n leg) (numbered_lines job (n + 1) (drop (n + 1) legs)) all
-    (ap (λ x. out ++ x) (sym (next_leg job n legs leg lt is)) ∙ h) joined
+-- the lines of a job whose combinations are there
+pub lines_of_job : (job : Job) (legs : List Combo) → combinations_where (matrix_of job) ≡ Ok legs
+    → leg_lines job.id legs ≡ job_lines (planned_job job)
+lines_of_job job legs is =
+    ap (leg_lines job.id) (sym (ap (λ r. map (λ leg. leg.combo) (legs_of (result_unwrap_or r []))) is ∙ combinations_again legs))
 
 -- ---- jobs
 
-next_job : (n : ℕ) (jobs : List PlannedJob) (job : PlannedJob) → n < length jobs → job ≡ get_or jobs n job
-    → plan_lines (drop n jobs) ≡ job_lines job ++ plan_lines (drop (n + 1) jobs)
+pub next_job : (n : ℕ) (jobs : List Job) (job : Job) → n < length jobs → job ≡ get_or jobs n job
+    → drop n jobs ≡ job ∷ drop (n + 1) jobs
 next_job n jobs job lt is =
     let step : suc n ≡ n + 1 = omega arith in
-    ap plan_lines (drop-cons jobs n job lt ∙ ap (λ x. x ∷ drop (suc n) jobs) (sym is) ∙ ap (λ k. job ∷ drop k jobs) step)
+    drop-cons jobs n job lt ∙ ap (λ x. x ∷ drop (suc n) jobs) (sym is) ∙ ap (λ k. job ∷ drop k jobs) step
 
-pub one_job_more : (out all : List ℕ) (n : ℕ) (jobs : List PlannedJob) (job : PlannedJob) → n < length jobs
-    → job ≡ get_or jobs n job → out ++ plan_lines (drop n jobs) ≡ all
-    → (out ++ job_lines job) ++ plan_lines (drop (n + 1) jobs) ≡ all
-one_job_more out all n jobs job lt is h =
-    past_part out (job_lines job) (plan_lines (drop (n + 1) jobs)) all (ap (λ x. out ++ x) (sym (next_job n jobs job lt is)) ∙ h)
+neither : {X : Type 0} (xs ys : List X) → xs ++ ys ≡ [] → (xs ≡ []) × (ys ≡ [])
+neither [] ys h = (refl, h)
+neither (x ∷ xs) ys h = absurd cc
 
-pub within_job : (out front back all : List ℕ) (n : ℕ) (jobs : List PlannedJob) (job : PlannedJob) → n < length jobs
-    → job ≡ get_or jobs n job → out ++ plan_lines (drop n jobs) ≡ all → front ++ back ≡ job_lines job
-    → (out ++ front) ++ (back ++ plan_lines (drop (n + 1) jobs)) ≡ all
-within_job out front back all n jobs job lt is h joined =
-    within_part out front back (job_lines job) (plan_lines (drop (n + 1) jobs)) all
-    (ap (λ x. out ++ x) (sym (next_job n jobs job lt is)) ∙ h) joined
+-- where jobs have no fault, neither the first has one nor the others
+pub none_of_jobs : (jobs rest : List Job) (job : Job) → jobs ≡ job ∷ rest → legs_faults jobs ≡ []
+    → (job_faults job ≡ []) × (legs_faults rest ≡ [])
+none_of_jobs jobs rest job is none = neither (job_faults job) (legs_faults rest) (sym (ap legs_faults is) ∙ none)
 
 -- ---- the end
 
@@ -90,16 +75,19 @@ of_plan text w told =
     (same_value (workflow_faults text) (workflow_of text) w told)
 
 -- the lines of a plan, where the workflow of a text has no fault
-pub plan_checked : (text : List ℕ) (w : Workflow) (r : Result (List PlannedJob) Refusal)
-    → unless_faulty (workflow_faults text) (workflow_of text) ≡ Ok w
-    → Gives (λ p. p) r (unless_faulty (plan_faults w) (workflow_plan w)) → Gives plan_lines r (checked text)
-plan_checked text w (Ok plan) told given =
-    of_plan text w told
-    ∙ ap (λ fs. unless_faulty fs (plan_lines (workflow_plan w))) (no_fault (plan_faults w) (workflow_plan w) plan given)
-    ∙ ap (λ p. Ok (plan_lines p)) (same_value (plan_faults w) (workflow_plan w) plan given)
-plan_checked text w (Err e) told (inl memory) = inl memory
-plan_checked text w (Err e) told (inr refused) =
-    inr (of_plan text w told ∙ same_refusal (plan_faults w) (workflow_plan w) (plan_lines (workflow_plan w)) e refused)
+pub plan_checked : {X : Type 0} (text : List ℕ) (w : Workflow) (x v : X)
+    → unless_faulty (workflow_faults text) (workflow_of text) ≡ Ok w → unless_faulty (plan_faults w) x ≡ Ok v
+    → checked text ≡ Ok (plan_lines (workflow_plan w))
+plan_checked text w x v told planned =
+    of_plan text w told ∙ ap (λ fs. unless_faulty fs (plan_lines (workflow_plan w))) (no_fault (plan_faults w) x v planned)
+
+pub plan_refused : {X : Type 0} (text : List ℕ) (w : Workflow) (x : X) (e : Refusal)
+    → unless_faulty (workflow_faults text) (workflow_of text) ≡ Ok w → unless_faulty (plan_faults w) x ≡ Err e → checked text ≡ Err e
+plan_refused text w x e told refused = of_plan text w told ∙ same_refusal (plan_faults w) x (plan_lines (workflow_plan w)) e refused
+
+-- a plan without a fault has none of the matrices
+pub no_legs_fault : {X : Type 0} (w : Workflow) (x v : X) → unless_faulty (plan_faults w) x ≡ Ok v → legs_faults w.jobs ≡ []
+no_legs_fault w x v planned = (neither (legs_faults w.jobs) (needs_faults w.jobs) (no_fault (plan_faults w) x v planned)).0
 
 -- the plan was refused, and nothing written
 pub refused_plan : {U : Type 0} (text : List ℕ) (r : Result U Refusal) (e : Refusal) → IsErrAnd r (λ f. f ≡ e)
@@ -108,18 +96,11 @@ refused_plan text (Ok u) e is why = absurd is
 refused_plan text (Err f) e is (inl memory) = inr (inr (is ∙ memory), inl refl)
 refused_plan text (Err f) e is (inr refused) = inl (refused ∙ ap Err (sym is), refl)
 
--- writing failed
-pub front_written : {U : Type 0} (text out rest lines : List ℕ) (r : Result U Refusal) (e : Refusal) → IsErrAnd r (λ f. f ≡ e)
-    → (e ≡ stream_failed) ⊎ (e ≡ no_memory) → checked text ≡ Ok lines → out ++ rest ≡ lines → Written text out r
-front_written text out rest lines (Ok u) e is why told joined = absurd is
-front_written text out rest lines (Err f) e is why told joined =
-    inr (subst (λ x. (x ≡ stream_failed) ⊎ (x ≡ no_memory)) (sym is) why, inr (rest, told ∙ ap Ok (sym joined)))
-
--- all is written, and the writer is flushed
-pub all_written : {U : Type 0} (text out : List ℕ) (r : Result U Refusal) → checked text ≡ Ok out → IfErr r (λ e. e ≡ stream_failed)
-    → Written text out r
-all_written text out (Ok u) told why = told
-all_written text out (Err e) told why = inr (inl why, inr ([], told ∙ ap Ok (sym (append-nil out))))
+-- the lines were written, or a front of them
+pub lines_written : {U : Type 0} (text lines : List ℕ) (old new : Option (List ℕ)) (r : Result U Refusal) → checked text ≡ Ok lines
+    → Writes old new lines r → (out : List ℕ) × Appends old new out × Written text out r
+lines_written text lines old new (Ok u) told all = (lines, all, told)
+lines_written text lines old new (Err e) told part = (part.1.0, part.1.2, inr (part.0, inr (part.1.1, told ∙ ap Ok (sym part.1.3))))
 
 -- a text that is not too long
 pub checks_within : {U : Type 0} (text out : List ℕ) (r : Result U Refusal) → length text ≤ most_bytes → Written text out r

@@ -6,3 +6,4 @@ pub mod Plays
 mod Rows
 pub mod Showing
 pub mod Taking
+pub mod Writing

@@ -1,10 +1,10 @@
 -- What a showing has written, run by run.
-use Rattle.std.proofs.Common.{◌≡◌, ◌∙◌, ◌⊎◌, inl, inr, ℕ, suc, ◌+◌, ◌-◌, ◌<◌, ◌≤◌, List, [], ◌++◌, length, Option, Some, None}
-use Rattle.std.proofs.Common.{Result, Ok, Err, IfErr, OnOk, refl, sym, ap, append-nil, arith}
+use Rattle.std.proofs.Common.{◌≡◌, ◌∙◌, inl, inr, ℕ, suc, ◌+◌, ◌-◌, ◌<◌, ◌≤◌, List, [], ◌++◌, length, Option, Some, None}
+use Rattle.std.proofs.Common.{Result, Ok, Err, refl, sym, ap, append-nil, arith}
+use Rattle.std.specs.Io.KnownBytes.{Appends}
 use Rattle.std.specs.Option.{option_map_or}
 use Rattle.std.specs.Prelude.{option_map}
 use Rattle.std.proofs.lemmas.Option.{slice_get_cases}
-use Rattle.wf_value.specs.Gives.{no_memory}
 use Rattle.wf_value.specs.declared.refusal.Refusal.{Refusal}
 use Rattle.workflow_runs.specs.RunNumber.{events, run_number}
 use Rattle.run_table.specs.Step.{seen}
@@ -15,9 +15,8 @@ use Rattle.act_store.specs.Entries.{table_after}
 use Rattle.act_store.specs.Images.{StandsFor}
 use Rattle.act_store.specs.Kept.{Kept, table_of}
 use Rattle.act_store.specs.declared.entry.Entry.{Entry}
-use Rattle.acts_cli.specs.Play.{stream_failed}
 use Rattle.acts_cli.specs.Show.{Shows, lines_from, shown, view_line}
-use Rattle.acts_cli.proofs.Checks.{past_part, within_part}
+use Rattle.acts_cli.specs.Writes.{Writes}
 
 -- the lines of the runs from a place on
 abbrev pub lines_behind : TableState → ℕ → List ℕ
@@ -47,25 +46,14 @@ there t place run is =
       | inr past ↦ absurd (let clash : None ≡ Some run = sym (ap (seen_by t (place + 1)) past.1) ∙ is in cc)
     ]
 
-behind_run : (t : TableState) (place : ℕ) (run : Seen) → seen t (place + 1) ≡ Some run
-    → lines_behind t place ≡ view_line run ++ lines_behind t (place + 1)
-behind_run t place run is =
+-- its line stands before those of the later ones
+pub behind_run : (t : TableState) (out all : List ℕ) (place : ℕ) (run : Seen) → seen t (place + 1) ≡ Some run
+    → out ++ lines_behind t place ≡ all → out ++ (view_line run ++ lines_behind t (place + 1)) ≡ all
+behind_run t out all place run is h =
     let below : place < length t.runs = there t place run is in
     let left : length t.runs - place ≡ suc (length t.runs - (place + 1)) = omega arith in
-    ap (λ n. lines_from t (place + 1) n) left
-    ∙ ap (λ o. option_map_or view_line o [] ++ lines_from t (place + 1 + 1) (length t.runs - (place + 1))) is
-
-pub one_run_more : (t : TableState) (out all : List ℕ) (place : ℕ) (run : Seen) → seen t (place + 1) ≡ Some run
-    → out ++ lines_behind t place ≡ all → (out ++ view_line run) ++ lines_behind t (place + 1) ≡ all
-one_run_more t out all place run is h =
-    past_part out (view_line run) (lines_behind t (place + 1)) all (ap (λ x. out ++ x) (sym (behind_run t place run is)) ∙ h)
-
-pub within_run : (t : TableState) (out front back all : List ℕ) (place : ℕ) (run : Seen) → seen t (place + 1) ≡ Some run
-    → out ++ lines_behind t place ≡ all → front ++ back ≡ view_line run
-    → (out ++ front) ++ (back ++ lines_behind t (place + 1)) ≡ all
-within_run t out front back all place run is h joined =
-    within_part out front back (view_line run) (lines_behind t (place + 1)) all
-    (ap (λ x. out ++ x) (sym (behind_run t place run is)) ∙ h) joined
+    ap (λ x. out ++ x) (sym (ap (λ n. lines_from t (place + 1) n) left
+    ∙ ap (λ o. option_map_or view_line o [] ++ lines_from t (place + 1 + 1) (length t.runs - (place + 1))) is)) ∙ h
 
 -- ---- the end
 
@@ -88,8 +76,7 @@ pub opened_table : {D : Type 0} (s : Kept D) → s.history ≡ [] → s.base ≡
 opened_table s begun = ap (λ (h : List Entry). table_after s.base h) (sym begun)
 
 -- what a showing wrote of a table, all or a front
-pub shows_told : {U : Type 0} (image : List ℕ) (t : TableState) (Wrote : List ℕ → Type 0) (r : Result U Refusal) → StandsFor t image
-    → OnOk r (Wrote (shown t)) → ((out : List ℕ) × (rest : List ℕ) × Wrote out × (out ++ rest ≡ shown t))
-    → IfErr r (λ e. (e ≡ stream_failed) ⊎ (e ≡ no_memory)) → (out : List ℕ) × Wrote out × Shows image out r
-shows_told image t Wrote (Ok u) stands all front why = (shown t, all, (t, stands, refl))
-shows_told image t Wrote (Err e) stands all front why = (front.0, front.2, inr (why, (t, stands, front.1, front.3)))
+pub shows_told : {U : Type 0} (image : List ℕ) (t : TableState) (old new : Option (List ℕ)) (r : Result U Refusal) → StandsFor t image
+    → Writes old new (shown t) r → (out : List ℕ) × Appends old new out × Shows image out r
+shows_told image t old new (Ok u) stands all = (shown t, all, (t, stands, refl))
+shows_told image t old new (Err e) stands part = (part.1.0, part.1.2, inr (part.0, (t, stands, part.1.1, part.1.3)))

@@ -1,17 +1,17 @@
 -- What `acts check` prints (own): a line for each leg of each job of a workflow, or the first thing that is wrong with the workflow.
-use Rattle.std.specs.Prelude.{◌≡◌, ◌⊎◌, ℕ, ◌≤◌, ◌<◌, List, [], ◌∷◌, ◌++◌, length, flat_map, codes, Result, Ok, Err}
+use Rattle.std.specs.Prelude.{◌≡◌, ◌⊎◌, ℕ, ◌≤◌, ◌<◌, List, [], ◌∷◌, ◌++◌, length, map, flat_map, codes, Result, Ok, Err}
 use Rattle.std.specs.Fmt.{decimal}
 use Rattle.std.specs.List.{enumerate_from}
 use Rattle.wf_value.specs.Gives.{no_memory}
 use Rattle.wf_value.specs.declared.code.Code.TheVariants.{InputTooLong}
 use Rattle.wf_value.specs.declared.refusal.Refusal.{Refusal}
 use Rattle.wf_value.specs.declared.refusal.Refusal.TheVariants.{Numbered}
+use Rattle.wf_value.specs.declared.combo.Combo.{Combo}
 use Rattle.wf_reader.specs.Faults.{unless_faulty}
 use Rattle.wf_reader.specs.Workflow.{workflow_faults, workflow_of}
 use Rattle.run_plan.specs.PlanOf.{plan_faults, workflow_plan}
 use Rattle.run_plan.specs.ReplyText.{combo_text}
 use Rattle.run_plan.specs.declared.planned.PlannedJob.{PlannedJob}
-use Rattle.run_plan.specs.declared.planned.PlannedLeg.{PlannedLeg}
 use Rattle.acts_cli.specs.Play.{most_bytes, stream_failed}
 
 -- `JOB LEG COMBO` and a line feed
@@ -19,12 +19,15 @@ abbrev pub leg_text : List ℕ → ℕ → List ℕ → List ℕ
 leg_text job number combo = job ++ codes " " ++ decimal number ++ codes " " ++ combo ++ 10 ∷ []
 
 -- the job's id, the leg's number, and its combination as `lease` prints it
-abbrev pub leg_line : List ℕ → ℕ → PlannedLeg → List ℕ
-leg_line job number leg = leg_text job number (combo_text leg.combo)
+abbrev pub leg_line : List ℕ → ℕ → Combo → List ℕ
+leg_line job number combination = leg_text job number (combo_text combination)
 
--- a line for each leg, numbered from 0
+-- a line for each combination of a job's legs, which are numbered from 0
+abbrev pub leg_lines : List ℕ → List Combo → List ℕ
+leg_lines job combinations = flat_map (λ numbered. leg_line job numbered.0 numbered.1) (enumerate_from 0 combinations)
+
 abbrev pub job_lines : PlannedJob → List ℕ
-job_lines job = flat_map (λ numbered. leg_line job.id numbered.0 numbered.1) (enumerate_from 0 job.legs)
+job_lines job = leg_lines job.id (map (λ leg. leg.combo) job.legs)
 
 -- the lines of a plan: its jobs in order, and the legs of each
 abbrev pub plan_lines : List PlannedJob → List ℕ

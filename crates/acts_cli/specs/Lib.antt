@@ -7,3 +7,4 @@ pub mod Made
 pub mod PlainStore
 pub mod Play
 pub mod Show
+pub mod Writes

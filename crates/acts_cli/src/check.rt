@@ -1,16 +1,18 @@
-ghost use Rattle.std.specs.Prelude.{◌≡◌, ◌≤◌, ◌⊎◌, ◌++◌, ℕ, List, length, string_bytes, IfErr, IfOk, IfSome, OnOk, Ok};
-ghost use Rattle.std.specs.Io.KnownBytes.{Appends, Consumes};
-ghost use Rattle.wf_value.specs.Gives.{Gives, no_memory};
-ghost use Rattle.acts_cli.specs.Check.{ChecksTo, Written, checked, job_lines, leg_line, leg_text, plan_lines};
-ghost use Rattle.acts_cli.specs.Play.{stream_failed};
+ghost use Rattle.std.specs.Prelude.{◌≡◌, [], ℕ, List, map, string_bytes, IfOk, IfSome, Ok};
+ghost use Rattle.std.specs.Io.KnownBytes.{Appends};
+ghost use Rattle.wf_value.specs.Gives.{Gives};
+ghost use Rattle.run_plan.specs.PlanOf.{job_faults, legs_faults, planned_job, workflow_plan};
+ghost use Rattle.acts_cli.specs.Check.{ChecksTo, Written, checked, job_lines, leg_line, leg_lines, leg_text, plan_lines};
+ghost use Rattle.acts_cli.specs.Input.{ReadsAtMost};
+ghost use Rattle.acts_cli.specs.Writes.{Writes};
 
 use crate::input::read_input;
 use crate::output::{flush, write_whole};
-use run_plan::{Plan, PlannedJob, PlannedLeg, plan, text_of_combo};
+use run_plan::{JobLegs, check_plan, text_of_combo};
 use std::alloc::{AllocError, Global};
 use std::io::{Read, Write};
-use wf_reader::read_workflow;
-use wf_value::Refusal;
+use wf_reader::{Job, Workflow, read_workflow};
+use wf_value::{Combo, Refusal};
 
 fn leg_text(alloc: Global, job: &str, number: usize, combo: &str) -> Result<String, AllocError>
     ensures { IfOk result (λ s. string_bytes s ≡ leg_text job.now number combo.now) }
@@ -19,10 +21,10 @@ fn leg_text(alloc: Global, job: &str, number: usize, combo: &str) -> Result<Stri
 }
 
 /// The line of a leg, with its line feed.
-fn leg_line(alloc: Global, job: &str, number: usize, leg: &PlannedLeg) -> Result<String, Refusal>
-    ensures { Gives (λ s. string_bytes s) result (Ok (leg_line job.now number leg.now)) }
+fn leg_line(alloc: Global, job: &str, number: usize, combo: &Combo) -> Result<String, Refusal>
+    ensures { Gives (λ s. string_bytes s) result (Ok (leg_line job.now number combo.now)) }
 {
-    let combo = text_of_combo(alloc, &leg.combo)?;
+    let combo = text_of_combo(alloc, combo)?;
     Ok(leg_text(alloc, job, number, combo.as_str())?)
 }
 
@@ -30,37 +32,44 @@ fn write_leg<W: Write>(
     alloc: Global,
     job: &str,
     number: usize,
-    leg: &PlannedLeg,
+    combo: &Combo,
     writer: &mut W,
 ) -> Result<(), Refusal>
-    ensures all { OnOk result (Appends (W.contents writer.old) (W.contents writer.new)
-        (leg_line job.now number leg.now)) }
-    ensures front { (out : List ℕ) × (rest : List ℕ) × Appends (W.contents writer.old) (W.contents writer.new) out
-        × (out ++ rest ≡ leg_line job.now number leg.now) }
-    ensures err { IfErr result (λ e. (e ≡ stream_failed) ⊎ (e ≡ no_memory)) }
+    ensures { Writes (W.contents writer.old) (W.contents writer.new) (leg_line job.now number combo.now) result }
 {
-    let line = leg_line(alloc, job, number, leg)?;
+    let line = leg_line(alloc, job, number, combo)?;
     write_whole(writer, line.as_bytes())
 }
 
-fn write_job<W: Write>(alloc: Global, job: &PlannedJob, writer: &mut W) -> Result<(), Refusal>
-    ensures all { OnOk result (Appends (W.contents writer.old) (W.contents writer.new) (job_lines job.now)) }
-    ensures front { (out : List ℕ) × (rest : List ℕ) × Appends (W.contents writer.old) (W.contents writer.new) out
-        × (out ++ rest ≡ job_lines job.now) }
-    ensures err { IfErr result (λ e. (e ≡ stream_failed) ⊎ (e ≡ no_memory)) }
+/// Writes the lines of a job's legs, of which one combination at a time stands in memory.
+fn write_legs<W: Write>(
+    alloc: Global,
+    job: &str,
+    legs: &JobLegs,
+    writer: &mut W,
+) -> Result<(), Refusal>
+    ensures { Writes (W.contents writer.old) (W.contents writer.new) (leg_lines job.now legs.now) result }
 {
-    let legs = job.legs.as_slice();
-    for (number, leg) in legs.iter().enumerate() {
-        write_leg(alloc, job.id.as_str(), number, leg, writer)?;
+    for number in 0..legs.len() {
+        let combo = legs.combination(alloc, number)?;
+        write_leg(alloc, job, number, &combo, writer)?;
     }
     Ok(())
 }
 
-fn write_jobs<W: Write>(alloc: Global, jobs: &[PlannedJob], writer: &mut W) -> Result<(), Refusal>
-    ensures all { OnOk result (Appends (W.contents writer.old) (W.contents writer.new) (plan_lines jobs.now)) }
-    ensures front { (out : List ℕ) × (rest : List ℕ) × Appends (W.contents writer.old) (W.contents writer.new) out
-        × (out ++ rest ≡ plan_lines jobs.now) }
-    ensures err { IfErr result (λ e. (e ≡ stream_failed) ⊎ (e ≡ no_memory)) }
+/// Writes the lines of a job whose matrix has no fault.
+fn write_job<W: Write>(alloc: Global, job: &Job, writer: &mut W) -> Result<(), Refusal>
+    requires { job_faults job.now ≡ [] }
+    ensures { Writes (W.contents writer.old) (W.contents writer.new) (job_lines (planned_job job.now)) result }
+{
+    let legs = JobLegs::of(alloc, job)?;
+    write_legs(alloc, job.id.as_str(), &legs, writer)
+}
+
+/// Writes the lines of jobs whose matrices have no fault.
+fn write_jobs<W: Write>(alloc: Global, jobs: &[Job], writer: &mut W) -> Result<(), Refusal>
+    requires { legs_faults jobs.now ≡ [] }
+    ensures { Writes (W.contents writer.old) (W.contents writer.new) (plan_lines (map planned_job jobs.now)) result }
 {
     for job in jobs {
         write_job(alloc, job, writer)?;
@@ -68,20 +77,22 @@ fn write_jobs<W: Write>(alloc: Global, jobs: &[PlannedJob], writer: &mut W) -> R
     Ok(())
 }
 
-/// The plan of the workflow that a text spells.
-fn plan_of(alloc: Global, text: &[u8]) -> Result<Plan, Refusal>
-    ensures { Gives (λ p. plan_lines p) result (checked text.now) }
+/// The workflow that a text spells, where nothing is wrong with it and its plan.
+fn checked_workflow(alloc: Global, text: &[u8]) -> Result<Workflow, Refusal>
+    ensures lines { Gives (λ w. plan_lines (workflow_plan w)) result (checked text.now) }
+    ensures legs { IfOk result (λ w. legs_faults w.jobs ≡ []) }
 {
     let workflow = read_workflow(alloc, text)?;
-    plan(alloc, workflow)
+    check_plan(alloc, &workflow)?;
+    Ok(workflow)
 }
 
 /// Writes the lines of the workflow that a text spells, or nothing where it is refused.
 fn write_checked<W: Write>(alloc: Global, text: &[u8], writer: &mut W) -> Result<(), Refusal>
     ensures { (out : List ℕ) × Appends (W.contents writer.old) (W.contents writer.new) out × Written text.now out result }
 {
-    let plan = plan_of(alloc, text)?;
-    write_jobs(alloc, plan.as_slice(), writer)?;
+    let workflow = checked_workflow(alloc, text)?;
+    write_jobs(alloc, workflow.jobs.as_slice(), writer)?;
     flush(writer)
 }
 
@@ -95,8 +106,7 @@ pub fn run_check<R: Read, W: Write>(
     reader: &mut R,
     writer: &mut W,
 ) -> Result<(), Refusal>
-    ensures read { (read : List ℕ) × Consumes (R.remaining reader.old) (R.remaining reader.new) read
-        × (length read ≤ 1048577) }
+    ensures read { ReadsAtMost 1048577 (R.remaining reader.old) (R.remaining reader.new) }
     ensures written { IfSome (R.remaining reader.old) (λ text. (out : List ℕ)
         × Appends (W.contents writer.old) (W.contents writer.new) out × ChecksTo text out result) }
 {

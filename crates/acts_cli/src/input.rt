@@ -1,7 +1,7 @@
 ghost use Rattle.std.specs.Prelude.{◌≡◌, ◌≤◌, ◌<◌, ◌⊎◌, ℕ, List, take, length, vec_len, IfOk, IfErr, IfSome, OnErr};
 ghost use Rattle.std.specs.Io.KnownBytes.{Consumes, IsAtEnd, Keeps};
 ghost use Rattle.wf_value.specs.Gives.{no_memory};
-ghost use Rattle.acts_cli.specs.Input.{IsReadAs, RefusesInput};
+ghost use Rattle.acts_cli.specs.Input.{IsReadAs, ReadsAtMost, RefusesInput};
 ghost use Rattle.acts_cli.specs.Play.{stream_failed};
 
 use std::alloc::Global;
@@ -34,7 +34,7 @@ fn read_some<R: Read>(reader: &mut R, buffer: &mut [u8]) -> Result<usize, Refusa
 
 /// All bytes that a reader gives, up to a number of them. A failed read is 61, and want of memory 50.
 fn read_at_most<R: Read>(alloc: Global, reader: &mut R, most: usize) -> Result<Vec<u8>, Refusal>
-    ensures limit { (read : List ℕ) × Consumes (R.remaining reader.old) (R.remaining reader.new) read × (length read ≤ most) }
+    ensures limit { ReadsAtMost most (R.remaining reader.old) (R.remaining reader.new) }
     ensures bytes { IfOk result (λ v. Consumes (R.remaining reader.old) (R.remaining reader.new) v.items) }
     ensures bound { IfOk result (λ v. vec_len v ≤ most) }
     ensures end { IfOk result (λ v. vec_len v < most → IsAtEnd (R.remaining reader.new)) }
@@ -56,8 +56,7 @@ fn read_at_most<R: Read>(alloc: Global, reader: &mut R, most: usize) -> Result<V
 /// A whole input. One over 1,048,576 bytes is refused 76, and no more than 1,048,577 bytes are read. A failed read is 61,
 /// and want of memory 50.
 pub fn read_input<R: Read>(alloc: Global, reader: &mut R) -> Result<Vec<u8>, Refusal>
-    ensures read { (read : List ℕ) × Consumes (R.remaining reader.old) (R.remaining reader.new) read
-        × (length read ≤ 1048577) }
+    ensures read { ReadsAtMost 1048577 (R.remaining reader.old) (R.remaining reader.new) }
     ensures whole { IfOk result (λ v. IfSome (R.remaining reader.old) (IsReadAs v.items)) }
     ensures refused { IfErr result (λ e. IfSome (R.remaining reader.old) (RefusesInput e)) }
 {

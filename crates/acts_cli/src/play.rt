@@ -1,7 +1,8 @@
 ghost use Rattle.std.specs.Prelude.{◌≡◌, ◌≤◌, ◌⊎◌, ◌++◌, ◌∷◌, [], ℕ, List, take, length, IfErr, IfOk, IfSome, OnOk, OnErr};
-ghost use Rattle.std.specs.Io.KnownBytes.{Appends, Consumes};
+ghost use Rattle.std.specs.Io.KnownBytes.{Appends};
 ghost use Rattle.wf_value.specs.Gives.{no_memory};
 ghost use Rattle.act_disk.specs.Failed.{device_failed};
+ghost use Rattle.acts_cli.specs.Input.{ReadsAtMost};
 ghost use Rattle.acts_cli.specs.PlainStore.{start, without_disk};
 ghost use Rattle.acts_cli.specs.Play.{stream_failed, IsAnswer, PlaysFrom, Ends};
 
@@ -77,8 +78,7 @@ fn play_input<D: Disk, R: Read, W: Write>(
     writer: &mut W,
 ) -> Result<(), Refusal>
     requires { without_disk store.old ≡ start }
-    ensures read { (read : List ℕ) × Consumes (R.remaining reader.old) (R.remaining reader.new) read
-        × (length read ≤ 1048577) }
+    ensures read { ReadsAtMost 1048577 (R.remaining reader.old) (R.remaining reader.new) }
     ensures written { IfSome (R.remaining reader.old) (λ script. (out : List ℕ)
         × Appends (W.contents writer.old) (W.contents writer.new) out × Ends script out result) }
 {
@@ -100,8 +100,7 @@ pub fn run_script<R: Read, W: Write>(
     reader: &mut R,
     writer: &mut W,
 ) -> Result<(), Refusal>
-    ensures read { (read : List ℕ) × Consumes (R.remaining reader.old) (R.remaining reader.new) read
-        × (length read ≤ 1048577) }
+    ensures read { ReadsAtMost 1048577 (R.remaining reader.old) (R.remaining reader.new) }
     ensures written { IfSome (R.remaining reader.old) (λ script. (out : List ℕ)
         × Appends (W.contents writer.old) (W.contents writer.new) out × Ends script out result) }
 {

@@ -1,11 +1,11 @@
 //! What `acts show` does: the views of the runs of the table that a disk stands for.
 
-ghost use Rattle.std.specs.Prelude.{◌≡◌, ◌⊎◌, ◌<◌, ◌++◌, ◌∷◌, [], ℕ, List, IfErr, OnOk, Ok, string_bytes};
+ghost use Rattle.std.specs.Prelude.{◌<◌, ℕ, List, Ok, string_bytes};
 ghost use Rattle.std.specs.Io.KnownBytes.{Appends};
-ghost use Rattle.wf_value.specs.Gives.{Gives, no_memory};
+ghost use Rattle.wf_value.specs.Gives.{Gives};
 ghost use Rattle.act_store.specs.Kept.{table_of};
-ghost use Rattle.acts_cli.specs.Play.{stream_failed};
 ghost use Rattle.acts_cli.specs.Show.{Shows, shown, view_line};
+ghost use Rattle.acts_cli.specs.Writes.{Writes};
 
 use crate::output::{flush, write_whole};
 use act_disk::Disk;
@@ -29,10 +29,7 @@ fn view_text(alloc: Global, view: &RunView<'_>) -> Result<String, Refusal>
 }
 
 fn write_view<W: Write>(alloc: Global, view: &RunView<'_>, writer: &mut W) -> Result<(), Refusal>
-    ensures all { OnOk result (Appends (W.contents writer.old) (W.contents writer.new) (view_line view.now)) }
-    ensures front { (out : List ℕ) × (rest : List ℕ) × Appends (W.contents writer.old) (W.contents writer.new) out
-        × (out ++ rest ≡ view_line view.now) }
-    ensures err { IfErr result (λ e. (e ≡ stream_failed) ⊎ (e ≡ no_memory)) }
+    ensures { Writes (W.contents writer.old) (W.contents writer.new) (view_line view.now) result }
 {
     let text = view_text(alloc, view)?;
     write_whole(writer, text.as_bytes())
@@ -44,10 +41,7 @@ fn write_views<D: Disk, W: Write>(
     store: &Store<D>,
     writer: &mut W,
 ) -> Result<(), Refusal>
-    ensures all { OnOk result (Appends (W.contents writer.old) (W.contents writer.new) (shown (table_of store.now))) }
-    ensures front { (out : List ℕ) × (rest : List ℕ) × Appends (W.contents writer.old) (W.contents writer.new) out
-        × (out ++ rest ≡ shown (table_of store.now)) }
-    ensures err { IfErr result (λ e. (e ≡ stream_failed) ⊎ (e ≡ no_memory)) }
+    ensures { Writes (W.contents writer.old) (W.contents writer.new) (shown (table_of store.now)) result }
 {
     for place in 0..MOST_RUNS {
         let Some(view) = store.look(Number::new(place + 1)) else {
@@ -64,10 +58,7 @@ fn show_store<D: Disk, W: Write>(
     store: &Store<D>,
     writer: &mut W,
 ) -> Result<(), Refusal>
-    ensures all { OnOk result (Appends (W.contents writer.old) (W.contents writer.new) (shown (table_of store.now))) }
-    ensures front { (out : List ℕ) × (rest : List ℕ) × Appends (W.contents writer.old) (W.contents writer.new) out
-        × (out ++ rest ≡ shown (table_of store.now)) }
-    ensures err { IfErr result (λ e. (e ≡ stream_failed) ⊎ (e ≡ no_memory)) }
+    ensures { Writes (W.contents writer.old) (W.contents writer.new) (shown (table_of store.now)) result }
 {
     write_views(alloc, store, writer)?;
     flush(writer)

@@ -43,10 +43,15 @@ fn is_read<D: Disk>(rt: &impl Abort, disk: &mut D, at: u64, want: &[u8]) -> bool
     let mut four = [0; 4];
     holds!(rt; want.len() <= 4);
     let found = &mut four[..want.len()];
+    reads(rt, disk, at, found) && *found == *want
+}
+
+/// Whether so many bytes are read, which end before the disk does.
+fn reads<D: Disk>(rt: &impl Abort, disk: &mut D, at: u64, found: &mut [u8]) -> bool {
     let len = disk.len();
-    holds!(rt; at <= len && want.len() as u64 <= len - at);
+    holds!(rt; at <= len && found.len() as u64 <= len - at);
     holds!(rt; disk.faults() < u64::MAX);
-    disk.read(at, found).is_ok() && *found == *want
+    disk.read(at, found).is_ok()
 }
 
 /// Whether a disk in memory noted this call so.

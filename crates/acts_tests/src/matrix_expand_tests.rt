@@ -2,7 +2,7 @@
 
 use crate::holds::{expect_text, holds};
 use crate::values::{Given, combo, scalars};
-use matrix_expand::expand;
+use matrix_expand::{Expansion, expand};
 use std::alloc::Global;
 use std::process::Abort;
 use wf_value::{Chars, Combo, Matrix, Scalar, Variable};
@@ -134,6 +134,26 @@ const DOCUMENTED_COMBINATIONS: &str = concat!(
 #[test]
 fn gives_the_combinations_of_the_documentation(rt: HostRuntime) {
     expect_shown(&rt, rt.alloc(), DOCUMENTED, DOCUMENTED_COMBINATIONS);
+}
+
+/// The combinations, each of which is asked for, and let go once it is shown.
+fn shown_one_by_one(rt: &impl Abort, alloc: Global, matrix: &Matrix) -> String {
+    let expansion = Expansion::of(alloc, matrix).expect(rt, "combinations");
+    let mut shown = String::new(alloc);
+    for leg in 0..expansion.len() {
+        let combo = expansion.combination(alloc, leg).expect(rt, "memory");
+        show(rt, alloc, &mut shown, combo.as_slice());
+    }
+    shown
+}
+
+#[test]
+fn gives_them_one_by_one(rt: HostRuntime) {
+    let (listed, include, exclude) = DOCUMENTED;
+    let listed = variables(&rt, rt.alloc(), listed);
+    let matrix = matrix(&rt, rt.alloc(), listed, include, exclude);
+    let shown = shown_one_by_one(&rt, rt.alloc(), &matrix);
+    expect_text(&rt, shown.as_str(), DOCUMENTED_COMBINATIONS);
 }
 
 const INCLUDED_ALONE: &Listed = &(

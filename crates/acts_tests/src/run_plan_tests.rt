@@ -3,6 +3,7 @@
 
 mod alike;
 mod last_commands;
+mod legs;
 mod needs;
 mod prepared;
 mod replies;

@@ -3,7 +3,7 @@
 use crate::holds::{expect_text, holds};
 use crate::run_plan_tests::expect_twice;
 use needs_graph::Graph;
-use run_plan::{PlannedJob, plan};
+use run_plan::{PlannedJob, check_plan, plan};
 use std::alloc::Global;
 use std::process::Abort;
 use wf_reader::read_workflow;
@@ -22,6 +22,15 @@ fn refused(alloc: Global, workflow: &str) -> Result<String, Refusal> {
     let workflow = read_workflow(alloc, workflow.as_bytes())?;
     match plan(alloc, workflow) {
         Ok(_) => Ok(String::new(alloc)),
+        Err(refusal) => printed(alloc, refusal),
+    }
+}
+
+/// The same of a workflow that is checked, and not planned.
+fn refused_by_check(alloc: Global, workflow: &str) -> Result<String, Refusal> {
+    let workflow = read_workflow(alloc, workflow.as_bytes())?;
+    match check_plan(alloc, &workflow) {
+        Ok(()) => Ok(String::new(alloc)),
         Err(refusal) => printed(alloc, refusal),
     }
 }
@@ -82,6 +91,8 @@ const REFUSED: &[(&str, &str)] = &[
 fn refuses(rt: &impl Abort, alloc: Global) -> Result<(), Refusal> {
     for &(workflow, want) in REFUSED {
         let text = refused(alloc, workflow)?;
+        expect_text(rt, text.as_str(), want);
+        let text = refused_by_check(alloc, workflow)?;
         expect_text(rt, text.as_str(), want);
     }
     Ok(())

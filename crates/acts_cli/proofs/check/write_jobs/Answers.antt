@@ -1,7 +1,9 @@
-use Rattle.std.proofs.Common.{◌<◌, ◌+◌, ◌++◌, drop, length, arith}
+use Rattle.std.proofs.Common.{◌<◌, ◌+◌, ◌++◌, drop, length, map, sym, ap, ◌∙◌, arith}
 use Rattle.std.proofs.KnownBytes.{Appends-trans}
+use Rattle.run_plan.specs.PlanOf.{planned_job}
 use Rattle.acts_cli.specs.Check.{job_lines, plan_lines}
-use Rattle.acts_cli.proofs.Checks.{one_job_more, within_job}
+use Rattle.acts_cli.proofs.Checks.{next_job, none_of_jobs}
+use Rattle.acts_cli.proofs.Writing.{more_written, past_part, stopped}
 use Rattle.acts_cli.proofs.check.write_jobs.Goals as goal
 
 pub loop-job-preserved : goal.loop-job-preserved
@@ -10,22 +12,25 @@ loop-job-preserved g c =
     let jobs = c.args.jobs.now in
     let n = c.loop-job.job-index in
     let job = c.job-item.result in
-    let within : n < length jobs = omega arith in (
-      so_far.0 ++ job_lines job,
-      Appends-trans _ _ _ so_far.0 (job_lines job) so_far.1 c.in_ok-write_job.ensures.all,
-      one_job_more so_far.0 (plan_lines jobs) n jobs job within c.job-item.is so_far.2,
+    let within : n < length jobs = omega arith in
+    let next = next_job n jobs job within c.job-item.is in
+    let lines = job_lines (planned_job job) in (
+      so_far.0 ++ lines,
+      Appends-trans _ _ _ so_far.0 lines so_far.1 c.in_ok-write_job.ensures,
+      past_part so_far.0 lines (plan_lines (map planned_job (drop (n + 1) jobs))) (plan_lines (map planned_job jobs))
+          (ap (λ js. so_far.0 ++ plan_lines (map planned_job js)) (sym next) ∙ so_far.2),
+      (none_of_jobs (drop n jobs) (drop (n + 1) jobs) job next so_far.3).1,
     )
 
-pub returns-in_err-write_job-clause-front : goal.returns-in_err-write_job-clause-front
-returns-in_err-write_job-clause-front g c =
+pub returns-in_err-write_job : goal.returns-in_err-write_job
+returns-in_err-write_job g c =
     let so_far = c.loop-job.invariant in
     let jobs = c.args.jobs.now in
     let n = c.loop-job.job-index in
     let job = c.job-item.result in
     let within : n < length jobs = omega arith in
-    let front = c.in_err-write_job.ensures.front in (
-      so_far.0 ++ front.0,
-      front.1 ++ plan_lines (drop (n + 1) jobs),
-      Appends-trans _ _ _ so_far.0 front.0 so_far.1 front.2,
-      within_job so_far.0 front.0 front.1 (plan_lines jobs) n jobs job within c.job-item.is so_far.2 front.3,
-    )
+    let next = next_job n jobs job within c.job-item.is in
+    stopped _ _ (plan_lines (map planned_job jobs)) _ c.in_err-write_job.field-0.0 c.from_residual.ensures.1 c.in_err-write_job.ensures.0
+    (more_written _ _ _ so_far.0 (job_lines (planned_job job)) (plan_lines (map planned_job (drop (n + 1) jobs)))
+    (plan_lines (map planned_job jobs)) so_far.1 (ap (λ js. so_far.0 ++ plan_lines (map planned_job js)) (sym next) ∙ so_far.2)
+    c.in_err-write_job.ensures.1)

@@ -1,6 +1,5 @@
 use Rattle.std.proofs.Common.{[], refl, subst, inl}
 use Rattle.std.proofs.KnownBytes.{Appends-nil}
-use Rattle.std.specs.Io.KnownBytes.{Appends}
 use Rattle.run_table.specs.TableState.{TableState}
 use Rattle.act_store.specs.Images.{StandsFor}
 use Rattle.act_store.specs.Kept.{table_of}
@@ -20,12 +19,11 @@ returns g c = (
 pub returns-in-Ok : goal.returns-in-Ok
 returns-in-Ok g c =
     let s = c.in-Ok.store in
-    let image = g.D.Disk.seen c.args.disk in
-    let told = c.show_store.ensures in (
+    let image = g.D.Disk.seen c.args.disk in (
       s.disk,
       λ honest.
           let stands : StandsFor (table_of s) image =
           subst (λ (t : TableState). StandsFor t image) (opened_table s c.in-Ok.ensures.begun.0) (c.in-Ok.ensures.base honest) in
-          shows_told image (table_of s)
-          (Appends (g.W.Write.contents c.args.writer.now) (g.W.Write.contents c.show_store.new.writer)) c.show_store.result stands told.all told.front told.err,
+          shows_told image (table_of s) (g.W.Write.contents c.args.writer.now) (g.W.Write.contents c.show_store.new.writer)
+          c.show_store.result stands c.show_store.ensures,
     )

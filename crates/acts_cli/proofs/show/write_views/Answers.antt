@@ -4,7 +4,8 @@ use Rattle.std.proofs.KnownBytes.{Appends-nil, Appends-trans}
 use Rattle.run_table.specs.Step.{seen}
 use Rattle.act_store.specs.Kept.{table_of}
 use Rattle.acts_cli.specs.Show.{shown, view_line}
-use Rattle.acts_cli.proofs.Showing.{before_all, lines_behind, one_run_more, past_last, within_run}
+use Rattle.acts_cli.proofs.Showing.{before_all, behind_run, lines_behind, past_last}
+use Rattle.acts_cli.proofs.Writing.{more_written, past_part, stopped}
 use Rattle.acts_cli.proofs.show.write_views.Goals as goal
 
 pub loop-place-init : goal.loop-place-init
@@ -19,34 +20,26 @@ loop-place-preserved g c =
     let view = c.in-Some.view in
     let is : seen t (place + 1) ≡ Some view = sym (c.in-Some.ensures.seen ∙ ap (seen t) c.new.ensures) in (
       so_far.0 ++ view_line view,
-      Appends-trans _ _ _ so_far.0 (view_line view) so_far.1 c.in_ok-write_view.ensures.all,
-      one_run_more t so_far.0 (shown t) place view is so_far.2,
+      Appends-trans _ _ _ so_far.0 (view_line view) so_far.1 c.in_ok-write_view.ensures,
+      past_part so_far.0 (view_line view) (lines_behind t (place + 1)) (shown t) (behind_run t so_far.0 (shown t) place view is so_far.2),
       λ some. c.in-Some.ensures.sound.few_runs,
     )
 
-pub returns-in_err-write_view-clause-front : goal.returns-in_err-write_view-clause-front
-returns-in_err-write_view-clause-front g c =
+pub returns-in_err-write_view : goal.returns-in_err-write_view
+returns-in_err-write_view g c =
     let so_far = c.loop-place.invariant in
     let t = table_of c.args.store.now in
     let place = c.loop-place.place in
     let view = c.in-Some.view in
-    let front = c.in_err-write_view.ensures.front in
-    let is : seen t (place + 1) ≡ Some view = sym (c.in-Some.ensures.seen ∙ ap (seen t) c.new.ensures) in (
-      so_far.0 ++ front.0,
-      front.1 ++ lines_behind t (place + 1),
-      Appends-trans _ _ _ so_far.0 front.0 so_far.1 front.2,
-      within_run t so_far.0 front.0 front.1 (shown t) place view is so_far.2 front.3,
-    )
+    let is : seen t (place + 1) ≡ Some view = sym (c.in-Some.ensures.seen ∙ ap (seen t) c.new.ensures) in
+    stopped _ _ (shown t) _ c.in_err-write_view.field-0.0 c.from_residual.ensures.1 c.in_err-write_view.ensures.0
+    (more_written _ _ _ so_far.0 (view_line view) (lines_behind t (place + 1)) (shown t) so_far.1
+    (behind_run t so_far.0 (shown t) place view is so_far.2) c.in_err-write_view.ensures.1)
 
-pub returns-clause-all : goal.returns-clause-all
-returns-clause-all g c =
+pub returns : goal.returns
+returns g c =
     let so_far = c.loop-place.invariant in
     let t = table_of c.args.store.now in
     let place = c.loop-place.place in
     let few : length t.runs ≤ 100000 = so_far.3 (omega arith) in
     subst (Appends _ _) (past_last t so_far.0 (shown t) place (omega arith) so_far.2) so_far.1
-
-pub returns-clause-front : goal.returns-clause-front
-returns-clause-front g c =
-    let so_far = c.loop-place.invariant in
-    (so_far.0, lines_behind (table_of c.args.store.now) c.loop-place.place, so_far.1, so_far.2)
