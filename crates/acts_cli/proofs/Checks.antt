@@ -8,7 +8,7 @@ use Rattle.std.specs.Prelude.{IsErrAnd}
 use Rattle.std.specs.Result.{result_unwrap_or}
 use Rattle.wf_value.specs.Gives.{no_memory}
 use Rattle.wf_value.specs.declared.refusal.Refusal.{Refusal}
-use Rattle.wf_reader.specs.Faults.{outcome_faults, unless_faulty}
+use Rattle.wf_reader.specs.Faults.{unless_faulty}
 use Rattle.wf_reader.specs.Workflow.{workflow_faults, workflow_of}
 use Rattle.wf_reader.specs.declared.job.Job.{Job}
 use Rattle.wf_reader.specs.declared.workflow.Workflow.{Workflow}
@@ -28,12 +28,15 @@ use Rattle.acts_cli.specs.Writes.{Writes}
 abbrev pub numbered_lines : List ℕ → ℕ → List Combo → List ℕ
 numbered_lines job number combinations = flat_map (λ p. leg_line job p.0 p.1) (enumerate_from number combinations)
 
-pub next_leg : (job : List ℕ) (n : ℕ) (legs : List Combo) (combo : Combo) → n < length legs → get_or legs n [] ≡ combo
-    → numbered_lines job n (drop n legs) ≡ leg_line job n combo ++ numbered_lines job (n + 1) (drop (n + 1) legs)
-next_leg job n legs combo lt is =
+-- a leg's line stands before those of the later ones
+pub leg_behind : (job out : List ℕ) (n count : ℕ) (legs : List Combo) (combo : Combo) → n < count → count ≡ length legs
+    → ◌≡◌ {A = Result Combo Refusal} (Ok (get_or legs n [])) (Ok combo) → out ++ numbered_lines job n (drop n legs) ≡ leg_lines job legs
+    → out ++ (leg_line job n combo ++ numbered_lines job (n + 1) (drop (n + 1) legs)) ≡ leg_lines job legs
+leg_behind job out n count legs combo lt counted given so_far =
     let step : suc n ≡ n + 1 = omega arith in
-    ap (numbered_lines job n)
-    (drop-cons legs n [] lt ∙ ap (λ c. c ∷ drop (suc n) legs) is ∙ ap (λ k. combo ∷ drop k legs) step)
+    let is : get_or legs n [] ≡ combo = cc given in
+    ap (λ x. out ++ x) (sym (ap (numbered_lines job n)
+    (drop-cons legs n [] (omega arith) ∙ ap (λ c. c ∷ drop (suc n) legs) is ∙ ap (λ k. combo ∷ drop k legs) step))) ∙ so_far
 
 -- the combinations of legs that are made of combinations
 pub combinations_again : (cs : List Combo) → map (λ leg. leg.combo) (legs_of cs) ≡ cs
@@ -53,6 +56,13 @@ pub next_job : (n : ℕ) (jobs : List Job) (job : Job) → n < length jobs → j
 next_job n jobs job lt is =
     let step : suc n ≡ n + 1 = omega arith in
     drop-cons jobs n job lt ∙ ap (λ x. x ∷ drop (suc n) jobs) (sym is) ∙ ap (λ k. job ∷ drop k jobs) step
+
+-- a job's lines stand before those of the later ones
+pub job_behind : (out : List ℕ) (n : ℕ) (jobs : List Job) (job : Job) → n < length jobs → job ≡ get_or jobs n job
+    → out ++ plan_lines (map planned_job (drop n jobs)) ≡ plan_lines (map planned_job jobs)
+    → out ++ (job_lines (planned_job job) ++ plan_lines (map planned_job (drop (n + 1) jobs))) ≡ plan_lines (map planned_job jobs)
+job_behind out n jobs job lt is so_far =
+    ap (λ js. out ++ plan_lines (map planned_job js)) (sym (next_job n jobs job lt is)) ∙ so_far
 
 neither : {X : Type 0} (xs ys : List X) → xs ++ ys ≡ [] → (xs ≡ []) × (ys ≡ [])
 neither [] ys h = (refl, h)

@@ -1,4 +1,4 @@
-ghost use Rattle.std.specs.Prelude.{◌≡◌, ◌≤◌, ◌<◌, ◌⊎◌, ℕ, List, take, length, vec_len, IfOk, IfErr, IfSome, OnErr};
+ghost use Rattle.std.specs.Prelude.{◌≡◌, ◌≤◌, ◌<◌, ◌⊎◌, take, length, vec_len, IfOk, IfErr, IfSome, OnErr};
 ghost use Rattle.std.specs.Io.KnownBytes.{Consumes, IsAtEnd, Keeps};
 ghost use Rattle.wf_value.specs.Gives.{no_memory};
 ghost use Rattle.acts_cli.specs.Input.{IsReadAs, ReadsAtMost, RefusesInput};

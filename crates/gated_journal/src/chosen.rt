@@ -1,4 +1,4 @@
-ghost use Rattle.std.specs.Prelude.{◌≡◌, ◌+◌, ◌<◌, ◌≤◌, ◌^◌, ℕ, List, length, OnOk, IfOk};
+ghost use Rattle.std.specs.Prelude.{◌≡◌, ◌+◌, ◌<◌, ◌≤◌, OnOk, IfOk};
 ghost use Rattle.act_disk.specs.Images.{SameImages, Only, EachSince, CountsFault};
 ghost use Rattle.gated_journal.specs.Choice.{newer, open_generation, part};
 ghost use Rattle.gated_journal.specs.Whole.{IsChosen, StandsBetween, gate_of};

@@ -1,4 +1,4 @@
-ghost use Rattle.std.specs.Prelude.{◌≡◌, ◌↔◌, ◌+◌, ◌<◌, ◌≤◌, ◌^◌, ℕ, List, [], ◌∷◌, length, OnOk};
+ghost use Rattle.std.specs.Prelude.{◌≡◌, ◌↔◌, ◌+◌, ◌<◌, ◌≤◌, ◌^◌, ℕ, List, ◌∷◌, length, OnOk};
 ghost use Rattle.act_disk.specs.Images.{CountsFault};
 ghost use Rattle.gated_journal.specs.Layout.{Head, Fits};
 ghost use Rattle.gated_journal.specs.TwoAreas.{behind_gate};

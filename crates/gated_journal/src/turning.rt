@@ -1,4 +1,4 @@
-ghost use Rattle.std.specs.Prelude.{◌≡◌, ◌⊎◌, ◌↔◌, ◌+◌, ◌<◌, ◌≤◌, ◌^◌, ℕ, List, [], ◌∷◌, ◌++◌, length, IfOk, OnOk};
+ghost use Rattle.std.specs.Prelude.{◌≡◌, ◌↔◌, ◌+◌, ◌<◌, ◌≤◌, ◌^◌, ℕ, List, [], ◌++◌, length, IfOk, OnOk};
 ghost use Rattle.act_disk.specs.Images.{Only, EachSince, CountsFault};
 ghost use Rattle.gated_journal.specs.Layout.{Head, opened, record_bytes};
 ghost use Rattle.gated_journal.specs.TwoAreas.{other, Stands};

@@ -6,7 +6,7 @@ use Rattle.std.specs.Ordering.{is_lt, nat_cmp}
 use Rattle.std.proofs.Common.{sym, ap, ◌∙◌}
 use Rattle.std.proofs.lemmas.Simd.{map-map}
 use Rattle.wf_value.specs.Names.{rises_by}
-use Rattle.wf_reader.specs.Faults.{unless_faulty, outcome_faults}
+use Rattle.wf_reader.specs.Faults.{unless_faulty}
 use Rattle.wf_reader.specs.JobCode as read
 use Rattle.wf_reader.specs.declared.job.Job.{Job}
 use Rattle.wf_reader.proofs.InTurn.{no_fault, same_value}

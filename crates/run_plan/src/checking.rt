@@ -1,4 +1,3 @@
-ghost use Rattle.std.specs.Prelude.{◌≡◌};
 ghost use Rattle.wf_value.specs.Gives.{Gives};
 ghost use Rattle.wf_reader.specs.Faults.{unless_faulty};
 ghost use Rattle.run_plan.specs.PlanOf.{legs_faults, plan_faults};

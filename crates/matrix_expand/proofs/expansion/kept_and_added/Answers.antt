@@ -1,12 +1,11 @@
-use Rattle.std.proofs.Common.{◌≡◌, ◌+◌, ◌≤◌, ◌<◌, Ok, inr, map, length, sym, ap, ◌∙◌, arith}
+use Rattle.std.proofs.Common.{◌≡◌, Ok, inr, map, length, sym, ap, ◌∙◌, arith}
 use Rattle.std.proofs.lemmas.Bool.{true≢false}
 use Rattle.std.proofs.lemmas.List.{length-map}
 use Rattle.matrix_expand.specs.Entries.{SortsEntries}
-use Rattle.matrix_expand.specs.Numbered.{added_of, kept_of, pattern_of}
+use Rattle.matrix_expand.specs.Numbered.{pattern_of}
 use Rattle.matrix_expand.proofs.Legs.{added_are, all_are, legs_counted, legs_miscounted}
 use Rattle.matrix_expand.proofs.Merging.{same_Ok}
 use Rattle.matrix_expand.proofs.expansion.kept_and_added.Goals as goal
-use Rattle.matrix_expand.proofs.expansion.kept_and_added.Goals.{After-drop-axes-then-not-is_leg_count}
 
 pub returns-then-not-is_leg_count : goal.returns-then-not-is_leg_count
 returns-then-not-is_leg_count c =

@@ -1,4 +1,4 @@
-use Rattle.std.proofs.Common.{◌≡◌, [], IsTrue, drop, map, sym, ◌∙◌, subst}
+use Rattle.std.proofs.Common.{IsTrue, drop, sym, ◌∙◌, subst}
 use Rattle.std.proofs.lemmas.List.{drop_all}
 use Rattle.needs_graph.specs.Needs.{ids_rise}
 use Rattle.run_plan.specs.PlanOf.{needs_of_job}
