@@ -23,11 +23,11 @@ example: build
 
 # The merge gate: every proof from nothing, the must-fail edits, the tests and the stored runs. By itself `rt ci` keeps 16 GB free for a
 # crate as long as `run_table` or `acts_tests`, whose checks take 4 to 7, and so a processor waits. Here each processor has a check, as far as
-# there are 5 GB for it.
-LANES = $(shell awk -v most="$$(nproc)" '/^MemAvailable/ { held = int($$2 / 5000000); print held < 1 ? 1 : held < most ? held : most }' /proc/meminfo)
+# there are 5 GB for it. CRATES="NAME .." tries these alone, with those below them.
+LANES ?= $(shell awk -v most="$$(nproc)" '/^MemAvailable/ { held = int($$2 / 5000000); print held < 1 ? 1 : held < most ? held : most }' /proc/meminfo)
 
 test:
-	RT_JOBS=$(LANES) rt ci
+	RT_JOBS=$(LANES) rt ci $(CRATES)
 
 # Commands per second over growing tables.
 bench: build
@@ -41,6 +41,6 @@ sweep: build
 wrong-bodies:
 	sweeps/wrong_bodies/run $(CRATE)
 
-# Processor minutes of the gate, by crate, in a fresh clone.
+# Processor minutes of the gate, by crate, in a fresh clone; of CRATES and those below alone, where they are named.
 gate:
 	bench/gate
