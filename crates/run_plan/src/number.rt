@@ -7,7 +7,7 @@ ghost use Rattle.run_plan.specs.SmallText.{is_number, number_of};
 use std::marker::Model;
 
 /// A number of a command: 1 to 999,999,999.
-#[derive(Clone, Copy, Debug, PartialEq, Eq)]
+#[derive(Clone, Copy, PartialEq, Eq)]
 pub struct Number {
     value: u32,
 }

@@ -1,7 +1,7 @@
 ghost use Rattle.std.specs.Prelude.{◌≡◌};
 
 /// How a leg ended, as its runner reports it.
-#[derive(Clone, Copy, Debug, PartialEq, Eq)]
+#[derive(Clone, Copy, PartialEq, Eq)]
 pub enum Outcome {
     Success,
     Failure,
@@ -24,7 +24,7 @@ impl Outcome {
 }
 
 /// The result of a job. GitHub Docs, "Contexts", `needs.<job_id>.result`.
-#[derive(Clone, Copy, Debug, PartialEq, Eq)]
+#[derive(Clone, Copy, PartialEq, Eq)]
 pub enum JobResult {
     Success,
     Failure,
