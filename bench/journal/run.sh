@@ -5,28 +5,16 @@
 # of an append's times, the least of the others, and their ratios.
 # Usage: bench/journal/run.sh [FOLDER [COUNT [ROUNDS]]]; FOLDER lies on the file system to be measured.
 set -eu
-here=$(cd "$(dirname "$0")" && pwd)
-top=$(cd "$here/../.." && pwd)
-folder=${1:-$top/bench/journal/out}
+. "$(dirname "$0")/../copy.sh"
+folder=${1:-$here/out}
 count=${2:-200}
 rounds=${3:-7}
-scratch=$(mktemp -d)
-trap 'rm -rf "$scratch"' EXIT
-
-# The program is no crate of the repository: it is built in a copy of the crates below it.
-mkdir -p "$scratch/crates/journal_bench/src" "$folder"
-cp "$top/HANDLES" "$scratch/"
-cp -r "$top/crates/wf_value" "$top/crates/act_disk" "$top/crates/gated_journal" "$scratch/crates/"
-cp "$here/main.rt.txt" "$scratch/crates/journal_bench/src/main.rt"
-{ grep -E '^(wf_value|act_disk|gated_journal):' "$top/crates.txt"; echo 'journal_bench: gated_journal act_disk wf_value anyhow'; } \
-    > "$scratch/crates.txt"
+mkdir -p "$folder"
+copy_for journal_bench main.rt.txt gated_journal act_disk wf_value anyhow
 file=$folder/area
-head -c 16384 /dev/zero > "$scratch/try"
-(cd "$scratch/crates/journal_bench" && rt run --jobs 1 -- "$scratch/try" 1 1 > "$scratch/log" 2>&1) || { tail -20 "$scratch/log"; exit 1; }
+build journal_bench
 cc -O2 -o "$scratch/plain" "$here/plain.c"
-journal=$scratch/crates/journal_bench/out/journal_bench
 
-median() { cut -d ' ' -f 1 | sort -n | awk '{ v[NR] = $1 } END { print v[int((NR + 1) / 2)] }'; }
 least() { cut -d ' ' -f 1 | sort -n | head -n 1; }
 report() { # NAME DIVISOR OURS WHICH
     awk -v n="$1" -v d="$("$4" < "$scratch/$3")" -v c="$("$4" < "$scratch/c")" -v k="$2" \
@@ -44,7 +32,7 @@ for size in 1 14 109 4096; do
     "$scratch/plain" "$file" "$size" "$count" > /dev/null
     for _ in $(seq "$rounds"); do
         fresh "$size"
-        "$journal" "$file" "$size" "$count" >> "$scratch/ours"
+        "$built" "$file" "$size" "$count" >> "$scratch/ours"
         fresh "$size"
         "$scratch/plain" "$file" "$size" "$count" >> "$scratch/c"
     done
@@ -55,7 +43,7 @@ for body in 0 9 104 65536; do
     : > "$scratch/ours"; : > "$scratch/c"; : > "$scratch/loop"
     "$scratch/plain" "$file" 0 1 > /dev/null
     for _ in $(seq "$rounds"); do
-        "$journal" "$file" 0 1 >> "$scratch/ours"
+        "$built" "$file" 0 1 >> "$scratch/ours"
         "$scratch/plain" "$file" 0 1 >> "$scratch/c"
         "$scratch/plain" "$file" 0 2 >> "$scratch/loop"
     done

@@ -1,0 +1,41 @@
+# What the benchmarks share; each sources it. Their programs are no crates of the repository, since what they print differs from run to
+# run: one is built in a copy of the crates that it stands on, with what earlier checks left in them, and the copy goes at the end.
+here=$(cd "$(dirname "$0")" && pwd)
+top=$(cd "$here/../.." && pwd)
+scratch=$(mktemp -d)
+trap 'rm -rf "$scratch"' EXIT
+
+below() { # CRATE..: the repository's own crates among these, and all of its own that they stand on
+    local seen=' ' crate
+    while [ $# -gt 0 ]; do
+        crate=$1
+        shift
+        [[ $seen == *" $crate "* || ! -d $top/crates/$crate ]] && continue
+        seen+="$crate "
+        set -- "$@" $(sed -n "s/^$crate://p" "$top/crates.txt")
+    done
+    echo "$seen"
+}
+
+copy_for() { # PROGRAM SOURCE CRATE..: the crates that PROGRAM stands on, and PROGRAM itself, of one file of this benchmark
+    local program=$1 source=$2 crate
+    shift 2
+    mkdir -p "$scratch/crates/$program/src"
+    cp "$top/HANDLES" "$scratch/"
+    for crate in $(below "$@"); do
+        cp -r "$top/crates/$crate" "$scratch/crates/"
+        grep "^$crate:" "$top/crates.txt" >> "$scratch/crates.txt"
+    done
+    echo "$program: $*" >> "$scratch/crates.txt"
+    cp "$here/$source" "$scratch/crates/$program/src/main.rt"
+}
+
+build() { # PROGRAM: proves and builds it, and what is below it and not proved yet; $built is its path then
+    built=$scratch/crates/$1/out/$1
+    # It is run at once, without the arguments that it may want: what counts is that it is there.
+    (cd "$scratch/crates/$1" && rt fmt && rt run --jobs 1) < /dev/null > "$scratch/log" 2>&1 || [ -x "$built" ] && return
+    tail -n 40 "$scratch/log" >&2
+    exit 1
+}
+
+median() { sort -n | awk '{ v[NR] = $1 } END { print v[int((NR + 1) / 2)] }'; }
