@@ -4,8 +4,16 @@ use Rattle.std.specs.List.{list_all, slice_split}
 use Rattle.std.specs.Char.{is_ascii_digit, is_ascii_lowercase, is_ascii_alphanumeric, is_ascii_graphic}
 use Rattle.std.specs.Str.Parse.{digits_value}
 
+-- how many bytes a small text has at most
+abbrev pub most_text_bytes : ℕ
+most_text_bytes = 64
+
+-- how many labels a runner has at most
+abbrev pub most_labels : ℕ
+most_labels = 16
+
 abbrev pub is_of_short_length : List ℕ → Bool
-is_of_short_length text = nat_le 1 (length text) && nat_le (length text) 64
+is_of_short_length text = nat_le 1 (length text) && nat_le (length text) most_text_bytes
 
 -- 1 to 64 bytes, each of a kind
 abbrev pub is_short : (ℕ → Bool) → List ℕ → Bool
@@ -46,7 +54,7 @@ runner_name_of = short_text_of is_runner_byte
 
 -- 1 to 16 labels
 abbrev pub are_labels : List (List ℕ) → Bool
-are_labels labels = nat_le 1 (length labels) && nat_le (length labels) 16 && list_all (is_short is_label_byte) labels
+are_labels labels = nat_le 1 (length labels) && nat_le (length labels) most_labels && list_all (is_short is_label_byte) labels
 
 abbrev pub split_at_commas : List ℕ → List (List ℕ)
 split_at_commas = slice_split (λ b. b == 44)

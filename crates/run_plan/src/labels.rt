@@ -1,7 +1,7 @@
 ghost use Rattle.std.specs.Prelude.{◌≡◌, ◌==◌, false, length, nat_le, IsTrue, Ok, None};
 ghost use Rattle.std.specs.List.{list_all};
 ghost use Rattle.wf_value.specs.Gives.{Gives};
-ghost use Rattle.run_plan.specs.SmallText.{are_labels, is_short, is_label_byte, label_list_of, split_at_commas};
+ghost use Rattle.run_plan.specs.SmallText.{are_labels, is_short, is_label_byte, label_list_of, most_labels, split_at_commas};
 
 use crate::small_text::Label;
 use std::alloc::Global;
@@ -9,7 +9,7 @@ use std::marker::Model;
 use wf_value::{Refusal, Same, Sequence, TryCopy};
 
 /// How many labels a runner has at most.
-const MOST: usize = 16;
+pub const MOST_LABELS: usize = 16;
 
 /// The labels of a runner: 1 to 16.
 /// GitHub Docs, "Using self-hosted runners in a workflow".
@@ -83,9 +83,9 @@ fn is_comma(byte: &u8) -> bool
 }
 
 fn are_few(text: &[u8]) -> bool
-    ensures { result ≡ nat_le (length (split_at_commas text.now)) 16 }
+    ensures { result ≡ nat_le (length (split_at_commas text.now)) most_labels }
 {
-    text.split(is_comma).count() <= MOST
+    text.split(is_comma).count() <= MOST_LABELS
 }
 
 fn each_is_label(text: &[u8]) -> bool

@@ -10,7 +10,7 @@ use std::marker::{Model, PhantomData};
 use wf_value::{Chars, Refusal, Same, TryCopy};
 
 /// How many bytes a small text has at most.
-const MOST: usize = 64;
+pub const MOST_TEXT_BYTES: usize = 64;
 
 /// A text of 1 to 64 bytes that its form allows.
 #[derive(Drop)]
@@ -101,7 +101,7 @@ impl<F: Form> Same for SmallText<F> {
 fn is_of_short_length(text: &[u8]) -> bool
     ensures { result ≡ is_of_short_length text.now }
 {
-    1 <= text.len() && text.len() <= MOST
+    1 <= text.len() && text.len() <= MOST_TEXT_BYTES
 }
 
 fn are_allowed<F: Form>(text: &[u8]) -> bool
