@@ -1,6 +1,6 @@
 ghost use Rattle.std.specs.Prelude.{◌≡◌, ◌+◌, ◌<◌, ◌≤◌, OnOk, IfOk};
-ghost use Rattle.act_disk.specs.Images.{SameImages, Only, EachSince, CountsFault};
-ghost use Rattle.gated_journal.specs.Choice.{newer, open_generation, part};
+ghost use Rattle.act_disk.specs.Images.{Only, EachSince, CountsFault};
+ghost use Rattle.gated_journal.specs.Choice.{newer, open_generation};
 ghost use Rattle.gated_journal.specs.Whole.{IsChosen, StandsBetween, gate_of};
 
 use crate::append::OPEN;
@@ -53,25 +53,6 @@ fn gate_of(generation: Option<u64>) -> Gate
     }
 }
 
-/// Reads the generation of the area that begins at `start`, where its gate is open. No image comes.
-fn generation_at<D: Disk>(disk: &mut D, start: u64) -> Result<Option<u64>, DiskFault>
-    requires countable { D.fault_count disk.old < u64.MAX }
-    requires within { start + 10 ≤ D.size disk.old }
-    ensures generation { IfOk result (λ found. D.honest disk.new → found ≡ open_generation (part start 10 (D.seen disk.old))) }
-    ensures images { D.honest disk.new → SameImages (D.images disk.old) (D.images disk.new) }
-    ensures any_moment { D.honest disk.new → EachSince D.moment D.images_since disk.old disk.new (D.images disk.old) }
-    ensures seen { D.honest disk.new → D.seen disk.new ≡ D.seen disk.old }
-    ensures size { D.size disk.new ≡ D.size disk.old }
-    ensures calls { D.calls disk.new ≡ D.calls disk.old + 1 }
-    ensures faults { CountsFault result (D.fault_count disk.old) (D.fault_count disk.new) }
-    ensures honest { D.honest disk.new → D.honest disk.old }
-{
-    let mut front = [0; FRONT];
-    let area = Area { start, len: 10 };
-    area.read(disk, &mut front)?;
-    Ok(generation_of(&front))
-}
-
 /// Syncs, and finds which of the two areas of a disk stands, each `len` long, and how the gate of the other one is.
 ///
 /// What was found is so in what a stop leaves from then on. No image comes to those from before.
@@ -89,7 +70,15 @@ pub fn choose<D: Disk>(disk: &mut D, len: u64) -> Result<Option<Chosen>, DiskFau
     ensures honest { D.honest disk.new → D.honest disk.old }
 {
     disk.sync()?;
-    let first = generation_at(disk, 0)?;
-    let second = generation_at(disk, len)?;
+    let mut front = [0; FRONT];
+    let start = Area { start: 0, len: 10 };
+    start.read(disk, &mut front)?;
+    let first = generation_of(&front);
+    let middle = Area {
+        start: len,
+        len: 10,
+    };
+    middle.read(disk, &mut front)?;
+    let second = generation_of(&front);
     Ok(chosen_of(first, second))
 }

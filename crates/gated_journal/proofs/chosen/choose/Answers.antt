@@ -7,17 +7,18 @@ pub returns-clause-found : goal.returns-clause-found
 returns-clause-found g c = λ honest3.
     let disk = g.D.Disk in
     let len = c.args.len in
-    let honest2 = c.generation_at-2.ensures.honest honest3 in
-    let honest1 = c.generation_at.ensures.honest honest2 in
+    let honest2 = c.read-2.ensures.honest honest3 in
+    let honest1 = c.read.ensures.honest honest2 in
     let honest0 = c.sync.ensures.honest.0 honest1 in
     let file = disk.seen c.args.disk.now in
     let synced = c.sync.ensures.seen honest0 in
     chosen_told len file (omega (arith, c.requires.long))
     (omega (arith, c.requires.within, g.met.D.Disk.seen_length c.args.disk.now honest0))
-    c.in_ok-first.first c.in_ok-second.second c.chosen_of.result
-    (c.in_ok-first.ensures.generation honest2 ∙ ap (λ l. open_generation (part 0 10 l)) synced
+    c.generation_of-first.result c.generation_of-second.result c.chosen_of.result
+    (c.generation_of-first.ensures
+    ∙ ap open_generation (c.in_ok-read.ensures.bytes honest2 ∙ ap (part 0 10) synced)
     ∙ same_generation 0 len file c.requires.long)
-    (c.in_ok-second.ensures.generation honest3
-    ∙ ap (λ l. open_generation (part len 10 l)) (c.generation_at.ensures.seen honest2 ∙ synced)
+    (c.generation_of-second.ensures
+    ∙ ap open_generation (c.in_ok-read-2.ensures.bytes honest3 ∙ ap (part len 10) (c.read.ensures.seen honest2 ∙ synced))
     ∙ same_generation len len file c.requires.long)
     c.chosen_of.ensures
