@@ -55,27 +55,26 @@ module _ (len : ℕ) (side : Side) (head : Head) (bodies : List (List ℕ)) (fro
   long : len + len ≤ length seen_old
   long = (under.each seen_old here).spells.long
 
-  pub put_on : (bytes : List ℕ) (next : ℕ) → next ≡ at + length bytes
-      → ((c : List ℕ) → images_new c → Stands len side Closed c head bodies)
+  pub put_on : (bytes : List ℕ) → ((c : List ℕ) → images_new c → Stands len side Closed c head bodies)
       → (at ≡ 1 + length front → len + len ≤ length seen_old → Holds seen_old (start_of len (other side) + 1) front
       → Holds seen_new (start_of len (other side) + 1) (front ++ bytes))
-      → IsUnderWay len side head (bodies ++ []) (front ++ bytes) used next seen_new images_new
-  put_on bytes next is each grown = record {
+      → IsUnderWay len side head (bodies ++ []) (front ++ bytes) (used + length (record_bytes [])) (at + length bytes) seen_new images_new
+  put_on bytes each grown = record {
     each = λ c now. subst (λ (l : List (List ℕ)). Stands len side Closed c head l) (sym (append-nil bodies)) (each c now);
-    used_is = under.used_is ∙ ap (λ (l : List (List ℕ)). length (opened head l)) (sym (append-nil bodies));
-    at_is = omega (arith, is, under.at_is, length-append front bytes);
+    used_is = omega (arith, under.used_is, ap (λ (l : List (List ℕ)). length (opened head l)) (append-nil bodies));
+    at_is = omega (arith, under.at_is, length-append front bytes);
     held = grown under.at_is long under.held;
   }
 
-  pub append_on : (body : List ℕ) (next : ℕ) → next ≡ used + length (record_of body) → Only seen_new images_new
-      → Stands len side Closed seen_new head (bodies ++ body ∷ []) → at ≤ len
+  pub append_on : (body : List ℕ) → Only seen_new images_new → Stands len side Closed seen_new head (bodies ++ body ∷ []) → at ≤ len
       → (len + len ≤ length seen_old → 1 + length front ≤ len → Holds seen_old (start_of len (other side) + 1) front
       → Holds seen_new (start_of len (other side) + 1) front)
-      → IsUnderWay len side head (bodies ++ body ∷ []) (front ++ []) next at seen_new images_new
-  append_on body next is only stands within beside = record {
+      → IsUnderWay len side head (bodies ++ body ∷ []) (front ++ []) (used + length (record_bytes (body ∷ []))) (at + length {A = ℕ} [])
+      seen_new images_new
+  append_on body only stands within beside = record {
     each = λ c now. subst (λ (l : List ℕ). Stands len side Closed l head (bodies ++ body ∷ [])) (sym ((only c).0 now)) stands;
-    used_is = omega (arith, is, under.used_is, used_more head bodies body);
-    at_is = under.at_is ∙ ap (λ (l : List ℕ). 1 + length l) (sym (append-nil front));
+    used_is = omega (arith, under.used_is, used_more head bodies body, length-record body);
+    at_is = omega (arith, under.at_is, ap (λ (l : List ℕ). length l) (append-nil front));
     held = subst (λ (l : List ℕ). Holds seen_new (start_of len (other side) + 1) l) (sym (append-nil front))
         (beside long (omega (arith, under.at_is, within)) under.held);
   }

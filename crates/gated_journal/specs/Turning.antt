@@ -2,7 +2,7 @@
 use Rattle.std.specs.Prelude.{◌≡◌, ◌⊎◌, ℕ, ◌+◌, ◌<◌, List, [], ◌∷◌, ◌++◌, length, sum_by}
 use Rattle.std.specs.List.{flat_map}
 use Rattle.act_disk.specs.Images.{Holds}
-use Rattle.gated_journal.specs.Layout.{Head, opened, Fits}
+use Rattle.gated_journal.specs.Layout.{Head, opened, record_bytes, Fits}
 use Rattle.gated_journal.specs.TwoAreas.{start_of, other, Stands, StandsEither, behind_gate}
 use Rattle.gated_journal.specs.declared.area_call.AreaCall.{AreaCall}
 use Rattle.gated_journal.specs.declared.area_call.AreaCall.TheVariants.{Put, Append}
@@ -65,6 +65,13 @@ pub record IsNewer (put : List ℕ) (head next : Head) (others : List (List ℕ)
 abbrev pub StandsOrMore : ℕ → Side → Head → List (List ℕ) → List (List ℕ) → List ℕ → Type 0
 StandsOrMore len side head bodies appended disk =
     Stands len side Closed disk head bodies ⊎ Stands len side Closed disk head (bodies ++ appended)
+
+-- where the next record and the next part go behind what a call appends and puts
+abbrev pub past : Places → AreaCall → Places
+past places call = record {
+  used = places.used + length (record_bytes (appended_of call));
+  at = places.at + length (put_of call);
+}
 
 -- From what is under way a call goes on to what is under way with these bodies and this part more.
 abbrev pub GoesOn : ℕ → Side → List (List ℕ) → List ℕ → Places → Places → List ℕ → (List ℕ → Type 0) → List ℕ → (List ℕ → Type 0) → Type 0

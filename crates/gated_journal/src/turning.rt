@@ -3,7 +3,7 @@ ghost use Rattle.act_disk.specs.Images.{Only, EachSince, CountsFault};
 ghost use Rattle.gated_journal.specs.Layout.{Head, opened, record_bytes};
 ghost use Rattle.gated_journal.specs.TwoAreas.{other, Stands};
 ghost use Rattle.gated_journal.specs.Turning.{put_of, put_by, appended_of, appended_by, disk_calls_of, disk_calls_by, StandsBefore};
-ghost use Rattle.gated_journal.specs.Turning.{StandsOrMore, BeforeOrTurned, IsUnderWay, GoesOn, IsNewer};
+ghost use Rattle.gated_journal.specs.Turning.{StandsOrMore, BeforeOrTurned, IsUnderWay, GoesOn, IsNewer, past};
 
 use crate::area_call::AreaCall;
 use crate::gate::Gate;
@@ -12,14 +12,29 @@ use crate::record::Record;
 use crate::standing::Standing;
 use act_disk::{Disk, DiskFault};
 
+impl Places {
+    /// The places behind what a call puts or appends.
+    fn past(self, call: &AreaCall) -> Places
+        requires put_fits { self.at + length (put_of call.now) < 2 ^ 64 }
+        requires record_fits { self.used + length (record_bytes (appended_of call.now)) < 2 ^ 64 }
+        ensures { result ≡ past self call.now }
+    {
+        match call {
+            AreaCall::Put(bytes) => Places {
+                used: self.used,
+                at: self.at + bytes.as_slice().len() as u64,
+            },
+            AreaCall::Append(added) => Places {
+                used: self.used + added.as_slice().len() as u64,
+                at: self.at,
+            },
+        }
+    }
+}
+
 impl Standing {
     /// Makes one call.
-    fn make<D: Disk>(
-        &self,
-        disk: &mut D,
-        places: Places,
-        call: &AreaCall,
-    ) -> Result<Places, DiskFault>
+    fn make<D: Disk>(&self, disk: &mut D, places: Places, call: &AreaCall) -> Result<(), DiskFault>
         requires countable { D.fault_count disk.old < u64.MAX }
         requires addressed { self.now.len + self.now.len < 2 ^ 64 }
         requires behind { 0 < places.at }
@@ -29,32 +44,16 @@ impl Standing {
             → IsUnderWay self.now.len self.now.side head bodies front places.used places.at (D.seen disk.old) (D.images disk.old)
             → EachSince D.moment D.images_since disk.old disk.new
             (StandsOrMore self.now.len self.now.side head bodies (appended_of call.now)) }
-        ensures under_way { IfOk result (λ next. D.honest disk.old
-            → GoesOn self.now.len self.now.side (appended_of call.now) (put_of call.now) places next
+        ensures under_way { OnOk result (D.honest disk.old
+            → GoesOn self.now.len self.now.side (appended_of call.now) (put_of call.now) places (past places call.now)
             (D.seen disk.old) (D.images disk.old) (D.seen disk.new) (D.images disk.new)) }
-        ensures places { IfOk result (λ next. (next.used ≡ places.used + length (record_bytes (appended_of call.now)))
-            × (next.at ≡ places.at + length (put_of call.now))) }
         ensures calls { D.calls disk.new ≤ D.calls disk.old + disk_calls_of call.now }
         ensures faults { CountsFault result (D.fault_count disk.old) (D.fault_count disk.new) }
         ensures honest { D.honest disk.new ↔ D.honest disk.old }
     {
         match call {
-            AreaCall::Put(bytes) => {
-                let bytes = bytes.as_slice();
-                self.put(disk, places.at, bytes)?;
-                Ok(Places {
-                    used: places.used,
-                    at: places.at + bytes.len() as u64,
-                })
-            }
-            AreaCall::Append(added) => {
-                let bytes = added.as_slice();
-                self.append(disk, places.used, bytes)?;
-                Ok(Places {
-                    used: places.used + bytes.len() as u64,
-                    at: places.at,
-                })
-            }
+            AreaCall::Put(bytes) => self.put(disk, places.at, bytes.as_slice()),
+            AreaCall::Append(added) => self.append(disk, places.used, added.as_slice()),
         }
     }
 
@@ -84,7 +83,8 @@ impl Standing {
     {
         let mut places = Places { used, at: 1 };
         for call in calls {
-            places = self.make(disk, places, call)?;
+            self.make(disk, places, call)?;
+            places = places.past(call);
         }
         Ok(places)
     }
