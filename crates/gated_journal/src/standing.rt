@@ -32,6 +32,15 @@ impl Standing {
         }
     }
 
+    /// The area of the side that does not stand.
+    fn other_area(&self) -> Area
+        ensures start { result.start ≡ start_of self.now.len (other self.now.side) }
+        ensures within { result.start ≤ self.now.len }
+        ensures len { result.len ≡ self.now.len }
+    {
+        self.area(self.side.other())
+    }
+
     /// Appends to the area that stands, whose first closed gate is at `at`. The bytes are a record: its body
     /// behind its length, and a closed gate.
     pub fn append<D: Disk>(&self, disk: &mut D, at: u64, bytes: &[u8]) -> Result<(), DiskFault>
@@ -73,7 +82,7 @@ impl Standing {
         ensures faults { CountsFault result (D.fault_count disk.old) (D.fault_count disk.new) }
         ensures honest { D.honest disk.new ↔ D.honest disk.old }
     {
-        self.area(self.side.other()).close_gate(disk, gate)
+        self.other_area().close_gate(disk, gate)
     }
 
     /// Puts a part of what the other area is to hold behind its gate, which is closed. Nothing is synced.
@@ -94,7 +103,7 @@ impl Standing {
         ensures faults { CountsFault result (D.fault_count disk.old) (D.fault_count disk.new) }
         ensures honest { D.honest disk.new ↔ D.honest disk.old }
     {
-        self.area(self.side.other()).put(disk, at, bytes)
+        self.other_area().put(disk, at, bytes)
     }
 
     /// Turns over: puts the last part of what the other area is to hold, syncs, opens its gate, and syncs.
@@ -120,7 +129,7 @@ impl Standing {
         ensures faults { CountsFault result (D.fault_count disk.old) (D.fault_count disk.new) }
         ensures honest { D.honest disk.new ↔ D.honest disk.old }
     {
-        let start = self.side.other().start(self.len);
+        let start = self.other_area().start;
         write_synced(disk, start + at, bytes)?;
         write_synced(disk, start, &[OPEN])
     }

@@ -1,6 +1,4 @@
-use Rattle.std.proofs.Common.{length, ap, ◌∙◌}
-use Rattle.gated_journal.specs.TwoAreas.{start_of}
-use Rattle.gated_journal.specs.declared.side.Side.{Side}
+use Rattle.std.proofs.Common.{length}
 use Rattle.gated_journal.proofs.Composed.{on_ok}
 use Rattle.gated_journal.proofs.Moves.{turn_begins, turn_moments, turn_done}
 use Rattle.gated_journal.proofs.standing.Standing.turn.Goals as goal
@@ -9,10 +7,9 @@ pub returns-in_err-write_synced-clause-any_moment : goal.returns-in_err-write_sy
 returns-in_err-write_synced-clause-any_moment g c = λ head next bodies others honest each completes.
     let disk = g.D.Disk in
     let len = c.args.self.now.len in
-    let begins = c.start-start.ensures.place ∙ ap (λ (s : Side). start_of len s) c.other.ensures in
     turn_begins len c.args.self.now.side head bodies disk.moment disk.images_since disk.images c.args.disk.now next others
-    c.write_synced.new.disk c.start-start.result c.args.at (length c.args.bytes.now) begins c.requires.behind c.requires.fits
-    (c.write_synced.ensures.any_moment honest) each
+    c.write_synced.new.disk c.other_area-start.result.start c.args.at (length c.args.bytes.now) c.other_area-start.ensures.start
+    c.requires.behind c.requires.fits (c.write_synced.ensures.any_moment honest) each
 
 pub returns-clause-any_moment : goal.returns-clause-any_moment
 returns-clause-any_moment g c = λ head next bodies others honest each completes.
@@ -21,10 +18,10 @@ returns-clause-any_moment g c = λ head next bodies others honest each completes
     let d0 = c.args.disk.now in
     let d1 = c.write_synced.new.disk in
     let one = c.write_synced.ensures in
-    let begins = c.start-start.ensures.place ∙ ap (λ (s : Side). start_of len s) c.other.ensures in
     turn_moments len c.args.self.now.side head bodies disk.moment disk.images_since disk.images d0 next others
-    d1 c.write_synced-2.new.disk c.start-start.result c.args.at c.args.bytes.now (disk.seen d0) (disk.seen d1)
-    begins c.requires.behind c.requires.fits (one.any_moment honest) (c.write_synced-2.ensures.any_moment (one.honest.1 honest))
+    d1 c.write_synced-2.new.disk c.other_area-start.result.start c.args.at c.args.bytes.now (disk.seen d0) (disk.seen d1)
+    c.other_area-start.ensures.start c.requires.behind c.requires.fits (one.any_moment honest)
+    (c.write_synced-2.ensures.any_moment (one.honest.1 honest))
     (g.met.D.Disk.seen_is_image d0 honest) (c.in_ok-write_synced.ensures.written honest) (c.in_ok-write_synced.ensures.stable honest)
     each completes
 
@@ -33,8 +30,7 @@ returns-clause-turned g c =
     let disk = g.D.Disk in
     let len = c.args.self.now.len in
     let one = c.write_synced.ensures in
-    let begins = c.start-start.ensures.place ∙ ap (λ (s : Side). start_of len s) c.other.ensures in
     on_ok c.write_synced-2.result c.write_synced-2.ensures.written (λ written head next bodies others honest stands completes.
-    turn_done len c.args.self.now.side head bodies next others c.start-start.result c.args.at c.args.bytes.now
-    (disk.seen c.args.disk.now) (disk.seen c.write_synced.new.disk) (disk.seen c.write_synced-2.new.disk) begins
+    turn_done len c.args.self.now.side head bodies next others c.other_area-start.result.start c.args.at c.args.bytes.now
+    (disk.seen c.args.disk.now) (disk.seen c.write_synced.new.disk) (disk.seen c.write_synced-2.new.disk) c.other_area-start.ensures.start
     c.requires.behind c.requires.fits stands (c.in_ok-write_synced.ensures.written honest) (written (one.honest.1 honest)) completes)
