@@ -42,22 +42,23 @@ use Rattle.workflow_runs.proofs.StopKeeps.{stop_settles}
 
 -- ---- the leg of a lease
 
-holds_it : (lease : ℕ) (o : Option RunnerState) → holds_this lease o ≡ true → option_and_then (λ x. x.holds) o ≡ Some lease
-holds_it lease None e = cc
-holds_it lease (Some x) e =
-    elim (x.holds) as (λ h. option_map_or (λ held. nat_eq held lease) h false ≡ true → h ≡ Some lease) [
+-- a lease found in an option is the one that is there
+one_there : {X : Type 0} (lease_of : X → Option ℕ) (lease : ℕ) (o : Option X)
+    → option_map_or (λ x. option_map_or (λ held. nat_eq held lease) (lease_of x) false) o false ≡ true
+    → option_and_then lease_of o ≡ Some lease
+one_there lease_of lease None e = cc
+one_there lease_of lease (Some x) e =
+    elim (lease_of x) as (λ h. option_map_or (λ held. nat_eq held lease) h false ≡ true → h ≡ Some lease) [
       | None ↦ λ f. cc
       | Some n ↦ λ f. ap Some (eqb-true n lease f)
     ] e
 
+holds_it : (lease : ℕ) (o : Option RunnerState) → holds_this lease o ≡ true → option_and_then (λ x. x.holds) o ≡ Some lease
+holds_it = one_there (λ (x : RunnerState). x.holds)
+
 pub has_it : (lease : ℕ) (o : Option LegState) → option_map_or (has_lease lease) o false ≡ true
     → option_and_then (λ y. y.lease) o ≡ Some lease
-has_it lease None e = cc
-has_it lease (Some z) e =
-    elim (z.lease) as (λ h. option_map_or (λ held. nat_eq held lease) h false ≡ true → h ≡ Some lease) [
-      | None ↦ λ f. cc
-      | Some n ↦ λ f. ap Some (eqb-true n lease f)
-    ] e
+has_it = one_there (λ (y : LegState). y.lease)
 
 is_it : (lease : ℕ) (z : LegState) → z.lease ≡ Some lease → has_lease lease z ≡ true
 is_it lease z e = ap (λ h. option_map_or (λ held. nat_eq held lease) h false) e ∙ eq-eqb lease lease refl
