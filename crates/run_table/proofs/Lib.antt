@@ -12,6 +12,7 @@ mod ContextRows
 pub mod Copied
 pub mod Decided
 pub mod Deliveries
+pub mod EachRule
 pub mod Entered
 pub mod EnteredRests
 pub mod EventsStay

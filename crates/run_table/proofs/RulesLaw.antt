@@ -1,41 +1,40 @@
 -- Each settling rule keeps the law of every group, and so does settling.
-use Rattle.std.specs.Prelude.{◌≡◌, ℕ, zero, suc, List, [], ◌∷◌, ◌&&◌, Bool, true, false, Option, Some, None, if◌then◌else◌}
+use Rattle.std.specs.Prelude.{◌≡◌, ℕ, zero, suc, List, [], ◌∷◌, Bool, true, false, Option, Some, None, if◌then◌else◌}
 use Rattle.std.specs.Prelude.{slice_get, refl}
 use Rattle.std.specs.List.{list_all}
 use Rattle.std.specs.Option.{option_map_or}
 use Rattle.std.proofs.Common.{ap, sym, ◌∙◌, subst}
 use Rattle.std.proofs.lemmas.Bool.{and_parts, true≢false}
-use Rattle.wf_value.specs.declared.outcome.JobResult.{JobResult}
+use Rattle.std.proofs.lemmas.Option.{same_Some}
 use Rattle.wf_value.specs.declared.outcome.JobResult.TheVariants as result
 use Rattle.wf_value.specs.declared.outcome.Outcome.TheVariants as outcome
 use Rattle.group_name.specs.Group.{Group}
 use Rattle.needs_graph.specs.Results.{conclusion_of}
-use Rattle.workflow_runs.specs.Arrivals.{arrived, displaced, is_in_group_of_run, room_made, started}
+use Rattle.workflow_runs.specs.Arrivals.{arrived, displaced, room_made, started}
 use Rattle.workflow_runs.specs.GroupOf.{cancels_in_progress, group_at}
 use Rattle.workflow_runs.specs.GroupWords.{holder_of, same_holder}
 use Rattle.workflow_runs.specs.Groups.{HasOneEach, holds, is_in, leg_waits, may_start, run_waits, waits}
 use Rattle.workflow_runs.specs.JobResults.{results_of}
 use Rattle.workflow_runs.specs.Moves.{Holder, Move, Moved, and_then, without_moves}
 use Rattle.workflow_runs.specs.Places.{LegPlace, job_at, leg_at, run_at, with_job, with_run}
-use Rattle.workflow_runs.specs.Rules.{closing_rule, decided, leg_rule, leg_rule_in, may_run, newcomer_rule, opening_rule, result_at}
+use Rattle.workflow_runs.specs.Rules.{decided, may_run, result_at}
 use Rattle.workflow_runs.specs.Rules.{rule_at}
-use Rattle.workflow_runs.specs.Rules.{whole_rule, whole_rule_in, with_leg_in}
+use Rattle.workflow_runs.specs.Rules.{with_leg_in}
 use Rattle.workflow_runs.specs.Settling.{first_place, first_rule, settled_within}
-use Rattle.workflow_runs.specs.SoundRuns.{LegsFit, PhaseFits}
-use Rattle.workflow_runs.specs.StateWords.{has_ended, is_blocked, is_done, is_live, is_open, is_settled, leg_in_phase, opened}
+use Rattle.workflow_runs.specs.SoundRuns.{PhaseFits}
+use Rattle.workflow_runs.specs.StateWords.{has_ended, is_blocked, is_done, is_live, is_open, leg_in_phase, opened}
 use Rattle.workflow_runs.specs.StateWords.{run_in_phase, settled_as}
 use Rattle.workflow_runs.specs.RunState.{LegState, JobState, RunState}
-use Rattle.workflow_runs.specs.Words.{is_stopping, needs_have_settled, planned_legs}
-use Rattle.workflow_runs.specs.declared.phases.JobPhase.{JobPhase}
-use Rattle.workflow_runs.specs.declared.phases.JobPhase.TheVariants as job
+use Rattle.workflow_runs.specs.Words.{is_stopping, planned_legs}
 use Rattle.workflow_runs.specs.declared.phases.LegPhase.{LegPhase}
 use Rattle.workflow_runs.specs.declared.phases.LegPhase.TheVariants as leg
 use Rattle.workflow_runs.specs.declared.phases.RunPhase.{RunPhase}
 use Rattle.workflow_runs.specs.declared.phases.RunPhase.TheVariants as run
 use Rattle.workflow_runs.specs.declared.place.Place.{Place}
-use Rattle.workflow_runs.specs.declared.place.Place.TheVariants.{Opening, AtLeg, Closing, Whole}
+use Rattle.workflow_runs.specs.declared.place.Place.TheVariants.{Opening}
 use Rattle.run_table.proofs.ArrivalLaw.{arrival_goes_on}
 use Rattle.run_table.proofs.ChangesTold.{leg_tells, new_legs_same, only_none, only_one, quiet_job_tells, run_tells}
+use Rattle.run_table.proofs.EachRule.{by_rule}
 use Rattle.run_table.proofs.GroupSaid.{own_holder}
 use Rattle.run_table.proofs.GroupsKept.{Grows, cancels_kept, grows_on, is_in_kept, stays_grows}
 use Rattle.run_table.proofs.HolderStatus.{Goes, Status, ends_at_once, goes_over, goes_to_arrive, goes_to_start, goes_unseen, leg_status}
@@ -43,13 +42,13 @@ use Rattle.run_table.proofs.HolderStatus.{run_status, status, status_by, status_
 use Rattle.workflow_runs.proofs.HoldersFade.{holds_before_leg, job_fades, leg_fades, leg_passes, passes, waits_before_leg}
 use Rattle.workflow_runs.proofs.HoldersKeep.{arrival_settles, asked_settles, displaced_settles}
 use Rattle.workflow_runs.proofs.JobKeeps.{open_is_live}
-use Rattle.workflow_runs.proofs.JobPhases.{is_open_open}
+use Rattle.workflow_runs.proofs.JobPhases.{is_blocked_blocked, is_open_open, no_legs}
 use Rattle.run_table.proofs.LawSoFar.{GoesOn, end_is_quiet, goes_on_still, goes_on_then, quiet_goes_on, start_is_quiet}
 use Rattle.run_table.proofs.LawSoFar.{unmoved_is_quiet}
 use Rattle.workflow_runs.proofs.LivePlaces.{LivePlace, first_place_is_live}
 use Rattle.workflow_runs.proofs.OneEach.{Comes, IsOneOf, groups_stay, newcomer_besides, one_that_waits}
 use Rattle.workflow_runs.proofs.OneEachRules.{decided_fades, ended_fades, first_rule_one_each, live_waits, set_itself, set_waits}
-use Rattle.workflow_runs.proofs.Optional.{from_and_then, if_some}
+use Rattle.workflow_runs.proofs.Optional.{from_and_then}
 use Rattle.run_table.proofs.OwnMoves.{own}
 use Rattle.workflow_runs.proofs.RuleKeeps.{newcomer_waits, run_ended}
 use Rattle.workflow_runs.proofs.RunFits.{RunsFit, job_in_run, jobs_fit}
@@ -60,42 +59,23 @@ use Rattle.run_table.proofs.Unbegun.{AllStill, LegUnbegun, There, leg_all_still,
 bad : false ≡ true → ⊥
 bad e = cc
 
--- what is so of each of two is so of the one that is chosen
-either : (b : Bool) (x y : Moved) (P : Moved → Type 0) → P x → P y → P (if b then x else y)
-either true x y P of_x of_y = of_x
-either false x y P of_x of_y = of_y
-
 -- ---- a job that opens
-
-no_legs_yet : (planned : ℕ) (gathered : JobResult) (phase : JobPhase) (legs : List LegState) → LegsFit planned gathered phase legs
-    → is_blocked phase ≡ true → legs ≡ []
-no_legs_yet planned gathered job.Blocked legs fits e = fits
-no_legs_yet planned gathered job.Open legs fits e = cc
-no_legs_yet planned gathered (job.Settled r) legs fits e = cc
 
 decided_same : (may stopping : Bool) (n l : ℕ) (y : JobState) → y.legs ≡ []
     → status_in_job l ((if may then opened n else settled_as (if stopping then result.Cancelled else result.Skipped)) y) ≡ status_in_job l y
 decided_same true stopping n l y none = new_legs_same n l y.legs none
 decided_same false stopping n l y none = refl
 
-same_job : (y z : JobState) → Some y ≡ Some z → y ≡ z
-same_job y z e = cc
-
-same_leg : (y z : LegState) → Some y ≡ Some z → y ≡ z
-same_leg y z e = cc
-
-same_run : (x y : RunState) → Some x ≡ Some y → x ≡ y
-same_run x y e = cc
-
 opening_tells : (runs : List RunState) → RunsFit runs → (r j : ℕ) (y : JobState) → job_at runs r j ≡ Some y → is_blocked y.phase ≡ true
     → Tells runs (without_moves (with_job r j (decided runs r j) runs))
 opening_tells runs fit r j y was blocked =
     quiet_job_tells r j (decided runs r j) runs
     (λ l z is.
-    let same : z ≡ y = same_job z y (sym is ∙ was) in
+    let same : z ≡ y = same_Some z y (sym is ∙ was) in
     let none : z.legs ≡ [] =
     ap (λ (x : JobState). x.legs) same
-    ∙ no_legs_yet (planned_legs runs r j) (result_at runs r j y) y.phase y.legs (jobs_fit runs fit r j y was) blocked in
+    ∙ no_legs (planned_legs runs r j) (result_at runs r j y) y.phase y.legs (jobs_fit runs fit r j y was)
+    (is_blocked_blocked y.phase blocked) in
     decided_same (may_run runs r j) (is_stopping runs r) (planned_legs runs r j) l z none)
 
 -- ---- a leg
@@ -106,7 +86,7 @@ leg_goes_by : (runs : List RunState) (p : LegPlace) (z : LegState) (phase : LegP
     → (y : LegState) → leg_at runs p ≡ Some y
     → Goes (Holder.a_leg p) (status_of_leg y) (own (Holder.a_leg p) moves) (status_of_leg (leg_in_phase to y))
 leg_goes_by runs p z phase to moves was is goes y at =
-    let same : y.phase ≡ phase = ap (λ (x : LegState). x.phase) (same_leg y z (sym at ∙ was)) ∙ is in
+    let same : y.phase ≡ phase = ap (λ (x : LegState). x.phase) (same_Some y z (sym at ∙ was)) ∙ is in
     subst (λ (ph : LegPhase). Goes (Holder.a_leg p) (leg_status ph) (own (Holder.a_leg p) moves) (leg_status to)) (sym same) goes
 
 none_is_not_there : (o : Option LegState) (z : LegState) → o ≡ Some z → o ≡ None → ⊥
@@ -136,9 +116,6 @@ unseen_tells runs p z was is =
 
 -- ---- what has not begun
 
-not_live : true ≡ false → ⊥
-not_live e = cc
-
 ended_unbegun : (z : LegState) → LegUnbegun z → LegUnbegun (leg_in_phase (leg.Ended outcome.Cancelled) z)
 ended_unbegun z un = record { no_lease = un.no_lease; cancelled = (λ o e. cc) }
 
@@ -148,7 +125,7 @@ decided_unbegun true stopping n l y all = opened_still n l
 decided_unbegun false stopping n l y all = all
 
 live_run : (runs : List RunState) (r : ℕ) → LivePlace runs (Opening r 0) → (x : RunState) → run_at runs r ≡ Some x → is_live x.phase ≡ true
-live_run runs r live x at = ap (λ (v : RunState). is_live v.phase) (same_run x live.0 (sym at ∙ live.1)) ∙ ap is_live live.2
+live_run runs r live x at = ap (λ (v : RunState). is_live v.phase) (same_Some x live.0 (sym at ∙ live.1)) ∙ ap is_live live.2
 
 -- a run with a job that is done is live
 closing_run : (runs : List RunState) → RunsFit runs → (r j : ℕ) (y : JobState) → job_at runs r j ≡ Some y → is_done y ≡ true
@@ -168,19 +145,13 @@ run_set_tells runs r x to m was of_it goes =
     run_tells r (run_in_phase to) runs (m ∷ []) (λ y. refl)
     (λ y at. subst
     (λ (v : RunState). Goes (Holder.a_run r) (status_of_run v) (own (Holder.a_run r) (m ∷ [])) (run_status to v.stopping))
-    (sym (same_run y x (sym at ∙ was)))
+    (sym (same_Some y x (sym at ∙ was)))
     (goes_by (Holder.a_run r) (status_of_run x) (run_status to x.stopping) (own (Holder.a_run r) (m ∷ [])) (m ∷ [])
     (sym (own_itself (Holder.a_run r) m of_it)) goes))
     (λ none. absurd (none_is_not_a_run (run_at runs r) x was none)) (only_one (Holder.a_run r) m of_it)
   where
     none_is_not_a_run : (o : Option RunState) (x : RunState) → o ≡ Some x → o ≡ None → ⊥
     none_is_not_a_run o x some none = cc
-
-waiting_is_unstopped : (stopping : Bool) (jobs : List JobState) (phase : RunPhase) → phase ≡ run.Waiting → PhaseFits phase stopping jobs
-    → stopping ≡ false
-waiting_is_unstopped stopping jobs run.Waiting e fits = fits.0
-waiting_is_unstopped stopping jobs run.Live e fits = cc
-waiting_is_unstopped stopping jobs run.Ended e fits = cc
 
 -- ---- the rules, on the way to a table that is reached; `later` is one that follows
 
@@ -252,26 +223,14 @@ module _ (reached later : List RunState) (g : Group) (cancels : Holder → Bool)
       (ap (passes (leg_passes leg_waits)) (set_itself runs p z was (leg_in_phase leg.Waiting))) (groups_stay runs now fit stay) each
       (leg_all_still runs p (leg_in_phase leg.Waiting) (λ v un. record { no_lease = un.no_lease; cancelled = (λ o e. cc) })) grows
 
-  newcomer_keeps : (runs : List RunState) (p : LegPlace) (z : LegState) → RunsFit runs → leg_at runs p ≡ Some z → z.phase ≡ leg.New
-      → HasOneEach runs → Grows (newcomer_rule runs p).runs reached → Keeps runs (newcomer_rule runs p)
-  newcomer_keeps runs p z fit was is each =
-      either (is_in_group_of_run runs p) (without_moves (with_leg_in (leg.Ended outcome.Cancelled) p runs))
-      (arrived (Holder.a_leg p) (with_leg_in leg.Waiting p runs)) (λ (m : Moved). Grows m.runs reached → Keeps runs m)
-      (λ _. own_group_keeps runs p z was is) (leg_arrival_keeps runs p z fit was is each)
-
-  leg_rule_keeps : (runs : List RunState) (m : Moved) (p : LegPlace) (z : LegState) (phase : LegPhase) → RunsFit runs
-      → leg_at runs p ≡ Some z → z.phase ≡ phase → leg_rule_in phase runs p ≡ Some m → HasOneEach runs → Grows runs reached
-      → Grows m.runs reached → Keeps runs m
-  leg_rule_keeps runs m p z leg.New fit was is h each from grows =
-      let same : newcomer_rule runs p ≡ m = cc in
-      subst (λ (v : Moved). Grows v.runs reached → Keeps runs v) same (newcomer_keeps runs p z fit was is each) grows
-  leg_rule_keeps runs m p z leg.Waiting fit was is h each from grows =
+  leg_start_keeps : (runs : List RunState) (p : LegPlace) (z : LegState) → RunsFit runs → Grows runs reached → leg_at runs p ≡ Some z
+      → z.phase ≡ leg.Waiting → may_start runs (Holder.a_leg p) ≡ true
+      → Keeps runs (started (Holder.a_leg p) (with_leg_in leg.Ready p runs))
+  leg_start_keeps runs p z fit from was is may =
       let k = Holder.a_leg p in
       let next = with_leg_in leg.Ready p runs in
-      let taken = if_some (may_start runs k) (started k next) m h in
       let waiting : waits runs k ≡ true = ap (passes (leg_passes leg_waits)) was ∙ ap leg_waits is in
-      subst (λ (v : Moved). Keeps runs v) taken.1
-      (quiet_goes_on (is_in reached g) cancels runs (started k next)
+      quiet_goes_on (is_in reached g) cancels runs (started k next)
       (start_is_quiet (is_in reached g) cancels g runs (agrees runs fit from) next k
       (leg_set_tells runs p z leg.Waiting leg.Ready (Move.start k) was is refl (goes_to_start k))
       (waits_before_leg (leg_in_phase leg.Ready) p runs (λ v e. absurd (bad e)))
@@ -280,77 +239,77 @@ module _ (reached later : List RunState) (g : Group) (cancels : Holder → Bool)
         cancelled =
             (λ o e. cc);
       })))
-      waiting taken.0))
-  leg_rule_keeps runs m p z leg.Ready fit was is h each from grows = cc
-  leg_rule_keeps runs m p z leg.Running fit was is h each from grows = cc
-  leg_rule_keeps runs m p z leg.Stopping fit was is h each from grows = cc
-  leg_rule_keeps runs m p z (leg.Ended r) fit was is h each from grows = cc
+      waiting may)
 
   -- ---- a run goes on
 
-  whole_rule_keeps : (runs : List RunState) (m : Moved) (r : ℕ) (x : RunState) (phase : RunPhase) → RunsFit runs → run_at runs r ≡ Some x
-      → x.phase ≡ phase → whole_rule_in phase runs r x ≡ Some m → Grows runs reached → Keeps runs m
-  whole_rule_keeps runs m r x run.Waiting fit was is h from =
+  run_start_keeps : (runs : List RunState) (r : ℕ) (x : RunState) → RunsFit runs → Grows runs reached → run_at runs r ≡ Some x
+      → x.phase ≡ run.Waiting → may_start runs (Holder.a_run r) ≡ true
+      → Keeps runs (started (Holder.a_run r) (with_run r (run_in_phase run.Live) runs))
+  run_start_keeps runs r x fit from was is may =
       let k = Holder.a_run r in
       let next = with_run r (run_in_phase run.Live) runs in
-      let taken = if_some (may_start runs k) (started k next) m h in
       let waiting : waits runs k ≡ true = ap (passes (λ (v : RunState). run_waits v.phase)) was ∙ ap run_waits is in
-      let unstopped : x.stopping ≡ false = waiting_is_unstopped x.stopping x.jobs x.phase is (fit r x was).phase_fits in
+      let unstopped = (subst (λ (phase : RunPhase). PhaseFits phase x.stopping x.jobs) is (fit r x was).phase_fits).0 in
       let goes : Goes k (status_of_run x) (Move.start k ∷ []) (run_status run.Live x.stopping) =
       subst (λ (s : Status). Goes k s (Move.start k ∷ []) (run_status run.Live x.stopping)) (sym (ap (λ ph. run_status ph x.stopping) is))
       (subst (λ (b : Bool). Goes k Status.waiting (Move.start k ∷ []) (Status.running b)) (sym unstopped) (goes_to_start k)) in
-      subst (λ (v : Moved). Keeps runs v) taken.1
-      (quiet_goes_on (is_in reached g) cancels runs (started k next)
+      quiet_goes_on (is_in reached g) cancels runs (started k next)
       (start_is_quiet (is_in reached g) cancels g runs (agrees runs fit from) next k (run_set_tells runs r x run.Live
       (Move.start k) was refl goes)
-      (live_waits runs r) (phase_still runs r run.Live (λ y at before now. not_live now)) waiting taken.0))
-  whole_rule_keeps runs m r x run.Live fit was is h from =
+      (live_waits runs r) (phase_still runs r run.Live (λ y at before now. true≢false now)) waiting may)
+
+  run_end_keeps : (runs : List RunState) (r : ℕ) (x : RunState) → run_at runs r ≡ Some x → x.phase ≡ run.Live
+      → Keeps runs (run_ended runs r x)
+  run_end_keeps runs r x was is =
       let k = Holder.a_run r in
       let next = with_run r (run_in_phase run.Ended) runs in
-      let taken = if_some (list_all is_settled x.jobs) (run_ended runs r x) m h in
       let end = Move.end_with (conclusion_of (results_of x.jobs)) k in
       let held : holds runs k ≡ true = ap (passes (λ (v : RunState). is_live v.phase)) was ∙ ap is_live is in
-      subst (λ (v : Moved). Keeps runs v) taken.1
-      (quiet_goes_on (is_in reached g) cancels runs (run_ended runs r x)
+      quiet_goes_on (is_in reached g) cancels runs (run_ended runs r x)
       (end_is_quiet (is_in reached g) cancels runs next (conclusion_of (results_of x.jobs)) k
       (run_set_tells runs r x run.Ended end was refl
       (goes_over k (status_of_run x) (end ∷ []) (ends_at_once k (conclusion_of (results_of x.jobs))))) (ended_fades r runs).waited
       (phase_still runs r run.Ended (λ y at before now.
-      true≢false (sym (ap (λ (v : RunState). is_live v.phase) (same_run y x (sym at ∙ was)) ∙ ap is_live is) ∙ before))) held))
-  whole_rule_keeps runs m r x run.Ended fit was is h from = cc
+      true≢false (sym (ap (λ (v : RunState). is_live v.phase) (same_Some y x (sym at ∙ was)) ∙ ap is_live is) ∙ before))) held)
+
+  -- ---- a job opens, or settles
+
+  opening_keeps : (runs : List RunState) (r j : ℕ) (y : JobState) → RunsFit runs → LivePlace runs (Opening r j) → job_at runs r j ≡ Some y
+      → is_blocked y.phase ≡ true → Keeps runs (without_moves (with_job r j (decided runs r j) runs))
+  opening_keeps runs r j y fit live was blocked =
+      let next = with_job r j (decided runs r j) runs in
+      quiet_goes_on (is_in reached g) cancels runs (without_moves next)
+      (unmoved_is_quiet (is_in reached g) cancels runs next (opening_tells runs fit r j y was blocked) (decided_fades runs r j).waited
+      (live_job_still runs r j (decided runs r j) (live_run runs r live)
+      (decided_unbegun (may_run runs r j) (is_stopping runs r) (planned_legs runs r j))))
+
+  closing_keeps : (runs : List RunState) (r j : ℕ) (y : JobState) → RunsFit runs → job_at runs r j ≡ Some y → is_done y ≡ true
+      → Keeps runs (without_moves (with_job r j (settled_as (result_at runs r j y)) runs))
+  closing_keeps runs r j y fit was done =
+      let close = settled_as (result_at runs r j y) in
+      let next = with_job r j close runs in
+      quiet_goes_on (is_in reached g) cancels runs (without_moves next)
+      (unmoved_is_quiet (is_in reached g) cancels runs next (quiet_job_tells r j close runs (λ l y is. refl))
+      (job_fades close r j runs (record { waited = (λ l y e. e); held = (λ l y e. e) })).waited
+      (live_job_still runs r j close (closing_run runs fit r j y was done) (λ l y all. all)))
 
   -- ---- at each place
 
   rule_keeps : (runs : List RunState) (m : Moved) (place : Place) → RunsFit runs → LivePlace runs place → rule_at runs place ≡ Some m
       → HasOneEach runs
       → Grows runs reached → Grows m.runs reached → Keeps runs m
-  rule_keeps runs m (Opening r j) fit live h each from grows =
-      let made = from_and_then (opening_rule runs r j) (job_at runs r j) m h in
-      let next = with_job r j (decided runs r j) runs in
-      let taken = if_some (is_blocked made.value.phase && needs_have_settled runs r j) (without_moves next) m made.gives in
-      let blocked = (and_parts (is_blocked made.value.phase) (needs_have_settled runs r j) taken.0).0 in
-      subst (λ (v : Moved). Keeps runs v) taken.1
-      (quiet_goes_on (is_in reached g) cancels runs (without_moves next)
-      (unmoved_is_quiet (is_in reached g) cancels runs next (opening_tells runs fit r j made.value made.is blocked)
-      (decided_fades runs r j).waited
-      (live_job_still runs r j (decided runs r j) (live_run runs r live)
-      (decided_unbegun (may_run runs r j) (is_stopping runs r) (planned_legs runs r j)))))
-  rule_keeps runs m (AtLeg p) fit live h each from grows =
-      let made = from_and_then (leg_rule runs p) (leg_at runs p) m h in
-      leg_rule_keeps runs m p made.value made.value.phase fit made.is refl made.gives each from grows
-  rule_keeps runs m (Closing r j) fit live h each from grows =
-      let made = from_and_then (closing_rule runs r j) (job_at runs r j) m h in
-      let close = settled_as (result_at runs r j made.value) in
-      let next = with_job r j close runs in
-      let taken = if_some (is_done made.value) (without_moves next) m made.gives in
-      subst (λ (v : Moved). Keeps runs v) taken.1
-      (quiet_goes_on (is_in reached g) cancels runs (without_moves next)
-      (unmoved_is_quiet (is_in reached g) cancels runs next (quiet_job_tells r j close runs (λ l y is. refl))
-      (job_fades close r j runs (record { waited = (λ l y e. e); held = (λ l y e. e) })).waited
-      (live_job_still runs r j close (closing_run runs fit r j made.value made.is taken.0) (λ l y all. all))))
-  rule_keeps runs m (Whole r) fit live h each from grows =
-      let made = from_and_then (whole_rule runs r) (run_at runs r) m h in
-      whole_rule_keeps runs m r made.value made.value.phase fit made.is refl made.gives from
+  rule_keeps runs m place fit live h each from =
+      by_rule runs (λ at made. LivePlace runs at → Grows made.runs reached → Keeps runs made)
+      (record {
+        job_opens = (λ r j y was blocked needs live grows. opening_keeps runs r j y fit live was blocked);
+        leg_is_cancelled = (λ p z was is live grows. own_group_keeps runs p z was is);
+        leg_arrives = (λ p z was is live. leg_arrival_keeps runs p z fit was is each);
+        leg_starts = (λ p z was is may live grows. leg_start_keeps runs p z fit from was is may);
+        job_settles = (λ r j y was done live grows. closing_keeps runs r j y fit was done);
+        run_starts = (λ r x was is may live grows. run_start_keeps runs r x fit from was is may);
+        run_ends = (λ r x was is settled live grows. run_end_keeps runs r x was is);
+      }) m place h live
 
   -- ---- settling
 
