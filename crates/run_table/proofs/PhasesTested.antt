@@ -1,27 +1,22 @@
 -- Whether the jobs of a run have come as far as its phase asks, from tests of all of them.
-use Rattle.std.specs.Prelude.{◌≡◌, ℕ, List, Bool, true, false, Some, slice_get, refl}
+use Rattle.std.specs.Prelude.{◌≡◌, ℕ, List, Bool, true, false, Some, slice_get}
 use Rattle.std.specs.Bool.{Decides}
 use Rattle.std.specs.List.{list_all}
 use Rattle.std.proofs.Common.{ap, sym, subst, ◌∙◌}
 use Rattle.workflow_runs.specs.SoundRuns.{PhaseFits}
 use Rattle.workflow_runs.specs.StateWords.{is_blocked, is_settled}
 use Rattle.workflow_runs.specs.RunState.{JobState}
-use Rattle.workflow_runs.specs.declared.phases.JobPhase.{JobPhase}
 use Rattle.workflow_runs.specs.declared.phases.JobPhase.TheVariants as job
 use Rattle.workflow_runs.specs.declared.phases.RunPhase.{RunPhase}
 use Rattle.workflow_runs.specs.declared.phases.RunPhase.TheVariants as run
+use Rattle.workflow_runs.proofs.JobPhases.{is_blocked_blocked}
 use Rattle.workflow_runs.proofs.OneAfterAnother.{all_pass}
 use Rattle.workflow_runs.proofs.Optional.{each_passes}
-
-blocked : (phase : JobPhase) → is_blocked phase ≡ true → phase ≡ job.Blocked
-blocked job.Blocked e = refl
-blocked job.Open e = cc
-blocked (job.Settled r) e = cc
 
 are_blocked : (jobs : List JobState) → Decides (list_all (λ (y : JobState). is_blocked y.phase) jobs)
     ((j : ℕ) (x : JobState) → slice_get jobs j ≡ Some x → x.phase ≡ job.Blocked)
 are_blocked jobs = (
-  (λ all j x at. blocked x.phase (each_passes (λ (y : JobState). is_blocked y.phase) jobs j x all at)),
+  (λ all j x at. is_blocked_blocked x.phase (each_passes (λ (y : JobState). is_blocked y.phase) jobs j x all at)),
   (λ each. all_pass (λ (y : JobState). is_blocked y.phase) jobs (λ j x at. ap is_blocked (each j x at))),
 )
 

@@ -5,8 +5,7 @@ use Rattle.std.specs.Prelude.{option_map, option_and_then, slice_get, if◌then�
 use Rattle.std.specs.Option.{option_map_or}
 use Rattle.std.proofs.Common.{ap, inl, inr, sym, ◌∙◌, subst}
 use Rattle.std.proofs.lemmas.Bool.{cases_eq, true≢false}
-use Rattle.std.proofs.lemmas.Option.{slice_get-map}
-use Rattle.wf_value.specs.declared.outcome.JobResult.{JobResult}
+use Rattle.std.proofs.lemmas.Option.{same_Some, slice_get-map}
 use Rattle.wf_value.specs.declared.outcome.JobResult.TheVariants as result
 use Rattle.wf_value.specs.declared.outcome.Outcome.{Outcome}
 use Rattle.wf_value.specs.declared.outcome.Outcome.TheVariants as outcome
@@ -17,7 +16,7 @@ use Rattle.workflow_runs.specs.Moves.{Holder, Moved, at_each}
 use Rattle.workflow_runs.specs.Places.{LegPlace, job_at, leg_at, run_at, with_job, with_leg, with_run}
 use Rattle.workflow_runs.specs.RunConditions.{may_run_in}
 use Rattle.workflow_runs.specs.Rules.{result_at}
-use Rattle.workflow_runs.specs.SoundRuns.{LeaseFits, LegsFit, PhaseFits}
+use Rattle.workflow_runs.specs.SoundRuns.{LeaseFits, PhaseFits}
 use Rattle.workflow_runs.specs.StateWords.{is_live, is_open, new_leg, run_in_phase, settled_as}
 use Rattle.workflow_runs.specs.NewRun.{new_run}
 use Rattle.workflow_runs.specs.StopMoves.{stop_holder}
@@ -25,7 +24,6 @@ use Rattle.workflow_runs.specs.Stops.{cancelled, stopped, stopped_in, stopped_ph
 use Rattle.workflow_runs.specs.Stops.{with_stopped_legs}
 use Rattle.workflow_runs.specs.RunState.{LegState, JobState, RunState}
 use Rattle.workflow_runs.specs.Words.{planned_legs}
-use Rattle.workflow_runs.specs.declared.phases.JobPhase.{JobPhase}
 use Rattle.workflow_runs.specs.declared.phases.JobPhase.TheVariants as job
 use Rattle.workflow_runs.specs.declared.phases.LegPhase.{LegPhase}
 use Rattle.workflow_runs.specs.declared.phases.LegPhase.TheVariants as leg
@@ -34,6 +32,7 @@ use Rattle.workflow_runs.specs.declared.phases.RunPhase.TheVariants as run
 use Rattle.workflow_runs.proofs.Changed.{came}
 use Rattle.workflow_runs.proofs.Found.{before_the_end}
 use Rattle.workflow_runs.proofs.JobKeeps.{with_job_of, with_leg_of}
+use Rattle.workflow_runs.proofs.JobPhases.{no_legs}
 use Rattle.workflow_runs.proofs.LeaseReads.{place_or_another}
 use Rattle.workflow_runs.proofs.Optional.{from_and_then}
 use Rattle.workflow_runs.proofs.RunFits.{RunsFit, leases_fit}
@@ -70,9 +69,6 @@ still_of_all runs next all h before now = all h
 
 -- ---- in lists
 
-some_same : {X : Type 0} (x y : X) → Some x ≡ Some y → x ≡ y
-some_same x y e = cc
-
 changed_there : {X : Type 0} (P Q : X → Type 0) (i : ℕ) (f : X → X) (xs : List X) (k : ℕ)
     → ((x : X) → slice_get xs i ≡ Some x → P x → Q (f x)) → ((x : X) → slice_get xs k ≡ Some x → P x → Q x)
     → There P (slice_get xs k) → There Q (slice_get (changed_at i f xs) k)
@@ -86,7 +82,7 @@ changed_there {X} P Q i f xs k at others all y e =
 mapped_there : {X : Type 0} (P Q : X → Type 0) (f : X → X) (o : Option X) → ((x : X) → o ≡ Some x → P x → Q (f x)) → There P o
     → There Q (option_map f o)
 mapped_there P Q f None so all y e = cc
-mapped_there P Q f (Some x) so all y e = subst Q (some_same (f x) y e) (so x refl (all x refl))
+mapped_there P Q f (Some x) so all y e = subst Q (same_Some (f x) y e) (so x refl (all x refl))
 
 through : {X Y : Type 0} (P : Y → Type 0) (f : X → Option Y) (o : Option X) → There P (option_and_then f o) → There (λ x. There P (f x)) o
 through P f o all x is y at = all y (ap (option_and_then f) is ∙ at)
@@ -128,7 +124,7 @@ pub record RunStill (runs : List RunState) (r : ℕ) (f : RunState → RunState)
 now_there : (r : ℕ) (f : RunState → RunState) (runs : List RunState) (x : RunState) → run_at runs r ≡ Some x
     → run_at (with_run r f runs) r ≡ Some (f x)
 now_there zero f [] x e = cc
-now_there zero f (y ∷ ys) x e = ap (λ v. Some (f v)) (some_same y x e)
+now_there zero f (y ∷ ys) x e = ap (λ v. Some (f v)) (same_Some y x e)
 now_there (suc r) f [] x e = cc
 now_there (suc r) f (y ∷ ys) x e = now_there r f ys x e
 
@@ -189,7 +185,7 @@ live_job_still runs r j f live legs =
 new_leg_unbegun : (n l : ℕ) → There LegUnbegun (slice_get (replicate n new_leg) l)
 new_leg_unbegun zero l z e = cc
 new_leg_unbegun (suc n) zero z e =
-    subst LegUnbegun (some_same new_leg z e) (record { no_lease = refl; cancelled = (λ o is. cc) })
+    subst LegUnbegun (same_Some new_leg z e) (record { no_lease = refl; cancelled = (λ o is. cc) })
 new_leg_unbegun (suc n) (suc l) z e = new_leg_unbegun n l z e
 
 pub opened_still : (n l : ℕ) → There LegUnbegun (slice_get (replicate n new_leg) l)
@@ -356,54 +352,36 @@ each_all_still change one (k ∷ hs) runs h un = each_all_still change one hs (c
 
 -- ---- one that waits has not begun
 
-blocked_has_none : (planned : ℕ) (gathered : JobResult) (phase : JobPhase) (legs : List LegState) → phase ≡ job.Blocked
-    → LegsFit planned gathered phase legs → legs ≡ []
-blocked_has_none planned gathered job.Blocked legs e fits = fits
-blocked_has_none planned gathered job.Open legs e fits = cc
-blocked_has_none planned gathered (job.Settled r) legs e fits = cc
+run_waits_waiting : (phase : RunPhase) → run_waits phase ≡ true → phase ≡ run.Waiting
+run_waits_waiting run.Waiting e = refl
+run_waits_waiting run.Live e = cc
+run_waits_waiting run.Ended e = cc
 
-all_blocked : (phase : RunPhase) (stopping : Bool) (jobs : List JobState) → run_waits phase ≡ true → PhaseFits phase stopping jobs
-    → (j : ℕ) (y : JobState) → slice_get jobs j ≡ Some y → y.phase ≡ job.Blocked
-all_blocked run.Waiting stopping jobs e fits = fits.1
-all_blocked run.Live stopping jobs e fits = cc
-all_blocked run.Ended stopping jobs e fits = cc
-
-not_ended : (phase : RunPhase) → run_waits phase ≡ true → phase ≡ run.Ended → ⊥
-not_ended run.Waiting e is = cc
-not_ended run.Live e is = cc
-not_ended run.Ended e is = cc
-
-waiting_leg : (phase : LegPhase) (lease : Option ℕ) → leg_waits phase ≡ true → LeaseFits phase lease → lease ≡ None
-waiting_leg leg.New lease e fits = cc
-waiting_leg leg.Waiting lease e fits = fits
-waiting_leg leg.Ready lease e fits = cc
-waiting_leg leg.Running lease e fits = cc
-waiting_leg leg.Stopping lease e fits = cc
-waiting_leg (leg.Ended r) lease e fits = cc
-
-waits_unended : (phase : LegPhase) (o : Outcome) → leg_waits phase ≡ true → phase ≡ leg.Ended o → ⊥
-waits_unended leg.New o e is = cc
-waits_unended leg.Waiting o e is = cc
-waits_unended leg.Ready o e is = cc
-waits_unended leg.Running o e is = cc
-waits_unended leg.Stopping o e is = cc
-waits_unended (leg.Ended r) o e is = cc
+leg_waits_waiting : (phase : LegPhase) → leg_waits phase ≡ true → phase ≡ leg.Waiting
+leg_waits_waiting leg.New e = cc
+leg_waits_waiting leg.Waiting e = refl
+leg_waits_waiting leg.Ready e = cc
+leg_waits_waiting leg.Running e = cc
+leg_waits_waiting leg.Stopping e = cc
+leg_waits_waiting (leg.Ended r) e = cc
 
 pub waiting_unbegun : (runs : List RunState) → RunsFit runs → (h : Holder) → waits runs h ≡ true → Unbegun runs h
 waiting_unbegun runs fit (Holder.a_run r) waiting = λ x at.
     let its : run_waits x.phase ≡ true = sym (ap (λ o. option_map_or (λ (v : RunState). run_waits v.phase) o false) at) ∙ waiting in
+    let is = run_waits_waiting x.phase its in
     let fits = fit r x at in
+    let unopened = subst (λ (phase : RunPhase). PhaseFits phase x.stopping x.jobs) is fits.phase_fits in
     record {
-      no_legs = (λ j y is.
-          blocked_has_none (planned_legs runs r j) (result_at runs r j y) y.phase y.legs
-          (all_blocked x.phase x.stopping x.jobs its fits.phase_fits j y is) (fits.jobs_fit j y is).legs_fit);
-      cancelled = (λ e. absurd (not_ended x.phase its e));
+      no_legs = (λ j y there.
+          no_legs (planned_legs runs r j) (result_at runs r j y) y.phase y.legs (fits.jobs_fit j y there).legs_fit (unopened.1 j y there));
+      cancelled = (λ e. let clash : run.Waiting ≡ run.Ended = sym is ∙ e in cc);
     }
 waiting_unbegun runs fit (Holder.a_leg p) waiting = λ z at.
     let its : leg_waits z.phase ≡ true = sym (ap (λ o. option_map_or (λ (v : LegState). leg_waits v.phase) o false) at) ∙ waiting in
+    let is = leg_waits_waiting z.phase its in
     record {
-      no_lease = waiting_leg z.phase z.lease its (leases_fit runs fit p z at);
-      cancelled = (λ o e. absurd (waits_unended z.phase o its e));
+      no_lease = subst (λ (phase : LegPhase). LeaseFits phase z.lease) is (leases_fit runs fit p z at);
+      cancelled = (λ o e. let clash : leg.Waiting ≡ leg.Ended o = sym is ∙ e in cc);
     }
 
 -- ---- a new run
