@@ -1,5 +1,6 @@
 -- The leases of legs, place by place, and those that runners hold. Own.
-use Rattle.std.specs.Prelude.{◌≡◌, ℕ, List, Option, Some, option_and_then, slice_get}
+use Rattle.std.specs.Prelude.{◌≡◌, ℕ, ◌≤◌, List, Option, Some, length, option_and_then, slice_get}
+use Rattle.run_table.specs.ByNumber.{Finds}
 use Rattle.workflow_runs.specs.Places.{LegPlace, run_at}
 use Rattle.run_table.specs.TableState.{RunnerState}
 use Rattle.workflow_runs.specs.RunState.{LegState, JobState, RunState}
@@ -13,6 +14,11 @@ lease_in_run jobs j l = option_and_then (λ job. lease_in_job job.legs l) (slice
 
 abbrev pub lease_of_leg : List RunState → LegPlace → Option ℕ
 lease_of_leg runs p = option_and_then (λ run. lease_in_run run.jobs p.job p.leg) (run_at runs p.run)
+
+-- the legs are found by their leases, in as many runs as a table may have
+pub record FindsLegs (runs : List RunState) (leg_of : ℕ → Option LegPlace) : Type 0 where
+  pub legs : (n : ℕ) → Finds (lease_of_leg runs) n (leg_of n)
+  pub few : length runs ≤ 100000
 
 -- the lease that the runner at a place holds, where it holds one
 abbrev pub lease_of_runner : List RunnerState → ℕ → Option ℕ

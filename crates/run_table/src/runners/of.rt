@@ -3,10 +3,9 @@
 ghost use Rattle.std.specs.BTreeMap.{get};
 ghost use Rattle.std.specs.Cmp.Lexicographic.{slice_cmp};
 ghost use Rattle.std.specs.Ordering.{is_lt, nat_cmp};
-ghost use Rattle.std.specs.Prelude.{◌≡◌, ◌≤◌, ℕ, IfOk, List, MatchOption, length, true};
+ghost use Rattle.std.specs.Prelude.{◌≡◌, IfOk, List, MatchOption, true};
 ghost use Rattle.workflow_runs.specs.BoundGroups.{ErrsOnlyByMemory};
-ghost use Rattle.run_table.specs.ByLease.{lease_of_leg};
-ghost use Rattle.run_table.specs.ByNumber.{Finds};
+ghost use Rattle.run_table.specs.ByLease.{FindsLegs};
 ghost use Rattle.run_table.specs.TableOf.{AreRunnersAs, IsLastAs, IsReplyAs, IsRunnerAs};
 ghost use Rattle.run_table.specs.TableState.{RunnerState};
 ghost use Rattle.run_table.specs.Turns.{names_rise};
@@ -33,8 +32,7 @@ impl Runners {
         legs: &BTreeMap<u32, LegPlace>,
         parts: &[RunnerParts],
     ) -> Result<Option<Self>, Refusal>
-        requires legs { (n : ℕ) → Finds (lease_of_leg runs.now) n (get nat_cmp legs.now n) }
-        requires few { length runs.now ≤ 100000 }
+        requires { FindsLegs runs.now (get nat_cmp legs.now) }
         ensures err { ErrsOnlyByMemory result }
         ensures of { IfOk result (λ found. MatchOption found
             ((runners : List RunnerState) → AreRunnersAs runs.now parts.now runners → names_rise runners ≡ true → ⊥)
@@ -43,103 +41,92 @@ impl Runners {
         if !do_names_rise(parts) {
             return Ok(None);
         }
-        let Some(runners) = runners_of_parts(alloc, runs, legs, parts)? else {
+        let leased = Leased { alloc, runs, legs };
+        let Some(runners) = leased.runners(parts)? else {
             return Ok(None);
         };
         Ok(Some(Runners { runners }))
     }
 }
 
-/// The reply to a claim of which this lease is stored, or none: what the lease of a leg tells.
-fn reply_of_parts(
+/// The runs, and the places of their legs by the leases.
+#[derive(Drop)]
+struct Leased<'a> {
     alloc: Global,
-    runs: &Runs,
-    legs: &BTreeMap<u32, LegPlace>,
-    given: Option<Number>,
-) -> Result<Option<ClaimReply>, Refusal>
-    requires legs { (n : ℕ) → Finds (lease_of_leg runs.now) n (get nat_cmp legs.now n) }
-    requires few { length runs.now ≤ 100000 }
-    ensures err { ErrsOnlyByMemory result }
-    ensures of { IfOk result (λ found. MatchOption found ((reply : Reply) → IsReplyAs runs.now given reply → ⊥)
-        (λ reply. IsReplyAs runs.now given reply)) }
-{
-    let Some(lease) = given else {
-        return Ok(Some(ClaimReply::Nothing));
-    };
-    let Some(place) = legs.get(&lease.get()) else {
-        return Ok(None);
-    };
-    let told = lease_at(alloc, runs, *place, lease)?;
-    Ok(Some(ClaimReply::Lease(told)))
+    runs: &'a Runs,
+    legs: &'a BTreeMap<u32, LegPlace>,
 }
 
-fn last_of_parts(
-    alloc: Global,
-    runs: &Runs,
-    legs: &BTreeMap<u32, LegPlace>,
-    parts: &LastParts,
-) -> Result<Option<LastCommand>, Refusal>
-    requires legs { (n : ℕ) → Finds (lease_of_leg runs.now) n (get nat_cmp legs.now n) }
-    requires few { length runs.now ≤ 100000 }
-    ensures err { ErrsOnlyByMemory result }
-    ensures of { IfOk result (λ found. MatchOption found ((last : Last) → IsLastAs runs.now parts.now last → ⊥)
-        (λ last. IsLastAs runs.now parts.now last)) }
-{
-    match parts {
-        LastParts::Claim(claim, given) => {
-            let Some(reply) = reply_of_parts(alloc, runs, legs, *given)? else {
-                return Ok(None);
-            };
-            Ok(Some(LastCommand::Claim(claim.copy(alloc)?, reply)))
-        }
-        LastParts::Done(report) => Ok(Some(LastCommand::Done(report.copy(alloc)?))),
+impl<'a> Leased<'a> {
+    /// The reply to a claim of which this lease is stored, or none: what the lease of a leg tells.
+    fn reply(&self, given: Option<Number>) -> Result<Option<ClaimReply>, Refusal>
+        requires { FindsLegs self.now.runs.now (get nat_cmp self.now.legs.now) }
+        ensures err { ErrsOnlyByMemory result }
+        ensures of { IfOk result (λ found. MatchOption found ((reply : Reply) → IsReplyAs self.now.runs.now given reply → ⊥)
+            (λ reply. IsReplyAs self.now.runs.now given reply)) }
+    {
+        let Some(lease) = given else {
+            return Ok(Some(ClaimReply::Nothing));
+        };
+        let Some(place) = self.legs.get(&lease.get()) else {
+            return Ok(None);
+        };
+        let told = lease_at(self.alloc, self.runs, *place, lease)?;
+        Ok(Some(ClaimReply::Lease(told)))
     }
-}
 
-fn runner_of_parts(
-    alloc: Global,
-    runs: &Runs,
-    legs: &BTreeMap<u32, LegPlace>,
-    parts: &RunnerParts,
-) -> Result<Option<Runner>, Refusal>
-    requires legs { (n : ℕ) → Finds (lease_of_leg runs.now) n (get nat_cmp legs.now n) }
-    requires few { length runs.now ≤ 100000 }
-    ensures err { ErrsOnlyByMemory result }
-    ensures of { IfOk result (λ found. MatchOption found ((runner : RunnerState) → IsRunnerAs runs.now parts.now runner → ⊥)
-        (λ runner. IsRunnerAs runs.now parts.now runner)) }
-{
-    let Some(last) = last_of_parts(alloc, runs, legs, &parts.last)? else {
-        return Ok(None);
-    };
-    Ok(Some(Runner {
-        name: parts.name.copy(alloc)?,
-        number: parts.number,
-        last,
-        holds: parts.holds,
-    }))
-}
-
-fn runners_of_parts(
-    alloc: Global,
-    runs: &Runs,
-    legs: &BTreeMap<u32, LegPlace>,
-    parts: &[RunnerParts],
-) -> Result<Option<Vec<Runner>>, Refusal>
-    requires legs { (n : ℕ) → Finds (lease_of_leg runs.now) n (get nat_cmp legs.now n) }
-    requires few { length runs.now ≤ 100000 }
-    ensures err { ErrsOnlyByMemory result }
-    ensures of { IfOk result (λ found. MatchOption found ((runners : List RunnerState) → AreRunnersAs runs.now parts.now runners → ⊥)
-        (λ runners. AreRunnersAs runs.now parts.now runners.items)) }
-{
-    let mut runners = Vec::with_capacity(alloc, parts.len())?;
-    for k in 0..parts.len() {
-        let part = &parts[k];
-        match runner_of_parts(alloc, runs, legs, part)? {
-            Some(runner) => runners.push(runner)?,
-            None => return Ok(None),
+    fn last(&self, parts: &LastParts) -> Result<Option<LastCommand>, Refusal>
+        requires { FindsLegs self.now.runs.now (get nat_cmp self.now.legs.now) }
+        ensures err { ErrsOnlyByMemory result }
+        ensures of { IfOk result (λ found. MatchOption found ((last : Last) → IsLastAs self.now.runs.now parts.now last → ⊥)
+            (λ last. IsLastAs self.now.runs.now parts.now last)) }
+    {
+        match parts {
+            LastParts::Claim(claim, given) => {
+                let Some(reply) = self.reply(*given)? else {
+                    return Ok(None);
+                };
+                Ok(Some(LastCommand::Claim(claim.copy(self.alloc)?, reply)))
+            }
+            LastParts::Done(report) => Ok(Some(LastCommand::Done(report.copy(self.alloc)?))),
         }
     }
-    Ok(Some(runners))
+
+    fn runner(&self, parts: &RunnerParts) -> Result<Option<Runner>, Refusal>
+        requires { FindsLegs self.now.runs.now (get nat_cmp self.now.legs.now) }
+        ensures err { ErrsOnlyByMemory result }
+        ensures of { IfOk result (λ found. MatchOption found
+            ((runner : RunnerState) → IsRunnerAs self.now.runs.now parts.now runner → ⊥)
+            (λ runner. IsRunnerAs self.now.runs.now parts.now runner)) }
+    {
+        let Some(last) = self.last(&parts.last)? else {
+            return Ok(None);
+        };
+        Ok(Some(Runner {
+            name: parts.name.copy(self.alloc)?,
+            number: parts.number,
+            last,
+            holds: parts.holds,
+        }))
+    }
+
+    fn runners(&self, parts: &[RunnerParts]) -> Result<Option<Vec<Runner>>, Refusal>
+        requires { FindsLegs self.now.runs.now (get nat_cmp self.now.legs.now) }
+        ensures err { ErrsOnlyByMemory result }
+        ensures of { IfOk result (λ found. MatchOption found
+            ((runners : List RunnerState) → AreRunnersAs self.now.runs.now parts.now runners → ⊥)
+            (λ runners. AreRunnersAs self.now.runs.now parts.now runners.items)) }
+    {
+        let mut runners = Vec::with_capacity(self.alloc, parts.len())?;
+        for k in 0..parts.len() {
+            let part = &parts[k];
+            match self.runner(part)? {
+                Some(runner) => runners.push(runner)?,
+                None => return Ok(None),
+            }
+        }
+        Ok(Some(runners))
+    }
 }
 
 fn is_below(runner: &RunnerParts, next: &RunnerParts) -> bool

@@ -7,11 +7,11 @@ use Rattle.run_table.specs.TableState.{RunnerState}
 use Rattle.workflow_runs.proofs.Binding.{one_more}
 use Rattle.workflow_runs.proofs.OneAfterAnother.{grown, read_at}
 use Rattle.run_table.proofs.PartsRead.{no_runners}
-use Rattle.run_table.proofs.runners.of.runners_of_parts.Goals as goal
+use Rattle.run_table.proofs.runners.of.Leased.runners.Goals as goal
 
 pub returns-in-None-clause-of : goal.returns-in-None-clause-of
 returns-in-None-clause-of c =
-    let runs = c.args.runs.now in
+    let runs = c.args.self.now.runs.now in
     let parts = c.args.parts.now in
     let part = c.index-parts-k.result in
     no_runners runs parts c.loop-k.k part (read_at parts c.loop-k.k part (omega arith) c.index-parts-k.is)
@@ -21,7 +21,7 @@ returns-in-None-clause-of c =
 
 pub loop-k-preserved : goal.loop-k-preserved
 loop-k-preserved c =
-    let runs = c.args.runs.now in
+    let runs = c.args.self.now.runs.now in
     let parts = c.args.parts.now in
     let part = c.index-parts-k.result in
     let x = c.in-Some.runner in

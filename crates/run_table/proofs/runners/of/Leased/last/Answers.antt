@@ -4,11 +4,11 @@ use Rattle.run_plan.specs.declared.last_command.ClaimReply.{ClaimReply}
 use Rattle.run_table.specs.TableOf.{IsLastAs, IsReplyAs}
 use Rattle.run_table.specs.declared.parts.LastParts.{LastParts}
 use Rattle.run_table.proofs.PartsRead.{no_last}
-use Rattle.run_table.proofs.runners.of.last_of_parts.Goals as goal
+use Rattle.run_table.proofs.runners.of.Leased.last.Goals as goal
 
 pub returns-in_default-clause-of : goal.returns-in_default-clause-of
 returns-in_default-clause-of c = λ last is.
-    let runs = c.args.runs.now in
+    let runs = c.args.self.now.runs.now in
     let nothing : c.in_ok-reply-in-Claim.field-0 ≡ None = search rules in
     let none = subst
     (λ (o : Option ClaimReply). MatchOption o ((reply : ClaimReply) → IsReplyAs runs c.in-Claim.given reply → ⊥)
