@@ -23,125 +23,100 @@ pub(crate) enum Standing {
     Running,
 }
 
-fn stands(runs: &Runs, standing: Standing, holder: &Holder) -> bool
-    ensures { result ≡ stands runs.now standing (holder_in_words holder.now) }
-{
-    match standing {
-        Standing::Pending => runs.waits(holder),
-        Standing::Running => runs.holds(holder),
-    }
+/// The runs, and how the runs and legs stand whose groups are gathered.
+#[derive(Drop)]
+struct Gathering<'a> {
+    alloc: Global,
+    runs: &'a Runs,
+    standing: Standing,
 }
 
-/// The group in which the holder stands so, where it does.
-fn group_as(
-    alloc: Global,
-    runs: &Runs,
-    standing: Standing,
-    holder: &Holder,
-) -> Result<Option<GroupKey>, Refusal>
-    ensures { Gives (λ group. group) result (Ok (group_as runs.now standing (holder_in_words holder.now))) }
-{
-    if stands(runs, standing, holder) {
-        runs.group(alloc, holder)
-    } else {
-        Ok(None)
-    }
-}
-
-/// Adds the group in which the holder stands so, and says whether it is new.
-fn put(
-    alloc: Global,
-    groups: &mut GroupSet,
-    runs: &Runs,
-    standing: Standing,
-    holder: &Holder,
-) -> Result<bool, Refusal>
-    ensures err { ErrsOnlyByMemory result }
-    ensures put { IfOk result
-        (AddsEach (group_as runs.now standing) groups.old groups.new (λ h. h ≡ holder_in_words holder.now)) }
-{
-    match group_as(alloc, runs, standing, holder)? {
-        Some(group) => groups.add(group),
-        None => Ok(true),
-    }
-}
-
-/// Adds the groups of all runs and legs that stand so.
-fn put_all(
-    alloc: Global,
-    groups: &mut GroupSet,
-    runs: &Runs,
-    standing: Standing,
-) -> Result<bool, Refusal>
-    ensures err { ErrsOnlyByMemory result }
-    ensures put { IfOk result (AddsEach (group_as runs.now standing) groups.old groups.new IsAny) }
-{
-    for r in 0..runs.len() {
-        if !put_of_run(alloc, groups, runs, standing, r)? {
-            return Ok(false);
+impl<'a> Gathering<'a> {
+    fn stands(&self, holder: &Holder) -> bool
+        ensures { result ≡ stands self.now.runs.now self.now.standing (holder_in_words holder.now) }
+    {
+        match self.standing {
+            Standing::Pending => self.runs.waits(holder),
+            Standing::Running => self.runs.holds(holder),
         }
     }
-    Ok(true)
-}
 
-/// Those of the run and of its legs.
-fn put_of_run(
-    alloc: Global,
-    groups: &mut GroupSet,
-    runs: &Runs,
-    standing: Standing,
-    r: usize,
-) -> Result<bool, Refusal>
-    ensures err { ErrsOnlyByMemory result }
-    ensures put { IfOk result (AddsEach (group_as runs.now standing) groups.old groups.new (IsOfRun r)) }
-{
-    if put(alloc, groups, runs, standing, &Holder::Run(r))? {
-        put_legs_of_run(alloc, groups, runs, standing, r)
-    } else {
-        Ok(false)
-    }
-}
-
-fn put_legs_of_run(
-    alloc: Global,
-    groups: &mut GroupSet,
-    runs: &Runs,
-    standing: Standing,
-    r: usize,
-) -> Result<bool, Refusal>
-    ensures err { ErrsOnlyByMemory result }
-    ensures put { IfOk result (AddsEach (group_as runs.now standing) groups.old groups.new (IsALegOfRun r)) }
-{
-    for j in 0..runs.job_count(r) {
-        if !put_legs_of_job(alloc, groups, runs, standing, r, j)? {
-            return Ok(false);
+    /// The group in which the holder stands so, where it does.
+    fn group_as(&self, holder: &Holder) -> Result<Option<GroupKey>, Refusal>
+        ensures { Gives (λ group. group) result (Ok (group_as self.now.runs.now self.now.standing (holder_in_words holder.now))) }
+    {
+        if self.stands(holder) {
+            self.runs.group(self.alloc, holder)
+        } else {
+            Ok(None)
         }
     }
-    Ok(true)
-}
 
-fn put_legs_of_job(
-    alloc: Global,
-    groups: &mut GroupSet,
-    runs: &Runs,
-    standing: Standing,
-    r: usize,
-    j: usize,
-) -> Result<bool, Refusal>
-    ensures err { ErrsOnlyByMemory result }
-    ensures put { IfOk result (AddsEach (group_as runs.now standing) groups.old groups.new (IsALegOfJob r j)) }
-{
-    for l in 0..runs.leg_count(r, j) {
-        let place = LegPlace {
-            run: r,
-            job: j,
-            leg: l,
-        };
-        if !put(alloc, groups, runs, standing, &Holder::Leg(place))? {
-            return Ok(false);
+    /// Adds the group in which the holder stands so, and says whether it is new.
+    fn put(&self, groups: &mut GroupSet, holder: &Holder) -> Result<bool, Refusal>
+        ensures err { ErrsOnlyByMemory result }
+        ensures put { IfOk result (AddsEach (group_as self.now.runs.now self.now.standing) groups.old groups.new
+            (λ h. h ≡ holder_in_words holder.now)) }
+    {
+        match self.group_as(holder)? {
+            Some(group) => groups.add(group),
+            None => Ok(true),
         }
     }
-    Ok(true)
+
+    /// Adds the groups of all runs and legs that stand so.
+    fn put_all(&self, groups: &mut GroupSet) -> Result<bool, Refusal>
+        ensures err { ErrsOnlyByMemory result }
+        ensures put { IfOk result (AddsEach (group_as self.now.runs.now self.now.standing) groups.old groups.new IsAny) }
+    {
+        for r in 0..self.runs.len() {
+            if !self.put_of_run(groups, r)? {
+                return Ok(false);
+            }
+        }
+        Ok(true)
+    }
+
+    /// Those of the run and of its legs.
+    fn put_of_run(&self, groups: &mut GroupSet, r: usize) -> Result<bool, Refusal>
+        ensures err { ErrsOnlyByMemory result }
+        ensures put { IfOk result (AddsEach (group_as self.now.runs.now self.now.standing) groups.old groups.new (IsOfRun r)) }
+    {
+        if self.put(groups, &Holder::Run(r))? {
+            self.put_legs_of_run(groups, r)
+        } else {
+            Ok(false)
+        }
+    }
+
+    fn put_legs_of_run(&self, groups: &mut GroupSet, r: usize) -> Result<bool, Refusal>
+        ensures err { ErrsOnlyByMemory result }
+        ensures put { IfOk result (AddsEach (group_as self.now.runs.now self.now.standing) groups.old groups.new (IsALegOfRun r)) }
+    {
+        for j in 0..self.runs.job_count(r) {
+            if !self.put_legs_of_job(groups, r, j)? {
+                return Ok(false);
+            }
+        }
+        Ok(true)
+    }
+
+    fn put_legs_of_job(&self, groups: &mut GroupSet, r: usize, j: usize) -> Result<bool, Refusal>
+        ensures err { ErrsOnlyByMemory result }
+        ensures put { IfOk result (AddsEach (group_as self.now.runs.now self.now.standing) groups.old groups.new (IsALegOfJob r j)) }
+    {
+        for l in 0..self.runs.leg_count(r, j) {
+            let place = LegPlace {
+                run: r,
+                job: j,
+                leg: l,
+            };
+            if !self.put(groups, &Holder::Leg(place))? {
+                return Ok(false);
+            }
+        }
+        Ok(true)
+    }
 }
 
 /// The groups in which runs and legs stand so, where no two of these have one group.
@@ -151,7 +126,12 @@ fn groups_of(alloc: Global, runs: &Runs, standing: Standing) -> Result<Option<Gr
         (λ groups. DifferInGroup (group_as runs.now standing) × AreGroupsOf (group_as runs.now standing) groups)) }
 {
     let mut groups = GroupSet::new(alloc);
-    if put_all(alloc, &mut groups, runs, standing)? {
+    let gathering = Gathering {
+        alloc,
+        runs,
+        standing,
+    };
+    if gathering.put_all(&mut groups)? {
         Ok(Some(groups))
     } else {
         Ok(None)
