@@ -1,27 +1,22 @@
 -- The changes of a run's cells, as contracts see them.
 use Rattle.std.specs.Prelude.{◌≡◌, ℕ, zero, suc, ◌<◌, ◌≤◌, List, [], ◌∷◌, ◌++◌, length, map, filter_map, Bool, true, false}
-use Rattle.std.specs.Prelude.{slice_get, slice_set, take, Some, option_and_then, Result, Ok, refl}
+use Rattle.std.specs.Prelude.{slice_get, slice_set, take, Option, Some, None, Result, Ok, refl}
 use Rattle.std.specs.List.{cons_option}
 use Rattle.std.specs.Option.{option_map_or}
 use Rattle.std.proofs.Common.{arith, ap, subst, sym, ◌∙◌, get_or}
 use Rattle.std.proofs.lemmas.List.{length-map, length-set, take_at}
-use Rattle.std.proofs.lemmas.Option.{slice_get-get_or}
+use Rattle.std.proofs.lemmas.Option.{gets, slice_get-get_or, slice_get-map}
 use Rattle.wf_value.specs.declared.refusal.Refusal.{Refusal}
-use Rattle.run_plan.specs.Admitted.{Admitted}
-use Rattle.run_plan.specs.PlanOf.{plan_of}
 use Rattle.run_plan.specs.declared.planned.PlannedJob.{PlannedJob}
 use Rattle.workflow_runs.specs.Cells.{JobCells, cells_of, in_state, states, rooms, legs_planned, blocked_cells, result_of}
 use Rattle.workflow_runs.specs.FirstOf.{changed_at}
 use Rattle.workflow_runs.specs.JobResults.{settled_result}
-use Rattle.workflow_runs.specs.Rules.{opened}
 use Rattle.workflow_runs.specs.Settling.{legs_in_plan}
 use Rattle.workflow_runs.specs.NewRun.{blocked_job}
 use Rattle.workflow_runs.specs.Stops.{stopped, with_stopped_legs}
-use Rattle.workflow_runs.specs.RunState.{LegState, JobState, RunState}
+use Rattle.workflow_runs.specs.RunState.{LegState}
 use Rattle.workflow_runs.specs.JobResults.{results_of}
-use Rattle.workflow_runs.specs.Words.{planned_legs}
 use Rattle.workflow_runs.specs.declared.phases.JobPhase.{JobPhase}
-use Rattle.workflow_runs.specs.declared.phases.RunPhase.{RunPhase}
 
 -- what a call gave
 pub given : {X : Type 0} (x y : X) → ◌≡◌ {A = Result X Refusal} (Ok x) (Ok y) → x ≡ y
@@ -42,12 +37,19 @@ changed_within f (z ∷ xs) zero x y lt is so = ap (λ w. w ∷ xs) (so ∙ ap f
 changed_within f (z ∷ xs) (suc i) x y lt is so = ap (λ ys. z ∷ ys) (changed_within f xs i x y (omega arith) is so)
 
 -- the same of a list that is seen as another
-pub written_there : {X : Type 0} (f : X → X) (xs ys : List X) (i : ℕ) (x y : X) → xs ≡ ys → i < length xs → x ≡ get_or xs i x → y ≡ f x
-    → slice_set xs i y ≡ changed_at i f ys
-written_there f xs ys i x y same lt is so = changed_within f xs i x y lt is so ∙ ap (changed_at i f) same
+-- what is made of what is read there
+pub changed_by_read : {X : Type 0} (f : X → X) (xs : List X) (i : ℕ)
+    → changed_at i f xs ≡ option_map_or (λ x. slice_set xs i (f x)) (slice_get xs i) xs
+changed_by_read f [] i = refl
+changed_by_read f (x ∷ xs) zero = refl
+changed_by_read {X} f (x ∷ xs) (suc i) = ap (λ ys. x ∷ ys) (changed_by_read f xs i) ∙ behind (slice_get xs i)
+  where
+    behind : (o : Option X) → x ∷ option_map_or (λ y. slice_set xs i (f y)) o xs
+        ≡ option_map_or (λ y. x ∷ slice_set xs i (f y)) o (x ∷ xs)
+    behind None = refl
+    behind (Some y) = refl
 
-pub past_there : {X : Type 0} (f : X → X) (xs ys : List X) (i : ℕ) → xs ≡ ys → length xs ≤ i → ys ≡ changed_at i f ys
-past_there f xs ys i same le = subst (λ zs. zs ≡ changed_at i f zs) same (changed_past f xs i le)
+pub ruleset written = (changed_by_read, gets)
 
 -- what is read is read again, whatever stands for the place past the end
 pub read_again : {X : Type 0} (xs : List X) (i : ℕ) (d : X) → get_or xs i d ≡ get_or xs i (get_or xs i d)
@@ -101,49 +103,30 @@ room_stopped phase has_legs xs old new rest n s was so len is =
 -- ---- the jobs of a run
 
 -- a job that is written keeps its room
-pub rooms_kept : (xs : List JobCells) (j : ℕ) (x y : JobCells) → j < length xs → x ≡ get_or xs j x → y.room ≡ x.room
+pub rooms_kept : (xs : List JobCells) (j : ℕ) (y : JobCells) → j < length xs → y.room ≡ (get_or xs j y).room
     → rooms (slice_set xs j y) ≡ rooms xs
-rooms_kept [] j x y lt is same = absurd (omega arith)
-rooms_kept (z ∷ xs) zero x y lt is same = ap (λ n. n ∷ rooms xs) (same ∙ ap (λ w. w.room) is)
-rooms_kept (z ∷ xs) (suc j) x y lt is same = ap (λ ns. z.room ∷ ns) (rooms_kept xs j x y (omega arith) is same)
+rooms_kept [] j y lt same = absurd (omega arith)
+rooms_kept (z ∷ xs) zero y lt same = ap (λ n. n ∷ rooms xs) same
+rooms_kept (z ∷ xs) (suc j) y lt same = ap (λ ns. z.room ∷ ns) (rooms_kept xs j y (omega arith) same)
 
-pub states_written : (f : JobState → JobState) (xs : List JobCells) (j : ℕ) (x y : JobCells) → j < length xs → x ≡ get_or xs j x
-    → y.state ≡ f x.state → states (slice_set xs j y) ≡ changed_at j f (states xs)
-states_written f [] j x y lt is so = absurd (omega arith)
-states_written f (z ∷ xs) zero x y lt is so = ap (λ s. s ∷ states xs) (so ∙ ap (λ w. f w.state) is)
-states_written f (z ∷ xs) (suc j) x y lt is so = ap (λ ss. z.state ∷ ss) (states_written f xs j x y (omega arith) is so)
+pub states_written : (xs : List JobCells) (j : ℕ) (y : JobCells) → states (slice_set xs j y) ≡ slice_set (states xs) j y.state
+states_written [] j y = refl
+states_written (z ∷ xs) zero y = refl
+states_written (z ∷ xs) (suc j) y = ap (λ ss. z.state ∷ ss) (states_written xs j y)
 
-pub states_past : (f : JobState → JobState) (xs : List JobCells) (j : ℕ) → length xs ≤ j → states xs ≡ changed_at j f (states xs)
-states_past f xs j le =
-    let same : length (states xs) ≡ length xs = length-map xs (λ x. x.state) in
-    changed_past f (states xs) j (omega (arith, same))
+-- it has room for the legs of its plan
+pub room_read : (xs : List JobCells) (j : ℕ) (x : JobCells) → j < length xs → (get_or xs j x).room ≡ get_or (rooms xs) j 0
+room_read [] j x lt = absurd (omega arith)
+room_read (z ∷ xs) zero x lt = refl
+room_read (z ∷ xs) (suc j) x lt = room_read xs j x (omega arith)
 
-room_at : (xs : List JobCells) (j : ℕ) (x : JobCells) → j < length xs → x ≡ get_or xs j x → x.room ≡ get_or (rooms xs) j 0
-room_at [] j x lt is = absurd (omega arith)
-room_at (z ∷ xs) zero x lt is = ap (λ w. w.room) is
-room_at (z ∷ xs) (suc j) x lt is = room_at xs j x (omega arith) is
+pub legs_of_plan : (plan : List PlannedJob) (j : ℕ) → legs_in_plan plan j ≡ get_or (legs_planned plan) j 0
+legs_of_plan [] j = refl
+legs_of_plan (p ∷ plan) zero = refl
+legs_of_plan (p ∷ plan) (suc j) = legs_of_plan plan j
 
-planned_at : (plan : List PlannedJob) (j : ℕ) → legs_in_plan plan j ≡ get_or (legs_planned plan) j 0
-planned_at [] j = refl
-planned_at (p ∷ plan) zero = refl
-planned_at (p ∷ plan) (suc j) = planned_at plan j
-
--- a job has room for the legs of its plan
-pub room_is_planned : (xs : List JobCells) (plan : List PlannedJob) (j : ℕ) (x : JobCells) → j < length xs → x ≡ get_or xs j x
-    → rooms xs ≡ legs_planned plan → x.room ≡ legs_in_plan plan j
-room_is_planned xs plan j x lt is same = room_at xs j x lt is ∙ ap (λ ns. get_or ns j 0) same ∙ sym (planned_at plan j)
-
--- a run with other jobs
-pub run_with_jobs : (a : Admitted) (p : RunPhase) (t : Bool) (xs new : List JobCells) (s : RunState)
-    (change : Admitted → List JobState → List JobState) → record { admitted = a; phase = p; stopping = t; jobs = states xs } ≡ s
-    → states new ≡ change a (states xs)
-    → ◌≡◌ {A = RunState} (record { admitted = a; phase = p; stopping = t; jobs = states new })
-    (record s { jobs = change s.admitted s.jobs })
-run_with_jobs a p t xs new s change is so =
-    let P : RunState → Type 0 =
-    λ r. ◌≡◌ {A = RunState} (record { admitted = a; phase = p; stopping = t; jobs = states new })
-    (record r { jobs = change r.admitted r.jobs }) in
-    subst P is (ap (λ jobs. record { admitted = a; phase = p; stopping = t; jobs = jobs }) so)
+-- what a change of one job leaves of the jobs of its run
+pub ruleset job_written = (rooms_kept, states_written, room_read, legs_of_plan, written, slice_get-map)
 
 -- the jobs of a plan, all blocked
 pub blocked_rooms : (plan : List PlannedJob) → rooms (map blocked_cells plan) ≡ legs_planned plan
@@ -153,26 +136,6 @@ blocked_rooms (p ∷ plan) = ap (λ ns. length p.legs ∷ ns) (blocked_rooms pla
 pub blocked_states : (plan : List PlannedJob) → states (map blocked_cells plan) ≡ map (λ _. blocked_job) plan
 blocked_states [] = refl
 blocked_states (p ∷ plan) = ap (λ js. blocked_job ∷ js) (blocked_states plan)
-
--- a run with no job at the place
-pub run_without_job : (a : Admitted) (p : RunPhase) (t : Bool) (xs : List JobCells) (s : RunState) (j : ℕ)
-    (f : Admitted → JobState → JobState) → record { admitted = a; phase = p; stopping = t; jobs = states xs } ≡ s → length xs ≤ j
-    → s ≡ record s { jobs = changed_at j (f s.admitted) s.jobs }
-run_without_job a p t xs s j f is past =
-    let P : RunState → Type 0 = λ r. r ≡ record r { jobs = changed_at j (f r.admitted) r.jobs } in
-    subst P is (ap (λ jobs. record { admitted = a; phase = p; stopping = t; jobs = jobs }) (states_past (f a) xs j past))
-
--- ---- the runs of a table
-
--- the run opens its job with the legs that the table has planned for it
-pub opened_in_run : (items now : List RunState) (r j : ℕ) (x y : RunState) → items ≡ now → r < length items → x ≡ get_or items r x
-    → y ≡ record x { jobs = changed_at j (opened (legs_in_plan (plan_of x.admitted.body) j)) x.jobs }
-    → y ≡ record x { jobs = changed_at j (opened (planned_legs now r j)) x.jobs }
-opened_in_run items now r j x y same lt is so =
-    let found : slice_get now r ≡ Some x = ap (λ xs. slice_get xs r) (sym same) ∙ slice_get-get_or items r x lt ∙ ap Some (sym is) in
-    let planned : planned_legs now r j ≡ legs_in_plan (plan_of x.admitted.body) j =
-    ap (λ o. option_map_or (λ p. length p.legs) (option_and_then (λ run. slice_get (plan_of run.admitted.body) j) o) 0) found in
-    so ∙ ap (λ n. record x { jobs = changed_at j (opened n) x.jobs }) (sym planned)
 
 -- ---- results
 

@@ -12,6 +12,7 @@ use Rattle.workflow_runs.specs.Delivered.{FindsFirst}
 use Rattle.workflow_runs.specs.GroupOf.{RunFacts, run_facts_at}
 use Rattle.workflow_runs.specs.RunNumber.{AreNumbered, events, number_of_next, numbers_after, run_number, same_workflow}
 use Rattle.workflow_runs.specs.RunState.{RunState}
+use Rattle.workflow_runs.specs.RunsKept.{RunsAreKept}
 use Rattle.workflow_runs.specs.declared.asks.RunAsks.{RunAsks}
 use Rattle.workflow_runs.specs.declared.runs.index.Index.{Index}
 use Rattle.workflow_runs.proofs.Binding.{one_more as one_more_bound}
@@ -30,30 +31,28 @@ still_bound xs kept r x y lt is same are = record {
       are.each k run groups (sym (facts_same xs (slice_set xs r y) k (events_kept xs r x y lt is same)) ∙ told) is_kept);
 }
 
--- what is kept of runs: their numbers, what they ask, and where they are found and counted
-abbrev pub AreKept : List RunState → List ℕ → List RunAsks → Index → Type 0
-AreKept xs numbers kept index = AreNumbered xs numbers × AreBound xs kept × FindsFirst (events xs) index.places.places
-    × AreCounted (events xs) index.counts.counts
-
+-- a run is written of the event that stands at its place
 pub still_kept : (xs : List RunState) (numbers : List ℕ) (kept : List RunAsks) (index : Index) (r : ℕ) (x y : RunState) → r < length xs
-    → x ≡ get_or xs r x → y.admitted ≡ x.admitted → AreKept xs numbers kept index → AreKept (slice_set xs r y) numbers kept index
+    → x ≡ get_or xs r x → y.admitted ≡ x.admitted → RunsAreKept xs numbers kept index → RunsAreKept (slice_set xs r y) numbers kept index
 still_kept xs numbers kept index r x y lt is same are =
-    let stay : events (slice_set xs r y) ≡ events xs = events_kept xs r x y lt is same in (
-      still_numbered xs numbers r x y lt is same are.0,
-      still_bound xs kept r x y lt is same are.1,
-      subst (λ (es : List Admitted). FindsFirst es index.places.places) (sym stay) are.2,
-      subst (λ (es : List Admitted). AreCounted es index.counts.counts) (sym stay) are.3,
-    )
+    let stay : events (slice_set xs r y) ≡ events xs = events_kept xs r x y lt is same in
+    record {
+      numbered = still_numbered xs numbers r x y lt is same are.numbered;
+      bound = still_bound xs kept r x y lt is same are.bound;
+      found = subst (λ (es : List Admitted). FindsFirst es index.places.places) (sym stay) are.found;
+      counted = subst (λ (es : List Admitted). AreCounted es index.counts.counts) (sym stay) are.counted;
+    }
 
 -- the same runs, as the code sees them, in another index
-pub kept_in : (xs seen : List RunState) (numbers : List ℕ) (kept : List RunAsks) (old new : Index) → seen ≡ xs → AreKept xs numbers kept old
-    → FindsFirst (events seen) new.places.places → AreCounted (events seen) new.counts.counts → AreKept xs numbers kept new
-kept_in xs seen numbers kept old new same are finds counted = (
-  are.0,
-  are.1,
-  subst (λ (rs : List RunState). FindsFirst (events rs) new.places.places) same finds,
-  subst (λ (rs : List RunState). AreCounted (events rs) new.counts.counts) same counted,
-)
+pub kept_in : (xs seen : List RunState) (numbers : List ℕ) (kept : List RunAsks) (old new : Index) → seen ≡ xs
+    → RunsAreKept xs numbers kept old → FindsFirst (events seen) new.places.places → AreCounted (events seen) new.counts.counts
+    → RunsAreKept xs numbers kept new
+kept_in xs seen numbers kept old new same are found counted = record {
+  numbered = are.numbered;
+  bound = are.bound;
+  found = subst (λ (rs : List RunState). FindsFirst (events rs) new.places.places) same found;
+  counted = subst (λ (rs : List RunState). AreCounted (events rs) new.counts.counts) same counted;
+}
 
 -- ---- one run more
 

@@ -28,6 +28,7 @@ pub mod WithinRun
 pub mod Words
 pub mod RunState
 pub mod NewRun
+pub mod RunsKept
 pub mod SoundRuns
 pub mod AsPlanned
 pub mod GroupState

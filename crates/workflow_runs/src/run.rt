@@ -157,6 +157,7 @@ impl Run {
     }
 
     /// The job at a place opens, with all legs of its plan.
+    #[tactic(auto, using(crate::proofs::Doors::job_written))]
     pub(crate) fn open_job(&mut self, j: usize)
         ensures { self.new ≡ record self.old {
           jobs = changed_at j (opened (legs_in_plan (plan_of self.old.admitted.body) j)) self.old.jobs;
@@ -169,6 +170,7 @@ impl Run {
     }
 
     /// The job at a place settles.
+    #[tactic(auto, using(crate::proofs::Doors::job_written))]
     pub(crate) fn settle_job(&mut self, j: usize, settled: JobResult)
         ensures { self.new ≡ record self.old { jobs = changed_at j (settled_as settled) self.old.jobs } }
     {
@@ -179,6 +181,7 @@ impl Run {
     }
 
     /// All legs of the job at a place are stopped.
+    #[tactic(auto, using(crate::proofs::Doors::job_written))]
     pub(crate) fn stop_legs(&mut self, j: usize)
         ensures { self.new ≡ record self.old { jobs = changed_at j with_stopped_legs self.old.jobs } }
     {
@@ -268,6 +271,7 @@ impl Run {
     }
 
     /// Puts the leg in the place of the one that is there, if one is.
+    #[tactic(auto, using(crate::proofs::Doors::job_written))]
     pub(crate) fn set_leg(&mut self, j: usize, l: usize, leg: Leg)
         ensures { self.new ≡ record self.old {
           jobs = changed_at j (λ job. record job { legs = changed_at l (λ _. leg) job.legs }) self.old.jobs;

@@ -51,18 +51,14 @@ pub struct Runs {
 
 impl Model for Runs {
     ghost use Rattle.std.specs.Prelude.{List};
-    ghost use Rattle.workflow_runs.specs.Asks.{AreBound};
-    ghost use Rattle.workflow_runs.specs.Counted.{AreCounted};
-    ghost use Rattle.workflow_runs.specs.Delivered.{FindsFirst};
-    ghost use Rattle.workflow_runs.specs.RunNumber.{AreNumbered, events};
     ghost use Rattle.workflow_runs.specs.RunState.{RunState};
+    ghost use Rattle.workflow_runs.specs.RunsKept.{RunsAreKept};
 
     ghost Value = { List RunState };
 
     ghost view = { λ r. r.runs.items };
 
-    ghost invariant = { λ r. AreNumbered r.runs.items r.numbers.items × AreBound r.runs.items r.asks.items
-        × FindsFirst (events r.runs.items) r.index.places.places × AreCounted (events r.runs.items) r.index.counts.counts };
+    ghost invariant = { λ r. RunsAreKept r.runs.items r.numbers.items r.asks.items r.index };
 }
 
 impl Runs {

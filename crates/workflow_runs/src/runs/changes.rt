@@ -1,4 +1,5 @@
 //! The changes of a table's runs, each at its place.
+#![tactic(auto, using(crate::proofs::Doors::written))]
 
 ghost use Rattle.std.specs.Prelude.{◌≡◌};
 ghost use Rattle.workflow_runs.specs.Places.{with_job, with_leg, with_run};

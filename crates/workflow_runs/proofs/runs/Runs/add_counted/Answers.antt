@@ -6,15 +6,16 @@ use Rattle.workflow_runs.specs.Counted.{count_of}
 use Rattle.workflow_runs.specs.Delivered.{FindsFirst}
 use Rattle.workflow_runs.specs.RunNumber.{events, number_of_next, same_workflow}
 use Rattle.workflow_runs.specs.RunState.{RunState}
+use Rattle.workflow_runs.specs.RunsKept.{RunsAreKept}
 use Rattle.workflow_runs.proofs.Indexed.{counted_more, events_more}
 use Rattle.workflow_runs.proofs.RunNumbers.{count_of_map}
-use Rattle.workflow_runs.proofs.StillBound.{AreKept, all_added, kept_in}
+use Rattle.workflow_runs.proofs.StillBound.{all_added, kept_in}
 use Rattle.workflow_runs.proofs.runs.Runs.add_counted.Goals as goal
 use Rattle.workflow_runs.proofs.runs.Runs.add_counted.Goals.{In_ok-reserve}
 
 -- the runs are kept as before where memory is refused
 still_kept : (c : In_ok-reserve)
-    → AreKept c.self.inside.runs.items c.self.inside.numbers.items c.self.inside.asks.items c.make_room.new.self
+    → RunsAreKept c.self.inside.runs.items c.self.inside.numbers.items c.self.inside.asks.items c.make_room.new.self
 still_kept c =
     kept_in c.self.inside.runs.items c.as_slice-runs.result.now c.self.inside.numbers.items c.self.inside.asks.items c.self.inside.index
     c.make_room.new.self c.as_slice-runs.ensures.value c.self.invariant c.make_room.ensures.finds c.make_room.ensures.counted
@@ -41,7 +42,7 @@ invariant_of-self-2 c =
     subst (λ (es : List Admitted). FindsFirst es places)
     (ap (λ (runs : List RunState). events runs ++ c.prepared.result.now ∷ []) all ∙ ap (λ (e : Admitted). events items ++ e ∷ []) same
     ∙ sym (events_more items c.args.run)) c.in_ok-number.ensures.one_more in
-    let counted = (still_kept (goal.at.invariant_of-self-2 c).In_ok-reserve).3 in
+    let counted = (still_kept (goal.at.invariant_of-self-2 c).In_ok-reserve).counted in
     let next : c.in_ok-number.number ≡ number_of_next items event =
     c.in_ok-number.ensures.number
     ∙ ap (λ (runs : List RunState). number_of_next runs c.prepared.result.now) all
@@ -53,7 +54,7 @@ invariant_of-self-2 c =
     c.in_ok-asked.asked = search rules in
     let kept =
     all_added items c.args.run c.self.inside.numbers.items c.self.inside.asks.items c.in_ok-number.number c.in_ok-asked.asked room
-    (c.self.invariant.0, c.self.invariant.1) next says in
+    (c.self.invariant.numbered, c.self.invariant.bound) next says in
     rw (
       c.push_reserved.ensures.items,
       c.push_reserved-2.ensures.items,
@@ -61,10 +62,10 @@ invariant_of-self-2 c =
       c.reserve.ensures.items,
       c.reserve-2.ensures.items,
       c.reserve-3.ensures.items,
-    ) (
-      kept.0,
-      kept.1,
-      found,
-      counted_more items c.args.run counts c.add.new.self.counts counted
-          (λ other. c.add.ensures.counted event other c.requires.workflow number),
-    )
+    ) (record {
+      numbered = kept.0;
+      bound = kept.1;
+      found = found;
+      counted = counted_more items c.args.run counts c.add.new.self.counts counted
+          (λ other. c.add.ensures.counted event other c.requires.workflow number);
+    })

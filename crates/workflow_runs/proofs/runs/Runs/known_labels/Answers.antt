@@ -21,5 +21,5 @@ returns-in-Known c =
     c.in_ok-asks.ensures.lookup.1 in
     let known : wanted_for k p.job p.leg ≡ Some (wanted.Known c.as_slice.result.now) = search rules in
     sym (ap (λ runs. labels_at runs p) c.self.view_is)
-    ∙ known_there items kept c.self.invariant.1 p job k c.as_slice.result.now
+    ∙ known_there items kept c.self.invariant.bound p job k c.as_slice.result.now
     (ap (λ runs. plan_at runs p.run p.job) c.self.view_is ∙ planned) has known

@@ -9,18 +9,18 @@ returns-in_err-place-clause-found c =
     gone
     ∙ sym
     (found_nothing c.self.inside.runs.items c.args.self.now c.self.inside.index.places.places c.args.delivery.now c.self.view_is
-    c.self.invariant.2 (sym c.place.ensures ∙ none))
+    c.self.invariant.found (sym c.place.ensures ∙ none))
 
 pub returns-then-is_delivered_at-clause-found : goal.returns-then-is_delivered_at-clause-found
 returns-then-is_delivered_at-clause-found c =
     let some : c.place.result ≡ Some c.in_ok-place.place = search rules in
     sym (found_there c.self.inside.runs.items c.args.self.now c.self.inside.index.places.places c.args.delivery.now c.self.view_is
-    c.self.invariant.2 c.in_ok-place.place (sym c.place.ensures ∙ some)
+    c.self.invariant.found c.in_ok-place.place (sym c.place.ensures ∙ some)
     (sym c.is_delivered_at.ensures.is ∙ c.if-is_delivered_at.true))
 
 pub returns-else-is_delivered_at-clause-found : goal.returns-else-is_delivered_at-clause-found
 returns-else-is_delivered_at-clause-found c =
     let some : c.place.result ≡ Some c.in_ok-place.place = search rules in
     sym (found_elsewhere c.self.inside.runs.items c.args.self.now c.self.inside.index.places.places c.args.delivery.now c.self.view_is
-    c.self.invariant.2 c.in_ok-place.place (sym c.place.ensures ∙ some)
+    c.self.invariant.found c.in_ok-place.place (sym c.place.ensures ∙ some)
     (sym c.is_delivered_at.ensures.is ∙ c.if-is_delivered_at.false))

@@ -7,6 +7,6 @@ pub returns-clause-says : goal.returns-clause-says
 returns-clause-says c = λ facts told.
     let asks = c.in_ok-asks.asks.now in
     let r = c.args.r in
-    c.self.invariant.1.each r facts asks (ap (λ runs. run_facts_at runs r) c.self.view_is ∙ told)
+    c.self.invariant.bound.each r facts asks (ap (λ runs. run_facts_at runs r) c.self.view_is ∙ told)
     (read_there c.self.inside.asks.items c.deref-2.result.now r r asks refl c.deref-2.ensures.value c.in_ok-asks.ensures.lookup.3.0
     c.in_ok-asks.ensures.lookup.1)

@@ -1,0 +1,15 @@
+-- What a table keeps of its runs: their numbers, what they ask, and where they are found and counted (own).
+use Rattle.std.specs.Prelude.{ℕ, List}
+use Rattle.workflow_runs.specs.Asks.{AreBound}
+use Rattle.workflow_runs.specs.Counted.{AreCounted}
+use Rattle.workflow_runs.specs.Delivered.{FindsFirst}
+use Rattle.workflow_runs.specs.RunNumber.{AreNumbered, events}
+use Rattle.workflow_runs.specs.RunState.{RunState}
+use Rattle.workflow_runs.specs.declared.asks.RunAsks.{RunAsks}
+use Rattle.workflow_runs.specs.declared.runs.index.Index.{Index}
+
+pub record RunsAreKept (runs : List RunState) (numbers : List ℕ) (asks : List RunAsks) (index : Index) : Type 0 where
+  pub numbered : AreNumbered runs numbers
+  pub bound : AreBound runs asks
+  pub found : FindsFirst (events runs) index.places.places
+  pub counted : AreCounted (events runs) index.counts.counts
