@@ -68,21 +68,22 @@ bad : false ≡ true → ⊥
 bad e = cc
 
 module _ (runs : List RunState) (p : LegPlace) (z : LegState) (was : leg_at runs p ≡ Some z) (f : LegState → LegState) where
-  pub set_waits : (h : Holder) → waits (with_leg p f runs) h ≡ true → (h ≡ Holder.a_leg p) ⊎ (waits runs h ≡ true)
-  set_waits (Holder.a_run s) e = inr (run_waited_still f p runs s e)
-  set_waits (Holder.a_leg q) e =
+  -- a leg passes a test of its phase as before, unless it is the one that is set
+  set_passes : (test : LegPhase → Bool) (q : LegPlace) → passes (leg_passes test) (leg_at (with_leg p f runs) q) ≡ true
+      → (Holder.a_leg q ≡ Holder.a_leg p) ⊎ (passes (leg_passes test) (leg_at runs q) ≡ true)
+  set_passes test q e =
       elim (place_or_another q p) [
         | inl same ↦ inl (ap Holder.a_leg same)
-        | inr other ↦ inr (ap (passes (leg_passes leg_waits)) (sym (leg_elsewhere runs p z f (leg_in runs p z was) q other)) ∙ e)
+        | inr other ↦ inr (ap (passes (leg_passes test)) (sym (leg_elsewhere runs p z f (leg_in runs p z was) q other)) ∙ e)
       ]
+
+  pub set_waits : (h : Holder) → waits (with_leg p f runs) h ≡ true → (h ≡ Holder.a_leg p) ⊎ (waits runs h ≡ true)
+  set_waits (Holder.a_run s) e = inr (run_waited_still f p runs s e)
+  set_waits (Holder.a_leg q) e = set_passes leg_waits q e
 
   pub set_holds : (h : Holder) → holds (with_leg p f runs) h ≡ true → (h ≡ Holder.a_leg p) ⊎ (holds runs h ≡ true)
   set_holds (Holder.a_run s) e = inr (run_held_still f p runs s e)
-  set_holds (Holder.a_leg q) e =
-      elim (place_or_another q p) [
-        | inl same ↦ inl (ap Holder.a_leg same)
-        | inr other ↦ inr (ap (passes (leg_passes leg_holds)) (sym (leg_elsewhere runs p z f (leg_in runs p z was) q other)) ∙ e)
-      ]
+  set_holds (Holder.a_leg q) e = set_passes leg_holds q e
 
   pub set_itself : leg_at (with_leg p f runs) p ≡ Some (f z)
   set_itself = leg_now runs p z f (leg_in runs p z was)
