@@ -18,6 +18,7 @@ use Rattle.workflow_runs.specs.StateWords.{leg_in_phase}
 use Rattle.workflow_runs.specs.StopMoves.{displace, stop_holder}
 use Rattle.workflow_runs.specs.Stops.{stopped, stopped_in, stopped_phase, stopped_run, told_to_stop}
 use Rattle.workflow_runs.specs.RunState.{LegState, JobState, RunState}
+use Rattle.workflow_runs.specs.declared.holder.Whom.{Whom}
 use Rattle.workflow_runs.specs.declared.holder.Whom.TheVariants.{OthersPending, Running}
 use Rattle.workflow_runs.specs.declared.phases.LegPhase.{LegPhase}
 use Rattle.workflow_runs.specs.declared.phases.LegPhase.TheVariants as leg
@@ -115,7 +116,7 @@ module _ (runs : List RunState) (newcomer : Holder) (g : Group) (its : group_at 
       let of_k = and_parts (is_pending_in runs g k) (not (same_holder k newcomer)) f in
       one.pending g h k (no_other h newcomer of_h.1) (no_other k newcomer of_k.1) of_h.0 of_k.0
 
-  pub the_pending_one_stopped : option_map_or (λ h. (stop_holder h runs).runs) (first_meant runs newcomer OthersPending) runs
+  the_pending_one_stopped : option_map_or (λ h. (stop_holder h runs).runs) (first_meant runs newcomer OthersPending) runs
       ≡ (displaced g newcomer runs).runs
   the_pending_one_stopped =
       ap (λ o. option_map_or (λ h. (stop_holder h runs).runs)
@@ -123,7 +124,7 @@ module _ (runs : List RunState) (newcomer : Holder) (g : Group) (its : group_at 
       ∙ sym (at_the_first displace stopped_twice (λ k. is_pending_in runs g k && not (same_holder k newcomer)) one_other
       (all_holders runs) runs)
 
-  pub the_running_one_stopped : let mid = (displaced g newcomer runs).runs in
+  the_running_one_stopped : let mid = (displaced g newcomer runs).runs in
       option_map_or (λ h. (stop_holder h mid).runs) (first_meant mid newcomer Running) mid ≡ (in_progress_stopped g mid).runs
   the_running_one_stopped =
       let mid = (displaced g newcomer runs).runs in
@@ -136,7 +137,7 @@ module _ (runs : List RunState) (newcomer : Holder) (g : Group) (its : group_at 
 
 -- ---- the arrival
 
-pub arrived_in : (runs : List RunState) (newcomer : Holder) (g : Group) (cancels : Bool) → group_at runs newcomer ≡ Some g
+arrived_in : (runs : List RunState) (newcomer : Holder) (g : Group) (cancels : Bool) → group_at runs newcomer ≡ Some g
     → cancels ≡ cancels_in_progress runs newcomer
     → (stopped_where_asked cancels g (displaced g newcomer runs).runs).runs ≡ (arrived newcomer runs).runs
 arrived_in runs newcomer g cancels its is =
@@ -149,6 +150,25 @@ arrived_in_none runs newcomer none =
 
 -- ---- where there is a group
 
-pub group_there : {X : Type 0} (o : Option X) → is_some o ≡ true → (x : X) × (o ≡ Some x)
+group_there : {X : Type 0} (o : Option X) → is_some o ≡ true → (x : X) × (o ≡ Some x)
 group_there None some = cc
 group_there (Some x) some = (x, refl)
+
+-- the first of those that are meant is stopped, if there is one
+abbrev pub first_stopped : List RunState → Holder → Whom → List RunState
+first_stopped runs newcomer whom = option_map_or (λ h. (stop_holder h runs).runs) (first_meant runs newcomer whom) runs
+
+-- the newcomer has arrived once the pending one is stopped, and the running one too where it cancels what is in progress
+pub arrived_by_stops : (runs mid last : List RunState) (newcomer : Holder) (cancels : Bool) → is_some (group_at runs newcomer) ≡ true
+    → waits runs newcomer ≡ true → RunsAreSound runs → HasOneBeside runs newcomer → cancels ≡ cancels_in_progress runs newcomer
+    → mid ≡ first_stopped runs newcomer OthersPending → last ≡ (if cancels then first_stopped mid newcomer Running else mid)
+    → last ≡ (arrived newcomer runs).runs
+arrived_by_stops runs mid last newcomer true grouped waiting sound one is first then_running =
+    let g = group_there (group_at runs newcomer) grouped in
+    then_running
+    ∙ ap (λ m. first_stopped m newcomer Running) (first ∙ the_pending_one_stopped runs newcomer g.0 g.1 waiting sound one)
+    ∙ the_running_one_stopped runs newcomer g.0 g.1 waiting sound one
+    ∙ arrived_in runs newcomer g.0 true g.1 is
+arrived_by_stops runs mid last newcomer false grouped waiting sound one is first same =
+    let g = group_there (group_at runs newcomer) grouped in
+    same ∙ first ∙ the_pending_one_stopped runs newcomer g.0 g.1 waiting sound one ∙ arrived_in runs newcomer g.0 false g.1 is

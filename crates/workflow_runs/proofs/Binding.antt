@@ -1,12 +1,13 @@
 -- What is bound for a leg says what its templates say once results are known.
-use Rattle.std.specs.Prelude.{◌≡◌, ℕ, zero, suc, List, [], ◌∷◌, ◌++◌, ◌&&◌, length, filter_map, find, codes, Bool, true, false, Option}
+use Rattle.std.specs.Prelude.{◌≡◌, ℕ, zero, suc, ◌+◌, List, [], ◌∷◌, ◌++◌, ◌&&◌, length, filter_map, find, codes, Bool, true, false, Option}
 use Rattle.std.specs.Prelude.{Some, None}
 use Rattle.std.specs.Prelude.{option_map, option_and_then, slice_get, if◌then◌else◌, refl}
 use Rattle.std.specs.List.{cons_option, slice_index_or}
 use Rattle.std.specs.Option.{option_map_or, option_or}
 use Rattle.std.specs.Str.{bytes_eq}
-use Rattle.std.proofs.Common.{ap, inl, inr, sym, subst, ◌∙◌}
+use Rattle.std.proofs.Common.{arith, ap, inl, inr, sym, subst, ◌∙◌}
 use Rattle.std.proofs.lemmas.Bool.{and_parts}
+use Rattle.std.proofs.lemmas.List.{length-append}
 use Rattle.std.proofs.lemmas.Slice.Eq.{bytes_eq-Decides}
 use Rattle.wf_value.specs.ScalarValue.{scalar_text}
 use Rattle.wf_value.specs.Words.{result_word}
@@ -189,6 +190,16 @@ one_more P [] x each here zero y at = let same : x ≡ y = cc in subst (P 0) sam
 one_more P [] x each here (suc k) y at = cc
 one_more P (z ∷ xs) x each here zero y at = each 0 y at
 one_more P (z ∷ xs) x each here (suc k) y at = one_more (λ i. P (suc i)) xs x (λ i w is. each (suc i) w is) here k y at
+
+-- and kept behind the others, as many as there are so far
+pub one_pushed : {X : Type 0} (P : ℕ → X → Type 0) (old now : List X) (x : X) (n : ℕ) → now ≡ old ++ x ∷ [] → length old ≡ n
+    → ((k : ℕ) (y : X) → slice_get old k ≡ Some y → P k y) → P n x
+    → (length now ≡ n + 1) × ((k : ℕ) (y : X) → slice_get now k ≡ Some y → P k y)
+one_pushed {X} P old now x n is many each here = (
+  omega (arith, length-append old (x ∷ []), ap length is, many),
+  subst (λ (items : List X). (k : ℕ) (y : X) → slice_get items k ≡ Some y → P k y) (sym is)
+      (one_more P old x each (subst (λ (k : ℕ). P k x) (sym many) here)),
+)
 
 -- ---- the legs of a job
 

@@ -3,11 +3,14 @@ use Rattle.std.specs.Prelude.{◌≡◌, ℕ, zero, suc, ◌+◌, ◌<◌, ◌�
 use Rattle.std.specs.Prelude.{is_some, Option, Some, None, option_and_then, slice_get, if◌then◌else◌, refl}
 use Rattle.std.specs.List.{enumerate_from, AllByRecursion}
 use Rattle.std.specs.Option.{option_or}
-use Rattle.std.proofs.Common.{arith, ap, subst, sym, ◌∙◌, get_or}
+use Rattle.std.proofs.Common.{arith, ap, subst, sym, ◌∙◌, below_more, get_or}
 use Rattle.std.proofs.lemmas.Option.{slice_get-get_or, slice_get-map}
 use Rattle.std.proofs.lemmas.List.Folds.{find-append}
+use Rattle.workflow_runs.specs.Cells.{JobCells, states}
 use Rattle.workflow_runs.specs.FirstOf.{first_some, placed}
 pub use Rattle.workflow_runs.specs.LookAgain.{ask, NoneBefore}
+use Rattle.workflow_runs.specs.Places.{LegPlace, leg_place}
+use Rattle.workflow_runs.specs.RunState.{JobState, LegState}
 use Rattle.workflow_runs.proofs.Found.{all_weaken, placed_get}
 use Rattle.workflow_runs.proofs.Optional.{and_then-option_map}
 
@@ -114,6 +117,46 @@ pub answer_passed : {X Y : Type 0} (f : ℕ → X → Option Y) (xs : List X) (i
     → o ≡ f i x → is_some o ≡ false → ask f xs i ≡ None
 answer_passed f xs i x None lt is h none = ask_read f xs i x lt ∙ ap (f i) (sym is) ∙ sym h
 answer_passed f xs i x (Some y) lt is h none = cc
+
+-- among the jobs of a run, asked by their states
+module _ {Y : Type 0} (f : ℕ → JobState → Option Y) (jobs : List JobCells) (j : ℕ) where
+  pub job_answers : (x : JobCells) (o : Option Y) → NoneBefore (λ k job. f k job.state) jobs j → j < length jobs → x ≡ get_or jobs j x
+      → o ≡ f j x.state → is_some o ≡ true → o ≡ first_some (λ e. f e.0 e.1) (placed (states jobs))
+  job_answers x o before lt is h some =
+      sym (first_placed-map f (λ (y : JobCells). y.state) jobs ∙ answer_found (λ k job. f k job.state) jobs j x o before lt is h some)
+
+  pub job_passed : (x : JobCells) (o : Option Y) → NoneBefore (λ k job. f k job.state) jobs j → j < length jobs → x ≡ get_or jobs j x
+      → o ≡ f j x.state → is_some o ≡ false → NoneBefore (λ k job. f k job.state) jobs (j + 1)
+  job_passed x o before lt is h none = below_more _ _ before (answer_passed (λ k job. f k job.state) jobs j x o lt is h none)
+
+  pub no_job_answers : NoneBefore (λ k job. f k job.state) jobs j → length jobs ≤ j
+      → None ≡ first_some (λ e. f e.0 e.1) (placed (states jobs))
+  no_job_answers before le =
+      sym (first_placed-map f (λ (y : JobCells). y.state) jobs ∙ none_found (λ k job. f k job.state) jobs j before le)
+
+-- among the legs of a job, tested with their places
+module _ {Y : Type 0} (test : LegPlace → LegState → Bool) (give : LegPlace → Y) (r j : ℕ) (legs : List LegState) (l : ℕ) where
+  abbrev pub answer : ℕ → LegState → Option Y
+  answer k leg = if test (leg_place r j k) leg then Some (give (leg_place r j k)) else None
+
+  its_answer : (leg : LegState) (p : LegPlace) (b c : Bool) → p ≡ leg_place r j l → b ≡ test p leg → b ≡ c
+      → (if c then Some (give (leg_place r j l)) else None) ≡ answer l leg
+  its_answer leg p b c at so is =
+      ap (λ t. if t then Some (give (leg_place r j l)) else None) (sym is ∙ so ∙ ap (λ q. test q leg) at)
+
+  pub leg_answers : (leg : LegState) (p : LegPlace) (b : Bool) → NoneBefore answer legs l → l < length legs → leg ≡ get_or legs l leg
+      → p ≡ leg_place r j l → b ≡ test p leg → b ≡ true
+      → Some (give (leg_place r j l)) ≡ first_some (λ e. answer e.0 e.1) (placed legs)
+  leg_answers leg p b before lt is at so passes =
+      sym (answer_found answer legs l leg (Some (give (leg_place r j l))) before lt is (its_answer leg p b true at so passes) refl)
+
+  pub leg_passed : (leg : LegState) (p : LegPlace) (b : Bool) → NoneBefore answer legs l → l < length legs → leg ≡ get_or legs l leg
+      → p ≡ leg_place r j l → b ≡ test p leg → b ≡ false → NoneBefore answer legs (l + 1)
+  leg_passed leg p b before lt is at so fails =
+      below_more _ _ before (answer_passed answer legs l leg None lt is (its_answer leg p b false at so fails) refl)
+
+  pub no_leg_answers : NoneBefore answer legs l → length legs ≤ l → None ≡ first_some (λ e. answer e.0 e.1) (placed legs)
+  no_leg_answers before le = sym (none_found answer legs l before le)
 
 -- ---- where the first answer comes from
 
