@@ -32,11 +32,7 @@ fn first_of_legs(runs: &Runs, r: usize, j: usize, legs: &[Leg]) -> Option<Place>
     ensures { result ≡ first_of_legs runs.now r j legs.now }
 {
     for l in 0..legs.len() {
-        let place = LegPlace {
-            run: r,
-            job: j,
-            leg: l,
-        };
+        let place = LegPlace::new(r, j, l);
         let leg = &legs[l];
         if goes_on(runs, place, leg) {
             return Some(Place::AtLeg(place));

@@ -33,11 +33,7 @@ fn served_in_job(labels: &[Label], runs: &Runs, r: usize, j: usize, job: &Job) -
 {
     let legs = job.legs();
     for l in 0..legs.len() {
-        let place = LegPlace {
-            run: r,
-            job: j,
-            leg: l,
-        };
+        let place = LegPlace::new(r, j, l);
         let leg = &legs[l];
         if fits(labels, runs, place, leg) {
             return Some(place);
@@ -116,11 +112,7 @@ fn lease_in_job(lease: Number, r: usize, j: usize, job: &Job) -> Option<LegPlace
     ensures leg { IfSome result (λ p. p.leg < 2 ^ 63) }
 {
     let leg = leg_of_lease(lease, job.legs())?;
-    Some(LegPlace {
-        run: r,
-        job: j,
-        leg,
-    })
+    Some(LegPlace::new(r, j, leg))
 }
 
 fn lease_in_jobs(lease: Number, r: usize, jobs: &[Job]) -> Option<LegPlace>

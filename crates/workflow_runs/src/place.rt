@@ -1,3 +1,6 @@
+ghost use Rattle.std.specs.Prelude.{◌≡◌};
+ghost use Rattle.workflow_runs.specs.Places.{leg_place};
+
 use std::marker::Model;
 
 /// The place of a leg: of its run in the table, of its job in the run, and its own in the job, each from 0.
@@ -16,6 +19,14 @@ impl Model for LegPlace {
     ghost view = { λ p. record { run = p.run; job = p.job; leg = p.leg } };
 
     ghost inverse = { λ p. record { run = p.run; job = p.job; leg = p.leg } };
+}
+
+impl LegPlace {
+    pub fn new(run: usize, job: usize, leg: usize) -> Self
+        ensures { result ≡ leg_place run job leg }
+    {
+        LegPlace { run, job, leg }
+    }
 }
 
 /// The place of a job: of its run in the table, and its own in the run, each from 0.

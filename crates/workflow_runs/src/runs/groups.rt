@@ -197,11 +197,7 @@ impl Runs {
             (job_at self.now r j) }
     {
         for l in 0..self.leg_count(r, j) {
-            let leg = LegPlace {
-                run: r,
-                job: j,
-                leg: l,
-            };
+            let leg = LegPlace::new(r, j, l);
             if self.is_meant(holder, whom, &Holder::Leg(leg)) {
                 return Some(leg);
             }

@@ -257,11 +257,7 @@ impl Runs {
         ensures { result ≡ first_some (failing self.now r j) (placed legs.now) }
     {
         for l in 0..legs.len() {
-            let place = LegPlace {
-                run: r,
-                job: j,
-                leg: l,
-            };
+            let place = LegPlace::new(r, j, l);
             let leg = &legs[l];
             if self.fails_job(place, leg) {
                 return Some(l);

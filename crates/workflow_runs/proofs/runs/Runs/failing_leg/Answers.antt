@@ -1,24 +1,29 @@
-use Rattle.std.specs.Prelude.{ℕ, Some, None, if◌then◌else◌, refl}
-use Rattle.std.proofs.Common.{arith, ap, sym, ◌∙◌, below_more}
-use Rattle.workflow_runs.specs.RunState.{LegState}
-use Rattle.workflow_runs.specs.WithinRun.{failing}
-use Rattle.workflow_runs.proofs.Firsts.{answer_found, answer_passed, none_found}
+use Rattle.std.specs.Prelude.{Bool, List, false}
+use Rattle.std.specs.Option.{option_map_or}
+use Rattle.std.proofs.Common.{arith}
+use Rattle.needs_graph.specs.Results.{fails_job}
+use Rattle.workflow_runs.specs.Places.{LegPlace}
+use Rattle.workflow_runs.specs.Rules.{leg_end}
+use Rattle.workflow_runs.specs.RunState.{LegState, RunState}
+use Rattle.workflow_runs.proofs.Firsts.{leg_answers, leg_passed, no_leg_answers}
 use Rattle.workflow_runs.proofs.runs.Runs.failing_leg.Goals as goal
+
+-- whether a leg fails its job
+abbrev fails : List RunState → LegPlace → LegState → Bool
+fails runs p leg = option_map_or fails_job (leg_end runs p.run p.job (p.leg, leg)) false
 
 pub returns-then-fails_job : goal.returns-then-fails_job
 returns-then-fails_job c =
-    sym (answer_found (λ (l : ℕ) (leg : LegState). failing c.args.self.now c.args.r c.args.j (l, leg)) c.args.legs.now c.loop-l.l
-    c.index-legs-l.result (Some c.loop-l.l) c.loop-l.invariant (omega arith) c.index-legs-l.is
-    (ap (λ b. if b then Some c.loop-l.l else None) (sym c.if-fails_job.true ∙ c.fails_job.ensures)) refl)
+    leg_answers (fails c.args.self.now) (λ p. p.leg) c.args.r c.args.j c.args.legs.now c.loop-l.l c.index-legs-l.result
+    c.new-place.result c.fails_job.result c.loop-l.invariant (omega arith) c.index-legs-l.is c.new-place.ensures c.fails_job.ensures
+    c.if-fails_job.true
 
 pub loop-l-preserved : goal.loop-l-preserved
 loop-l-preserved c =
-    below_more _ _ c.loop-l.invariant
-    (answer_passed (λ (l : ℕ) (leg : LegState). failing c.args.self.now c.args.r c.args.j (l, leg)) c.args.legs.now c.loop-l.l
-    c.index-legs-l.result None (omega arith) c.index-legs-l.is
-    (ap (λ b. if b then Some c.loop-l.l else None) (sym c.if-fails_job.false ∙ c.fails_job.ensures)) refl)
+    leg_passed (fails c.args.self.now) (λ p. p.leg) c.args.r c.args.j c.args.legs.now c.loop-l.l c.index-legs-l.result
+    c.new-place.result c.fails_job.result c.loop-l.invariant (omega arith) c.index-legs-l.is c.new-place.ensures c.fails_job.ensures
+    c.if-fails_job.false
 
 pub returns : goal.returns
 returns c =
-    sym (none_found (λ (l : ℕ) (leg : LegState). failing c.args.self.now c.args.r c.args.j (l, leg)) c.args.legs.now c.loop-l.l
-    c.loop-l.invariant (omega arith))
+    no_leg_answers (fails c.args.self.now) (λ p. p.leg) c.args.r c.args.j c.args.legs.now c.loop-l.l c.loop-l.invariant (omega arith)

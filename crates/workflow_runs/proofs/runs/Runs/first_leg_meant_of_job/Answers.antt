@@ -1,7 +1,8 @@
-use Rattle.std.proofs.Common.{◌≡◌, true, rules}
+use Rattle.std.specs.Prelude.{Bool, Some}
+use Rattle.std.proofs.Common.{◌≡◌, true, ap, sym, ◌∙◌, rules}
 use Rattle.workflow_runs.specs.Holders.{holder_in_words, is_meant}
 use Rattle.workflow_runs.specs.Moves.{Holder}
-use Rattle.workflow_runs.specs.Places.{leg_place}
+use Rattle.workflow_runs.specs.Places.{LegPlace}
 use Rattle.workflow_runs.proofs.Meant.{leg_found, no_leg_found}
 use Rattle.workflow_runs.proofs.runs.Runs.first_leg_meant_of_job.Goals as goal
 
@@ -9,8 +10,10 @@ pub returns-then-is_meant : goal.returns-then-is_meant
 returns-then-is_meant c =
     let runs = c.args.self.now in
     let h = holder_in_words c.args.holder.now in
-    let passes : is_meant runs h c.args.whom (Holder.a_leg (leg_place c.args.r c.args.j c.loop-l.l)) ≡ true = search rules in
-    leg_found (λ p. is_meant runs h c.args.whom (Holder.a_leg p)) runs c.args.r c.args.j c.loop-l.l c.loop-l.invariant (search rules) passes
+    let meant : LegPlace → Bool = λ p. is_meant runs h c.args.whom (Holder.a_leg p) in
+    let passes : meant c.new-leg.result ≡ true = search rules in
+    ap Some c.new-leg.ensures
+    ∙ leg_found meant runs c.args.r c.args.j c.loop-l.l c.loop-l.invariant (search rules) (ap meant (sym c.new-leg.ensures) ∙ passes)
 
 pub returns : goal.returns
 returns c =
