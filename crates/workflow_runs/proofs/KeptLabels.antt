@@ -21,8 +21,8 @@ use Rattle.wf_expr.specs.declared.bound.BoundPiece.{BoundPiece}
 use Rattle.wf_expr.specs.declared.piece.Piece.{Piece}
 use Rattle.wf_expr.specs.declared.piece.Piece.TheVariants.{Plain, Braced}
 use Rattle.wf_expr.proofs.BoundLemmas.{text-when-bound}
-use Rattle.workflow_runs.specs.KnownLabels.{asks_nothing, has_no_need, is_known, kept_of, known_text, most_bytes}
-use Rattle.workflow_runs.specs.KnownLabels.{text_without_results}
+use Rattle.run_plan.specs.SmallText.{most_text_bytes}
+use Rattle.workflow_runs.specs.KnownLabels.{asks_nothing, has_no_need, is_known, kept_of, known_text, text_without_results}
 use Rattle.workflow_runs.specs.Words.{label_texts}
 use Rattle.workflow_runs.specs.declared.wanted.Wanted.{Wanted}
 use Rattle.workflow_runs.specs.declared.wanted.Wanted.TheVariants as wanted
@@ -69,7 +69,7 @@ without_results known need_of label =
 pub known_when_bound : (known : Values) (need_of : NeedOf) (label : List Piece) → known_text (bound_of known need_of label)
     ≡ (if is_known known need_of label then Some (text_without_results known need_of label) else None)
 known_when_bound known need_of label =
-    ap (λ (text : List ℕ). if has_no_need known need_of label && nat_le (length text) most_bytes then Some text else None)
+    ap (λ (text : List ℕ). if has_no_need known need_of label && nat_le (length text) most_text_bytes then Some text else None)
     (sym (without_results known need_of label))
 
 -- ---- known labels, whatever the results
@@ -89,7 +89,7 @@ all_whatever : (known : Values) (need_of : NeedOf) (labels : List (List Piece)) 
 all_whatever known need_of [] all results values has = refl
 all_whatever known need_of (label ∷ labels) all results values has =
     let parts = and_parts (is_known known need_of label) (list_all (is_known known need_of) labels) all in
-    let none = (and_parts (has_no_need known need_of label) (nat_le (length (text_without_results known need_of label)) most_bytes)
+    let none = (and_parts (has_no_need known need_of label) (nat_le (length (text_without_results known need_of label)) most_text_bytes)
     parts.0).0 in
     ap (λ text. text ∷ map (text_without_results known need_of) labels) (known_whatever known need_of label none results values has)
     ∙ ap (λ texts. scalar_text (template_value values label) ∷ texts) (all_whatever known need_of labels parts.1 results values has)
@@ -192,7 +192,7 @@ twice known need_of = fun_ext (λ path. taken_twice (need_of path) (known path))
 abbrev kept_seen : Values → NeedOf → List (List Piece) → Wanted
 kept_seen values need_of labels =
     let text : List Piece → List ℕ = λ label. scalar_text (template_value values label) in
-    if list_all (λ label. list_all asks_nothing (map (seen values need_of) label) && nat_le (length (text label)) most_bytes) labels
+    if list_all (λ label. list_all asks_nothing (map (seen values need_of) label) && nat_le (length (text label)) most_text_bytes) labels
     then wanted.Known (map text labels)
     else wanted.LookedUp
 
@@ -200,7 +200,7 @@ kept_as_seen : (known : Values) (need_of : NeedOf) (labels : List (List Piece))
     → kept_of known need_of labels ≡ kept_seen (with_results known need_of no_results) need_of labels
 kept_as_seen known need_of labels =
     ap (λ (bound : List Piece → List BoundPiece). if list_all (λ label. list_all asks_nothing (bound label)
-    && nat_le (length (text_without_results known need_of label)) most_bytes) labels
+    && nat_le (length (text_without_results known need_of label)) most_text_bytes) labels
     then wanted.Known (map (text_without_results known need_of) labels) else wanted.LookedUp)
     (fun_ext (all_as_seen known need_of))
 

@@ -11,20 +11,13 @@ use Rattle.wf_expr.specs.declared.bound.BoundPiece.{BoundPiece}
 use Rattle.wf_expr.specs.declared.piece.Piece.{Piece}
 use Rattle.wf_expr.specs.declared.piece.Piece.TheVariants.{Plain, Braced}
 use Rattle.run_plan.specs.PlanOf.{plan_of}
+use Rattle.run_plan.specs.SmallText.{most_labels, most_text_bytes}
 use Rattle.run_plan.specs.declared.planned.PlannedJob.{PlannedJob}
 use Rattle.workflow_runs.specs.BoundGroups.{facts_by, need_of_job}
 use Rattle.workflow_runs.specs.GroupOf.{RunFacts}
 use Rattle.workflow_runs.specs.LegContext.{context_of}
 use Rattle.workflow_runs.specs.declared.wanted.Wanted.{Wanted}
 use Rattle.workflow_runs.specs.declared.wanted.Wanted.TheVariants as wanted
-
--- ---- what a runner has at most
-
-abbrev pub most_labels : ℕ
-most_labels = 16
-
-abbrev pub most_bytes : ℕ
-most_bytes = 64
 
 -- ---- which labels are known
 
@@ -41,13 +34,13 @@ text_without_results known need_of label = scalar_text (template_value (with_res
 
 -- that is its text whatever the results, and no longer than a runner's
 abbrev pub is_known : Values → NeedOf → List Piece → Bool
-is_known known need_of label = has_no_need known need_of label && nat_le (length (text_without_results known need_of label)) most_bytes
+is_known known need_of label = has_no_need known need_of label && nat_le (length (text_without_results known need_of label)) most_text_bytes
 
 -- the same of what was bound of a label: the text that is known of it, if one is
 abbrev pub known_text : List BoundPiece → Option (List ℕ)
 known_text pieces =
     let text = flat_map (λ (piece : BoundPiece). piece.otherwise) pieces in
-    if list_all asks_nothing pieces && nat_le (length text) most_bytes then Some text else None
+    if list_all asks_nothing pieces && nat_le (length text) most_text_bytes then Some text else None
 
 -- ---- which labels are worth keeping
 

@@ -11,16 +11,10 @@ ghost use Rattle.workflow_runs.specs.KnownLabels.{is_as_it_stands, kept_of, kept
 ghost use Rattle.workflow_runs.specs.declared.wanted.Wanted.{Wanted as WantedLabels};
 
 use crate::told::Told;
-use run_plan::PlannedJob;
+use run_plan::{MOST_LABELS, MOST_TEXT_BYTES, PlannedJob};
 use std::alloc::Global;
 use wf_expr::{BoundPiece, Context, Needs, Piece, Template};
 use wf_value::{Chars, Refusal, Sequence, TryCopy};
-
-/// The most labels that are kept of a leg: a runner has no more.
-const MOST_LABELS: usize = 16;
-
-/// The most bytes that are kept of a label: one of a runner has no more.
-const MOST_BYTES: usize = 64;
 
 /// What is kept of the labels that a leg asks for.
 #[derive(Drop)]
@@ -83,7 +77,7 @@ fn known_text(alloc: Global, pieces: &[BoundPiece]) -> Result<Option<Chars>, Ref
         return Ok(None);
     }
     let text = text_of(alloc, pieces)?;
-    if text.as_str().len() <= MOST_BYTES {
+    if text.as_str().len() <= MOST_TEXT_BYTES {
         Ok(Some(text))
     } else {
         Ok(None)

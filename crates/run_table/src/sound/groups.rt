@@ -106,11 +106,7 @@ impl<'a> Gathering<'a> {
         ensures put { IfOk result (AddsEach (group_as self.now.runs.now self.now.standing) groups.old groups.new (IsALegOfJob r j)) }
     {
         for l in 0..self.runs.leg_count(r, j) {
-            let place = LegPlace {
-                run: r,
-                job: j,
-                leg: l,
-            };
+            let place = LegPlace::new(r, j, l);
             if !self.put(groups, &Holder::Leg(place))? {
                 return Ok(false);
             }

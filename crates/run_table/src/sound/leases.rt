@@ -64,11 +64,7 @@ fn put_legs(
     ensures put { OnOk result (Adds (get nat_cmp legs.old) (get nat_cmp legs.new) (HasInJob r j of_job.now)) }
 {
     for l in 0..of_job.len() {
-        let place = LegPlace {
-            run: r,
-            job: j,
-            leg: l,
-        };
+        let place = LegPlace::new(r, j, l);
         let leg = &of_job[l];
         put_leg(legs, leg.lease, place)?;
     }

@@ -75,11 +75,7 @@ pub(crate) fn are_legs_sound(leases: &Leases, r: usize, j: usize, legs: &[Leg]) 
     ensures { Decides result (EachLegIsSound leases.now r j legs.now) }
 {
     for l in 0..legs.len() {
-        let place = LegPlace {
-            run: r,
-            job: j,
-            leg: l,
-        };
+        let place = LegPlace::new(r, j, l);
         let leg = &legs[l];
         if !is_leg_sound(leases, place, leg) {
             return false;

@@ -71,11 +71,7 @@ impl<'a> Grouped<'a> {
         ensures rest { IfOk result (λ rest. Decides rest (first_of_legs self.now.runs.now r j legs.now ≡ None)) }
     {
         for l in 0..legs.len() {
-            let place = LegPlace {
-                run: r,
-                job: j,
-                leg: l,
-            };
+            let place = LegPlace::new(r, j, l);
             let leg = &legs[l];
             if !self.leg_rests(place, leg)? {
                 return Ok(false);

@@ -1,4 +1,4 @@
-use Rattle.std.proofs.Common.{arith, refl, rules}
+use Rattle.std.proofs.Common.{arith, rules}
 use Rattle.std.specs.BTreeMap.{get}
 use Rattle.std.specs.Ordering.{nat_cmp}
 use Rattle.run_table.specs.ByLease.{HasInJob}
@@ -15,9 +15,9 @@ pub loop-l-preserved : goal.loop-l-preserved
 loop-l-preserved c =
     let legs = c.args.of_job.now in
     let x = c.index-of_job-l.result in
-    leg_put c.args.r c.args.j c.loop-l.l legs x (record { run = c.args.r; job = c.args.j; leg = c.loop-l.l })
-    (get nat_cmp c.args.legs.now) (get nat_cmp c.loop-l.legs) (get nat_cmp c.put_leg.new.legs)
-    (read_at legs c.loop-l.l x (omega arith) c.index-of_job-l.is) refl c.loop-l.invariant (search rules)
+    leg_put c.args.r c.args.j c.loop-l.l legs x c.new-place.result (get nat_cmp c.args.legs.now)
+    (get nat_cmp c.loop-l.legs) (get nat_cmp c.put_leg.new.legs) (read_at legs c.loop-l.l x (omega arith) c.index-of_job-l.is)
+    c.new-place.ensures c.loop-l.invariant (search rules)
 
 pub returns-clause-put : goal.returns-clause-put
 returns-clause-put c =

@@ -12,13 +12,15 @@ loop-l-init c =
 pub returns-then-not-is_leg_sound : goal.returns-then-not-is_leg_sound
 returns-then-not-is_leg_sound c =
     let fails : c.is_leg_sound.result ≡ false = search rules in
+    let sound = rw c.new-place.ensures at c.is_leg_sound.ensures in
     stopped_at (λ (k : ℕ) (x : LegState). LegIsSound c.args.leases.now (leg_place c.args.r c.args.j k) x) c.args.legs.now
-    c.loop-l.l c.index-legs-l.result c.is_leg_sound.result (omega arith) c.index-legs-l.is c.is_leg_sound.ensures fails
+    c.loop-l.l c.index-legs-l.result c.is_leg_sound.result (omega arith) c.index-legs-l.is sound fails
 
 pub loop-l-preserved : goal.loop-l-preserved
 loop-l-preserved c =
+    let sound = rw c.new-place.ensures at c.is_leg_sound.ensures in
     one_passed (λ (k : ℕ) (x : LegState). LegIsSound c.args.leases.now (leg_place c.args.r c.args.j k) x) c.args.legs.now
-    c.loop-l.l c.index-legs-l.result c.loop-l.invariant (omega arith) c.index-legs-l.is (c.is_leg_sound.ensures.0 (search rules))
+    c.loop-l.l c.index-legs-l.result c.loop-l.invariant (omega arith) c.index-legs-l.is (sound.0 (search rules))
 
 pub returns : goal.returns
 returns c =

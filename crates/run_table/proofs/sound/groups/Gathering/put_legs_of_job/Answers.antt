@@ -13,10 +13,11 @@ loop-l-preserved c =
     let j = c.args.j in
     let l = c.loop-l.l in
     let new : c.in_ok-put.field-0 ≡ true = search rules in
+    let put = rw c.new-place.ensures at c.in_ok-put.ensures.put in
     next_gathered group_of (IsALegOfJob r j) leg_of l c.args.groups.now c.loop-l.groups c.put.new.groups
     (λ h. h ≡ Holder.a_leg (leg_place r j l)) c.loop-l.invariant
     (all_new group_of c.loop-l.groups c.put.new.groups (λ h. h ≡ Holder.a_leg (leg_place r j l)) c.in_ok-put.field-0
-    c.in_ok-put.ensures.put new)
+    put new)
     (a_leg_is r j l) (is_that_leg r j l)
 
 pub returns-clause-put : goal.returns-clause-put

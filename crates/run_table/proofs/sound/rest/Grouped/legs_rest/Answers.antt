@@ -11,18 +11,20 @@ returns-then-not-branch-clause-rest c =
     let asked = leg_asked c.args.self.now.runs.now c.args.r c.args.j in
     let legs = c.args.legs.now in
     let moves : c.in_ok-leg_rests.field-0 ≡ false = search rules in
+    let rests = rw c.new-place.ensures at c.in_ok-leg_rests.ensures.rests in
     like false (none_of_each asked legs) (each_none asked legs)
     (stopped_at (NoneAt asked) legs c.loop-l.l c.index-legs-l.result c.in_ok-leg_rests.field-0 (omega arith) c.index-legs-l.is
     (leg_decided c.args.self.now.runs.now c.args.r c.args.j c.loop-l.l c.index-legs-l.result c.in_ok-leg_rests.field-0
-    c.in_ok-leg_rests.ensures.rests) moves)
+    rests) moves)
 
 pub loop-l-preserved : goal.loop-l-preserved
 loop-l-preserved c =
     let still : c.in_ok-leg_rests.field-0 ≡ true = search rules in
+    let rests = rw c.new-place.ensures at c.in_ok-leg_rests.ensures.rests in
     one_passed (NoneAt (leg_asked c.args.self.now.runs.now c.args.r c.args.j)) c.args.legs.now c.loop-l.l c.index-legs-l.result
     c.loop-l.invariant (omega arith) c.index-legs-l.is
     ((leg_decided c.args.self.now.runs.now c.args.r c.args.j c.loop-l.l c.index-legs-l.result c.in_ok-leg_rests.field-0
-    c.in_ok-leg_rests.ensures.rests).0 still)
+    rests).0 still)
 
 pub returns-clause-rest : goal.returns-clause-rest
 returns-clause-rest c =
