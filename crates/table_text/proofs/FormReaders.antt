@@ -1,9 +1,9 @@
--- What finds one byte, values that others stand for, values that go by those before them, and a row of them.
+-- What finds one byte, values that go by those before them, and a row of them.
 use Rattle.std.proofs.Common.{◌≡◌, ℕ, List, [], ◌∷◌, ◌++◌, refl, sym, ◌∙◌, ap, subst, append_assoc}
-use Rattle.std.specs.Prelude.{Option, Some}
+use Rattle.std.specs.Prelude.{Some}
 use Rattle.std.proofs.lemmas.Option.{same_Some, none-some}
-use Rattle.table_text.specs.Format.{Format, byte, follow, parts, row}
-use Rattle.table_text.specs.Reading.{◌>>=◌, Reader, byte_at, follow_at, items_at, some_at}
+use Rattle.table_text.specs.Format.{Format, byte, follow, row}
+use Rattle.table_text.specs.Reading.{◌>>=◌, Reader, byte_at, follow_at, items_at}
 use Rattle.wf_value.proofs.Bytes.{AreBytes, AreBytes-drop}
 use Rattle.table_text.proofs.Readers.{Fronts, Reads, bind_some, some_bind, items_sound, items_complete}
 
@@ -20,29 +20,6 @@ byte_sound (b ∷ rest) found are h =
 pub byte_reads : Reads byte byte_at
 unfolding byte_at
 byte_reads = record { sound = byte_sound; complete = λ b rest fits. refl }
-
--- where each value is found from its parts, and no other has them
-pub some_reads : {A B : Type 0} (parts_of : B → A) (whole_of : A → Option B) (format : Format A) (at : Reader A)
-    → ((b : B) → whole_of (parts_of b) ≡ Some b)
-    → ((a : A) (b : B) → whole_of a ≡ Some b → parts_of b ≡ a) → Reads format at → Reads (parts parts_of format) (some_at whole_of at)
-some_reads {A} {B} parts_of whole_of format at there back reads = record {
-  sound = λ bytes found are h.
-      let step = bind_some (at bytes) (λ a. whole_of a.0 >>= (λ b. Some (b, a.1))) found h in
-      let a = step.0 in
-      let front = reads.sound bytes a are step.1 in
-      let next = bind_some (whole_of a.0) (λ b. Some (b, a.1)) found step.2 in
-      let b = next.0 in
-      let same : parts_of b ≡ a.0 = back a.0 b next.1 in
-      subst (λ (q : B × List ℕ). Fronts (parts parts_of format) bytes q) (same_Some (b, a.1) found next.2) (record {
-        takes = subst format.Takes (sym same) front.takes;
-        split = front.split ∙ ap (λ x. format.spelling x ++ a.1) (sym same);
-        rest = front.rest;
-      });
-  complete = λ b rest fits.
-      some_bind (at (format.spelling (parts_of b) ++ rest)) (λ a. whole_of a.0 >>= (λ c. Some (c, a.1))) (parts_of b, rest)
-      (reads.complete (parts_of b) rest fits)
-      ∙ some_bind (whole_of (parts_of b)) (λ c. Some (c, rest)) b (there b);
-}
 
 pub follow_reads : {A B : Type 0} (first : Format A) (second : A → Format B) (first_at : Reader A) (second_at : A → Reader B)
     → Reads first first_at

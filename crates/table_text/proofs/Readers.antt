@@ -1,7 +1,7 @@
 -- The forms that readers are made of find what the forms of formats spell, and nothing else.
 use Rattle.std.proofs.Common.{◌≡◌, ℕ, zero, suc, ◌<◌, ◌≤◌, ◌^◌, List, [], ◌∷◌, ◌++◌, length, take, drop, refl, sym, ◌∙◌, ap, subst, arith}
 use Rattle.std.proofs.Common.{append_assoc, append-nil, length-append, take-append-drop}
-use Rattle.std.specs.Prelude.{Bool, true, false, ◌&&◌, Option, Some, None, flat_map, nat_lt, nat_le, if◌then◌else◌}
+use Rattle.std.specs.Prelude.{Bool, IsTrue, true, false, ◌&&◌, Option, Some, None, flat_map, nat_lt, nat_le, if◌then◌else◌}
 use Rattle.std.specs.List.{AllByRecursion}
 use Rattle.std.specs.Int.{from_be_bytes, to_be_bytes, w32}
 use Rattle.std.proofs.lemmas.Bool.{ltb-false, le-ltb, leb-true, le-leb}
@@ -11,7 +11,7 @@ use Rattle.std.proofs.lemmas.Option.{same_Some, none-some, cond_some, some_pair_
 use Rattle.table_text.specs.Format.{Format, NoneBeginsAnother, HasOneSpelling, StandsAtFront, word, word_bytes, text, text_bytes, only}
 use Rattle.table_text.specs.Format.{pair, parts, counted}
 use Rattle.table_text.specs.Reading.{◌>>=◌, Reader, word_at, bytes_at, text_at, kept, only_at, pair_at, parts_at, items_at, with_front}
-use Rattle.table_text.specs.Reading.{counted_at}
+use Rattle.table_text.specs.Reading.{counted_at, some_at}
 use Rattle.wf_value.proofs.Bytes.{AreBytes, AreBytes-drop, spell_number, number_below}
 
 -- The bytes are a spelling of what was found, and then the bytes behind it.
@@ -99,25 +99,58 @@ text_reads = record {
       ∙ bytes_complete t rest;
 }
 
-pub only_reads : {A : Type 0} (test : A → Bool) (format : Format A) (at : Reader A) → Reads format at
-    → Reads (only test format) (only_at test at)
-only_reads {A} test format at reads = record {
+-- these values, of each the parts that a format spells
+abbrev pub these : {A B : Type 0} → (B → Type 0) → (B → A) → Format A → Format B
+these Takes parts_of format = record { Takes = Takes; spelling = λ b. format.spelling (parts_of b) }
+
+-- where each of these values is found from its parts, and no other has them
+pub these_read : {A B : Type 0} (Takes : B → Type 0) (parts_of : B → A) (whole_of : A → Option B) (format : Format A) (at : Reader A)
+    → ((b : B) → Takes b → format.Takes (parts_of b) × (whole_of (parts_of b) ≡ Some b))
+    → ((a : A) (b : B) → format.Takes a → whole_of a ≡ Some b → Takes b × (parts_of b ≡ a)) → Reads format at
+    → Reads (these Takes parts_of format) (some_at whole_of at)
+these_read {A} {B} Takes parts_of whole_of format at there back reads = record {
   sound = λ bytes found are h.
-      let step = bind_some (at bytes) (λ x. kept test x.0 >>= (λ y. Some (y, x.1))) found h in
+      let step = bind_some (at bytes) (λ a. whole_of a.0 >>= (λ b. Some (b, a.1))) found h in
       let a = step.0 in
       let front = reads.sound bytes a are step.1 in
-      let next = bind_some (kept test a.0) (λ y. Some (y, a.1)) found step.2 in
-      let by = cond_some (test a.0) a.0 next.0 next.1 in
-      let same : a ≡ found = ap (λ (y : A). (y, a.1)) by.1 ∙ same_Some (next.0, a.1) found next.2 in
-      subst (λ (q : A × List ℕ). Fronts (only test format) bytes q) same (record {
-        takes = (front.takes, by.0);
-        split = front.split;
+      let next = bind_some (whole_of a.0) (λ b. Some (b, a.1)) found step.2 in
+      let b = next.0 in
+      let is = back a.0 b front.takes next.1 in
+      subst (λ (q : B × List ℕ). Fronts (these Takes parts_of format) bytes q) (same_Some (b, a.1) found next.2) (record {
+        takes = is.0;
+        split = front.split ∙ ap (λ x. format.spelling x ++ a.1) (sym is.1);
         rest = front.rest;
       });
-  complete = λ x rest fits.
-      some_bind (at (format.spelling x ++ rest)) (λ y. kept test y.0 >>= (λ z. Some (z, y.1))) (x, rest) (reads.complete x rest fits.0)
-      ∙ some_bind (kept test x) (λ z. Some (z, rest)) x (ap (λ b. if b then Some x else None) fits.1);
+  complete = λ b rest takes.
+      let fits = there b takes in
+      some_bind (at (format.spelling (parts_of b) ++ rest)) (λ a. whole_of a.0 >>= (λ c. Some (c, a.1))) (parts_of b, rest)
+      (reads.complete (parts_of b) rest fits.0)
+      ∙ some_bind (whole_of (parts_of b)) (λ c. Some (c, rest)) b fits.1;
 }
+
+-- where each value is found from its parts
+pub some_reads : {A B : Type 0} (parts_of : B → A) (whole_of : A → Option B) (format : Format A) (at : Reader A)
+    → ((b : B) → whole_of (parts_of b) ≡ Some b)
+    → ((a : A) (b : B) → whole_of a ≡ Some b → parts_of b ≡ a) → Reads format at → Reads (parts parts_of format) (some_at whole_of at)
+some_reads {A} {B} parts_of whole_of format at there back =
+    these_read (λ (b : B). format.Takes (parts_of b)) parts_of whole_of format at (λ b takes. (takes, there b))
+    (λ a b takes h. (subst format.Takes (sym (back a b h)) takes, back a b h))
+
+pub parts_reads : {A B : Type 0} (parts_of : B → A) (whole_of : A → B) (format : Format A) (at : Reader A)
+    → ((a : A) → parts_of (whole_of a) ≡ a) → ((b : B) → whole_of (parts_of b) ≡ b)
+    → Reads format at → Reads (parts parts_of format) (parts_at whole_of at)
+parts_reads parts_of whole_of format at there back =
+    some_reads parts_of (λ a. Some (whole_of a)) format at (λ b. ap Some (back b))
+    (λ a b h. ap parts_of (sym (same_Some (whole_of a) b h)) ∙ there a)
+
+pub only_reads : {A : Type 0} (test : A → Bool) (format : Format A) (at : Reader A) → Reads format at
+    → Reads (only test format) (only_at test at)
+only_reads {A} test format at =
+    these_read (λ (x : A). format.Takes x × IsTrue (test x)) (λ x. x) (kept test) format at
+    (λ x fits. (fits.0, ap (λ b. if b then Some x else None) fits.1))
+    (λ x y takes h.
+    let by = cond_some (test x) x y h in
+    subst (λ (z : A). (format.Takes z × IsTrue (test z)) × (z ≡ x)) by.1 ((takes, by.0), refl))
 
 pub pair_reads : {A B : Type 0} (first : Format A) (second : Format B) (first_at : Reader A) (second_at : Reader B) → Reads first first_at
     → Reads second second_at
@@ -143,25 +176,6 @@ pair_reads {A} {B} first second first_at second_at one other = record {
       (p.0, second.spelling p.1 ++ rest)
       (one.complete p.0 (second.spelling p.1 ++ rest) fits.0)
       ∙ some_bind (second_at (second.spelling p.1 ++ rest)) (λ b. Some ((p.0, b.0), b.1)) (p.1, rest) (other.complete p.1 rest fits.1);
-}
-
-pub parts_reads : {A B : Type 0} (parts_of : B → A) (whole_of : A → B) (format : Format A) (at : Reader A)
-    → ((a : A) → parts_of (whole_of a) ≡ a) → ((b : B) → whole_of (parts_of b) ≡ b)
-    → Reads format at → Reads (parts parts_of format) (parts_at whole_of at)
-parts_reads {A} {B} parts_of whole_of format at there back reads = record {
-  sound = λ bytes found are h.
-      let step = bind_some (at bytes) (λ a. Some (whole_of a.0, a.1)) found h in
-      let a = step.0 in
-      let front = reads.sound bytes a are step.1 in
-      subst (λ (q : B × List ℕ). Fronts (parts parts_of format) bytes q) (same_Some (whole_of a.0, a.1) found step.2) (record {
-        takes = subst format.Takes (sym (there a.0)) front.takes;
-        split = front.split ∙ ap (λ x. format.spelling x ++ a.1) (sym (there a.0));
-        rest = front.rest;
-      });
-  complete = λ b rest fits.
-      some_bind (at (format.spelling (parts_of b) ++ rest)) (λ a. Some (whole_of a.0, a.1)) (parts_of b, rest)
-      (reads.complete (parts_of b) rest fits)
-      ∙ ap (λ x. Some (x, rest)) (back b);
 }
 
 -- one behind the other, so many

@@ -1,5 +1,5 @@
 -- What reading of tables finds is what is spelled there, and nothing else.
-use Rattle.std.proofs.Common.{◌≡◌, inl, inr, ℕ, ◌≤◌, ◌<◌, ◌^◌, List, [], ◌∷◌, ◌++◌, refl, sym, ◌∙◌, ap, subst, arith}
+use Rattle.std.proofs.Common.{◌≡◌, inl, inr, ℕ, ◌≤◌, ◌<◌, ◌^◌, List, [], ◌∷◌, refl, sym, ◌∙◌, ap, subst, arith}
 use Rattle.std.specs.Prelude.{◌==◌, Bool, true, false, not, nat_le, find, Option, Some, None, if◌then◌else◌}
 use Rattle.std.proofs.lemmas.Bool.{eqb-true, leb-true, cases_Bool}
 use Rattle.std.proofs.lemmas.Option.{same_Some, none-some, cond_some}
@@ -22,8 +22,8 @@ use Rattle.workflow_runs.specs.declared.phases.LegPhase.TheVariants as leg_phase
 use Rattle.workflow_runs.specs.declared.phases.RunPhase.{RunPhase}
 use Rattle.workflow_runs.specs.declared.phases.RunPhase.TheVariants as run_phase
 use Rattle.table_text.specs.Commands.{admit, command, is_numbered, number, small_text}
-use Rattle.table_text.specs.Format.{Format, byte, counted, follow, only, pair, parts, row, word, word_bytes}
-use Rattle.table_text.specs.Reading.{◌>>=◌, byte_at, counted_at, follow_at, items_at, pair_at, some_at, word_at}
+use Rattle.table_text.specs.Format.{Format, byte, counted, follow, only, pair, parts, row, word}
+use Rattle.table_text.specs.Reading.{byte_at, counted_at, follow_at, items_at, pair_at, some_at, word_at}
 use Rattle.table_text.specs.ReadingCommands.{admit_at, command_at, number_at, small_text_at}
 use Rattle.table_text.specs.ReadingTables.{course_at, flag_at, job_at, job_phase_at, job_phases, kept_at, kept_of, last_at, last_lease_at}
 use Rattle.table_text.specs.ReadingTables.{last_of, last_with, lease_at}
@@ -36,19 +36,19 @@ use Rattle.table_text.specs.Tables.{lease_word, leg, leg_byte, names_rise, run, 
 use Rattle.table_text.specs.declared.kept.Kept.{Kept}
 use Rattle.table_text.specs.declared.kept.Kept.TheVariants as replied
 use Rattle.table_text.proofs.CommandReaders.{admit_reads, chosen, command_reads, number_reads, small_text_reads}
-use Rattle.table_text.proofs.FormReaders.{byte_reads, follow_reads, row_reads, some_reads}
-use Rattle.table_text.proofs.Readers.{Fronts, Reads, bind_some, both, counted_reads, only_reads, pair_reads, parts_reads, some_bind}
-use Rattle.table_text.proofs.Readers.{word_reads}
+use Rattle.table_text.proofs.FormReaders.{byte_reads, follow_reads, row_reads}
+use Rattle.table_text.proofs.Readers.{Reads, both, counted_reads, only_reads, pair_reads, parts_reads, some_reads}
+use Rattle.table_text.proofs.Readers.{these_read, word_reads}
 
 -- ---- leases
 
-lease_sound : (n : ℕ) (l : Option ℕ) → n < 2 ^ 32 → lease_of n ≡ Some l → IsLease l × (n ≡ lease_word l)
+lease_sound : (n : ℕ) (l : Option ℕ) → n < 2 ^ 32 → lease_of n ≡ Some l → IsLease l × (lease_word l ≡ n)
 lease_sound n l fits h =
     let other : Option (Option ℕ) = if is_numbered n then Some (Some n) else None in
     elim (chosen (n == 0) (Some None) other (Some l) h) [
-      | inl none ↦ subst (λ (q : Option ℕ). IsLease q × (n ≡ lease_word q)) (same_Some None l none.1) (tt, eqb-true n 0 none.0)
+      | inl none ↦ subst (λ (q : Option ℕ). IsLease q × (lease_word q ≡ n)) (same_Some None l none.1) (tt, sym (eqb-true n 0 none.0))
       | inr some ↦ (let by = cond_some (is_numbered n) (Some n) l some.1 in
-          subst (λ (q : Option ℕ). IsLease q × (n ≡ lease_word q)) by.1 ((fits, by.0), refl))
+          subst (λ (q : Option ℕ). IsLease q × (lease_word q ≡ n)) by.1 ((fits, by.0), refl))
     ]
 
 not_zero : (n : ℕ) → is_numbered n ≡ true → (n == 0) ≡ false
@@ -72,24 +72,8 @@ lease_fits (Some n) fits = fits.0
 
 pub lease_reads : Reads lease lease_at
 unfolding lease_at
-lease_reads = record {
-  sound = λ bytes found are h.
-      let step = bind_some (word_at bytes) (λ a. lease_of a.0 >>= (λ b. Some (b, a.1))) found h in
-      let a = step.0 in
-      let front = word_reads.sound bytes a are step.1 in
-      let next = bind_some (lease_of a.0) (λ b. Some (b, a.1)) found step.2 in
-      let l = next.0 in
-      let is = lease_sound a.0 l front.takes next.1 in
-      subst (λ (q : Option ℕ × List ℕ). Fronts lease bytes q) (same_Some (l, a.1) found next.2) (record {
-        takes = is.0;
-        split = front.split ∙ ap (λ n. word_bytes n ++ a.1) is.1;
-        rest = front.rest;
-      });
-  complete = λ l rest fits.
-      some_bind (word_at (word_bytes (lease_word l) ++ rest)) (λ a. lease_of a.0 >>= (λ b. Some (b, a.1))) (lease_word l, rest)
-      (word_reads.complete (lease_word l) rest (lease_fits l fits))
-      ∙ some_bind (lease_of (lease_word l)) (λ b. Some (b, rest)) l (lease_found l fits);
-}
+lease_reads =
+    these_read IsLease lease_word lease_of word word_at (λ l fits. (lease_fits l fits, lease_found l fits)) lease_sound word_reads
 
 -- ---- values in one byte
 
