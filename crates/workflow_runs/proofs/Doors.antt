@@ -5,7 +5,7 @@ use Rattle.std.specs.List.{cons_option}
 use Rattle.std.specs.Option.{option_map_or}
 use Rattle.std.proofs.Common.{arith, ap, subst, sym, ◌∙◌, get_or}
 use Rattle.std.proofs.lemmas.List.{length-map, length-set, take_at}
-use Rattle.std.proofs.lemmas.Option.{gets, slice_get-get_or, slice_get-map}
+use Rattle.std.proofs.lemmas.Option.{gets, slice_get-map}
 use Rattle.wf_value.specs.declared.refusal.Refusal.{Refusal}
 use Rattle.run_plan.specs.declared.planned.PlannedJob.{PlannedJob}
 use Rattle.workflow_runs.specs.Cells.{JobCells, cells_of, in_state, states, rooms, legs_planned, blocked_cells, result_of}
@@ -36,7 +36,6 @@ changed_within f [] i x y lt is so = absurd (omega arith)
 changed_within f (z ∷ xs) zero x y lt is so = ap (λ w. w ∷ xs) (so ∙ ap f is)
 changed_within f (z ∷ xs) (suc i) x y lt is so = ap (λ ys. z ∷ ys) (changed_within f xs i x y (omega arith) is so)
 
--- the same of a list that is seen as another
 -- what is made of what is read there
 pub changed_by_read : {X : Type 0} (f : X → X) (xs : List X) (i : ℕ)
     → changed_at i f xs ≡ option_map_or (λ x. slice_set xs i (f x)) (slice_get xs i) xs
@@ -49,6 +48,7 @@ changed_by_read {X} f (x ∷ xs) (suc i) = ap (λ ys. x ∷ ys) (changed_by_read
     behind None = refl
     behind (Some y) = refl
 
+-- what a change at one place leaves of a list
 pub ruleset written = (changed_by_read, gets)
 
 -- what is read is read again, whatever stands for the place past the end
