@@ -1,8 +1,8 @@
 -- A job has 256 legs at most in the plan of any body.
 use Rattle.std.specs.Prelude.{◌≡◌, ℕ, zero, suc, ◌≤◌, List, [], ◌∷◌, map, length, Bool, true, false, nat_lt, Option, Some, None, Err, Ok}
-use Rattle.std.specs.Prelude.{slice_get, refl}
+use Rattle.std.specs.Prelude.{slice_get}
 use Rattle.std.specs.Result.{result_unwrap_or}
-use Rattle.std.proofs.Common.{arith, ap, sym, ◌∙◌, subst, inl, inr, cond}
+use Rattle.std.proofs.Common.{arith, sym, subst, inl, inr, cond}
 use Rattle.std.proofs.lemmas.Bool.{cases_Bool, ltb-false}
 use Rattle.std.proofs.lemmas.List.{length-map}
 use Rattle.wf_value.specs.Matrix.{MatrixLists}
@@ -11,9 +11,8 @@ use Rattle.wf_value.specs.declared.refusal.Refusal.TheVariants.{Numbered}
 use Rattle.wf_reader.specs.declared.job.Job.{Job}
 use Rattle.wf_reader.specs.Event.{event_of}
 use Rattle.matrix_expand.specs.Combinations.{Combination, combinations, legs_or_refusal, within_choices}
-use Rattle.run_plan.specs.PlanOf.{combinations_where, legs_of, legs_of_job, matrix_of, plan_of, planned_job}
+use Rattle.run_plan.specs.PlanOf.{combinations_where, legs_of_job, matrix_of, plan_of, planned_job}
 use Rattle.run_plan.specs.declared.planned.PlannedJob.{PlannedJob}
-use Rattle.run_plan.specs.declared.planned.PlannedLeg.{PlannedLeg}
 
 few_of : (cs : List Combination) → length (result_unwrap_or (legs_or_refusal cs) []) ≤ 256
 few_of [] = omega arith
