@@ -6,12 +6,9 @@ use Rattle.run_plan.specs.declared.reply.Reply.{Reply}
 use Rattle.run_table.specs.Histories.{after, replies}
 use Rattle.run_table.specs.Step.{stepped}
 use Rattle.run_table.specs.TableState.{TableState}
+use Rattle.run_table.proofs.LeasesStay.{after_both}
 use Rattle.act_store.specs.Entries.{commands_of, table_after, IsLegal}
 use Rattle.act_store.specs.declared.entry.Entry.{Entry}
-
-pub after-append : (t : TableState) (xs ys : List Command) → after t (xs ++ ys) ≡ after (after t xs) ys
-after-append t [] ys = refl
-after-append t (x ∷ xs) ys = after-append (stepped t x).table xs ys
 
 replies-append : (t : TableState) (xs ys : List Command) → replies t (xs ++ ys) ≡ replies t xs ++ replies (after t xs) ys
 replies-append t [] ys = refl
@@ -22,7 +19,7 @@ commands-append one two = map-append (λ (e : Entry). e.command) one two
 
 pub table-append : (base : TableState) (one two : List Entry) → table_after base (one ++ two) ≡ table_after (table_after base one) two
 table-append base one two =
-    ap (λ (l : List Command). after base l) (commands-append one two) ∙ after-append base (commands_of one) (commands_of two)
+    ap (λ (l : List Command). after base l) (commands-append one two) ∙ after_both base (commands_of one) (commands_of two)
 
 -- the table of all entries is that of the first ones, and then of the others
 pub table_split : (base : TableState) (n : ℕ) (history : List Entry)

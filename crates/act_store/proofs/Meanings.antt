@@ -9,7 +9,7 @@ use Rattle.run_table.specs.Histories.{after}
 use Rattle.run_table.specs.TableState.{TableState}
 use Rattle.table_text.specs.Commands.{batch}
 use Rattle.act_store.specs.Meaning.{SpellCommands, MeansTable}
-use Rattle.act_store.proofs.Histories.{after-append}
+use Rattle.run_table.proofs.LeasesStay.{after_both}
 
 pub all_push : {X : Type 0} (P : X → Type 0) (xs : List X) (x : X) → AllByRecursion P xs → P x → AllByRecursion P (xs ++ x ∷ [])
 all_push P [] x all here = (here, tt)
@@ -36,5 +36,5 @@ means_more head bodies table more takes means = record {
   text = means.text;
   commands = means.commands ++ more;
   batched = spell_more bodies means.commands more takes means.batched;
-  table_is = after-append means.first means.commands more ∙ ap (λ (t : TableState). after t more) means.table_is;
+  table_is = after_both means.first means.commands more ∙ ap (λ (t : TableState). after t more) means.table_is;
 }

@@ -9,12 +9,9 @@ use Rattle.gated_journal.specs.Appends.{record_of}
 use Rattle.run_plan.specs.declared.command.Command.{Command}
 use Rattle.table_text.specs.Commands.{batch, command_bytes}
 use Rattle.table_text.specs.Format.{word_bytes}
+use Rattle.table_text.proofs.LengthLaws.{length_word}
 use Rattle.act_store.specs.Plain.{batch_length}
 use Rattle.act_store.specs.Waiting.{body_of, spelled_between, waits_of, with_command}
-
-pub length_word : (n : ℕ) → length (word_bytes n) ≡ 4
-unfolding word_bytes
-length_word n = refl
 
 pub word_is : (n : ℕ) → word_bytes n ≡ to_be_bytes w32 n
 unfolding word_bytes

@@ -16,7 +16,7 @@ use Rattle.table_text.proofs.CommandReaders.{batch_reads}
 use Rattle.table_text.proofs.Readers.{none_begins}
 use Rattle.act_store.specs.Meaning.{SpellCommands}
 use Rattle.act_store.specs.Replayed.{IsCarried, IsReplayed}
-use Rattle.act_store.proofs.Histories.{after-append}
+use Rattle.run_table.proofs.LeasesStay.{after_both}
 use Rattle.act_store.proofs.Meanings.{spell_more}
 use Rattle.act_store.proofs.WholeTexts.{none_longer, none_whole, whole}
 
@@ -71,7 +71,7 @@ module _ (records rest : List ℕ) (first table : TableState) (so : SoFar record
         parts = parts_more records so.parted rest body behind so.parts opens;
         spelled = subst (λ (b : List ℕ). SpellCommands (so.parted ++ b ∷ []) (so.commands ++ more)) (sym carried.1.1)
             (spell_more so.parted so.commands more carried.1.0 so.spelled);
-        table_is = after-append first so.commands more ∙ ap (λ (t : TableState). after t more) so.table_is ∙ carried.2;
+        table_is = after_both first so.commands more ∙ ap (λ (t : TableState). after t more) so.table_is ∙ carried.2;
       }
 
   pub at_end : ((body behind : List ℕ) → OpensWith rest body behind → ⊥) → IsReplayed records first (Some table)

@@ -2,6 +2,7 @@
 use Rattle.std.specs.Prelude.{◌≢◌}
 use Rattle.std.proofs.Common.{◌≡◌, ◌≤◌, List, [], ◌∷◌, ◌++◌, length, map, filter, Bool, true, false, ◌&&◌, not, cond}
 use Rattle.std.proofs.Common.{refl, ap, ap₂, sym, subst, ◌∙◌, arith}
+use Rattle.std.proofs.lemmas.Bool.{and_right}
 use Rattle.std.proofs.lemmas.List.{append-nil, map-append}
 use Rattle.std.proofs.lemmas.List.Elements.{filter-append}
 use Rattle.group_name.specs.Group.{Group}
@@ -86,10 +87,6 @@ arrivals_keep g newcomer cancels held one = record {
 
 -- ---- other groups
 
-and_not : (a b : Bool) → b ≡ false → (a && b) ≡ false
-and_not true b is = is
-and_not false b is = refl
-
 apart_newcomer : (other g : Group) (newcomer : Holder) (b : Bool) → other ≢ g → same_group other g ≡ b
     → filter (is_in other) (newcomer_in g newcomer ∷ []) ≡ []
 apart_newcomer other g newcomer true apart is = absurd (apart (one_group other g is))
@@ -103,7 +100,7 @@ others_stay other g newcomer cancels held apart =
     filter-append (is_in other) (staying g cancels held) (newcomer_in g newcomer ∷ [])
     ∙ ap₂ (λ a b. a ++ b)
     (filter_of_unchanged (is_in other) (told_to_stop test) (group_told other test)
-    (λ h is. told_nothing test h (and_not cancels (is_in g h) (apart_in other g h apart is))) (filter (stays g) held)
+    (λ h is. told_nothing test h (and_right cancels (is_in g h) (apart_in other g h apart is))) (filter (stays g) held)
     ∙ filter_after (stays g) (is_in other) (λ h is. ap (λ b. not (b && is_pending h.phase)) (apart_in other g h apart is)) held)
     (apart_newcomer other g newcomer (same_group other g) apart refl)
     ∙ append-nil (group_in other held)

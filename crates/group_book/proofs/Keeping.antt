@@ -2,6 +2,7 @@
 use Rattle.std.specs.Prelude.{find, option_map, option_to_list, Option, Result, Ok}
 use Rattle.std.proofs.Common.{◌≡◌, ◌+◌, ◌≤◌, List, [], ◌∷◌, Some, None, length, map, filter, Bool, true, false, ◌&&◌, ◌||◌, not}
 use Rattle.std.proofs.Common.{refl, ap, sym, subst, ◌∙◌, arith, inl, inr}
+use Rattle.std.proofs.lemmas.Bool.{and_parts}
 use Rattle.std.proofs.lemmas.List.{length-map}
 use Rattle.wf_value.specs.declared.refusal.Refusal.{Refusal}
 use Rattle.group_name.specs.Group.{Group}
@@ -14,7 +15,7 @@ use Rattle.group_book.specs.declared.holder.HolderPhase.{HolderPhase}
 use Rattle.group_book.specs.declared.holder.HolderPhase.TheVariants.{Pending, Running, Stopping}
 use Rattle.group_book.proofs.Filtered.{count_after, count_of_changed, count_of_either, count_within, filter_of_no, filter_of_none}
 use Rattle.group_book.proofs.Filtered.{filter_of_some, names_of_changed, names_without, witness}
-use Rattle.group_book.proofs.Lines.{and_true, free_group, holder_told, one_group, pending_start, pending_told, started_start, started_told}
+use Rattle.group_book.proofs.Lines.{free_group, holder_told, one_group, pending_start, pending_told, started_start, started_told}
 
 pub count_of_holders : (held : List HoldingState) → length (holders held) ≡ length held
 count_of_holders held = length-map held (λ h. h.holder)
@@ -113,7 +114,7 @@ abbrev starts_in : Group → Holder → HoldingState → Bool
 starts_in g holder h = is_of holder h && is_pending_in g h
 
 pending_of_starting : (g : Group) (holder : Holder) (h : HoldingState) → starts_in g holder h ≡ true → is_pending_in g h ≡ true
-pending_of_starting g holder h is = (and_true (is_of holder h) (is_pending_in g h) is).1
+pending_of_starting g holder h is = (and_parts (is_of holder h) (is_pending_in g h) is).1
 
 count_of_running : (g : Group) (holder : Holder) (held : List HoldingState)
     → length (running_in g (started holder held)) ≤ length (filter (has_started_in g) held) + length (filter (starts_in g holder) held)
@@ -128,8 +129,8 @@ count_of_running g holder held =
 free_of : (g : Group) (holder : Holder) (held : List HoldingState) (h : HoldingState) → starts_in g holder h ≡ true
     → (not (is_of holder h) || not (is_taken h.group held)) ≡ true → filter (has_started_in g) held ≡ []
 free_of g holder held h starts free =
-    let own = and_true (is_of holder h) (is_pending_in g h) starts in
-    let group = one_group g h.group (and_true (same_group g h.group) (is_pending h.phase) own.1).0 in
+    let own = and_parts (is_of holder h) (is_pending_in g h) starts in
+    let group = one_group g h.group (and_parts (same_group g h.group) (is_pending h.phase) own.1).0 in
     ap (λ k. filter (has_started_in k) held) group
     ∙ filter_of_no (has_started_in h.group) held (free_group (is_of holder h) (is_taken h.group held) own.0 free)
 

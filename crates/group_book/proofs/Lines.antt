@@ -2,6 +2,7 @@
 use Rattle.std.specs.Str.{bytes_eq}
 use Rattle.std.specs.Prelude.{◌≢◌}
 use Rattle.std.proofs.Common.{◌≡◌, ℕ, List, Bool, true, false, ◌&&◌, ◌||◌, not, cond, refl, ap, ap₂, sym, ◌∙◌}
+use Rattle.std.proofs.lemmas.Bool.{and_parts, and_right}
 use Rattle.std.proofs.lemmas.Slice.Eq.{bytes_eq-Decides}
 use Rattle.group_name.specs.Group.{Group}
 use Rattle.group_book.specs.Changes.{start_of, stays, told_to_stop}
@@ -12,17 +13,13 @@ use Rattle.group_book.specs.declared.holder.HolderPhase.TheVariants.{Pending, Ru
 
 -- ---- the same group
 
-pub and_true : (a b : Bool) → (a && b) ≡ true → (a ≡ true) × (b ≡ true)
-and_true true b is = (refl, is)
-and_true false b is = absurd (cc)
-
 group_by : (g h : Group) → g.repository ≡ h.repository → g.folded ≡ h.folded → g ≡ h
 group_by g h repository folded =
     let of : List ℕ → List ℕ → Group = λ r f. record { repository = r; folded = f } in ap₂ of repository folded
 
 pub one_group : (g h : Group) → same_group g h ≡ true → g ≡ h
 one_group g h is =
-    let both = and_true (bytes_eq g.repository h.repository) (bytes_eq g.folded h.folded) is in
+    let both = and_parts (bytes_eq g.repository h.repository) (bytes_eq g.folded h.folded) is in
     group_by g h ((bytes_eq-Decides g.repository h.repository).0 both.0) ((bytes_eq-Decides g.folded h.folded).0 both.1)
 
 pub own_group : (g : Group) → same_group g g ≡ true
@@ -58,7 +55,7 @@ start_by b h = cond (b && is_pending h.phase) (record h { phase = Running }) h
 pending_start_by : (g : Group) (b : Bool) (group : Group) (holder : Holder) (phase : HolderPhase)
     → is_pending_in g (start_by b (record { group = group; holder = holder; phase = phase })) ≡ true
     → is_pending_in g (record { group = group; holder = holder; phase = phase }) ≡ true
-pending_start_by g true group holder Pending is = absurd (let none : false ≡ true = (and_true (same_group g group) false is).1 in cc)
+pending_start_by g true group holder Pending is = absurd (let none : false ≡ true = (and_parts (same_group g group) false is).1 in cc)
 pending_start_by g false group holder Pending is = is
 pending_start_by g true group holder Running is = is
 pending_start_by g false group holder Running is = is
@@ -74,7 +71,7 @@ started_start_by : (g : Group) (b : Bool) (group : Group) (holder : Holder) (pha
     → (has_started_in g (record { group = group; holder = holder; phase = phase })
     || (b && is_pending_in g (record { group = group; holder = holder; phase = phase }))) ≡ true
 started_start_by g true group holder Pending is = by_start (same_group g group) is
-started_start_by g false group holder Pending is = absurd (let none : false ≡ true = (and_true (same_group g group) false is).1 in cc)
+started_start_by g false group holder Pending is = absurd (let none : false ≡ true = (and_parts (same_group g group) false is).1 in cc)
 started_start_by g true group holder Running is = ap (λ t. t || (true && (same_group g group && false))) is
 started_start_by g false group holder Running is = ap (λ t. t || (false && (same_group g group && false))) is
 started_start_by g true group holder Stopping is = ap (λ t. t || (true && (same_group g group && false))) is
@@ -97,7 +94,7 @@ and_false false = refl
 started_stays_by : (other g group : Group) (holder : Holder) (phase : HolderPhase)
     → has_started_in other (record { group = group; holder = holder; phase = phase }) ≡ true
     → stays g (record { group = group; holder = holder; phase = phase }) ≡ true
-started_stays_by other g group holder Pending is = absurd (let none : false ≡ true = (and_true (same_group other group) false is).1 in cc)
+started_stays_by other g group holder Pending is = absurd (let none : false ≡ true = (and_parts (same_group other group) false is).1 in cc)
 started_stays_by other g group holder Running is = and_false (same_group g group)
 started_stays_by other g group holder Stopping is = and_false (same_group g group)
 
@@ -121,18 +118,14 @@ group_told g test h = told_by (is_in g) (test h) h.group h.holder h.phase refl
 pub told_nothing : (test : HoldingState → Bool) (h : HoldingState) → test h ≡ false → told_to_stop test h ≡ h
 told_nothing test h is = ap (λ b. told_to_stop (λ _. b) h) is
 
-never_by : (s : Bool) → (s && false) ≡ false
-never_by true = refl
-never_by false = refl
-
 told_once_by : (g : Group) (b : Bool) (group : Group) (holder : Holder) (phase : HolderPhase) → same_group g group ≡ b
     → can_be_stopped_in g (told_to_stop (λ _. b) (record { group = group; holder = holder; phase = phase })) ≡ false
-told_once_by g true group holder Pending is = never_by (same_group g group)
-told_once_by g false group holder Pending is = never_by (same_group g group)
-told_once_by g true group holder Running is = never_by (same_group g group)
+told_once_by g true group holder Pending is = and_right (same_group g group) false refl
+told_once_by g false group holder Pending is = and_right (same_group g group) false refl
+told_once_by g true group holder Running is = and_right (same_group g group) false refl
 told_once_by g false group holder Running is = ap (λ s. s && true) is
-told_once_by g true group holder Stopping is = never_by (same_group g group)
-told_once_by g false group holder Stopping is = never_by (same_group g group)
+told_once_by g true group holder Stopping is = and_right (same_group g group) false refl
+told_once_by g false group holder Stopping is = and_right (same_group g group) false refl
 
 -- who is told to stop cannot be stopped again
 pub told_once : (g : Group) (h : HoldingState) → can_be_stopped_in g (told_to_stop (λ k. true && is_in g k) h) ≡ false

@@ -23,7 +23,7 @@ use Rattle.matrix_expand.specs.Numbered.{chosen, axes_of, original_at, pattern_o
 use Rattle.matrix_expand.specs.Values.{EntryValue}
 use Rattle.matrix_expand.proofs.Agreement.{agrees_numbered}
 use Rattle.matrix_expand.proofs.Firsts.{value_at-firsts, names_rise-firsts, names_ascend-flagged, names_ascend-final, names_rise-map}
-use Rattle.matrix_expand.proofs.Merging.{value_at-merged, value_at-object, names_ascend-rise, pairs_of-object}
+use Rattle.matrix_expand.proofs.Merging.{option_or-None, value_at-merged, value_at-object, names_ascend-rise, pairs_of-object}
 use Rattle.matrix_expand.proofs.Rising.{equal_from, same_from_find, rise_from}
 use Rattle.wf_value.proofs.Rising.{name_cmp}
 
@@ -195,12 +195,8 @@ added_is test name front (c ∷ cs) behind =
     (λ b. option_or (last_value (filter test cs) name) (cond b (value_at c name) None) ≡ last_value
     (cond b (c ∷ filter test cs) (filter test cs)) name) [
       | true ↦ refl
-      | false ↦ option_or_none (last_value (filter test cs) name)
+      | false ↦ option_or-None (last_value (filter test cs) name)
     ]
-  where
-    option_or_none : (o : Option Scalar) → option_or o None ≡ o
-    option_or_none None = refl
-    option_or_none (Some v) = refl
 
 pub map-map : {A B C : Type 0} (f : A → B) (g : B → C) (h : A → C) → ((x : A) → g (f x) ≡ h x) → (xs : List A) → map g (map f xs) ≡ map h xs
 map-map f g h e [] = refl

@@ -8,7 +8,7 @@ use Rattle.std.specs.Option.{option_or}
 use Rattle.std.specs.Ordering.{is_lt, is_eq, is_gt, ordering_reverse}
 use Rattle.std.specs.declared.cmp.Ordering.{Ordering}
 use Rattle.std.specs.declared.cmp.Ordering.TheVariants.{Less, Equal, Greater}
-use Rattle.std.proofs.lemmas.Bool.{and_parts, and_from, true≢false}
+use Rattle.std.proofs.lemmas.Bool.{and_parts, and_from, and_right, not-true, not_from_false, true≢false}
 use Rattle.std.proofs.lemmas.Cmp.{upto}
 use Rattle.std.proofs.lemmas.List.{append-nil, append_assoc, drop_all, length-take-le, take-append-drop}
 use Rattle.std.proofs.lemmas.Map.Lookups.{exact_bytes}
@@ -75,12 +75,8 @@ value_at_before flags name (e ∷ es) h =
     let parts = and_parts (is_lt (name_cmp name e.1.0)) (list_all (λ p. is_lt (name_cmp name p.0)) (pairs_of es)) h in
     value_at-flagged flags name e es
     ∙ ap (λ o. cond (get_or flags e.0 false && is_eq o) (Some e.1.1) (value_at (flagged flags es) name)) (Less-from_is_lt _ parts.0)
-    ∙ ap (λ b. cond b (Some e.1.1) (value_at (flagged flags es) name)) (and-false (get_or flags e.0 false))
+    ∙ ap (λ b. cond b (Some e.1.1) (value_at (flagged flags es) name)) (and_right (get_or flags e.0 false) false refl)
     ∙ value_at_before flags name es parts.1
-  where
-    and-false : (b : Bool) → (b && false) ≡ false
-    and-false true = refl
-    and-false false = refl
 
 -- orders of three names
 pub less_least : (x y z : List ℕ) → name_cmp x y ≡ Less → is_gt (name_cmp y z) ≡ false → name_cmp x z ≡ Less
@@ -99,13 +95,6 @@ at_most_less x y z q p = go (name_cmp x y) refl q
     go Equal e h = subst (λ n. name_cmp n z ≡ Less) (sym (exact_bytes x y e)) p
     go Greater e h = absurd (true≢false h)
 
-not-true : (b : Bool) → not b ≡ true → b ≡ false
-not-true true h = absurd (true≢false (sym h))
-not-true false h = refl
-
-not-false : (b : Bool) → b ≡ false → not b ≡ true
-not-false b h = ap not h
-
 -- a name below the least is below all
 pub before_least : (x y : List ℕ) (ps : Combination) → name_cmp x y ≡ Less → is_least y ps ≡ true
     → list_all (λ p. is_lt (name_cmp x p.0)) ps ≡ true
@@ -118,7 +107,7 @@ pub is_least-at_most : (x y : List ℕ) (ps : Combination) → is_gt (name_cmp x
 is_least-at_most x y [] p h = refl
 is_least-at_most x y (q ∷ qs) p h =
     let parts = and_parts (not (is_gt (name_cmp y q.0))) (is_least y qs) h in
-    and_from _ _ (not-false _ (upto nat_list_cmp_total x y q.0 p (not-true _ parts.0))) (is_least-at_most x y qs p parts.1)
+    and_from _ _ (not_from_false _ (upto nat_list_cmp_total x y q.0 p (not-true _ parts.0))) (is_least-at_most x y qs p parts.1)
 
 -- the other way round
 not_before : (x y : List ℕ) → is_lt (name_cmp x y) ≡ false → is_gt (name_cmp y x) ≡ false
@@ -164,11 +153,11 @@ ascend_placed e es own more (f ∷ fs) k =
           let below = not_after e.1.0 f.1.0 t in
           and_from _ _
           (least_merged e.1.0 es (f ∷ fs) own
-          (and_from _ _ (not-false _ below) (is_least-at_most e.1.0 f.1.0 (pairs_of fs) below parts.0))) (more (f ∷ fs) k)
+          (and_from _ _ (not_from_false _ below) (is_least-at_most e.1.0 f.1.0 (pairs_of fs) below parts.0))) (more (f ∷ fs) k)
       | false ↦ λ t.
           let below = not_before e.1.0 f.1.0 t in
           and_from _ _
-          (least_merged f.1.0 (e ∷ es) fs (and_from _ _ (not-false _ below) (is_least-at_most f.1.0 e.1.0 (pairs_of es) below own))
+          (least_merged f.1.0 (e ∷ es) fs (and_from _ _ (not_from_false _ below) (is_least-at_most f.1.0 e.1.0 (pairs_of es) below own))
           parts.0) (ascend_placed e es own more fs parts.1)
     ] refl
 
@@ -235,7 +224,7 @@ least_from_below : (name : List ℕ) (c : Combination) → below_all name_cmp na
 least_from_below name [] h = refl
 least_from_below name (p ∷ ps) h =
     let parts = and_parts (is_lt (name_cmp name p.0)) (below_all name_cmp name ps) h in
-    and_from _ _ (not-false _ (not_after name p.0 parts.0)) (least_from_below name ps parts.1)
+    and_from _ _ (not_from_false _ (not_after name p.0 parts.0)) (least_from_below name ps parts.1)
 
 -- names that rise ascend
 pub names_ascend-rise : (c : Combination) → names_rise c ≡ true → names_ascend c ≡ true

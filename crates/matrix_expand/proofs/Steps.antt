@@ -1,11 +1,12 @@
 -- Steps of the loops over variables, members and numbers.
-use Rattle.std.proofs.Common.{◌≡◌, ℕ, zero, suc, ◌+◌, ◌-◌, ◌*◌, ◌/◌, ◌<◌, ◌≤◌, min, Bool, true, false, ◌||◌, not, cond, List, [], ◌∷◌, ◌++◌}
+use Rattle.std.proofs.Common.{◌≡◌, ℕ, zero, suc, ◌+◌, ◌-◌, ◌*◌, ◌/◌, ◌<◌, ◌≤◌, min, true, not, cond, List, [], ◌∷◌, ◌++◌}
 use Rattle.std.proofs.Common.{length, get_or, drop, Some, None, refl, sym, ap, ◌∙◌, inl, inr, arith}
 use Rattle.std.specs.List.{list_any, slice_get}
 use Rattle.std.specs.Option.{option_map}
 use Rattle.std.proofs.lemmas.Bool.{cases_lt}
 use Rattle.std.proofs.lemmas.List.{at_drop_more, append_assoc}
 use Rattle.std.proofs.lemmas.Nat.{div-mul-add}
+use Rattle.std.proofs.lemmas.Option.{slice_get_read}
 use Rattle.std.proofs.Math.Nat.{mul_comm, mul-le-mul_right}
 use Rattle.wf_value.specs.Matrix.{NamedValues}
 use Rattle.wf_value.specs.declared.scalar.Scalar.{Scalar}
@@ -53,11 +54,6 @@ capped_more most c l r =
     regroup' : (c l r : ℕ) → l * (c * r) ≡ c * (l * r)
     regroup' c l r = omega arith
 
-pub slice_get_at : {X : Type 0} (xs : List X) (i : ℕ) (x : X) → i < length xs → x ≡ get_or xs i x → slice_get xs i ≡ Some x
-slice_get_at [] i x l is = absurd (omega arith)
-slice_get_at (y ∷ ys) zero x l is = ap Some (sym is)
-slice_get_at (y ∷ ys) (suc i) x l is = slice_get_at ys i x (omega arith) is
-
 module _ (axes : List AxisValue) (items : Combination) (i : ℕ) (item : List ℕ × Scalar) (l : i < length items)
     (is : item ≡ get_or items i item) where
   wanted_at : wanted_of axes (drop i items) ≡ wanted_of axes (item ∷ drop (i + 1) items)
@@ -70,7 +66,7 @@ module _ (axes : List AxisValue) (items : Combination) (i : ℕ) (item : List �
   module _ (place : ℕ) (axis : AxisValue) (m : place < length axes) (at : axis ≡ get_or axes place axis)
       (found : option_map (λ a. a.1) (slice_get axes place) ≡ choice_of axes item.0) where
     its_choice : choice_of axes item.0 ≡ Some axis.1
-    its_choice = sym found ∙ ap (option_map (λ a. a.1)) (slice_get_at axes place axis m at)
+    its_choice = sym found ∙ ap (option_map (λ a. a.1)) (slice_get_read axes (length axes) place axis refl m at)
 
     pub wanted_more : wanted_of axes (drop i items) ≡ (axis.1, item.1) ∷ wanted_of axes (drop (i + 1) items)
     wanted_more = wanted_at ∙ rw its_choice refl
@@ -97,10 +93,6 @@ kept_more excludes number count l =
 pub pushed : {X : Type 0} (old now before rest total : List X) (x : X) → now ≡ old ++ x ∷ [] → before ≡ x ∷ rest → old ++ before ≡ total
     → now ++ rest ≡ total
 pushed old now before rest total x p q r = ap (λ xs. xs ++ rest) p ∙ append_assoc old (x ∷ []) rest ∙ ap (λ ys. old ++ ys) (sym q) ∙ r
-
-pub or-true : (b : Bool) → (b || true) ≡ true
-or-true true = refl
-or-true false = refl
 
 pub new_more : (ps : List PatternValue) (kept : List ℕ) (i : ℕ) (p : PatternValue) → i < length ps → p ≡ get_or ps i p
     → new_objects (drop i ps) kept ≡ cond (list_any (λ number. pattern_agrees number p) kept) (new_objects (drop (i + 1) ps) kept)

@@ -1,7 +1,6 @@
 pub mod AsciiForms
 pub mod BodyText
 pub mod ComboTokens
-pub mod Faultless
 pub mod FewJobs
 pub mod FewLegs
 pub mod Jobs

@@ -1,25 +1,20 @@
 -- What the event of a body and the plan of its jobs say of the body.
-use Rattle.std.proofs.Common.{◌≡◌, ℕ, List, [], ◌∷◌, ◌++◌, map, Ok, Err, sym, ap, ◌∙◌}
+use Rattle.std.proofs.Common.{◌≡◌, ℕ, List, [], ◌++◌, map, Ok, Err, sym, ap, ◌∙◌}
 use Rattle.wf_value.specs.declared.refusal.Refusal.{Refusal}
 use Rattle.wf_reader.specs.Event.{event_faults, event_of}
 use Rattle.wf_reader.specs.Faults.{unless_faulty}
 use Rattle.wf_reader.specs.declared.event.Event.{Event}
 use Rattle.run_plan.specs.PlanOf.{faults_of, plan_of, planned_job, plan_faults}
 use Rattle.run_plan.specs.declared.planned.PlannedJob.{PlannedJob}
-use Rattle.run_plan.proofs.Faultless.{faultless, given}
-
--- faults refuse every value
-pub same_refusal : {X Y : Type 0} (fs : List Refusal) (x : X) (y : Y) (e : Refusal) → unless_faulty fs x ≡ Err e
-    → unless_faulty fs y ≡ Err e
-same_refusal [] x y e h = absurd cc
-same_refusal (f ∷ fs) x y e h = cc
+use Rattle.wf_reader.proofs.Contents.{same_refusal}
+use Rattle.wf_reader.proofs.InTurn.{no_fault, same_value}
 
 -- where the event has no fault, those of its jobs decide
 faults_left : (body : List ℕ) (read : Event) → unless_faulty (event_faults body) (event_of body) ≡ Ok read
     → faults_of body ≡ plan_faults read.workflow
 faults_left body read told =
-    ap (λ fs. fs ++ plan_faults (event_of body).workflow) (faultless (event_faults body) (event_of body) read told)
-    ∙ ap (λ (e : Event). plan_faults e.workflow) (given (event_faults body) (event_of body) read told)
+    ap (λ fs. fs ++ plan_faults (event_of body).workflow) (no_fault (event_faults body) (event_of body) read told)
+    ∙ ap (λ (e : Event). plan_faults e.workflow) (same_value (event_faults body) (event_of body) read told)
 
 pub refused_run : {Y : Type 0} (body : List ℕ) (read : Event) (y : Y) (e : Refusal)
     → unless_faulty (event_faults body) (event_of body) ≡ Ok read
@@ -32,11 +27,11 @@ pub faultless_run : (body : List ℕ) (read : Event) (plan : List PlannedJob)
     → unless_faulty (event_faults body) (event_of body) ≡ Ok read
     → unless_faulty (plan_faults read.workflow) (map planned_job read.workflow.jobs) ≡ Ok plan → faults_of body ≡ []
 faultless_run body read plan told planned =
-    faults_left body read told ∙ faultless (plan_faults read.workflow) (map planned_job read.workflow.jobs) plan planned
+    faults_left body read told ∙ no_fault (plan_faults read.workflow) (map planned_job read.workflow.jobs) plan planned
 
 pub plan_of_run : (body : List ℕ) (read : Event) (plan : List PlannedJob)
     → unless_faulty (event_faults body) (event_of body) ≡ Ok read
     → unless_faulty (plan_faults read.workflow) (map planned_job read.workflow.jobs) ≡ Ok plan → plan ≡ plan_of body
 plan_of_run body read plan told planned =
-    sym (given (plan_faults read.workflow) (map planned_job read.workflow.jobs) plan planned)
-    ∙ ap (λ (e : Event). map planned_job e.workflow.jobs) (sym (given (event_faults body) (event_of body) read told))
+    sym (same_value (plan_faults read.workflow) (map planned_job read.workflow.jobs) plan planned)
+    ∙ ap (λ (e : Event). map planned_job e.workflow.jobs) (sym (same_value (event_faults body) (event_of body) read told))

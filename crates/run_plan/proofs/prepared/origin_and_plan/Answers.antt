@@ -3,7 +3,7 @@ use Rattle.wf_value.proofs.PassedOn.{passed_on}
 use Rattle.wf_reader.specs.Event.{event_faults, event_of}
 use Rattle.run_plan.specs.Origins.{IsOrigin}
 use Rattle.run_plan.specs.PlanOf.{plan_faults}
-use Rattle.run_plan.proofs.Faultless.{refused_too, given}
+use Rattle.wf_reader.proofs.InTurn.{first_decides, same_value}
 use Rattle.run_plan.proofs.Prepares.{refused_run, faultless_run, plan_of_run}
 use Rattle.run_plan.proofs.prepared.origin_and_plan.Goals as goal
 
@@ -11,7 +11,7 @@ pub returns-in_err-read-clause-gives : goal.returns-in_err-read-clause-gives
 returns-in_err-read-clause-gives c =
     let body = c.args.body.now in
     passed_on _ _ _ _ c.in_err-read.field-0.0 c.from_residual.ensures.1 c.in_err-read.ensures.gives
-    (λ refused. refused_too (event_faults body) (plan_faults (event_of body).workflow) (event_of body) _ c.in_err-read.field-0.0 refused)
+    (λ refused. first_decides (event_faults body) (plan_faults (event_of body).workflow) (event_of body) _ c.in_err-read.field-0.0 refused)
 
 pub returns-in_err-plan-clause-gives : goal.returns-in_err-plan-clause-gives
 returns-in_err-plan-clause-gives c =
@@ -29,5 +29,5 @@ returns-clause-gives c =
 pub returns-clause-origin : goal.returns-clause-origin
 returns-clause-origin c =
     let body = c.args.body.now in
-    subst (IsOrigin _) (sym (given (event_faults body) (event_of body) c.in_ok-read.read c.in_ok-read.ensures.gives))
+    subst (IsOrigin _) (sym (same_value (event_faults body) (event_of body) c.in_ok-read.read c.in_ok-read.ensures.gives))
     c.origin_and_jobs-origin.ensures.origin

@@ -1,8 +1,8 @@
 use Rattle.std.proofs.Common.{refl, sym}
 use Rattle.wf_value.proofs.PassedOn.{passed_on}
 use Rattle.run_plan.specs.PlanOf.{faults_of, plan_of}
-use Rattle.run_plan.proofs.Faultless.{faultless, given}
-use Rattle.run_plan.proofs.Prepares.{same_refusal}
+use Rattle.wf_reader.proofs.InTurn.{no_fault, same_value}
+use Rattle.wf_reader.proofs.Contents.{same_refusal}
 use Rattle.run_plan.proofs.prepared.prepare.Goals as goal
 
 pub returns-in_err-origin-clause-gives : goal.returns-in_err-origin-clause-gives
@@ -18,12 +18,12 @@ invariant_of-result c =
     let told = rw c.as_slice.ensures.value at c.in_ok-origin.ensures.gives in
     let from = rw c.as_slice.ensures.value at c.in_ok-origin.ensures.origin in
     rw c.in_ok-new.ensures.ok
-    (faultless (faults_of body) (plan_of body) _ told, from, sym (given (faults_of body) (plan_of body) _ told))
+    (no_fault (faults_of body) (plan_of body) _ told, from, sym (same_value (faults_of body) (plan_of body) _ told))
 
 pub returns-clause-gives : goal.returns-clause-gives
 returns-clause-gives c =
     let body = c.args.body.items in
     let told = rw c.as_slice.ensures.value at c.in_ok-origin.ensures.gives in
-    let none = faultless (faults_of body) (plan_of body) _ told in
+    let none = no_fault (faults_of body) (plan_of body) _ told in
     let kept = c.in_ok-new.ensures.ok in
     rw (none, kept) refl

@@ -1,6 +1,7 @@
-use Rattle.std.proofs.Common.{◌≡◌, ◌+◌, ◌++◌, ◌∷◌, ◌||◌, drop, refl, sym, ap, ◌∙◌}
+use Rattle.std.proofs.Common.{◌≡◌, ◌+◌, ◌++◌, ◌∷◌, ◌||◌, drop, refl, sym, ap, true, ◌∙◌}
+use Rattle.std.proofs.lemmas.Bool.{or_right}
 use Rattle.matrix_expand.specs.Numbered.{wanted_of}
-use Rattle.matrix_expand.proofs.Steps.{wanted_more, others_more, wanted_skips, others_found, pushed, or-true}
+use Rattle.matrix_expand.proofs.Steps.{wanted_more, others_more, wanted_skips, others_found, pushed}
 use Rattle.matrix_expand.proofs.pattern.Pattern.new.Goals as goal
 use Rattle.matrix_expand.proofs.pattern.Pattern.new.Goals.{in-Some+in_ok-push-in-Some, in-None}
 
@@ -28,7 +29,7 @@ loop-name-preserved c =
           let found = others_found axes items i item c.loop-name-test.true c.loop-name-item.is w.in-None.ensures.value in
           record {
             wanted = rw w.wanted-is (ap (λ ws. c.loop-name.wanted.items ++ ws) (sym skips) ∙ c.loop-name.invariant.wanted);
-            others = rw w.has_other-is (sym (or-true c.loop-name.has_other) ∙ ap (λ b. c.loop-name.has_other || b) (sym found)
+            others = rw w.has_other-is (sym (or_right c.loop-name.has_other true refl) ∙ ap (λ b. c.loop-name.has_other || b) (sym found)
                 ∙ c.loop-name.invariant.others);
           }
     ]
