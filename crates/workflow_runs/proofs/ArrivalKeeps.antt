@@ -4,7 +4,7 @@ use Rattle.std.specs.Prelude.{refl}
 use Rattle.std.specs.List.{AllByRecursion}
 use Rattle.std.specs.Option.{option_map_or}
 use Rattle.std.proofs.Common.{ap, inl, inr, sym, ◌∙◌}
-use Rattle.std.proofs.lemmas.Bool.{and_parts, eqb-true, eq-eqb, true≢false}
+use Rattle.std.proofs.lemmas.Bool.{and_from, and_parts, eq-eqb, eqb-true, true≢false}
 use Rattle.group_name.specs.Group.{Group}
 use Rattle.workflow_runs.specs.Arrivals.{arrived, displaced, others_pending, room_made, stopped_where_asked}
 use Rattle.workflow_runs.specs.GroupOf.{cancels_in_progress, group_at}
@@ -17,7 +17,7 @@ use Rattle.workflow_runs.specs.RunState.{RunState}
 use Rattle.workflow_runs.proofs.HoldersFade.{each_fades, holder_stop_fades, stop_ends_waiting}
 use Rattle.workflow_runs.proofs.HoldersKeep.{asked_settles, displaced_settles}
 use Rattle.workflow_runs.proofs.LeaseReads.{same_place}
-use Rattle.workflow_runs.proofs.OneEach.{Fades, besides_fades, both, each_holder, fades_not, fading_keeps, group_is, groups_stay}
+use Rattle.workflow_runs.proofs.OneEach.{Fades, besides_fades, each_holder, fades_not, fading_keeps, group_is, groups_stay}
 use Rattle.workflow_runs.proofs.OneEach.{one_that_waits, was_pending}
 use Rattle.workflow_runs.proofs.RunFits.{RunsFit}
 
@@ -38,8 +38,8 @@ holder_tested (Holder.a_leg p) (Holder.a_leg q) e = ap Holder.a_leg (place_teste
 pub itself : (h : Holder) → same_holder h h ≡ true
 itself (Holder.a_run r) = eq-eqb r r refl
 itself (Holder.a_leg p) =
-    both (nat_eq p.run p.run) (nat_eq p.job p.job && nat_eq p.leg p.leg) (eq-eqb p.run p.run refl)
-    (both (nat_eq p.job p.job) (nat_eq p.leg p.leg) (eq-eqb p.job p.job refl) (eq-eqb p.leg p.leg refl))
+    and_from (nat_eq p.run p.run) (nat_eq p.job p.job && nat_eq p.leg p.leg) (eq-eqb p.run p.run refl)
+    (and_from (nat_eq p.job p.job) (nat_eq p.leg p.leg) (eq-eqb p.job p.job refl) (eq-eqb p.leg p.leg refl))
 
 one_tested : (h k : Holder) (b : Bool) → same_holder h k ≡ b → (h ≡ k) ⊎ ((h ≡ k → ⊥) × (same_holder h k ≡ false))
 one_tested h k true e = inl (holder_tested h k e)
@@ -95,7 +95,7 @@ module _ (runs : List RunState) (fit : RunsFit runs) (newcomer : Holder) (g : Gr
             let test : Holder → Bool = λ k. is_pending_in runs g k && not (same_holder k newcomer) in
             let gone = each_filtered (λ k. waits next k ≡ false) test (all_holders runs)
             (each_waits_not (others_pending g newcomer runs) runs) in
-            let passes = both (is_pending_in runs g h) (not (same_holder h newcomer)) before (ap not other.1) in
+            let passes = and_from (is_pending_in runs g h) (not (same_holder h newcomer)) before (ap not other.1) in
             let parts = and_parts (is_in next g h) (waits next h) e in
             absurd (true≢false (sym parts.1
             ∙ each_holder (λ k. test k ≡ true → waits next k ≡ false) runs h gone

@@ -25,6 +25,7 @@ use Rattle.workflow_runs.specs.declared.phases.LegPhase.TheVariants as leg
 use Rattle.workflow_runs.specs.declared.phases.RunPhase.{RunPhase}
 use Rattle.workflow_runs.specs.declared.phases.RunPhase.TheVariants as run
 use Rattle.workflow_runs.proofs.ArrivalKeeps.{displaced_one_each, itself, still_its}
+use Rattle.workflow_runs.proofs.Optional.{some_of}
 use Rattle.workflow_runs.proofs.RunFits.{RunsFit, runs_fit}
 
 -- ---- what is stopped stays as it is when it is stopped again
@@ -150,10 +151,6 @@ arrived_in_none runs newcomer none =
 
 -- ---- where there is a group
 
-group_there : {X : Type 0} (o : Option X) → is_some o ≡ true → (x : X) × (o ≡ Some x)
-group_there None some = cc
-group_there (Some x) some = (x, refl)
-
 -- the first of those that are meant is stopped, if there is one
 abbrev pub first_stopped : List RunState → Holder → Whom → List RunState
 first_stopped runs newcomer whom = option_map_or (λ h. (stop_holder h runs).runs) (first_meant runs newcomer whom) runs
@@ -164,11 +161,11 @@ pub arrived_by_stops : (runs mid last : List RunState) (newcomer : Holder) (canc
     → mid ≡ first_stopped runs newcomer OthersPending → last ≡ (if cancels then first_stopped mid newcomer Running else mid)
     → last ≡ (arrived newcomer runs).runs
 arrived_by_stops runs mid last newcomer true grouped waiting sound one is first then_running =
-    let g = group_there (group_at runs newcomer) grouped in
+    let g = some_of (group_at runs newcomer) grouped in
     then_running
     ∙ ap (λ m. first_stopped m newcomer Running) (first ∙ the_pending_one_stopped runs newcomer g.0 g.1 waiting sound one)
     ∙ the_running_one_stopped runs newcomer g.0 g.1 waiting sound one
     ∙ arrived_in runs newcomer g.0 true g.1 is
 arrived_by_stops runs mid last newcomer false grouped waiting sound one is first same =
-    let g = group_there (group_at runs newcomer) grouped in
+    let g = some_of (group_at runs newcomer) grouped in
     same ∙ first ∙ the_pending_one_stopped runs newcomer g.0 g.1 waiting sound one ∙ arrived_in runs newcomer g.0 false g.1 is

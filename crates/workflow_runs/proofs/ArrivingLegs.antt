@@ -2,6 +2,7 @@
 use Rattle.std.specs.Prelude.{◌≡◌, List, true, false, Option, Some, None, if◌then◌else◌, refl}
 use Rattle.std.specs.Option.{option_map_or}
 use Rattle.std.proofs.Common.{ap, sym}
+use Rattle.std.proofs.lemmas.Bool.{false≢true}
 use Rattle.wf_value.specs.declared.outcome.Outcome.TheVariants as outcome
 use Rattle.workflow_runs.specs.Arrivals.{arrived, is_in_group_of_run}
 use Rattle.workflow_runs.specs.Groups.{HasOneBeside, HasOneEach, leg_waits, waits}
@@ -39,9 +40,6 @@ new_leg_there : (o : Option LegState) → option_map_or (λ l. is_new l.phase) o
 new_leg_there None e = cc
 new_leg_there (Some z) e = record { state = z; is = refl; new = new_phase z.phase e }
 
-bad : false ≡ true → ⊥
-bad e = cc
-
 module _ (runs : List RunState) (p : LegPlace) (new : is_new_at runs p ≡ true) where
   there : NewLeg (leg_at runs p)
   there = new_leg_there (leg_at runs p) new
@@ -61,7 +59,7 @@ module _ (runs : List RunState) (p : LegPlace) (new : is_new_at runs p ≡ true)
       let stay = (newcomer_waits runs p there.state fit there.is there.new).stay in
       let comes : Comes runs next (Holder.a_leg p) = record {
         waited = set_waits runs p there.state there.is (leg_in_phase leg.Waiting);
-        held = holds_before_leg (leg_in_phase leg.Waiting) p runs (λ v e. absurd (bad e));
+        held = holds_before_leg (leg_in_phase leg.Waiting) p runs (λ v e. absurd (false≢true e));
       } in
       newcomer_besides runs next (Holder.a_leg p) (groups_stay runs next fit stay) comes each
 

@@ -33,6 +33,7 @@ use Rattle.workflow_runs.specs.LegContext.{LegFacts, context_of, under}
 use Rattle.workflow_runs.specs.RunState.{RunState}
 use Rattle.workflow_runs.specs.declared.groups.Asked.{Asked}
 use Rattle.workflow_runs.proofs.BoundSays.{as_long, as_short}
+use Rattle.workflow_runs.proofs.Optional.{or_none}
 
 -- ---- flags
 
@@ -97,10 +98,6 @@ by_need results (Some k) later now sent is none nothing =
     ap (λ o. option_or (option_map (λ r. Text (result_word r)) o) sent) is
     ∙ ap (option_or (result_value (results k))) nothing
     ∙ or_none (result_value (results k))
-  where
-    or_none : (o : Option Scalar) → option_or o None ≡ o
-    or_none None = refl
-    or_none (Some x) = refl
 
 inner_by : (results : Results) (b : Bool) (found : Option ℕ) (later now : Option JobResult) (sent : Option Scalar)
     → later ≡ option_and_then results found → (found ≡ None → now ≡ None) → (b ≡ true → sent ≡ None)

@@ -12,7 +12,7 @@ use Rattle.std.specs.Str.{bytes_eq}
 use Rattle.std.specs.declared.cmp.Ordering.{Ordering}
 use Rattle.std.specs.declared.cmp.Ordering.TheVariants.{Less, Equal, Greater}
 use Rattle.std.proofs.Common.{arith, ap, ap₂, inl, inr, sym, subst, ◌∙◌}
-use Rattle.std.proofs.lemmas.Bool.{cases_Bool, cond-true, cond-false, false≢true}
+use Rattle.std.proofs.lemmas.Bool.{and_parts, cases_Bool, cond-false, cond-true, false≢true}
 use Rattle.std.proofs.lemmas.Cmp.{eq_by_cmp_equiv, nat_list_cmp_total, on_total, then_total}
 use Rattle.std.proofs.lemmas.List.Sums.{sum_by-append}
 use Rattle.std.proofs.lemmas.Map.Entries.{lookup_clone}
@@ -50,14 +50,6 @@ same_texts a b =
     tied (slice_cmp nat_cmp a.0 b.0) (slice_cmp nat_cmp a.1 b.1)
     ∙ ap (λ s. s && is_eq (slice_cmp nat_cmp a.1 b.1)) (is_eq-slice_cmp a.0 b.0)
     ∙ ap (λ s. bytes_eq a.0 b.0 && s) (is_eq-slice_cmp a.1 b.1)
-
-first_holds : (a b : Bool) → (a && b) ≡ true → a ≡ true
-first_holds true b both = refl
-first_holds false b both = both
-
-second_holds : (a b : Bool) → (a && b) ≡ true → b ≡ true
-second_holds true b both = both
-second_holds false b both = absurd (false≢true both)
 
 -- what is found in a copy
 pub same_found : {X : Type 0} (D : X → X → Type 0) → ((m n : X) → D m n → n ≡ m) → (old new : Option X)
@@ -97,8 +89,8 @@ module _ (old new : BTreeMap Workflow ℕ) (a : Texts) (number : ℕ)
       let alike = bytes_eq b.0 a.0 && bytes_eq b.1 a.1 in
       elim (cases_Bool alike) [
         | inl both ↦
-            let repo = (bytes_eq-Decides b.0 a.0).0 (first_holds (bytes_eq b.0 a.0) (bytes_eq b.1 a.1) both) in
-            let path = (bytes_eq-Decides b.1 a.1).0 (second_holds (bytes_eq b.0 a.0) (bytes_eq b.1 a.1) both) in
+            let repo = (bytes_eq-Decides b.0 a.0).0 (and_parts (bytes_eq b.0 a.0) (bytes_eq b.1 a.1) both).0 in
+            let path = (bytes_eq-Decides b.1 a.1).0 (and_parts (bytes_eq b.0 a.0) (bytes_eq b.1 a.1) both).1 in
             subst (λ (x : List ℕ). count_at new (x, b.1) ≡ count_at old (x, b.1) + 1) (sym repo)
             (subst (λ (x : List ℕ). count_at new (a.0, x) ≡ count_at old (a.0, x) + 1) (sym path) (at_itself ∙ is))
             ∙ sym (cond-true alike (count_at old b + 1) (count_at old b) both)
@@ -111,8 +103,8 @@ module _ (old new : BTreeMap Workflow ℕ) (a : Texts) (number : ℕ)
       let alike = bytes_eq b.0 a.0 && bytes_eq b.1 a.1 in
       elim (cases_Bool alike) [
         | inl both ↦
-            let repo = (bytes_eq-Decides b.0 a.0).0 (first_holds (bytes_eq b.0 a.0) (bytes_eq b.1 a.1) both) in
-            let path = (bytes_eq-Decides b.1 a.1).0 (second_holds (bytes_eq b.0 a.0) (bytes_eq b.1 a.1) both) in
+            let repo = (bytes_eq-Decides b.0 a.0).0 (and_parts (bytes_eq b.0 a.0) (bytes_eq b.1 a.1) both).0 in
+            let path = (bytes_eq-Decides b.1 a.1).0 (and_parts (bytes_eq b.0 a.0) (bytes_eq b.1 a.1) both).1 in
             subst (λ (x : List ℕ). count_at new (x, b.1) ≡ count_at old (x, b.1)) (sym repo)
             (subst (λ (x : List ℕ). count_at new (a.0, x) ≡ count_at old (a.0, x)) (sym path)
             (at_itself ∙ is ∙ sym (ap (λ (o : Option ℕ). unwrap_or o 0) none)))

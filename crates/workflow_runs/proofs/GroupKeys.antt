@@ -5,7 +5,7 @@ use Rattle.std.specs.Fmt.{decimal}
 use Rattle.std.specs.Option.{option_map_or}
 use Rattle.std.proofs.Common.{ap, sym, ◌∙◌}
 use Rattle.std.proofs.lemmas.Bool.{ltb-false}
-use Rattle.std.proofs.lemmas.Option.{slice_get-map, slice_get_past}
+use Rattle.std.proofs.lemmas.Option.{same_Some, slice_get-map, slice_get_past}
 use Rattle.wf_reader.specs.Event.{event_of}
 use Rattle.wf_reader.specs.declared.concurrency.Concurrency.{Concurrency}
 use Rattle.wf_value.specs.declared.refusal.Refusal.{Refusal}
@@ -60,15 +60,12 @@ pub has_number : (runs : List RunState) (r : ℕ) (x : RunState) → run_at runs
     → None ≡ option_map (run_number (events runs) r) (slice_get (events runs) r) → ⊥
 has_number runs r x at none = let no : None ≡ Some (run_number (events runs) r x.admitted) = none ∙ numbered runs r x at in cc
 
-some_number : (n m : ℕ) → Some n ≡ Some m → n ≡ m
-some_number n m e = cc
-
 pub group_of_that_run : (runs : List RunState) (r : ℕ) (x : RunState) (event : Admitted) (number : ℕ) → run_at runs r ≡ Some x
     → event ≡ x.admitted → Some number ≡ option_map (run_number (events runs) r) (slice_get (events runs) r)
     → run_group (record { event = event; run_id = decimal (r + 1); run_number = decimal number }) ≡ group_at runs (Holder.a_run r)
 unfolding group_at
 group_of_that_run runs r x event number at same count =
-    let n = some_number number (run_number (events runs) r x.admitted) (count ∙ numbered runs r x at) in
+    let n = same_Some number (run_number (events runs) r x.admitted) (count ∙ numbered runs r x at) in
     ap (λ e. run_group (record { event = e; run_id = decimal (r + 1); run_number = decimal number })) same
     ∙ ap (λ m. run_group (record { event = x.admitted; run_id = decimal (r + 1); run_number = decimal m })) n
     ∙ sym (ap (option_and_then run_group) (run_told runs r x at))

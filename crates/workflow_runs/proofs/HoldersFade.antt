@@ -3,6 +3,7 @@ use Rattle.std.specs.Prelude.{◌≡◌, ℕ, zero, suc, List, [], ◌∷◌, �
 use Rattle.std.specs.Prelude.{option_and_then, slice_get, if◌then◌else◌, refl}
 use Rattle.std.specs.Option.{option_map_or}
 use Rattle.std.proofs.Common.{ap, sym, ◌∙◌}
+use Rattle.std.proofs.lemmas.Bool.{false≢true}
 use Rattle.std.proofs.lemmas.Option.{slice_get-map}
 use Rattle.wf_value.specs.declared.outcome.JobResult.TheVariants as result
 use Rattle.workflow_runs.specs.FirstOf.{changed_at, placed}
@@ -224,10 +225,7 @@ stop_weakens test weak j l run.Ended x e = e
 -- what a stop leaves of the phase of a run
 phase_of_stopped : (phase : RunPhase) (test : RunPhase → Bool) → test run.Ended ≡ false → (x : RunState)
     → test (stopped_in phase x).phase ≡ true → test x.phase ≡ true
-phase_of_stopped run.Waiting test not_ended x e = absurd (none (sym not_ended ∙ e))
-  where
-    none : false ≡ true → ⊥
-    none bad = cc
+phase_of_stopped run.Waiting test not_ended x e = absurd (false≢true (sym not_ended ∙ e))
 phase_of_stopped run.Live test not_ended x e =
     elim (x.stopping) as (λ b. test (if b then x else told_to_stop x).phase ≡ true → test x.phase ≡ true) [
       | true ↦ λ now. now

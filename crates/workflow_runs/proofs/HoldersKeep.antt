@@ -22,7 +22,7 @@ use Rattle.workflow_runs.proofs.StopKeeps.{lease_still_fits, same_work, stopped_
 
 -- ---- a run
 
-no_run : (o : Option RunState) (x y : RunState) → o ≡ None → o ≡ Some x → y ≡ x
+pub no_run : (o : Option RunState) (x y : RunState) → o ≡ None → o ≡ Some x → y ≡ x
 no_run o x y none some = cc
 
 pub run_stop_settles : (runs : List RunState) (r : ℕ) → RunsFit runs → Settles runs (with_run r stopped_run runs)

@@ -10,7 +10,7 @@ use Rattle.std.proofs.Common.{arith, ap, inl, inr, sym, subst, ◌∙◌, get_or
 use Rattle.std.proofs.lemmas.Bool.{cases_Bool, cases_eq, true≢false}
 use Rattle.std.proofs.lemmas.List.{length-map, map-append}
 use Rattle.std.proofs.lemmas.List.Quantifiers.{position-Some}
-use Rattle.std.proofs.lemmas.Option.{get_or_from_slice_get, slice_get-get_or, slice_get-map, slice_get_within}
+use Rattle.std.proofs.lemmas.Option.{get_or_from_slice_get, none-some, same_Some, slice_get-get_or, slice_get-map, slice_get_within}
 use Rattle.std.proofs.lemmas.Slice.Eq.{bytes_eq-Decides}
 use Rattle.wf_value.specs.declared.refusal.Refusal.{Refusal}
 use Rattle.run_plan.specs.Admitted.{Admitted}
@@ -83,12 +83,6 @@ is_first runs d r e =
 
 -- ---- what is found by the kept places
 
-some_place : (a b : ℕ) → Some a ≡ Some b → a ≡ b
-some_place a b e = cc
-
-none_is_kept : (r : ℕ) → None ≡ Some r → ⊥
-none_is_kept r e = cc
-
 module _ (items runs : List RunState) (places : Places) (d : List ℕ) (same : items ≡ runs) (of_items : FindsFirst (events items) places)
   where
     abbrev place : Option ℕ
@@ -101,7 +95,7 @@ module _ (items runs : List RunState) (places : Places) (d : List ℕ) (same : i
     found_nothing none =
         elim place as (λ o. place ≡ o → o ≡ None) [
           | None ↦ λ is. refl
-          | Some r ↦ λ is. absurd (none_is_kept r (sym none ∙ of_runs d r (is_first runs d r is)))
+          | Some r ↦ λ is. absurd (none-some r (sym none ∙ of_runs d r (is_first runs d r is)))
         ] refl
 
     pub found_there : (p : ℕ) → get_by_text places d ≡ Some p → option_map_or (is_delivered_as d) (slice_get runs p) false ≡ true
@@ -130,7 +124,7 @@ module _ (items runs : List RunState) (places : Places) (d : List ℕ) (same : i
           | None ↦ λ is. refl
           | Some r ↦ λ is.
               let found = first_one (is_delivered_as d) runs r is in
-              let same : p ≡ r = some_place p r (sym kept ∙ of_runs d r (is_first runs d r is)) in
+              let same : p ≡ r = same_Some p r (sym kept ∙ of_runs d r (is_first runs d r is)) in
               absurd
               (true≢false
               (sym (ap (λ o. option_map_or (is_delivered_as d) o false) (ap (slice_get runs) same ∙ found.at) ∙ found.passes) ∙ there))

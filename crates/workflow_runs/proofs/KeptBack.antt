@@ -3,7 +3,7 @@ use Rattle.std.specs.Prelude.{◌≡◌, ℕ, zero, suc, List, [], ◌∷◌, �
 use Rattle.std.specs.List.{list_any}
 use Rattle.std.specs.Option.{option_map_or}
 use Rattle.std.proofs.Common.{ap, sym, ◌∙◌}
-use Rattle.std.proofs.lemmas.Bool.{and_parts}
+use Rattle.std.proofs.lemmas.Bool.{and_from, and_parts, both_ways, not-false}
 use Rattle.group_name.specs.Group.{Group}
 use Rattle.workflow_runs.specs.FirstOf.{changed_at}
 use Rattle.workflow_runs.specs.GroupOf.{group_at}
@@ -14,7 +14,7 @@ use Rattle.workflow_runs.specs.StateWords.{is_live}
 use Rattle.workflow_runs.specs.RunState.{LegState, JobState, RunState}
 use Rattle.workflow_runs.proofs.HoldersFade.{by_run, job_passes, leg_passes, passes, run_passes}
 use Rattle.workflow_runs.proofs.JobKeeps.{with_job_of, with_leg_of}
-use Rattle.workflow_runs.proofs.OneEach.{GroupsStay, IsOneOf, both, not_taken, one_that_holds}
+use Rattle.workflow_runs.proofs.OneEach.{GroupsStay, IsOneOf, not_taken, one_that_holds}
 use Rattle.workflow_runs.proofs.RunFits.{job_in_run, leg_in_job}
 
 -- ---- who holds a group
@@ -48,7 +48,7 @@ module _ (runs next : List RunState) (stays : GroupsStay runs next) (still : Sti
   still_runs g h e =
       let parts = and_parts (is_in runs g h) (holds runs h) e in
       let group = in_group g (group_at runs h) parts.0 in
-      both (is_in next g h) (holds next h)
+      and_from (is_in next g h) (holds next h)
       (ap (λ o. option_map_or (same_group g) o false) (stays h (one_that_holds runs h parts.1)) ∙ parts.0) (still h group.0 group.1 parts.1)
 
   still_taken : (g : Group) → is_taken runs g ≡ true → is_taken next g ≡ true
@@ -62,11 +62,7 @@ module _ (runs next : List RunState) (stays : GroupsStay runs next) (still : Sti
   back_from : (o : Option Group) → option_map_or (λ g. not (is_taken runs g)) o true ≡ false
       → option_map_or (λ g. not (is_taken next g)) o true ≡ false
   back_from None e = cc
-  back_from (Some g) e = ap not (still_taken g (was_not (is_taken runs g) e))
-    where
-      was_not : (b : Bool) → not b ≡ false → b ≡ true
-      was_not true e = refl
-      was_not false e = cc
+  back_from (Some g) e = ap not (still_taken g (not-false (is_taken runs g) e))
 
   pub kept_back : KeepsBack runs next
   kept_back h there e =
@@ -112,12 +108,9 @@ pub leg_still_holds : (runs : List RunState) (p : LegPlace) (z : LegState) (f : 
 leg_still_holds runs p z f was held_not =
     job_still_holds runs p.run p.job (with_leg_of p.leg f)
     (λ y at l now. passed_on (leg_passes leg_holds) f p.leg y.legs
-    (λ v is holding. absurd (false_true (leg_holds z.phase) held_not
+    (λ v is holding. absurd (both_ways (leg_holds z.phase) held_not
     (subst_held v z (same_leg (sym was ∙ leg_in_job runs p y at ∙ is)) holding))) l now)
   where
-    false_true : (b : Bool) → b ≡ false → b ≡ true → ⊥
-    false_true b e f = let bad : false ≡ true = sym e ∙ f in cc
-
     same_leg : {x y : LegState} → Some x ≡ Some y → x ≡ y
     same_leg e = cc
 

@@ -3,6 +3,8 @@ use Rattle.std.specs.Prelude.{◌≡◌, ◌⊎◌, ℕ, ◌+◌, ◌≤◌, Lis
 use Rattle.std.specs.Str.{bytes_eq}
 use Rattle.std.proofs.Common.{arith, ap, sym, ◌∙◌, inl, inr}
 use Rattle.std.proofs.lemmas.Bool.{cases_eq, true≢false}
+use Rattle.std.proofs.lemmas.Option.{none-some}
+pub use Rattle.std.proofs.lemmas.Option.{none-some as none_is_not_some}
 use Rattle.std.proofs.lemmas.Slice.Eq.{bytes_eq-Decides}
 use Rattle.workflow_runs.specs.Places.{LegPlace}
 
@@ -29,9 +31,6 @@ names_same a b =
       | true ↦ λ is. inl ((bytes_eq-Decides a b).0 is)
       | false ↦ λ is. inr (λ same. true≢false (sym ((bytes_eq-Decides a b).1 same) ∙ is))
     ] refl
-
-pub none_is_not_some : (n : ℕ) → None ≡ Some n → ⊥
-none_is_not_some n e = cc
 
 -- `had` is the lease of a leg, `works` the lease of a leg that a runner is at work on, `holds` the lease that the runner of a name
 -- holds
@@ -75,7 +74,7 @@ read_elsewhere : {P : Type 0} → ((p q : P) → (p ≡ q) ⊎ (p ≡ q → ⊥)
     → ChangesAt before after at None → (p : P) (n : ℕ) → after p ≡ Some n → (p ≡ at → ⊥) × (before p ≡ Some n)
 read_elsewhere one_or_another before after at change p n e =
     elim (one_or_another p at) [
-      | inl s ↦ absurd (none_is_not_some n (sym change.here ∙ ap after (sym s) ∙ e))
+      | inl s ↦ absurd (none-some n (sym change.here ∙ ap after (sym s) ∙ e))
       | inr s ↦ (s, sym (change.elsewhere p s) ∙ e)
     ]
 
@@ -109,7 +108,7 @@ module _ (last : ℕ) (had works had' works' : LegPlace → Option ℕ) (holds h
         | inl s ↦ (runner, r.here ∙ sym w.here ∙ ap works' (sym s) ∙ e)
         | inr s ↦
             let (k, f) = agree.work_is_held p n (sym (w.elsewhere p s) ∙ e) in
-            (k, r.elsewhere k (λ t. none_is_not_some n (sym free_runner ∙ ap holds (sym t) ∙ f)) ∙ f)
+            (k, r.elsewhere k (λ t. none-some n (sym free_runner ∙ ap holds (sym t) ∙ f)) ∙ f)
       ]
 
   held_is_work' : (k : List ℕ) (n : ℕ) → holds' k ≡ Some n → (p : LegPlace) × (works' p ≡ Some n)
@@ -118,7 +117,7 @@ module _ (last : ℕ) (had works had' works' : LegPlace → Option ℕ) (holds h
         | inl s ↦ (at, w.here ∙ sym r.here ∙ ap holds' (sym s) ∙ e)
         | inr s ↦
             let (p, f) = agree.held_is_work k n (sym (r.elsewhere k s) ∙ e) in
-            (p, w.elsewhere p (λ t. none_is_not_some n (sym free_leg ∙ ap had (sym t) ∙ agree.work_is_had p n f)) ∙ f)
+            (p, w.elsewhere p (λ t. none-some n (sym free_leg ∙ ap had (sym t) ∙ agree.work_is_had p n f)) ∙ f)
       ]
 
   new_not_held : (k : List ℕ) → holds k ≡ Some (last + 1) → ⊥

@@ -102,7 +102,7 @@ passes_told runs p =
 abbrev KeepResults : List (Option JobResult) → List (Option JobResult) → Type 0
 KeepResults before after = (k : ℕ) (r : JobResult) → slice_index_or before k None ≡ Some r → slice_index_or after k None ≡ Some r
 
-result_kept : (o u : Option JobResult) → is_some o ≡ true → ((r : JobResult) → o ≡ Some r → u ≡ Some r) → u ≡ o
+pub result_kept : (o u : Option JobResult) → is_some o ≡ true → ((r : JobResult) → o ≡ Some r → u ≡ Some r) → u ≡ o
 result_kept None u some kept = cc
 result_kept (Some r) u some kept = kept r refl
 

@@ -5,7 +5,7 @@ use Rattle.std.specs.Prelude.{Option, Some, None, IfSome, option_map, option_and
 use Rattle.std.specs.List.{AllByRecursion, list_any, range_with_len, slice_index_or}
 use Rattle.std.specs.Option.{option_map_or, option_or}
 use Rattle.std.proofs.Common.{arith, ap, sym, ◌∙◌, inl, inr, subst}
-use Rattle.std.proofs.lemmas.Bool.{and_parts, cases_eq, cases_lt, eqb-false}
+use Rattle.std.proofs.lemmas.Bool.{and_from, and_parts, cases_eq, cases_lt, eqb-false, or_parts}
 use Rattle.std.proofs.lemmas.List.{get_or_past}
 use Rattle.wf_value.specs.declared.outcome.JobResult.{JobResult}
 use Rattle.needs_graph.specs.Ancestors.{dependents_of, needs_at}
@@ -32,7 +32,7 @@ use Rattle.workflow_runs.proofs.Firsts.{first_at}
 use Rattle.workflow_runs.proofs.Found.{all_weaken, placed_get}
 use Rattle.workflow_runs.proofs.KeptBack.{KeepsBack}
 use Rattle.workflow_runs.proofs.NeedsSettled.{result_among}
-use Rattle.workflow_runs.proofs.Optional.{from_and_then, if_some}
+use Rattle.workflow_runs.proofs.Optional.{from_and_then, if_none, if_some, or_nothing}
 use Rattle.workflow_runs.proofs.QuietRules.{IsAt, quiet_at_job, quiet_in_run, quiet_keeps_back}
 use Rattle.workflow_runs.proofs.RunFits.{RunsFit, job_in_run, leg_in_job}
 use Rattle.workflow_runs.proofs.Walks.{first_place_by_run}
@@ -123,21 +123,14 @@ place_found runs p e =
 abbrev SameBut : ℕ → List (Option JobResult) → List (Option JobResult) → Type 0
 SameBut j news olds = (i : ℕ) → (i ≡ j → ⊥) → slice_index_or news i None ≡ slice_index_or olds i None
 
-or_neither : (a b : Bool) → (a || b) ≡ false → (a ≡ false) × (b ≡ false)
-or_neither true b e = cc
-or_neither false b e = (refl, e)
-
-both : (a b : Bool) → a ≡ true → b ≡ true → (a && b) ≡ true
-both a b h k = ap (λ x. x && b) h ∙ k
-
 -- a job that does not need it
 had_all : (j : ℕ) (news olds : List (Option JobResult)) → SameBut j news olds → (places : List ℕ) → list_any (nat_eq j) places ≡ false
     → all_have_results news places ≡ true → all_have_results olds places ≡ true
 had_all j news olds same [] apart have = refl
 had_all j news olds same (p ∷ ps) apart have =
-    let not_it = or_neither (nat_eq j p) (list_any (nat_eq j) ps) apart in
+    let not_it = or_parts (nat_eq j p) (list_any (nat_eq j) ps) apart in
     let had = and_parts (is_some (slice_index_or news p None)) (all_have_results news ps) have in
-    both (is_some (slice_index_or olds p None)) (all_have_results olds ps)
+    and_from (is_some (slice_index_or olds p None)) (all_have_results olds ps)
     (ap is_some (sym (same p (λ e. eqb-false j p not_it.0 (sym e)))) ∙ had.0) (had_all j news olds same ps not_it.1 had.1)
 
 no_result : (news : List (Option JobResult)) (j p : ℕ) → p ≡ j → is_some (slice_index_or news j None) ≡ false
@@ -150,7 +143,7 @@ had_without : (j : ℕ) (news olds : List (Option JobResult)) → SameBut j news
 had_without j news olds same none [] have = refl
 had_without j news olds same none (p ∷ ps) have =
     let had = and_parts (is_some (slice_index_or news p None)) (all_have_results news ps) have in
-    both (is_some (slice_index_or olds p None)) (all_have_results olds ps)
+    and_from (is_some (slice_index_or olds p None)) (all_have_results olds ps)
     (ap is_some (sym (same p (λ e. no_result news j p e none had.0))) ∙ had.0) (had_without j news olds same none ps had.1)
 
 -- ---- the first job that needs it
@@ -217,16 +210,8 @@ module _ (x : RunState) (j : ℕ) (change : JobState → JobState) where
 
 -- ---- what has no rule has none after a change that keeps back who was kept back
 
-or_nothing : {X : Type 0} (a b : Option X) → option_or a b ≡ None → (a ≡ None) × (b ≡ None)
-or_nothing None b e = (refl, e)
-or_nothing (Some x) b e = cc
-
 or_neither_some : {X : Type 0} (a b : Option X) → a ≡ None → b ≡ None → option_or a b ≡ None
 or_neither_some a b e f = ap (λ o. option_or o b) e ∙ f
-
-if_nothing : {X : Type 0} (b : Bool) (x : X) → (if b then Some x else None) ≡ None → b ≡ false
-if_nothing true x e = cc
-if_nothing false x e = refl
 
 nothing_if : {X : Type 0} (b : Bool) (x : X) → b ≡ false → (if b then Some x else None) ≡ None
 nothing_if b x e = ap (λ c. if c then Some x else None) e
@@ -275,7 +260,7 @@ module _ (runs next : List RunState) (keeps : KeepsBack runs next) where
       (λ l z was none.
       nothing_if (goes_on next (leg_place r j l) z) (AtLeg (leg_place r j l))
       (leg_rests z.phase r j l z (leg_in_job runs (leg_place r j l) y at ∙ was)
-      (if_nothing (goes_on runs (leg_place r j l) z) (AtLeg (leg_place r j l)) none))) parts.0)
+      (if_none (goes_on runs (leg_place r j l) z) (AtLeg (leg_place r j l)) none))) parts.0)
       parts.1
 
   -- a job whose needs have not settled since
@@ -305,7 +290,7 @@ module _ (runs next : List RunState) (keeps : KeepsBack runs next) where
       or_neither_some (if is_live x.phase then first_in_jobs next r x x.jobs else None) (first_of_whole next r x)
       (jobs_of_run_rest r x (is_live x.phase) at parts.0)
       (nothing_if (whole_goes_on_in x.phase next r x) (Whole r)
-      (whole_rests x.phase r x at (if_nothing (whole_goes_on_in x.phase runs r x) (Whole r) parts.1)))
+      (whole_rests x.phase r x at (if_none (whole_goes_on_in x.phase runs r x) (Whole r) parts.1)))
 
   -- the runs before the place's own are as they were
   pub runs_rest : (r : ℕ) → ((k : ℕ) → k < r → run_at next k ≡ run_at runs k) → NoneBefore (first_in_run runs) runs r

@@ -3,6 +3,7 @@ use Rattle.std.specs.Prelude.{◌≡◌, ℕ, zero, suc, List, [], ◌∷◌, Bo
 use Rattle.std.specs.Prelude.{option_map, option_and_then, slice_get, if◌then◌else◌, refl}
 use Rattle.std.specs.List.{list_all}
 use Rattle.std.proofs.Common.{ap, subst, sym, ◌∙◌}
+use Rattle.std.proofs.lemmas.Option.{same_Some}
 use Rattle.needs_graph.specs.Results.{conclusion_of}
 use Rattle.workflow_runs.specs.FirstOf.{changed_at}
 use Rattle.workflow_runs.specs.Arrivals.{started}
@@ -21,9 +22,7 @@ use Rattle.workflow_runs.specs.declared.phases.RunPhase.{RunPhase}
 use Rattle.workflow_runs.specs.declared.phases.RunPhase.TheVariants as run
 use Rattle.workflow_runs.specs.declared.place.Place.{Place}
 use Rattle.workflow_runs.proofs.Optional.{from_map}
-
-some_same : {X : Type 0} (x y : X) → Some x ≡ Some y → x ≡ y
-some_same x y h = cc
+use Rattle.workflow_runs.proofs.Found.{find_passes}
 
 -- two changes that do the same where they are made
 pub changed_same : {X : Type 0} (xs : List X) (i : ℕ) (f g : X → X) → ((x : X) → slice_get xs i ≡ Some x → f x ≡ g x)
@@ -52,7 +51,7 @@ with_leg_same runs p f g same =
 -- the leg that was read, changed and put back
 pub with_leg_read : (runs : List RunState) (p : LegPlace) (x : LegState) (f : LegState → LegState) → leg_at runs p ≡ Some x
     → with_leg p (λ _. f x) runs ≡ with_leg p f runs
-with_leg_read runs p x f at = with_leg_same runs p (λ _. f x) f (λ leg is. ap f (some_same x leg (sym at ∙ is)))
+with_leg_read runs p x f at = with_leg_same runs p (λ _. f x) f (λ leg is. ap f (same_Some x leg (sym at ∙ is)))
 
 nothing_there : (x y : LegState) → None ≡ Some x → y ≡ x
 nothing_there x y h = cc
@@ -146,17 +145,6 @@ ended_run_moved runs new r x at is =
 
 -- ---- the rule at the first place
 
-nothing_found : {X : Type 0} (b : Bool) (x : X) → None ≡ Some x → b ≡ true
-nothing_found b x is = cc
-
-found_passes : {X : Type 0} (test : X → Bool) (xs : List X) (x : X) → find test xs ≡ Some x → test x ≡ true
-found_passes test [] x is = nothing_found (test x) x is
-found_passes test (y ∷ ys) x is =
-    elim (test y) as (λ b. test y ≡ b → (if b then Some y else find test ys) ≡ Some x → test x ≡ true) [
-      | true ↦ λ at was. ap test (sym (some_same y x was)) ∙ at
-      | false ↦ λ at was. found_passes test ys x was
-    ] refl is
-
 rule_taken : (new : List RunState) (o : Option Moved) → is_some o ≡ true → IfSome o (λ next. new ≡ next.runs)
     → option_map (λ (m : Moved). m.runs) o ≡ Some new
 rule_taken new None some so = cc
@@ -166,4 +154,4 @@ pub first_rule_taken : (runs new : List RunState) (place : Place) → first_plac
     → IfSome (rule_at runs place) (λ next. new ≡ next.runs) → option_map (λ (m : Moved). m.runs) (first_rule runs) ≡ Some new
 first_rule_taken runs new place is so =
     ap (λ o. option_map (λ (m : Moved). m.runs) (option_and_then (rule_at runs) o)) is
-    ∙ rule_taken new (rule_at runs place) (found_passes (applies runs) (places runs) place is) so
+    ∙ rule_taken new (rule_at runs place) (find_passes (applies runs) (places runs) place is) so

@@ -5,7 +5,7 @@ use Rattle.std.specs.Prelude.{option_map, option_and_then, slice_get, refl}
 use Rattle.std.specs.List.{slice_index_or}
 use Rattle.std.specs.Option.{option_map_or}
 use Rattle.std.proofs.Common.{ap, sym, ◌∙◌, get_or}
-use Rattle.std.proofs.lemmas.Bool.{and_parts}
+use Rattle.std.proofs.lemmas.Bool.{and_from, and_parts}
 use Rattle.std.proofs.lemmas.Option.{slice_get-get_or}
 use Rattle.wf_value.specs.declared.condition.Condition.{Condition}
 use Rattle.wf_value.specs.declared.condition.Condition.TheVariants as condition
@@ -106,16 +106,13 @@ still_some : (o next : Option JobResult) → ((a : JobResult) → o ≡ Some a �
 still_some None next keeps h = cc
 still_some (Some a) next keeps h = ap is_some (keeps a refl)
 
-both_true : (a b : Bool) → a ≡ true → b ≡ true → (a && b) ≡ true
-both_true a b h k = ap (λ x. x && b) h ∙ k
-
 all_still : (results next : List (Option JobResult))
     → ((j : ℕ) (a : JobResult) → slice_index_or results j None ≡ Some a → slice_index_or next j None ≡ Some a) → (places : List ℕ)
     → all_have_results results places ≡ true → all_have_results next places ≡ true
 all_still results next keeps [] h = refl
 all_still results next keeps (p ∷ ps) h =
     let both = and_parts (is_some (slice_index_or results p None)) (all_have_results results ps) h in
-    both_true (is_some (slice_index_or next p None)) (all_have_results next ps)
+    and_from (is_some (slice_index_or next p None)) (all_have_results next ps)
     (still_some (slice_index_or results p None) (slice_index_or next p None) (keeps p) both.0) (all_still results next keeps ps both.1)
 
 abbrev needs_of_admitted : Option Admitted → List (List ℕ)

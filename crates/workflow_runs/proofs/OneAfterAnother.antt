@@ -6,7 +6,7 @@ use Rattle.std.specs.Bool.{Decides}
 use Rattle.std.proofs.Common.{arith, ap, ap₂, sym, subst, ◌∙◌, get_or, below_more}
 use Rattle.std.proofs.lemmas.Bool.{true≢false}
 use Rattle.std.proofs.lemmas.List.{map-append, take_more}
-use Rattle.std.proofs.lemmas.Option.{get_or_from_slice_get, slice_get_within, slice_get-get_or, slice_get-map}
+use Rattle.std.proofs.lemmas.Option.{get_or_from_slice_get, same_Some, slice_get-get_or, slice_get-map, slice_get_within}
 use Rattle.workflow_runs.proofs.Optional.{from_map}
 
 -- ---- tests
@@ -29,9 +29,6 @@ SoFar P xs n = (k : ℕ) → k < n → (x : _) → slice_get xs k ≡ Some x →
 abbrev pub OfEach : {X : Type 0} → (ℕ → X → Type 0) → List X → Type 0
 OfEach P xs = (k : ℕ) (x : _) → slice_get xs k ≡ Some x → P k x
 
-some_same : {X : Type 0} (x y : X) → Some x ≡ Some y → x ≡ y
-some_same x y e = cc
-
 pub none_yet : {X : Type 0} (P : ℕ → X → Type 0) (xs : List X) → SoFar P xs 0
 none_yet P xs k lt = absurd (omega arith)
 
@@ -42,7 +39,7 @@ pub one_passed : {X : Type 0} (P : ℕ → X → Type 0) (xs : List X) (i : ℕ)
     → SoFar P xs (i + 1)
 one_passed {X} P xs i y before lt is p =
     below_more (λ k. (x : X) → slice_get xs k ≡ Some x → P k x) i before
-    (λ x at. subst (P i) (some_same y x (sym (read_at xs i y lt is) ∙ at)) p)
+    (λ x at. subst (P i) (same_Some y x (sym (read_at xs i y lt is) ∙ at)) p)
 
 pub all_passed : {X : Type 0} (P : ℕ → X → Type 0) (xs : List X) (n : ℕ) → SoFar P xs n → length xs ≤ n → OfEach P xs
 all_passed P xs n before le k x at = let lt = slice_get_within xs k x at in before k (omega arith) x at

@@ -3,7 +3,8 @@ use Rattle.std.specs.Prelude.{◌≡◌, ℕ, List, [], ◌∷◌, ◌&&◌, ◌
 use Rattle.std.specs.List.{AllByRecursion, list_any}
 use Rattle.std.specs.Option.{option_map_or}
 use Rattle.std.proofs.Common.{ap, ap₂, inl, inr, sym, ◌∙◌}
-use Rattle.std.proofs.lemmas.Bool.{and_parts, true≢false}
+use Rattle.std.proofs.lemmas.Bool.{and_from, and_parts, not-true, true≢false}
+pub use Rattle.std.proofs.lemmas.Bool.{and_from as both}
 use Rattle.std.proofs.lemmas.Slice.Eq.{bytes_eq-Decides}
 use Rattle.group_name.specs.Group.{Group}
 use Rattle.workflow_runs.specs.FirstOf.{placed}
@@ -84,18 +85,15 @@ fades_not runs = record { waited = (λ h e. e); held = (λ h e. e) }
 pub fades_on : (a b c : List RunState) → Fades a b → Fades b c → Fades a c
 fades_on a b c f g = record { waited = (λ h e. f.waited h (g.waited h e)); held = (λ h e. f.held h (g.held h e)) }
 
-pub both : (a b : Bool) → a ≡ true → b ≡ true → (a && b) ≡ true
-both a b e f = ap (λ x. x && b) e ∙ f
-
 module _ (runs next : List RunState) (stays : GroupsStay runs next) where
   pub was_in : (g : Group) (h : Holder) → IsOneOf runs h → is_in next g h ≡ true → is_in runs g h ≡ true
   was_in g h there e = ap (λ o. option_map_or (same_group g) o false) (sym (stays h there)) ∙ e
 
   pub pended : (g : Group) (h : Holder) → waits runs h ≡ true → is_in next g h ≡ true → is_pending_in runs g h ≡ true
-  pended g h waited e = both (is_in runs g h) (waits runs h) (was_in g h (one_that_waits runs h waited) e) waited
+  pended g h waited e = and_from (is_in runs g h) (waits runs h) (was_in g h (one_that_waits runs h waited) e) waited
 
   pub ran : (g : Group) (h : Holder) → holds runs h ≡ true → is_in next g h ≡ true → is_running_in runs g h ≡ true
-  ran g h held e = both (is_in runs g h) (holds runs h) (was_in g h (one_that_holds runs h held) e) held
+  ran g h held e = and_from (is_in runs g h) (holds runs h) (was_in g h (one_that_holds runs h held) e) held
 
 module _ (runs next : List RunState) (stays : GroupsStay runs next) (fades : Fades runs next) where
   pub was_pending : (g : Group) (h : Holder) → is_pending_in next g h ≡ true → is_pending_in runs g h ≡ true
@@ -141,16 +139,12 @@ not_taken runs g h free e =
 
 -- ---- a holder starts, where nothing keeps it back
 
-not_true : (b : Bool) → not b ≡ true → b ≡ false
-not_true true e = cc
-not_true false e = refl
-
 -- nobody runs in the group of one that may start
 pub free_to_start : (runs : List RunState) (g : Group) (h k : Holder) → may_start runs h ≡ true → is_in runs g h ≡ true
     → is_running_in runs g k ≡ true → ⊥
 free_to_start runs g h k may e running =
     let at = ap (λ o. option_map_or (λ v. not (is_taken runs v)) o true) (group_is runs g h e) in
-    not_taken runs g k (not_true (is_taken runs g) (sym at ∙ may)) running
+    not_taken runs g k (not-true (is_taken runs g) (sym at ∙ may)) running
 
 -- nobody else waits or holds who did not before
 pub record Starts (runs next : List RunState) (one : Holder) : Type 0 where

@@ -3,7 +3,7 @@ use Rattle.std.specs.Prelude.{◌≡◌, ◌⊎◌, ℕ, zero, suc, List, ◌&&�
 use Rattle.std.specs.Prelude.{if◌then◌else◌, refl}
 use Rattle.std.specs.List.{list_all}
 use Rattle.std.proofs.Common.{ap, inl, inr, sym, ◌∙◌, subst}
-use Rattle.std.proofs.lemmas.Bool.{cases_eq}
+use Rattle.std.proofs.lemmas.Bool.{cases_eq, false≢true}
 use Rattle.wf_value.specs.declared.outcome.JobResult.TheVariants as result
 use Rattle.wf_value.specs.declared.outcome.Outcome.TheVariants as outcome
 use Rattle.workflow_runs.specs.Arrivals.{arrived, is_in_group_of_run, started}
@@ -64,9 +64,6 @@ decided_fades runs r j = job_fades (decided runs r j) r j runs (made_fades (may_
 
 -- ---- a leg is set to a phase
 
-bad : false ≡ true → ⊥
-bad e = cc
-
 module _ (runs : List RunState) (p : LegPlace) (z : LegState) (was : leg_at runs p ≡ Some z) (f : LegState → LegState) where
   -- a leg passes a test of its phase as before, unless it is the one that is set
   set_passes : (test : LegPhase → Bool) (q : LegPlace) → passes (leg_passes test) (leg_at (with_leg p f runs) q) ≡ true
@@ -100,13 +97,14 @@ newcomer_one_each runs p z fit was is each =
           fading_keeps runs (with_leg_in (leg.Ended outcome.Cancelled) p runs)
           (groups_stay runs (with_leg_in (leg.Ended outcome.Cancelled) p runs) fit
           (leg_goes runs p z (leg.Ended outcome.Cancelled) fit was (new_ends z.phase z.lease is)).stay)
-          (leg_fades (leg_in_phase (leg.Ended outcome.Cancelled)) p runs (λ v e. absurd (bad e)) (λ v e. absurd (bad e))) each
+          (leg_fades (leg_in_phase (leg.Ended outcome.Cancelled)) p runs (λ v e. absurd (false≢true e))
+          (λ v e. absurd (false≢true e))) each
       | false ↦
           let next = with_leg_in leg.Waiting p runs in
           let stay = (newcomer_waits runs p z fit was is).stay in
           let comes : Comes runs next (Holder.a_leg p) = record {
             waited = set_waits runs p z was (leg_in_phase leg.Waiting);
-            held = holds_before_leg (leg_in_phase leg.Waiting) p runs (λ v e. absurd (bad e));
+            held = holds_before_leg (leg_in_phase leg.Waiting) p runs (λ v e. absurd (false≢true e));
           } in
           arrival_one_each next stay.fit (Holder.a_leg p)
           (ap (passes (leg_passes leg_waits)) (set_itself runs p z was (leg_in_phase leg.Waiting)))
@@ -119,7 +117,7 @@ starting_one_each : (runs : List RunState) (p : LegPlace) (z : LegState) → Run
     → may_start runs (Holder.a_leg p) ≡ true → HasOneEach runs → HasOneEach (with_leg_in leg.Ready p runs)
 starting_one_each runs p z fit was is may each =
     let starts : Starts runs (with_leg_in leg.Ready p runs) (Holder.a_leg p) = record {
-      waited = waits_before_leg (leg_in_phase leg.Ready) p runs (λ v e. absurd (bad e));
+      waited = waits_before_leg (leg_in_phase leg.Ready) p runs (λ v e. absurd (false≢true e));
       held = set_holds runs p z was (leg_in_phase leg.Ready);
     } in
     start_keeps runs (with_leg_in leg.Ready p runs) (Holder.a_leg p)
@@ -154,15 +152,15 @@ live_holds runs r (Holder.a_leg p) e =
 pub live_waits : (runs : List RunState) (r : ℕ) (h : Holder) → waits (with_run r (run_in_phase run.Live) runs) h ≡ true
     → waits runs h ≡ true
 live_waits runs r (Holder.a_run s) e = passed_changed (λ (x : RunState). run_waits x.phase) (run_in_phase run.Live)
-    (λ x now. absurd (bad now)) r runs s e
+    (λ x now. absurd (false≢true now)) r runs s e
 live_waits runs r (Holder.a_leg p) e = leg_before leg_waits (run_in_phase run.Live) r runs p (λ x now. now) e
 
 pub ended_fades : (r : ℕ) (runs : List RunState) → Fades runs (with_run r (run_in_phase run.Ended) runs)
 ended_fades r runs =
     run_fades (run_in_phase run.Ended) r runs
     (record {
-      run_waited = (λ x e. absurd (bad e));
-      run_held = (λ x e. absurd (bad e));
+      run_waited = (λ x e. absurd (false≢true e));
+      run_held = (λ x e. absurd (false≢true e));
       leg_waited = (λ j l x e. e);
       leg_held = (λ j l x e. e);
     })

@@ -1,9 +1,10 @@
 -- What an `Option` came from.
 use Rattle.std.specs.Prelude.{◌≡◌, ℕ, List, [], ◌∷◌, suc, zero, Bool, true, false, Option, Some, None, option_map, option_and_then}
-use Rattle.std.specs.Prelude.{slice_get, if◌then◌else◌, refl}
+use Rattle.std.specs.Prelude.{is_some, slice_get, if◌then◌else◌, refl}
 use Rattle.std.specs.List.{list_all}
 use Rattle.std.proofs.Common.{ap, sym, ◌∙◌}
 use Rattle.std.proofs.lemmas.Bool.{and_parts}
+use Rattle.std.specs.Option.{option_or}
 
 -- the value from which an answer was made
 pub record From {X Y : Type 0} (f : X → Option Y) (o : Option X) (y : Y) : Type 0 where
@@ -37,6 +38,19 @@ if_some false x y h = cc
 pub if_none : {Y : Type 0} (b : Bool) (x : Y) → (if b then Some x else None) ≡ None → b ≡ false
 if_none true x h = cc
 if_none false x h = refl
+
+-- what is taken of the first where there is one, and of the second where there is none
+pub or_none : {X : Type 0} (o : Option X) → option_or o None ≡ o
+or_none None = refl
+or_none (Some x) = refl
+
+pub or_nothing : {X : Type 0} (a b : Option X) → option_or a b ≡ None → (a ≡ None) × (b ≡ None)
+or_nothing None b e = (refl, e)
+or_nothing (Some x) b e = cc
+
+pub some_of : {X : Type 0} (o : Option X) → is_some o ≡ true → (x : X) × (o ≡ Some x)
+some_of None some = cc
+some_of (Some x) some = (x, refl)
 
 -- an element of a list of which all pass a test
 pub each_passes : {X : Type 0} (p : X → Bool) (xs : List X) (k : ℕ) (x : X) → list_all p xs ≡ true → slice_get xs k ≡ Some x → p x ≡ true

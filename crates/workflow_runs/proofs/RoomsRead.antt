@@ -1,19 +1,16 @@
 -- The jobs that are made of their parts.
 use Rattle.std.specs.Prelude.{◌≡◌, ℕ, List, length, Some, option_map, slice_get}
 use Rattle.std.proofs.Common.{ap, sym, subst, ◌∙◌}
-use Rattle.std.proofs.lemmas.Option.{slice_get-map}
+use Rattle.std.proofs.lemmas.Option.{same_Some, slice_get-map}
 use Rattle.run_plan.specs.declared.planned.PlannedJob.{PlannedJob}
 use Rattle.workflow_runs.specs.Cells.{legs_planned}
 use Rattle.workflow_runs.specs.AsPlanned.{HasItsRoom, HasRoom}
 use Rattle.workflow_runs.specs.RunState.{JobState}
 
-some_same : {X : Type 0} (x y : X) → Some x ≡ Some y → x ≡ y
-some_same x y e = cc
-
 pub room_here : (plan : List PlannedJob) (j : ℕ) (planned : PlannedJob) (x : JobState) → slice_get plan j ≡ Some planned
     → HasRoom (length planned.legs) x.legs → HasItsRoom plan j x
 room_here plan j planned x at room other is =
-    subst (λ (k : PlannedJob). HasRoom (length k.legs) x.legs) (some_same planned other (sym at ∙ is)) room
+    subst (λ (k : PlannedJob). HasRoom (length k.legs) x.legs) (same_Some planned other (sym at ∙ is)) room
 
 pub planned_here : (plan : List PlannedJob) (j : ℕ) (planned : PlannedJob) → slice_get plan j ≡ Some planned
     → slice_get (legs_planned plan) j ≡ Some (length planned.legs)

@@ -11,7 +11,7 @@ use Rattle.workflow_runs.specs.Places.{LegPlace, job_at, leg_at, leg_places, leg
 use Rattle.workflow_runs.specs.RunState.{LegState, JobState, RunState}
 use Rattle.workflow_runs.specs.WithinRun.{leg_place, fit_in_job, fit_in_jobs, lease_in_job, lease_in_run}
 use Rattle.workflow_runs.proofs.Firsts.{find-flat_map, find-map, first_same_placed}
-use Rattle.workflow_runs.proofs.Walks.{first_passing}
+use Rattle.workflow_runs.proofs.Walks.{first_passing, job_found}
 
 -- ---- any test of legs by their places
 
@@ -21,10 +21,6 @@ leg_there : (runs : List RunState) (r j : ℕ) (run : RunState) (job : JobState)
 leg_there runs r j run job at_run at_job l leg at =
     ap (λ o. option_and_then (λ x. slice_get x.legs l) (option_and_then (λ x. slice_get x.jobs j) o)) at_run
     ∙ ap (option_and_then (λ x. slice_get x.legs l)) at_job ∙ at
-
-job_there : (runs : List RunState) (r j : ℕ) (run : RunState) (job : JobState) → slice_get runs r ≡ Some run
-    → slice_get run.jobs j ≡ Some job → job_at runs r j ≡ Some job
-job_there runs r j run job at_run at_job = ap (option_and_then (λ x. slice_get x.jobs j)) at_run ∙ at_job
 
 -- the first place in a job whose leg passes, where the test asks the leg alone
 in_job : (runs : List RunState) (test : LegPlace → Bool) (passes : LegState → Bool) (r j : ℕ) (run : RunState) (job : JobState)
@@ -88,7 +84,7 @@ fits_there runs labels r j run job at_run at_job =
     && (may_run_too runs (leg_place r j l) && is_served labels runs (leg_place r j l))
     then Some (leg_place r j l) else None) (leg_there runs r j run job at_run at_job l leg at)
     ∙ ap (λ o. if is_ready leg.phase && (option_map_or (has_room runs r j) o false && is_served labels runs (leg_place r j l))
-    then Some (leg_place r j l) else None) (job_there runs r j run job at_run at_job)
+    then Some (leg_place r j l) else None) (job_found runs r j run job at_run at_job)
     ∙ room_or_none (has_room runs r j job) (is_ready leg.phase) (is_served labels runs (leg_place r j l)) (leg_place r j l))
     ∙ asked_with_room (has_room runs r j job) served (placed job.legs)
 

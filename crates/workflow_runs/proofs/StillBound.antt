@@ -4,7 +4,7 @@ use Rattle.std.specs.Prelude.{refl}
 use Rattle.std.specs.Fmt.{decimal}
 use Rattle.std.proofs.Common.{arith, ap, sym, subst, ◌∙◌, get_or}
 use Rattle.std.proofs.lemmas.List.{length-append, length-map, map-append}
-use Rattle.std.proofs.lemmas.Option.{slice_get_within}
+use Rattle.std.proofs.lemmas.Option.{same_Some, slice_get_within}
 use Rattle.run_plan.specs.Admitted.{Admitted}
 use Rattle.workflow_runs.specs.Asks.{AreBound, RunSays}
 use Rattle.workflow_runs.specs.Counted.{AreCounted}
@@ -71,12 +71,6 @@ as_many_numbers : (before es : List Admitted) → length (numbers_after before e
 as_many_numbers before [] = refl
 as_many_numbers before (e ∷ es) = ap (λ n. suc n) (as_many_numbers (before ++ e ∷ []) es)
 
-some_facts : (x y : RunFacts) → Some x ≡ Some y → x ≡ y
-some_facts x y e = cc
-
-some_number : (m n : ℕ) → Some m ≡ Some n → m ≡ n
-some_number m n e = cc
-
 module _ (runs : List RunState) (run : RunState) (numbers : List ℕ) (n : ℕ) (before : AreNumbered runs numbers)
     (are : AreNumbered (runs ++ run ∷ []) (numbers ++ n ∷ [])) where
   its_events : events (runs ++ run ∷ []) ≡ events runs ++ run.admitted ∷ []
@@ -96,7 +90,7 @@ module _ (runs : List RunState) (run : RunState) (numbers : List ℕ) (n : ℕ) 
       let event : slice_get all (length runs) ≡ Some run.admitted =
       ap (λ es. slice_get es (length runs)) its_events
       ∙ at_end (events runs) run.admitted (length runs) (sym (length-map runs (λ (x : RunState). x.admitted))) in
-      some_number (run_number all (length runs) run.admitted) n
+      same_Some (run_number all (length runs) run.admitted) n
       (sym (number_at (runs ++ run ∷ []) (numbers ++ n ∷ []) (length runs) are ∙ ap (option_map (run_number all (length runs))) event)
       ∙ at_end numbers n (length runs) (sym many))
 
@@ -118,7 +112,7 @@ module _ (runs : List RunState) (run : RunState) (numbers : List ℕ) (n : ℕ) 
             let within : k < length kept = slice_get_within kept k g at in
             bound.each k f g (sym (facts_before k (omega (arith, many, within))) ∙ known) at)
             (λ f known.
-            let same = some_facts _ f (sym told ∙ sym (ap (run_facts_at next) many) ∙ known) in
+            let same = same_Some _ f (sym told ∙ sym (ap (run_facts_at next) many) ∙ known) in
             subst (λ (v : RunFacts). RunSays v asked) same says) r groups is facts of_run);
       }
 

@@ -141,14 +141,14 @@ where_reads f same b l y =
     ]
 
 -- a stop changes no job's result, and gives no job legs
-where_result : (b : Bool) (y : JobState) → settled_result (stopped_where b y).phase ≡ settled_result y.phase
+pub where_result : (b : Bool) (y : JobState) → settled_result (stopped_where b y).phase ≡ settled_result y.phase
 where_result b y =
     elim (is_open y.phase && b) as (λ c. settled_result (if c then with_stopped_legs y else y).phase ≡ settled_result y.phase) [
       | true ↦ refl
       | false ↦ refl
     ]
 
-where_no_legs : (b : Bool) (y : JobState) → y.legs ≡ [] → (stopped_where b y).legs ≡ []
+pub where_no_legs : (b : Bool) (y : JobState) → y.legs ≡ [] → (stopped_where b y).legs ≡ []
 where_no_legs b y none =
     elim (is_open y.phase && b) as (λ c. (if c then with_stopped_legs y else y).legs ≡ []) [
       | true ↦ ap (map stopped) none

@@ -15,6 +15,7 @@ use Rattle.workflow_runs.specs.WithinRun.{condition_in, may_run_in}
 use Rattle.workflow_runs.specs.JobResults.{needs_in, settled_result}
 use Rattle.workflow_runs.specs.declared.phases.RunPhase.TheVariants as run
 use Rattle.workflow_runs.proofs.Moved.{changed_none, changed_same}
+use Rattle.workflow_runs.proofs.StopKeeps.{where_result}
 
 -- ---- the elements before a place changed
 
@@ -58,18 +59,11 @@ job_stopped told j = stopped_where (not (may_run_in told j.0)) j.1
 abbrev pub told_upto : ℕ → RunState → RunState
 told_upto n told = record told { jobs = upto (job_stopped told) 0 n told.jobs }
 
-same_result : (b : Bool) (y : JobState) → settled_result (stopped_where b y).phase ≡ settled_result y.phase
-same_result b y =
-    elim (is_open y.phase && b) as (λ c. settled_result (if c then with_stopped_legs y else y).phase ≡ settled_result y.phase) [
-      | true ↦ refl
-      | false ↦ refl
-    ]
-
 -- a stop changes no job's result, and so no condition
 same_condition : (told : RunState) (n j : ℕ) → may_run_in (told_upto n told) j ≡ may_run_in told j
 same_condition told n j =
     ap (λ rs. condition_value (condition_in told j) (results_of_ancestors (needs_in told) rs j) told.stopping)
-    (upto_same (job_stopped told) (λ y. settled_result y.phase) (λ k y. same_result (not (may_run_in told k)) y) 0 n told.jobs)
+    (upto_same (job_stopped told) (λ y. settled_result y.phase) (λ k y. where_result (not (may_run_in told k)) y) 0 n told.jobs)
 
 pub next_job_stopped : (told : RunState) (n : ℕ) → with_job_stopped n (told_upto n told) ≡ told_upto (n + 1) told
 next_job_stopped told n =

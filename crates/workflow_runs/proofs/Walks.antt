@@ -31,7 +31,7 @@ some_if : {X : Type 0} (b : Bool) (x : X) → is_some (if b then Some x else Non
 some_if true x = refl
 some_if false x = refl
 
-job_found : (runs : List RunState) (r j : ℕ) (run : RunState) (job : JobState) → slice_get runs r ≡ Some run
+pub job_found : (runs : List RunState) (r j : ℕ) (run : RunState) (job : JobState) → slice_get runs r ≡ Some run
     → slice_get run.jobs j ≡ Some job → job_at runs r j ≡ Some job
 job_found runs r j run job at_run at_job = ap (option_and_then (λ x. slice_get x.jobs j)) at_run ∙ at_job
 
@@ -95,10 +95,6 @@ at_legs runs r j run job at_run at_job =
     (λ l leg at. ap (λ b. if b then Some (AtLeg (leg_place r j l)) else None)
     (leg_applies runs (leg_place r j l) leg
     (ap (option_and_then (λ x. slice_get x.legs l)) (job_found runs r j run job at_run at_job) ∙ at)))
-
-or_none : {X : Type 0} (o : Option X) → option_or o None ≡ o
-or_none None = refl
-or_none (Some x) = refl
 
 in_job : (runs : List RunState) (r j : ℕ) (run : RunState) (job : JobState) → slice_get runs r ≡ Some run → slice_get run.jobs j ≡ Some job
     → find (applies runs) (job_places r (j, job)) ≡ first_in_job runs r run j job
