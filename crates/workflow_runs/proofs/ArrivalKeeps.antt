@@ -5,6 +5,7 @@ use Rattle.std.specs.List.{AllByRecursion}
 use Rattle.std.specs.Option.{option_map_or}
 use Rattle.std.proofs.Common.{ap, inl, inr, sym, ◌∙◌}
 use Rattle.std.proofs.lemmas.Bool.{and_from, and_parts, eq-eqb, eqb-true, true≢false}
+use Rattle.std.proofs.lemmas.Option.{same_Some}
 use Rattle.group_name.specs.Group.{Group}
 use Rattle.workflow_runs.specs.Arrivals.{arrived, displaced, others_pending, room_made, stopped_where_asked}
 use Rattle.workflow_runs.specs.GroupOf.{cancels_in_progress, group_at}
@@ -109,14 +110,11 @@ module _ (runs : List RunState) (fit : RunsFit runs) (newcomer : Holder) (g : Gr
         groups_stay runs (displaced g newcomer runs).runs fit (displaced_settles g newcomer runs fit).stay newcomer
         (one_that_waits runs newcomer waiting) ∙ its
 
-    some_same : (k : Group) → Some g ≡ Some k → g ≡ k
-    some_same k e = cc
-
     -- if the newcomer is in a group, it is this one
     only_there : (k : Group) (h : Holder) → h ≡ newcomer → is_in (displaced g newcomer runs).runs k h ≡ true → g ≡ k
     only_there k h same e =
         let next = (displaced g newcomer runs).runs in
-        some_same k (sym still_its ∙ group_is next k newcomer (ap (is_in next k) (sym same) ∙ e))
+        same_Some g k (sym still_its ∙ group_is next k newcomer (ap (is_in next k) (sym same) ∙ e))
 
     pub displaced_one_each : HasOneEach (displaced g newcomer runs).runs
     displaced_one_each =

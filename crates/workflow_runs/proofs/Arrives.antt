@@ -1,5 +1,5 @@
 -- An arrival, made by stopping the one that is found: in a group at most one other is pending, and at most one is running.
-use Rattle.std.specs.Prelude.{◌≡◌, ℕ, zero, suc, List, [], ◌∷◌, filter, find, ◌&&◌, not, Bool, true, false, is_some, Option, Some, None}
+use Rattle.std.specs.Prelude.{◌≡◌, ℕ, zero, suc, List, [], ◌∷◌, filter, find, ◌&&◌, not, Bool, true, false, is_some, Some, None}
 use Rattle.std.specs.Prelude.{if◌then◌else◌, refl}
 use Rattle.std.specs.List.{AllByRecursion}
 use Rattle.std.specs.Option.{option_map_or}

@@ -4,6 +4,7 @@ use Rattle.std.specs.List.{list_any}
 use Rattle.std.specs.Option.{option_map_or}
 use Rattle.std.proofs.Common.{ap, sym, ◌∙◌}
 use Rattle.std.proofs.lemmas.Bool.{and_from, and_parts, both_ways, not-false}
+use Rattle.std.proofs.lemmas.Option.{same_Some}
 use Rattle.group_name.specs.Group.{Group}
 use Rattle.workflow_runs.specs.FirstOf.{changed_at}
 use Rattle.workflow_runs.specs.GroupOf.{group_at}
@@ -109,10 +110,7 @@ leg_still_holds runs p z f was held_not =
     job_still_holds runs p.run p.job (with_leg_of p.leg f)
     (λ y at l now. passed_on (leg_passes leg_holds) f p.leg y.legs
     (λ v is holding. absurd (both_ways (leg_holds z.phase) held_not
-    (subst_held v z (same_leg (sym was ∙ leg_in_job runs p y at ∙ is)) holding))) l now)
+    (subst_held v z (same_Some z v (sym was ∙ leg_in_job runs p y at ∙ is)) holding))) l now)
   where
-    same_leg : {x y : LegState} → Some x ≡ Some y → x ≡ y
-    same_leg e = cc
-
     subst_held : (v z : LegState) → z ≡ v → leg_holds v.phase ≡ true → leg_holds z.phase ≡ true
     subst_held v z e h = ap (λ (x : LegState). leg_holds x.phase) e ∙ h

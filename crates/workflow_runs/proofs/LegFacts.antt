@@ -7,7 +7,7 @@ use Rattle.std.specs.List.{cons_option, slice_index_or}
 use Rattle.std.specs.Option.{option_map_or}
 use Rattle.std.proofs.Common.{arith, ap, sym, ◌∙◌}
 use Rattle.std.proofs.lemmas.Bool.{and_parts}
-use Rattle.std.proofs.lemmas.Option.{slice_get-map}
+use Rattle.std.proofs.lemmas.Option.{same_Some, slice_get-map}
 use Rattle.wf_value.specs.declared.outcome.JobResult.{JobResult}
 use Rattle.needs_graph.specs.Ancestors.{needs_at}
 use Rattle.needs_graph.specs.Results.{gathered}
@@ -128,9 +128,6 @@ needs_kept x y j same settled kept =
 abbrev pub SameUpTo : ℕ → List Admitted → List Admitted → Type 0
 SameUpTo r all others = (s : ℕ) → s ≤ r → slice_get all s ≡ slice_get others s
 
-some_same : (x y : Admitted) → Some x ≡ Some y → x ≡ y
-some_same x y e = cc
-
 none_there : (x : Admitted) → Some x ≡ None → ⊥
 none_there x e = cc
 
@@ -141,7 +138,7 @@ taken_same (suc n) [] [] same = refl
 taken_same (suc n) [] (y ∷ others) same = absurd (none_there y (sym (same 0 (omega arith))))
 taken_same (suc n) (x ∷ all) [] same = absurd (none_there x (same 0 (omega arith)))
 taken_same (suc n) (x ∷ all) (y ∷ others) same =
-    ap (λ e. e ∷ take n all) (some_same x y (same 0 (omega arith)))
+    ap (λ e. e ∷ take n all) (same_Some x y (same 0 (omega arith)))
     ∙ ap (λ es. y ∷ es) (taken_same n all others (λ s lt. same (suc s) (omega (arith, lt))))
 
 -- ---- what is told of a leg once the needs of its job have settled
@@ -157,7 +154,7 @@ told_same p all others None None same front settled kept = refl
 told_same p all others None (Some y) same front settled kept = absurd (none_there y.admitted same)
 told_same p all others (Some x) None same front settled kept = absurd (none_there x.admitted (sym same))
 told_same p all others (Some x) (Some y) same front settled kept =
-    let event : y.admitted ≡ x.admitted = some_same y.admitted x.admitted same in
+    let event : y.admitted ≡ x.admitted = same_Some y.admitted x.admitted same in
     ap (λ a. told p a others (direct_needs y p.job)) event
     ∙ ap (λ es. told p x.admitted es (direct_needs y p.job)) front
     ∙ ap (told p x.admitted all) (needs_kept x y p.job event settled kept)

@@ -1,5 +1,5 @@
 -- After the rule at the first place where one applies, none applies before the place from where settling looks again.
-use Rattle.std.specs.Prelude.{◌≡◌, ◌⊎◌, ℕ, zero, suc, ◌+◌, ◌<◌, ◌≤◌, ◌&&◌, ◌||◌, min, List, [], ◌∷◌, Bool, true, false, length, nat_eq}
+use Rattle.std.specs.Prelude.{◌≡◌, ◌⊎◌, ℕ, zero, suc, ◌+◌, ◌<◌, ◌≤◌, ◌&&◌, min, List, [], ◌∷◌, Bool, true, false, length, nat_eq}
 use Rattle.std.specs.Prelude.{is_some}
 use Rattle.std.specs.Prelude.{Option, Some, None, IfSome, option_map, option_and_then, slice_get, filter, if◌then◌else◌, refl}
 use Rattle.std.specs.List.{AllByRecursion, list_any, range_with_len, slice_index_or}

@@ -1,5 +1,5 @@
 -- A change of a leg that was read, and what the rules of a job make of the runs.
-use Rattle.std.specs.Prelude.{◌≡◌, ℕ, zero, suc, List, [], ◌∷◌, Bool, true, false, Option, Some, None, IfSome, find, is_some}
+use Rattle.std.specs.Prelude.{◌≡◌, ℕ, zero, suc, List, [], ◌∷◌, Bool, true, false, Option, Some, None, IfSome, is_some}
 use Rattle.std.specs.Prelude.{option_map, option_and_then, slice_get, if◌then◌else◌, refl}
 use Rattle.std.specs.List.{list_all}
 use Rattle.std.proofs.Common.{ap, subst, sym, ◌∙◌}

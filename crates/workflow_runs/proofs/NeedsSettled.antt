@@ -1,6 +1,6 @@
 -- Whether a job's needs have settled and whether its condition holds, by its run; and that needs stay settled, since
 -- a settled job keeps its result.
-use Rattle.std.specs.Prelude.{◌≡◌, ℕ, zero, suc, ◌<◌, ◌&&◌, List, [], ◌∷◌, map, length, Bool, true, false, is_some, Option, Some, None}
+use Rattle.std.specs.Prelude.{◌≡◌, ℕ, zero, suc, ◌<◌, List, [], ◌∷◌, map, length, Bool, true, false, is_some, Option, Some, None}
 use Rattle.std.specs.Prelude.{option_map, option_and_then, slice_get, refl}
 use Rattle.std.specs.List.{slice_index_or}
 use Rattle.std.specs.Option.{option_map_or}

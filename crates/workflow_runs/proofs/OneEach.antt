@@ -1,5 +1,5 @@
 -- In each group at most one holder is pending and at most one is running: what keeps this so.
-use Rattle.std.specs.Prelude.{◌≡◌, ℕ, List, [], ◌∷◌, ◌&&◌, ◌||◌, ◌⊎◌, map, not, Bool, true, false, Option, Some, None, refl}
+use Rattle.std.specs.Prelude.{◌≡◌, ℕ, List, [], ◌∷◌, ◌||◌, ◌⊎◌, map, not, Bool, true, false, Option, Some, None, refl}
 use Rattle.std.specs.List.{AllByRecursion, list_any}
 use Rattle.std.specs.Option.{option_map_or}
 use Rattle.std.proofs.Common.{ap, ap₂, inl, inr, sym, ◌∙◌}

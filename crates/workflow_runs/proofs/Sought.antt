@@ -7,7 +7,7 @@ use Rattle.std.proofs.Common.{ap, ◌∙◌}
 use Rattle.workflow_runs.specs.FirstOf.{first_some, placed}
 use Rattle.workflow_runs.specs.Fitting.{is_ready, is_served, may_run_too, fits, first_fit, has_lease, place_of_lease}
 use Rattle.workflow_runs.specs.Parallel.{has_room}
-use Rattle.workflow_runs.specs.Places.{LegPlace, job_at, leg_at, leg_places, leg_places_of_job, leg_places_of_run}
+use Rattle.workflow_runs.specs.Places.{LegPlace, leg_at, leg_places, leg_places_of_job, leg_places_of_run}
 use Rattle.workflow_runs.specs.RunState.{LegState, JobState, RunState}
 use Rattle.workflow_runs.specs.WithinRun.{leg_place, fit_in_job, fit_in_jobs, lease_in_job, lease_in_run}
 use Rattle.workflow_runs.proofs.Firsts.{find-flat_map, find-map, first_same_placed}

@@ -1,5 +1,5 @@
 -- The first place of a table where a rule applies, found run by run and job by job.
-use Rattle.std.specs.Prelude.{◌≡◌, ℕ, ◌+◌, ◌&&◌, List, [], ◌∷◌, ◌++◌, map, flat_map, find, Bool, true, false, is_some, Option, Some, None}
+use Rattle.std.specs.Prelude.{◌≡◌, ℕ, ◌+◌, ◌&&◌, List, [], ◌∷◌, ◌++◌, map, flat_map, find, Bool, true, false, is_some, Some, None}
 use Rattle.std.specs.Prelude.{option_map, option_and_then, slice_get, if◌then◌else◌, refl}
 use Rattle.std.specs.List.{enumerate_from, list_all, position, position_from}
 use Rattle.std.specs.Option.{option_or}

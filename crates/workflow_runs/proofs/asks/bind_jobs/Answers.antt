@@ -1,15 +1,12 @@
 use Rattle.std.specs.Prelude.{◌≡◌, ℕ, ◌<◌, Some, length, slice_get, refl}
 use Rattle.std.proofs.Common.{arith, ap, sym, subst, ◌∙◌}
-use Rattle.std.proofs.lemmas.Option.{slice_get_read}
+use Rattle.std.proofs.lemmas.Option.{same_Some, slice_get_read}
 use Rattle.run_plan.specs.PlanOf.{plan_of}
 use Rattle.run_plan.specs.declared.planned.PlannedJob.{PlannedJob}
 use Rattle.workflow_runs.specs.Asks.{JobSays}
 use Rattle.workflow_runs.specs.declared.asks.JobAsks.{JobAsks}
 use Rattle.workflow_runs.proofs.Binding.{one_pushed}
 use Rattle.workflow_runs.proofs.asks.bind_jobs.Goals as goal
-
-some_job : (x y : PlannedJob) → Some x ≡ Some y → x ≡ y
-some_job x y e = cc
 
 pub loop-j-preserved : goal.loop-j-preserved
 loop-j-preserved c =
@@ -26,5 +23,5 @@ loop-j-preserved c =
     one_pushed said c.loop-j.jobs.items c.push.new.self.items asks c.loop-j.j c.in_ok-push.ensures.items c.loop-j.invariant.0
     c.loop-j.invariant.1
     (λ job planned.
-    let same = some_job c.index-plan-j.result job (sym at ∙ ap (λ p. slice_get p c.loop-j.j) is_plan ∙ planned) in
+    let same = same_Some c.index-plan-j.result job (sym at ∙ ap (λ p. slice_get p c.loop-j.j) is_plan ∙ planned) in
     subst (λ (x : PlannedJob). JobSays told c.loop-j.j x asks) same c.in_ok-asks.ensures.says)
