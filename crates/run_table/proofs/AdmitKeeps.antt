@@ -6,7 +6,7 @@ use Rattle.std.specs.Option.{option_or}
 use Rattle.std.proofs.Common.{arith, ap, sym, ◌∙◌, subst, inl, inr, length-append}
 use Rattle.std.proofs.lemmas.Bool.{cases_eq, leb-false, true≢false}
 use Rattle.std.proofs.lemmas.List.{length-map}
-use Rattle.std.proofs.lemmas.Option.{slice_get-map, slice_get_past, slice_get_within}
+use Rattle.std.proofs.lemmas.Option.{same_Some, slice_get-map, slice_get_past, slice_get_within}
 use Rattle.std.proofs.lemmas.Slice.Eq.{bytes_eq-Decides}
 use Rattle.wf_value.specs.declared.code.Code.TheVariants.{LastCounter}
 use Rattle.run_plan.specs.Admitted.{Admitted}
@@ -27,7 +27,7 @@ use Rattle.run_table.proofs.Kept.{IsKept, kept_still_had}
 use Rattle.workflow_runs.proofs.LeaseReads.{leases_same, none_is_not_some}
 use Rattle.workflow_runs.proofs.LegReads.{work_of, had_at, had_in, works_at}
 use Rattle.workflow_runs.proofs.NeedsSettled.{result_in}
-use Rattle.workflow_runs.proofs.Optional.{from_map}
+use Rattle.workflow_runs.proofs.Optional.{from_map, if_none}
 use Rattle.workflow_runs.proofs.RunFits.{JobFits, RunFits, RunsFit}
 use Rattle.run_table.proofs.RunnerPut.{holds_at}
 use Rattle.workflow_runs.proofs.Settles.{fits_beside}
@@ -69,7 +69,7 @@ module _ (runs : List RunState) (event : Admitted) where
       let next = runs ++ new_run event ∷ [] in
       elim (cases_eq r (length runs)) [
         | inl s ↦
-            let same : new_run event ≡ x = some_same x (sym (at_the_end runs (new_run event)) ∙ ap (slice_get next) (sym s) ∙ e) in
+            let same : new_run event ≡ x = same_Some (new_run event) x (sym (at_the_end runs (new_run event)) ∙ ap (slice_get next) (sym s) ∙ e) in
             subst (RunFits next r) same (new_run_fits next r event)
         | inr n ↦
             let before = before_the_end runs (new_run event) r n in
@@ -79,9 +79,6 @@ module _ (runs : List RunState) (event : Admitted) where
             (before_the_end runs (new_run event) s (λ m. absurd (omega (arith, le, within, m)))))
             (λ j a had. ap (option_and_then (λ (v : RunState). result_in v j)) before ∙ had) (fit r x (sym before ∙ e))
       ]
-    where
-      some_same : (x : RunState) → Some (new_run event) ≡ Some x → new_run event ≡ x
-      some_same x e = cc
 
   -- no leg of the new run is at work
   still_bounded : ParallelIsBounded runs → ParallelIsBounded (runs ++ new_run event ∷ [])
@@ -133,14 +130,11 @@ module _ (runs : List RunState) (event : Admitted) where
         ]
       ]
     where
-      some_same : (x : RunState) → Some (new_run event) ≡ Some x → new_run event ≡ x
-      some_same x e = cc
-
       new_delivery : (r : ℕ) (x : RunState) → r ≡ length runs → run_at (runs ++ new_run event ∷ []) r ≡ Some x
           → x.admitted.delivery ≡ event.delivery
       new_delivery r x s e =
           sym (ap (λ (v : RunState). v.admitted.delivery)
-          (some_same x (sym (at_the_end runs (new_run event)) ∙ ap (slice_get (runs ++ new_run event ∷ [])) (sym s) ∙ e)))
+          (same_Some (new_run event) x (sym (at_the_end runs (new_run event)) ∙ ap (slice_get (runs ++ new_run event ∷ [])) (sym s) ∙ e)))
 
 -- a leg with a lease was there, and its plan is as it was
 plan_was_there : (runs : List RunState) (event : Admitted) (p : LegPlace) (n : ℕ) → had_at runs p ≡ Some n
@@ -163,10 +157,6 @@ nothing_mapped : {X Y : Type 0} (f : X → Y) (o : Option X) → option_map f o 
 nothing_mapped f None e = refl
 nothing_mapped f (Some x) e = cc
 
-pub test_failed : {X : Type 0} (b : Bool) (x : X) → (if b then Some x else None) ≡ None → b ≡ false
-test_failed true x e = cc
-test_failed false x e = refl
-
 -- ---- the table with it
 
 pub admit_keeps : (t : TableState) (event : Admitted) → IsKept t → admission_answer t event ≡ None
@@ -178,7 +168,7 @@ admit_keeps t event s none =
     let nowhere =
     found_nowhere (is_delivered_as event.delivery) t.runs
     (nothing_mapped (λ i. reply.Created (i + 1)) (position (is_delivered_as event.delivery) t.runs) looked.0) in
-    let room = leb-false 100000 (length t.runs) (test_failed (nat_le 100000 (length t.runs)) (refused LastCounter) looked.1) in
+    let room = leb-false 100000 (length t.runs) (if_none (nat_le 100000 (length t.runs)) (refused LastCounter) looked.1) in
     let more = length-append t.runs (new_run event ∷ []) in
     record {
       few_runs = omega (arith, more, room);

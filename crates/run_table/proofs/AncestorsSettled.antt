@@ -4,7 +4,7 @@ use Rattle.std.specs.Prelude.{◌≡◌, ℕ, zero, suc, ◌&&◌, ◌||◌, Lis
 use Rattle.std.specs.Prelude.{Option, Some, None, if◌then◌else◌, refl}
 use Rattle.std.specs.List.{flat_map, list_any, range_with_len, slice_index_or}
 use Rattle.std.proofs.Common.{ap, ◌∙◌}
-use Rattle.std.proofs.lemmas.Bool.{and_parts, eqb-true}
+use Rattle.std.proofs.lemmas.Bool.{and_from, and_parts, eqb-true}
 use Rattle.wf_value.specs.declared.outcome.JobResult.{JobResult}
 use Rattle.needs_graph.specs.Ancestors.{ancestors_of, is_ancestor, needs_at, walk_ends}
 use Rattle.needs_graph.specs.Conditions.{results_at}
@@ -17,9 +17,6 @@ has_result results j = is_some (slice_index_or results j None)
 abbrev pub NeedsBefore : List (List ℕ) → List (Option JobResult) → Type 0
 NeedsBefore graph results = (j : ℕ) → is_some (slice_index_or results j None) ≡ true → all_have_results results (needs_at graph j) ≡ true
 
-pub both_true : (a b : Bool) → a ≡ true → b ≡ true → (a && b) ≡ true
-both_true a b h k = ap (λ x. x && b) h ∙ k
-
 -- ---- at the ends of walks
 
 all_of_two : (results : List (Option JobResult)) (xs ys : List ℕ) → all_have_results results xs ≡ true
@@ -27,7 +24,7 @@ all_of_two : (results : List (Option JobResult)) (xs ys : List ℕ) → all_have
 all_of_two results [] ys h k = k
 all_of_two results (x ∷ xs) ys h k =
     let both = and_parts (has_result results x) (all_have_results results xs) h in
-    both_true (has_result results x) (all_have_results results (xs ++ ys)) both.0 (all_of_two results xs ys both.1 k)
+    and_from (has_result results x) (all_have_results results (xs ++ ys)) both.0 (all_of_two results xs ys both.1 k)
 
 all_of_each : (results : List (Option JobResult)) (f : ℕ → List ℕ) (xs : List ℕ) → all_have_results results xs ≡ true
     → ((x : ℕ) → has_result results x ≡ true → all_have_results results (f x) ≡ true) → all_have_results results (flat_map f xs) ≡ true
@@ -73,7 +70,7 @@ of_those_that_pass : (test : ℕ → Bool) (results : List (Option JobResult)) (
 of_those_that_pass test results [] each = refl
 of_those_that_pass test results (x ∷ xs) each =
     elim (test x) as (λ b. test x ≡ b → all_have_results results (if b then x ∷ filter test xs else filter test xs) ≡ true) [
-      | true ↦ λ is. both_true (has_result results x) (all_have_results results (filter test xs)) (each x is)
+      | true ↦ λ is. and_from (has_result results x) (all_have_results results (filter test xs)) (each x is)
           (of_those_that_pass test results xs each)
       | false ↦ λ is. of_those_that_pass test results xs each
     ] refl

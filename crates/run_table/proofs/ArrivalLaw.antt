@@ -7,6 +7,7 @@ use Rattle.std.proofs.Common.{ap, ap₂, append_assoc, inl, inr, sym, ◌∙◌,
 use Rattle.std.proofs.lemmas.Bool.{and_parts, not-true, true≢false}
 use Rattle.std.proofs.lemmas.List.{append-nil}
 use Rattle.std.proofs.lemmas.List.Elements.{filter_map-append}
+use Rattle.std.proofs.lemmas.Option.{same_Some}
 use Rattle.wf_value.specs.declared.outcome.Outcome.TheVariants.{Cancelled}
 use Rattle.group_name.specs.Group.{Group}
 use Rattle.workflow_runs.specs.Arrivals.{arrived, displaced, others_pending, room_made, stopped_where_asked}
@@ -85,9 +86,6 @@ beside_by runs g n d e =
       other = (λ same. not_both (same_holder d n) (ap (λ h. same_holder h n) same ∙ own_holder n) (not-true (same_holder d n) parts.1));
     }
 
-some_same : (d k : Holder) → Some d ≡ Some k → d ≡ k
-some_same d k e = cc
-
 who_is_displaced : (runs : List RunState) (g : Group) (n : Holder) → HasOneBeside runs n → (o : Option Holder) × Displaces runs g n o
 who_is_displaced runs g n besides =
     let test : Holder → Bool = λ h. is_pending_in runs g h && not (same_holder h n) in
@@ -101,7 +99,7 @@ who_is_displaced runs g n besides =
             Some d,
             record {
               are = alone;
-              each = (λ k e. subst (λ (h : Holder). Beside runs g n h) (some_same d k e) first);
+              each = (λ k e. subst (λ (h : Holder). Beside runs g n h) (same_Some d k e) first);
             },
           )
     ] refl

@@ -4,6 +4,7 @@ use Rattle.std.specs.Prelude.{option_and_then, slice_get, if◌then◌else◌, r
 use Rattle.std.specs.Option.{option_map_or}
 use Rattle.std.proofs.Common.{arith, ap, sym, ◌∙◌, cond}
 use Rattle.std.proofs.lemmas.List.Sums.{sum_by-cons}
+use Rattle.std.proofs.lemmas.Option.{none-some}
 use Rattle.run_plan.specs.declared.planned.PlannedJob.{PlannedJob}
 use Rattle.workflow_runs.specs.Parallel.{is_at_work, legs_at_work, most_at_work}
 use Rattle.workflow_runs.specs.Places.{LegPlace, job_at}
@@ -66,9 +67,6 @@ at_most_one false = omega arith
 abbrev HaveLeases : List LegState → Type 0
 HaveLeases legs = (l : ℕ) (z : LegState) → slice_get legs l ≡ Some z → LeaseFits z.phase z.lease
 
-none_some : (n : ℕ) → None ≡ Some n → ⊥
-none_some n e = cc
-
 -- of a leg that is at work only where another is
 fewer_of : (y x : LegState) → LeaseFits y.phase y.lease → ((n : ℕ) → work_of y ≡ Some n → work_of x ≡ Some n)
     → one_at_work y ≤ one_at_work x
@@ -87,7 +85,7 @@ not_at_work : (y : LegState) → LeaseFits y.phase y.lease → ((n : ℕ) → wo
 not_at_work y fits still =
     elim (at_work y) as (λ b. at_work y ≡ b → one_where b ≡ 0) [
       | false ↦ λ is. refl
-      | true ↦ λ is. let under = leased y.phase y.lease fits is in absurd (none_some under.lease (still under.lease under.is))
+      | true ↦ λ is. let under = leased y.phase y.lease fits is in absurd (none-some under.lease (still under.lease under.is))
     ] refl
 
 pub fewer : (ys xs : List LegState) → HaveLeases ys → ((l n : ℕ) → work_at ys l ≡ Some n → work_at xs l ≡ Some n)

@@ -3,6 +3,7 @@ use Rattle.std.specs.Prelude.{◌≡◌, ◌⊎◌, ℕ, ◌+◌, ◌<◌, true,
 use Rattle.std.specs.Prelude.{Option, Some, None, refl}
 use Rattle.std.proofs.Common.{arith, ap, sym, subst, ◌∙◌, inl, inr}
 use Rattle.std.proofs.lemmas.Bool.{cases_eq, true≢false}
+use Rattle.std.proofs.lemmas.Option.{none-some}
 use Rattle.run_table.specs.ByNumber.{Adds, Finds}
 
 pub found_is : {P : Type 0} (number_of : P → Option ℕ) (n : ℕ) (o : Option P) (p : P) → Finds number_of n o → number_of p ≡ Some n
@@ -71,13 +72,10 @@ all_found {P} empty full number_of nothing adds n =
     elim (full n) as (λ o. full n ≡ o → Finds number_of n o) [
       | None ↦ λ is p e. true≢false (sym (adds.finds_new n p e) ∙ ap is_some is)
       | Some p ↦ λ is. elim (adds.old_or_new n p is) [
-        | inl old ↦ absurd (none_is_not_some p (sym (nothing n) ∙ old))
+        | inl old ↦ absurd (none-some p (sym (nothing n) ∙ old))
         | inr new ↦ new
       ]
     ] refl
-  where
-    none_is_not_some : (p : P) → None ≡ Some p → ⊥
-    none_is_not_some p e = cc
 
 -- those at the next place were added
 pub adds_next : {P : Type 0} (place : P → ℕ) (has : P → ℕ → Type 0) (i : ℕ) (a b c : ℕ → Option P) (new : P → ℕ → Type 0)

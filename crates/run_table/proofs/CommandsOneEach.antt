@@ -2,6 +2,7 @@
 use Rattle.std.specs.Prelude.{◌≡◌, ℕ, List, true, false, Some, None, if◌then◌else◌, refl}
 use Rattle.std.specs.Option.{option_map_or}
 use Rattle.std.proofs.Common.{ap, inl, inr, ◌∙◌}
+use Rattle.std.proofs.lemmas.Bool.{false≢true}
 use Rattle.wf_value.specs.declared.outcome.Outcome.{Outcome}
 use Rattle.workflow_runs.specs.Fitting.{first_fit, place_of_lease}
 use Rattle.workflow_runs.specs.Groups.{HasOneEach, holds, leg_holds}
@@ -23,9 +24,6 @@ use Rattle.workflow_runs.proofs.OneEachRules.{set_holds}
 use Rattle.workflow_runs.proofs.RunFits.{RunsFit}
 use Rattle.workflow_runs.proofs.Settles.{StayFit}
 
-bad : false ≡ true → ⊥
-bad e = cc
-
 -- ---- a leg is leased: it held its group already
 
 module _ (runs : List RunState) (fit : RunsFit runs) (labels : List (List ℕ)) (p : LegPlace) (lease : ℕ)
@@ -39,7 +37,7 @@ module _ (runs : List RunState) (fit : RunsFit runs) (labels : List (List ℕ)) 
   leased_fades =
       let ready = fitting_leg labels runs p fits in
       record {
-        waited = waits_before_leg (λ _. leased_leg lease) p runs (λ z e. absurd (bad e));
+        waited = waits_before_leg (λ _. leased_leg lease) p runs (λ z e. absurd (false≢true e));
         held = (λ h e.
             elim (set_holds runs p ready.leg_of ready.is (λ _. leased_leg lease) h e) [
               | inl same ↦ ap (holds runs) same ∙ ready_held
@@ -61,7 +59,7 @@ module _ (runs : List RunState) (fit : RunsFit runs) (labels : List (List ℕ)) 
 after_end_fades : (p : LegPlace) (o : Outcome) (runs : List RunState) → Fades runs (after_end p o runs)
 after_end_fades p o runs =
     let ended = with_leg p (leg_in_phase (leg.Ended o)) runs in
-    let first = leg_fades (leg_in_phase (leg.Ended o)) p runs (λ z e. absurd (bad e)) (λ z e. absurd (bad e)) in
+    let first = leg_fades (leg_in_phase (leg.Ended o)) p runs (λ z e. absurd (false≢true e)) (λ z e. absurd (false≢true e)) in
     elim (stops_others runs p o) as (λ b. Fades runs (if b then with_job p.run p.job with_stopped_legs ended else ended)) [
       | true ↦ fades_on runs ended (with_job p.run p.job with_stopped_legs ended) first (legs_stop_fades p.run p.job ended)
       | false ↦ first

@@ -5,6 +5,7 @@ use Rattle.std.specs.Prelude.{option_map, option_and_then, slice_get, refl}
 use Rattle.std.specs.List.{slice_index_or}
 use Rattle.std.specs.Option.{option_map_or}
 use Rattle.std.proofs.Common.{ap, sym, ◌∙◌, subst}
+use Rattle.std.proofs.lemmas.Option.{same_Some}
 use Rattle.wf_value.specs.declared.condition.Condition.TheVariants as condition
 use Rattle.wf_value.specs.declared.outcome.JobResult.{JobResult}
 use Rattle.wf_value.specs.declared.outcome.JobResult.TheVariants as result
@@ -24,7 +25,7 @@ use Rattle.workflow_runs.proofs.Changed.{holds_of_each}
 use Rattle.workflow_runs.proofs.JobKeeps.{JobIn, job_in, with_job_of}
 use Rattle.workflow_runs.proofs.NeedsSettled.{KeepsResults, graph_same, needs_stay_settled, result_in, result_of_job}
 use Rattle.workflow_runs.proofs.Optional.{from_and_then, and_then-option_map}
-use Rattle.workflow_runs.proofs.RunFits.{admitted_at, job_in_run}
+use Rattle.workflow_runs.proofs.RunFits.{admitted_at, job_in_run, plan_at_same}
 
 -- what holds of a job, once it is no longer blocked
 abbrev pub JobDecided : List RunState → ℕ → ℕ → JobPhase → Type 0
@@ -57,13 +58,6 @@ needs_before runs all r j h =
     needs_of_settled runs r j of_job.value.phase a of_job.gives
     (all r j of_job.value (job_in_run runs r j of_run.value of_run.is ∙ of_job.is))
 
-plan_same : (runs next : List RunState) (r j : ℕ) → admitted_at next r ≡ admitted_at runs r → plan_at next r j ≡ plan_at runs r j
-plan_same runs next r j same =
-    let planned : Admitted → Option PlannedJob = λ a. slice_get (plan_of a.body) j in
-    let adm : RunState → Admitted = λ run. run.admitted in
-    sym (and_then-option_map planned adm (run_at next r)) ∙ ap (option_and_then planned) same
-    ∙ and_then-option_map planned adm (run_at runs r)
-
 module _ (runs next : List RunState) (all : Decided runs) (r : ℕ) (same : admitted_at next r ≡ admitted_at runs r)
     (keeps : KeepsResults runs next r) where
   -- the results of a job's ancestors
@@ -80,7 +74,7 @@ module _ (runs next : List RunState) (all : Decided runs) (r : ℕ) (same : admi
   decided_stays j (job.Settled s) d = (
     needs_stay_settled runs next r j same keeps d.0,
     (λ e. ap (λ o. condition_value (option_map_or (λ (planned : PlannedJob). planned.condition) o condition.Never)
-        (ancestor_results next r j) false) (plan_same runs next r j same)
+        (ancestor_results next r j) false) (plan_at_same runs next r j same)
         ∙ ap (λ os. condition_value (condition_of runs r j) os false) (ancestors_stay j d.0) ∙ d.1 e),
   )
 
@@ -144,9 +138,6 @@ result_by_phase : (o : Option RunState) (j : ℕ)
 result_by_phase None j = refl
 result_by_phase (Some run) j = result_of_phase (slice_get run.jobs j)
 
-same_phase : (x y : JobPhase) → Some x ≡ Some y → x ≡ y
-same_phase x y e = cc
-
 pub same_phases_decided : (runs next : List RunState) → ((r : ℕ) → admitted_at next r ≡ admitted_at runs r) → PhasesSame runs next
     → Decided runs → Decided next
 same_phases_decided runs next same phases all =
@@ -162,7 +153,7 @@ same_phases_decided runs next same phases all =
         ∙ ap (option_and_then (λ (v : JobState). Some v.phase)) new.job_is in
         let of_run = from_and_then (λ (run : RunState). phase_in run j) (run_at runs r) y.phase (sym (phases r j) ∙ here) in
         let of_job = from_and_then (λ (v : JobState). Some v.phase) (slice_get of_run.value.jobs j) y.phase of_run.gives in
-        subst (JobDecided runs r j) (same_phase of_job.value.phase y.phase of_job.gives)
+        subst (JobDecided runs r j) (same_Some of_job.value.phase y.phase of_job.gives)
         (all r j of_job.value (job_in_run runs r j of_run.value of_run.is ∙ of_job.is))
 
 -- a job changed, but for its phase

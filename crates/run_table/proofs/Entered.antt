@@ -2,7 +2,7 @@
 use Rattle.std.specs.Prelude.{◌≡◌, ◌⊎◌, ℕ, ◌<◌, List, [], ◌∷◌, ◌++◌, length, Bool, true, false, Option, Some, None, option_map}
 use Rattle.std.specs.Prelude.{option_and_then, slice_get, refl}
 use Rattle.std.proofs.Common.{arith, ap, inl, inr, sym, ◌∙◌}
-use Rattle.std.proofs.lemmas.Bool.{cases_eq}
+use Rattle.std.proofs.lemmas.Bool.{cases_eq, false≢true}
 use Rattle.std.proofs.lemmas.Option.{slice_get-map, slice_get_within}
 use Rattle.run_plan.specs.Admitted.{Admitted}
 use Rattle.run_plan.specs.PlanOf.{plan_of}
@@ -44,9 +44,6 @@ no_leg_of_new_run test j l event =
     ap (passes (job_passes test l)) (slice_get-map (λ _. blocked_job) (plan_of event.body) j)
     ∙ no_leg_of_blocked test l (slice_get (plan_of event.body) j)
 
-bad : false ≡ true → ⊥
-bad e = cc
-
 module _ (runs : List RunState) (event : Admitted) where
   leg_before_it : (test : LegPhase → Bool) (p : LegPlace)
       → passes (leg_passes test) (leg_at (runs ++ new_run event ∷ []) p) ≡ true → passes (leg_passes test) (leg_at runs p) ≡ true
@@ -58,7 +55,7 @@ module _ (runs : List RunState) (event : Admitted) where
         | inl same ↦
             let none = ap (passes asked) (ap (slice_get next) same ∙ at_the_end runs (new_run event))
             ∙ no_leg_of_new_run test p.job p.leg event in
-            absurd (bad (sym none ∙ of_run))
+            absurd (false≢true (sym none ∙ of_run))
         | inr other ↦ by_run test runs p ∙ ap (passes asked) (sym (before_the_end runs (new_run event) p.run other)) ∙ of_run
       ]
 
@@ -74,7 +71,7 @@ module _ (runs : List RunState) (event : Admitted) where
   held (Holder.a_run r) e =
       let live = passes (λ (x : RunState). is_live x.phase) in
       elim (cases_eq r (length runs)) [
-        | inl same ↦ absurd (bad (sym (ap live (ap (slice_get (runs ++ new_run event ∷ [])) same ∙ at_the_end runs (new_run event))) ∙ e))
+        | inl same ↦ absurd (false≢true (sym (ap live (ap (slice_get (runs ++ new_run event ∷ [])) same ∙ at_the_end runs (new_run event))) ∙ e))
         | inr other ↦ ap live (sym (before_the_end runs (new_run event) r other)) ∙ e
       ]
   held (Holder.a_leg p) e = leg_before_it leg_holds p e

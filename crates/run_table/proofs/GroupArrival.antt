@@ -5,6 +5,7 @@ use Rattle.std.proofs.Common.{◌≡◌, List, [], ◌∷◌, ◌++◌, Bool, tr
 use Rattle.std.proofs.Common.{refl, ap, ap₂, sym, subst, ◌∙◌}
 use Rattle.std.proofs.lemmas.Bool.{false_from_ne_true, not-true, or_parts}
 use Rattle.std.proofs.lemmas.List.{append-nil}
+use Rattle.std.proofs.lemmas.Option.{same_Some}
 use Rattle.wf_value.specs.declared.outcome.Outcome.TheVariants.{Cancelled}
 use Rattle.run_table.specs.GroupChanges.{Change, Matches, changed, is_new, moves_of, stopped_at_arrival}
 use Rattle.workflow_runs.specs.GroupState.{GroupState}
@@ -13,7 +14,7 @@ use Rattle.workflow_runs.specs.GroupWords.{arrival_of, end_of, start_of, stop_of
 use Rattle.workflow_runs.specs.GroupWords.{holder_of, is_pending, is_running, is_the, latest, next_displaced, same_holder}
 use Rattle.workflow_runs.specs.Moves.{Holder, Move}
 use Rattle.run_table.proofs.GroupLawWalk.{Lawful}
-use Rattle.run_table.proofs.GroupSaid.{latest_on, one_holder, pending_on, running_on, some_one, stopped_on, own_holder, the_one, the_same}
+use Rattle.run_table.proofs.GroupSaid.{latest_on, one_holder, pending_on, running_on, stopped_on, own_holder, the_one, the_same}
 use Rattle.run_table.proofs.GroupTruths.{not_both, or_false, pending_after_arrival, running_after_arrival}
 use Rattle.run_table.proofs.ListWalk.{Walk}
 use Rattle.run_table.proofs.OwnMoves.{arrival_is_own, end_is_own, start_is_own, stop_is_own}
@@ -180,5 +181,5 @@ arrival_matches cancels g moves k new is =
       latest = λ h same.
           latest_on moves more ∙ ap (λ hs. last_or (latest moves) hs) (latest_here k g.pending s) ∙ same;
       unstopped = λ h same.
-          subst (λ x. was_stopped x (moves ++ more) ≡ false) (some_one k h same) unasked;
+          subst (λ x. was_stopped x (moves ++ more) ≡ false) (same_Some k h same) unasked;
     }

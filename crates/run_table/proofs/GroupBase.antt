@@ -4,6 +4,8 @@ use Rattle.std.specs.Prelude.{cond, map, option_to_list}
 use Rattle.std.proofs.lemmas.List.{append-nil}
 use Rattle.std.proofs.Common.{◌≡◌, List, [], ◌∷◌, ◌++◌, Bool, true, false, ◌&&◌, ◌||◌, not, Option, Some, None}
 use Rattle.std.proofs.Common.{refl, ap, ap₂, sym, subst, ◌∙◌}
+use Rattle.std.proofs.lemmas.Option.{none-some}
+use Rattle.std.proofs.lemmas.Bool.{and_right, or_right}
 use Rattle.run_table.specs.GroupChanges.{Change, Matches, base_moves, beyond_base, changed, is_new, moves_of, running_moves}
 use Rattle.workflow_runs.specs.GroupState.{GroupState}
 use Rattle.run_table.specs.GroupLaw.{KeepsLaw, cancelled_end}
@@ -11,8 +13,8 @@ use Rattle.workflow_runs.specs.GroupWords.{has_arrived, is_the, same_holder}
 use Rattle.workflow_runs.specs.Moves.{Holder, Move}
 use Rattle.run_table.proofs.GroupChangeKeeps.{change_keeps_law, change_matches}
 use Rattle.run_table.proofs.GroupLawWalk.{Lawful, walk_is_law}
-use Rattle.run_table.proofs.GroupSaid.{arrived_on, none_is_not, one_holder, own_holder, the_same}
-use Rattle.run_table.proofs.GroupTruths.{and_false, not_both, or_false, or_true}
+use Rattle.run_table.proofs.GroupSaid.{arrived_on, one_holder, own_holder, the_same}
+use Rattle.run_table.proofs.GroupTruths.{not_both, or_false}
 use Rattle.run_table.proofs.ListWalk.{Walk}
 
 -- ---- nobody holds the group yet
@@ -23,10 +25,10 @@ idle stopping = record { running = None; stopping = stopping; pending = None }
 idle_matches : (stopping : Bool) → Matches (idle stopping) []
 idle_matches stopping = record {
   running = λ h. refl;
-  stopping = λ h same. absurd (none_is_not h same);
+  stopping = λ h same. absurd (none-some h same);
   pending = λ h. refl;
-  latest = λ h same. absurd (none_is_not h same);
-  unstopped = λ h same. absurd (none_is_not h same);
+  latest = λ h same. absurd (none-some h same);
+  unstopped = λ h same. absurd (none-some h same);
 }
 
 idle_keeps : (cancels : Holder → Bool) → KeepsLaw cancels []
@@ -50,15 +52,15 @@ running_matches r true = record {
   running = λ h. one_started (same_holder h r);
   stopping = λ h same. ap (λ b. b || false) (the_same (Some r) h same);
   pending = λ h. one_waits_not (same_holder h r);
-  latest = λ h same. absurd (none_is_not h same);
-  unstopped = λ h same. absurd (none_is_not h same);
+  latest = λ h same. absurd (none-some h same);
+  unstopped = λ h same. absurd (none-some h same);
 }
 running_matches r false = record {
   running = λ h. one_started (same_holder h r);
   stopping = λ h same. refl;
   pending = λ h. one_waits_not (same_holder h r);
-  latest = λ h same. absurd (none_is_not h same);
-  unstopped = λ h same. absurd (none_is_not h same);
+  latest = λ h same. absurd (none-some h same);
+  unstopped = λ h same. absurd (none-some h same);
 }
 
 running_walks : (cancels : Holder → Bool) (r : Holder) (stopping : Bool) → Walk (Lawful cancels) [] (running_moves stopping r)
@@ -141,7 +143,7 @@ pending_arrived g p one =
     arrived_on p base (map (λ h. Move.arrive h) (option_to_list g.pending))
     ∙ ap (λ o. has_arrived p base || has_arrived p (map (λ h. Move.arrive h) (option_to_list o))) one
     ∙ ap (λ b. has_arrived p base || (b || false)) (own_holder p)
-    ∙ or_true (has_arrived p base)
+    ∙ or_right (has_arrived p base) true refl
 
 apart_by : (r p : Holder) (b : Bool) → same_holder p r ≡ b → same_holder r p ≡ false → same_holder p r ≡ false
 apart_by r p false same isnt = same
@@ -151,7 +153,7 @@ apart_by r p true same isnt =
 apart_here : (cancels : Holder → Bool) (g : GroupState) → ((h : Holder) → g.running ≡ Some h → is_the g.pending h ≡ false)
     → Apart (beyond_base cancels g) g.running g.pending
 apart_here cancels g differ = record {
-  asks = λ p one. ap (λ b. cancels p && not b) (pending_arrived g p one) ∙ and_false (cancels p);
+  asks = λ p one. ap (λ b. cancels p && not b) (pending_arrived g p one) ∙ and_right (cancels p) false refl;
   other = λ r p runs one. apart_by r p (same_holder p r) refl (ap (λ o. is_the o r) (sym one) ∙ differ r runs);
 }
 

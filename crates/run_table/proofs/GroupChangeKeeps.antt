@@ -2,7 +2,8 @@
 use Rattle.std.proofs.Common.{◌≡◌, List, [], ◌∷◌, ◌++◌, Bool, true, false, ◌&&◌, ◌||◌, not, Some, None}
 use Rattle.std.proofs.Common.{refl, ap, ap₂, sym, subst, ◌∙◌, append_assoc}
 use Rattle.std.proofs.lemmas.List.{append-nil}
-use Rattle.std.proofs.lemmas.Bool.{not-true}
+use Rattle.std.proofs.lemmas.Bool.{and_right, not-true, or_right}
+use Rattle.std.proofs.lemmas.Option.{none-some}
 use Rattle.wf_value.specs.declared.outcome.Outcome.{Outcome}
 use Rattle.wf_value.specs.declared.outcome.Outcome.TheVariants.{Cancelled}
 use Rattle.run_table.specs.GroupChanges.{Change, Matches, MayAllBe, MayBe, after_all, changed, moves_of, moves_of_all}
@@ -12,12 +13,13 @@ use Rattle.workflow_runs.specs.GroupWords.{has_arrived, has_ended, has_started, 
 use Rattle.workflow_runs.specs.Moves.{Holder, Move}
 use Rattle.run_table.proofs.GroupArrival.{arrival_matches, arrival_walks}
 use Rattle.run_table.proofs.GroupLawWalk.{Lawful, law_goes_on}
-use Rattle.run_table.proofs.GroupSaid.{latest_on, none_is_not, own_holder, pending_on, running_on, runs_started, stopped_on}
+use Rattle.run_table.proofs.GroupSaid.{latest_on, own_holder, pending_on, running_on, runs_started, stopped_on}
 use Rattle.run_table.proofs.GroupSaid.{the_same, waits_unstarted}
-use Rattle.run_table.proofs.GroupTruths.{and_false, not_both, or_false, or_true, pending_after_end, pending_after_start, pending_after_stop}
+use Rattle.run_table.proofs.GroupTruths.{not_both, or_false, pending_after_end, pending_after_start, pending_after_stop}
 use Rattle.run_table.proofs.GroupTruths.{pending_after_withdrawal, running_after_arrival, running_after_end, running_after_start}
 use Rattle.run_table.proofs.GroupTruths.{running_after_stop}
 use Rattle.run_table.proofs.ListWalk.{Walk}
+use Rattle.run_table.proofs.OnlyStops.{told_then}
 
 -- ---- who waits does not run
 
@@ -36,7 +38,7 @@ running_waits_not : (g : GroupState) (moves : List Move) (h : Holder) → Matche
 running_waits_not g moves h is one =
     sym (is.pending h)
     ∙ ap (λ s. has_arrived h moves && (not s && not (has_ended h moves))) (runs_started h moves (runs g moves h is one))
-    ∙ and_false (has_arrived h moves)
+    ∙ and_right (has_arrived h moves) false refl
 
 -- ---- the pending holder starts
 
@@ -68,8 +70,8 @@ start_matches cancels g moves k idle one is =
           pending_on h moves more false (same_holder h k) false refl (or_false (same_holder h k)) refl
           ∙ ap (λ q. (has_arrived h moves || false) && (not (has_started h moves || q) && not (has_ended h moves || false))) (sym (own h))
           ∙ pending_after_start (has_arrived h moves) (has_started h moves) (has_ended h moves);
-      latest = λ h same. absurd (none_is_not h same);
-      unstopped = λ h same. absurd (none_is_not h same);
+      latest = λ h same. absurd (none-some h same);
+      unstopped = λ h same. absurd (none-some h same);
     }
 
 -- ---- the running holder is told to stop
@@ -84,7 +86,7 @@ stop_matches cancels g moves k one is =
       stopping = λ h same.
           stopped_on h moves more
           ∙ ap (λ b. was_stopped h moves || (b || false)) (the_same (Some k) h (sym one ∙ same))
-          ∙ or_true (was_stopped h moves);
+          ∙ or_right (was_stopped h moves) true refl;
       pending = λ h.
           pending_on h moves more false false false refl refl refl
           ∙ pending_after_stop (has_arrived h moves) (has_started h moves) (has_ended h moves)
@@ -112,7 +114,7 @@ end_matches cancels g moves r k one is =
           running_on h moves more false (same_holder h k) refl (or_false (same_holder h k))
           ∙ ap (λ q. (has_started h moves || false) && not (has_ended h moves || q)) (sym (own h))
           ∙ running_after_end (has_started h moves) (has_ended h moves);
-      stopping = λ h same. absurd (none_is_not h same);
+      stopping = λ h same. absurd (none-some h same);
       pending = λ h.
           pending_on h moves more false false (same_holder h k) refl refl (or_false (same_holder h k))
           ∙ ap (λ q. (has_arrived h moves || false) && (not (has_started h moves || false) && not (has_ended h moves || q))) (sym (own h))
@@ -124,16 +126,10 @@ end_matches cancels g moves r k one is =
 
 -- ---- the pending holder is told to stop, and so ends
 
-stopped_then : (moves : List Move) (k : Holder) → was_stopped k (moves ++ Move.stop k ∷ []) ≡ true
-stopped_then moves k =
-    stopped_on k moves (Move.stop k ∷ [])
-    ∙ ap (λ b. was_stopped k moves || (b || false)) (own_holder k)
-    ∙ or_true (was_stopped k moves)
-
 withdrawal_walks : (cancels : Holder → Bool) (moves : List Move) (k : Holder)
     → Walk (Lawful cancels) moves (Move.stop k ∷ Move.end_with Cancelled k ∷ [])
 withdrawal_walks cancels moves k =
-    (tt, (λ _ unstopped. absurd (not_both (was_stopped k (moves ++ Move.stop k ∷ [])) (stopped_then moves k) unstopped), tt))
+    (tt, (λ _ unstopped. absurd (not_both (was_stopped k (moves ++ Move.stop k ∷ [])) (told_then moves k) unstopped), tt))
 
 withdrawal_matches : (cancels : Holder → Bool) (g : GroupState) (moves : List Move) (k : Holder) → g.pending ≡ Some k → Matches g moves
     → Matches (changed cancels g (Change.withdrawal k)) (moves ++ Move.stop k ∷ Move.end_with Cancelled k ∷ [])
@@ -154,8 +150,8 @@ withdrawal_matches cancels g moves k one is =
           pending_on h moves more false false (same_holder h k) refl refl (or_false (same_holder h k))
           ∙ ap (λ q. (has_arrived h moves || false) && (not (has_started h moves || false) && not (has_ended h moves || q))) (sym (own h))
           ∙ pending_after_withdrawal (has_arrived h moves) (has_started h moves) (has_ended h moves);
-      latest = λ h same. absurd (none_is_not h same);
-      unstopped = λ h same. absurd (none_is_not h same);
+      latest = λ h same. absurd (none-some h same);
+      unstopped = λ h same. absurd (none-some h same);
     }
 
 -- ---- every change

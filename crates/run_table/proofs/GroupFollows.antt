@@ -3,16 +3,16 @@ use Rattle.std.specs.List.{last_or}
 use Rattle.std.specs.Prelude.{filter_map, option_and_then, cond, ◌⊎◌}
 use Rattle.std.proofs.Common.{◌≡◌, List, [], ◌∷◌, ◌++◌, Bool, true, false, ◌&&◌, ◌||◌, not, Option, Some, None}
 use Rattle.std.proofs.Common.{refl, ap, ap₂, sym, subst, ◌∙◌, append_assoc, inl, inr}
-use Rattle.std.proofs.lemmas.Bool.{and_parts, false≢true, not-true, or_parts}
+use Rattle.std.proofs.lemmas.Bool.{and_parts, false_from_ne_true, false≢true, not-true, or_parts, or_right}
+use Rattle.std.proofs.lemmas.Option.{none-some, same_Some}
 use Rattle.wf_value.specs.declared.outcome.Outcome.{Outcome}
 use Rattle.wf_value.specs.declared.outcome.Outcome.TheVariants.{Cancelled}
 use Rattle.run_table.specs.GroupLaw.{BeginsWith, KeepsLaw}
 use Rattle.workflow_runs.specs.GroupWords.{arrival_of, end_of, has_arrived, has_ended, has_started, was_stopped}
 use Rattle.workflow_runs.specs.GroupWords.{is_pending, is_running, is_the, latest, next_displaced, same_holder}
 use Rattle.workflow_runs.specs.Moves.{Holder, Move}
-use Rattle.run_table.proofs.GroupSaid.{none_is_not, some_one}
 use Rattle.run_table.proofs.GroupSaid.{arrived_on, ended_on, latest_on, one_holder, own_holder, started_on, runs_started, waits_unstarted}
-use Rattle.run_table.proofs.GroupTruths.{not_both, or_second, or_true}
+use Rattle.run_table.proofs.GroupTruths.{not_both, or_second}
 
 -- ---- where a move is
 
@@ -86,7 +86,7 @@ first_has_ended cancels moves before between after h k law e =
     let started : has_started h (before ++ Move.start h ∷ between) ≡ true =
     started_on h before (Move.start h ∷ between)
     ∙ ap (λ b. has_started h before || (b || has_started h between)) (own_holder h)
-    ∙ or_true (has_started h before) in
+    ∙ or_right (has_started h before) true refl in
     let ended = and_second (has_started h (before ++ Move.start h ∷ between)) (has_ended h (before ++ Move.start h ∷ between)) started
     (later.0 h) in
     or_second (has_ended h before) (has_ended h between) own.2 (sym (ended_on h before (Move.start h ∷ between)) ∙ ended)
@@ -120,7 +120,7 @@ in_order cancels moves before after x y h k law e is starts =
     ap (λ ms. has_ended h ms) is
     ∙ ended_on h x (Move.start h ∷ y)
     ∙ ap (λ b. has_ended h x || b) ended_then
-    ∙ or_true (has_ended h x)
+    ∙ or_right (has_ended h x) true refl
 
 one_by : (cancels : Holder → Bool) (moves before after x y : List Move) (h k : Holder) → KeepsLaw cancels moves → moves ≡ before ++ after
     → before ≡ x ++ Move.start h ∷ y → is_running h before ≡ true → is_running k before ≡ true → (a b c : Bool) → has_started k x ≡ a
@@ -135,7 +135,7 @@ one_by cancels moves before after x y h k law e is one other true false false in
     let later : has_started h (spot.1 ++ Move.start h ∷ y) ≡ true =
     started_on h spot.1 (Move.start h ∷ y)
     ∙ ap (λ b. has_started h spot.1 || (b || has_started h y)) (own_holder h)
-    ∙ or_true (has_started h spot.1) in
+    ∙ or_right (has_started h spot.1) true refl in
     absurd (not_both (has_ended k before)
     (in_order cancels moves before after spot.0 (spot.1 ++ Move.start h ∷ y) k h law e parts later) (runs_unended k before other))
 one_by cancels moves before after x y h k law e is one other false false false in_x same in_y found = absurd (false≢true found)
@@ -158,12 +158,12 @@ next_shown moves h late is =
 
 next_kept : (moves : List Move) (h x : Holder) (b : Bool) → is_pending x moves ≡ b → cond b (Some x) None ≡ Some h
     → is_pending h moves ≡ true
-next_kept moves h x true pending is = subst (λ y. is_pending y moves ≡ true) (some_one x h is) pending
-next_kept moves h x false pending is = absurd (none_is_not h is)
+next_kept moves h x true pending is = subst (λ y. is_pending y moves ≡ true) (same_Some x h is) pending
+next_kept moves h x false pending is = absurd (none-some h is)
 
 next_by : (moves : List Move) (h : Holder) (last : Option Holder)
     → option_and_then (λ x. cond (is_pending x moves) (Some x) None) last ≡ Some h → is_pending h moves ≡ true
-next_by moves h None is = absurd (none_is_not h is)
+next_by moves h None is = absurd (none-some h is)
 next_by moves h (Some x) is = next_kept moves h x (is_pending x moves) refl is
 
 pub displaced_waits : (moves : List Move) (h : Holder) → next_displaced moves ≡ Some h → is_pending h moves ≡ true
@@ -183,7 +183,7 @@ latest_then h x y none = latest_on x (Move.arrive h ∷ y) ∙ ap (λ hs. last_o
 
 arrived_then : (h : Holder) (x y : List Move) → has_arrived h (x ++ Move.arrive h ∷ y) ≡ true
 arrived_then h x y =
-    arrived_on h x (Move.arrive h ∷ y) ∙ ap (λ b. has_arrived h x || (b || has_arrived h y)) (own_holder h) ∙ or_true (has_arrived h x)
+    arrived_on h x (Move.arrive h ∷ y) ∙ ap (λ b. has_arrived h x || (b || has_arrived h y)) (own_holder h) ∙ or_right (has_arrived h x) true refl
 
 same_head : (m n : Move) (xs ys : List Move) → m ∷ xs ≡ n ∷ ys → m ≡ n
 same_head m n xs ys e = cc
@@ -197,7 +197,7 @@ end_is_next before x (m ∷ y) after h is unended begins =
     let ended : has_ended h (m ∷ y) ≡ true =
     ap (λ z. is_the (end_of z) h || has_ended h y) same ∙ ap (λ b. b || has_ended h y) (own_holder h) in
     absurd (not_both (has_ended h before)
-    (ap (λ ms. has_ended h ms) is ∙ ended_on h x (m ∷ y) ∙ ap (λ b. has_ended h x || b) ended ∙ or_true (has_ended h x)) unended)
+    (ap (λ ms. has_ended h ms) is ∙ ended_on h x (m ∷ y) ∙ ap (λ b. has_ended h x || b) ended ∙ or_right (has_ended h x) true refl) unended)
 
 latest_by : (cancels : Holder → Bool) (moves before after x y : List Move) (h : Holder) → KeepsLaw cancels moves → moves ≡ before ++ after
     → before ≡ x ++ Move.arrive h ∷ y → is_pending h before ≡ true → FirstArrival y
@@ -227,7 +227,7 @@ waits_as_latest cancels moves before after h law e waits =
 one_waits_by : (before after : List Move) (h k : Holder) → ((x : Holder) → BeginsWith (Move.end_with Cancelled x ∷ []) after → ⊥)
     → (latest before ≡ Some h) ⊎ BeginsWith (Move.end_with Cancelled h ∷ []) after
     → (latest before ≡ Some k) ⊎ BeginsWith (Move.end_with Cancelled k ∷ []) after → h ≡ k
-one_waits_by before after h k none (inl one) (inl other) = some_one h k (sym one ∙ other)
+one_waits_by before after h k none (inl one) (inl other) = same_Some h k (sym one ∙ other)
 one_waits_by before after h k none (inl one) (inr other) = absurd (none k other)
 one_waits_by before after h k none (inr one) other = absurd (none h one)
 
@@ -240,11 +240,7 @@ one_waits cancels moves before after h k law e one other none =
     one_waits_by before after h k none (waits_as_latest cancels moves before after h law e one)
     (waits_as_latest cancels moves before after k law e other)
 
-never : (b : Bool) → (b ≡ true → ⊥) → b ≡ false
-never true isnt = absurd (isnt refl)
-never false isnt = refl
-
--- who is displaced never starts
+-- who is displaced false_from_ne_true starts
 pub displaced_never_starts : (cancels : Holder → Bool) (moves before after : List Move) (newcomer h : Holder) → KeepsLaw cancels moves
     → moves ≡ before ++ Move.arrive newcomer ∷ after → next_displaced before ≡ Some h → has_started h moves ≡ false
 displaced_never_starts cancels moves before after newcomer h law e is =
@@ -254,14 +250,14 @@ displaced_never_starts cancels moves before after newcomer h law e is =
     let whole : moves ≡ (before ++ pair) ++ rest =
     e ∙ ap (λ ms. before ++ Move.arrive newcomer ∷ ms) begins.1 ∙ sym (append_assoc before pair rest) in
     let ended : has_ended h (before ++ pair) ≡ true =
-    ended_on h before pair ∙ ap (λ b. has_ended h before || (b || false)) (own_holder h) ∙ or_true (has_ended h before) in
+    ended_on h before pair ∙ ap (λ b. has_ended h before || (b || false)) (own_holder h) ∙ or_right (has_ended h before) true refl in
     let unstarted : has_started h before ≡ false =
     not-true (has_started h before) (waits_unstarted h before (displaced_waits before h is)).0 in
     let started : has_started h moves ≡ has_started h rest =
     ap (λ ms. has_started h ms) whole
     ∙ started_on h (before ++ pair) rest
     ∙ ap (λ b. b || has_started h rest) (started_on h before pair ∙ ap (λ b. b || false) unstarted) in
-    started ∙ never (has_started h rest) (ended_is_over cancels moves (before ++ pair) rest h law whole ended)
+    started ∙ false_from_ne_true (has_started h rest) (ended_is_over cancels moves (before ++ pair) rest h law whole ended)
 
 -- who ends without a start or a stop is displaced by one that arrived later
 pub displaced_by_a_later_one : (cancels : Holder → Bool) (moves before after : List Move) (r : Outcome) (h : Holder)

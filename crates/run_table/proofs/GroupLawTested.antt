@@ -4,7 +4,7 @@ use Rattle.std.specs.Prelude.{map}
 use Rattle.std.proofs.Common.{◌≡◌, List, [], ◌∷◌, ◌++◌, Bool, true, false, ◌&&◌, ◌||◌, not, Option, Some, None}
 use Rattle.std.proofs.Common.{refl, ap, ap₂, sym, subst, ◌∙◌, append_assoc}
 use Rattle.std.proofs.lemmas.List.{append-nil}
-use Rattle.std.proofs.lemmas.Bool.{and_parts, not-true}
+use Rattle.std.proofs.lemmas.Bool.{and_from, and_parts, not-true}
 use Rattle.wf_value.specs.declared.outcome.Outcome.{Outcome}
 use Rattle.wf_value.specs.declared.outcome.Outcome.TheVariants.{Success, Failure, Cancelled}
 use Rattle.run_table.specs.GroupLaw.{BeginsWith, IsJustDisplaced, KeepsLaw, cancelled_end}
@@ -143,9 +143,6 @@ law_by_test cancels moves is = walk_is_law cancels moves (walk_by_test cancels [
 
 -- ---- and back
 
-and_both : (a b : Bool) → a ≡ true → b ≡ true → (a && b) ≡ true
-and_both a b one other = ap₂ (λ x y. x && y) one other
-
 end_tested : (h : Holder) (after : List Move) → BeginsWith (Move.end_with Cancelled h ∷ []) after → begins_with_end h after ≡ true
 end_tested h after begins = ap (λ ms. begins_with_end h ms) begins.1 ∙ own_holder h
 
@@ -193,29 +190,29 @@ test_of_lawful : (cancels : Holder → Bool) (before : List Move) (m : Move) (af
 test_of_lawful cancels before (Move.arrive k) after law =
     let test : Holder → Bool =
     λ h. not (is_running h before) || (was_stopped h before || stops_behind (next_displaced before) h after) in
-    and_both (ends_displaced (next_displaced before) after) (not (cancels k) || list_all test (map holder_of before))
+    and_from (ends_displaced (next_displaced before) after) (not (cancels k) || list_all test (map holder_of before))
     (displaced_tested (next_displaced before) after law.0)
     (asked_by (cancels k) (list_all test (map holder_of before))
     (λ asks. all_pass test (λ h. stop_tested_by (is_running h before) (was_stopped h before) (stops_behind (next_displaced before) h
     after)
     (λ runs unstopped. behind_tested (next_displaced before) h after (law.1 h asks runs unstopped))) (map holder_of before)))
 test_of_lawful cancels before (Move.start h) after law =
-    and_both (list_all (λ other. not (is_running other before)) (map holder_of before)) (is_the (latest before) h && not (has_ended h
+    and_from (list_all (λ other. not (is_running other before)) (map holder_of before)) (is_the (latest before) h && not (has_ended h
     before))
     (all_pass (λ other. not (is_running other before)) (λ other. ap not (law.0 other)) (map holder_of before))
-    (and_both (is_the (latest before) h) (not (has_ended h before)) (the_same (latest before) h law.1) (ap not law.2))
+    (and_from (is_the (latest before) h) (not (has_ended h before)) (the_same (latest before) h law.1) (ap not law.2))
 test_of_lawful cancels before (Move.stop h) after law = refl
 test_of_lawful cancels before (Move.end_with r h) after law =
     end_by (has_started h before) (was_stopped h before) (is_cancelled r && displaced_last h [] before)
     (λ unstarted unstopped.
     let cause = law unstarted unstopped in
-    and_both (is_cancelled r) (displaced_last h [] before) (ap is_cancelled cause.0) (just_tested h before cause.1))
+    and_from (is_cancelled r) (displaced_last h [] before) (ap is_cancelled cause.0) (just_tested h before cause.1))
 
 test_of_walk : (cancels : Holder → Bool) (before after : List Move) → Walk (Lawful cancels) before after
     → allows_all cancels before after ≡ true
 test_of_walk cancels before [] walk = refl
 test_of_walk cancels before (m ∷ after) walk =
-    and_both (allows cancels before m after) (allows_all cancels (before ++ m ∷ []) after)
+    and_from (allows cancels before m after) (allows_all cancels (before ++ m ∷ []) after)
     (test_of_lawful cancels before m after walk.0) (test_of_walk cancels (before ++ m ∷ []) after walk.1)
 
 pub test_of_law : (cancels : Holder → Bool) (moves : List Move) → KeepsLaw cancels moves → keeps_law cancels moves ≡ true

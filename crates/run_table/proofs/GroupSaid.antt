@@ -38,12 +38,6 @@ the_one (Some k) h is = ap (λ x. Some x) (sym (one_holder h k is))
 pub the_same : (o : Option Holder) (h : Holder) → o ≡ Some h → is_the o h ≡ true
 the_same o h is = ap (λ x. is_the x h) is ∙ own_holder h
 
-pub some_one : (h k : Holder) → Some h ≡ Some k → h ≡ k
-some_one h k is = cc
-
-pub none_is_not : (h : Holder) → None ≡ Some h → ⊥
-none_is_not h is = cc
-
 -- ---- what all moves together say
 
 pub arrived_on : (h : Holder) (moves more : List Move) → has_arrived h (moves ++ more) ≡ (has_arrived h moves || has_arrived h more)

@@ -10,7 +10,7 @@ use Rattle.std.specs.Str.{bytes_eq}
 use Rattle.std.specs.declared.cmp.Ordering.{Ordering}
 use Rattle.std.specs.declared.cmp.Ordering.TheVariants.{Less, Equal, Greater}
 use Rattle.std.proofs.Common.{ap, sym, ◌∙◌}
-use Rattle.std.proofs.lemmas.Bool.{true≢false}
+use Rattle.std.proofs.lemmas.Bool.{or_parts, or_right, true≢false}
 use Rattle.std.proofs.lemmas.Map.Lookups.{exact_bytes}
 use Rattle.std.proofs.lemmas.Map.Text.{is_eq-slice_cmp}
 use Rattle.std.proofs.lemmas.Slice.Eq.{bytes_eq-Decides}
@@ -27,14 +27,6 @@ either_swaps true true c = refl
 either_swaps true false c = refl
 either_swaps false true c = refl
 either_swaps false false c = refl
-
-pub either_true : (a b : Bool) → b ≡ true → (a || b) ≡ true
-either_true true b e = refl
-either_true false b e = e
-
-pub neither : (a b : Bool) → (a || b) ≡ false → (a ≡ false) × (b ≡ false)
-neither true b e = cc
-neither false b e = (refl, e)
 
 -- ---- two orders, one after the other
 
@@ -82,14 +74,14 @@ found_some test other [] x e passes = cc
 found_some test other (y ∷ ys) x e passes =
     elim (test y) as (λ b. (if b then Some y else find test ys) ≡ Some x → (other y || list_any other ys) ≡ true) [
       | true ↦ λ is. let same : y ≡ x = cc in ap (λ b. b || list_any other ys) (ap other same ∙ passes)
-      | false ↦ λ later. either_true (other y) (list_any other ys) (found_some test other ys x later passes)
+      | false ↦ λ later. or_right (other y) (list_any other ys) (found_some test other ys x later passes)
     ] e
 
 pub none_passes : {X : Type 0} (test other : X → Bool) (xs : List X) → ((x : X) → other x ≡ true → test x ≡ true) → list_any test xs ≡ false
     → list_any other xs ≡ false
 none_passes test other [] so none = refl
 none_passes test other (x ∷ xs) so none =
-    let parts = neither (test x) (list_any test xs) none in
+    let parts = or_parts (test x) (list_any test xs) none in
     elim (other x) as (λ b. other x ≡ b → (b || list_any other xs) ≡ false) [
       | true ↦ λ is. absurd (true≢false (sym (so x is) ∙ parts.0))
       | false ↦ λ is. none_passes test other xs so parts.1
@@ -120,7 +112,7 @@ pub put_in : {X : Type 0} (cmp : X → X → Ordering) (test : X → Bool) (k : 
     → list_any test (insert_key cmp xs k) ≡ (test k || list_any test xs)
 put_in cmp test k [] none = refl
 put_in cmp test k (x ∷ xs) none =
-    let parts = neither (is_at (cmp k) x) (list_any (is_at (cmp k)) xs) none in
+    let parts = or_parts (is_at (cmp k) x) (list_any (is_at (cmp k)) xs) none in
     at_key test k x xs (insert_key cmp xs k) (cmp k x) parts.0 (put_in cmp test k xs parts.1)
 
 -- what is there already is there afterwards

@@ -1,21 +1,14 @@
 -- Facts about truth values, each by its cases.
 use Rattle.std.proofs.Common.{◌≡◌, Bool, true, false, ◌&&◌, ◌||◌, not, refl, ap}
+use Rattle.std.proofs.lemmas.Bool.{and_right}
 
 pub or_false : (b : Bool) → (b || false) ≡ b
 or_false true = refl
 or_false false = refl
 
-pub or_true : (b : Bool) → (b || true) ≡ true
-or_true true = refl
-or_true false = refl
-
 pub or_second : (a b : Bool) → a ≡ false → (a || b) ≡ true → b ≡ true
 or_second true b isnt is = absurd (cc)
 or_second false b isnt is = is
-
-pub and_false : (b : Bool) → (b && false) ≡ false
-and_false true = refl
-and_false false = refl
 
 pub not_both : (b : Bool) → b ≡ true → b ≡ false → ⊥
 not_both true is isnt = cc
@@ -25,7 +18,7 @@ not_both false is isnt = cc
 
 pub running_after_arrival : (a s e : Bool) → ((s || false) && not (e || (a && (not s && not e)))) ≡ (s && not e)
 running_after_arrival a true true = refl
-running_after_arrival a true false = ap not (and_false a)
+running_after_arrival a true false = ap not (and_right a false refl)
 running_after_arrival a false e = refl
 
 pub pending_after_withdrawal : (a s e : Bool) → ((a || false) && (not (s || false) && not (e || (a && (not s && not e))))) ≡ false

@@ -2,7 +2,8 @@
 use Rattle.std.specs.Prelude.{◌≡◌, ◌⊎◌, ℕ, ◌+◌, ◌<◌, List, [], ◌||◌, not, Bool, true, false, Option, Some, None, Result, Ok, Err, IfOk}
 use Rattle.std.specs.Prelude.{OnOk, refl}
 use Rattle.std.proofs.Common.{arith, ap, sym, subst, ◌∙◌, inl, inr}
-use Rattle.std.proofs.lemmas.Bool.{cases_eq, true≢false}
+use Rattle.std.proofs.lemmas.Bool.{cases_eq, not-false, not-true, or_right, true≢false}
+use Rattle.std.proofs.lemmas.Option.{none-some, same_Some}
 use Rattle.wf_value.specs.declared.refusal.Refusal.{Refusal}
 use Rattle.group_name.specs.Group.{Group}
 use Rattle.run_table.specs.GroupSets.{AddsEach, AreGroupsOf, Clash, DifferInGroup, Gathered, HasOneOf, IsALegOfRun, IsAny, IsOfRun}
@@ -10,18 +11,12 @@ use Rattle.run_table.specs.GroupSets.{has_group}
 use Rattle.workflow_runs.specs.Groups.{same_group}
 use Rattle.workflow_runs.specs.Holders.{run_of}
 use Rattle.workflow_runs.specs.Moves.{Holder}
-use Rattle.run_table.proofs.GroupSetReads.{either_true, own_group}
+use Rattle.run_table.proofs.GroupSetReads.{own_group}
 use Rattle.workflow_runs.proofs.OneEach.{same_is_one}
 
 -- those of them that are passed
 abbrev pub SoFar : (Holder → Type 0) → (Holder → ℕ) → ℕ → Holder → Type 0
 SoFar these place i h = these h × (place h < i)
-
-some_same : (g k : Group) → Some g ≡ Some k → g ≡ k
-some_same g k e = cc
-
-none_not_some : (g : Group) → None ≡ Some g → ⊥
-none_not_some g e = cc
 
 module _ (group_of : Holder → Option Group) where
   -- ---- one of them
@@ -29,18 +24,18 @@ module _ (group_of : Holder → Option Group) where
   pub none_has : (h : Holder) (a : List Group) → group_of h ≡ None → Gathered group_of a a (λ k. k ≡ h)
   none_has h a none = record {
     keeps = (λ g e. e);
-    has_each = (λ k g is e. absurd (none_not_some g (sym none ∙ ap group_of (sym is) ∙ e)));
+    has_each = (λ k g is e. absurd (none-some g (sym none ∙ ap group_of (sym is) ∙ e)));
     no_other = (λ g e. inl e);
-    each_new = (λ k g is e. absurd (none_not_some g (sym none ∙ ap group_of (sym is) ∙ e)));
+    each_new = (λ k g is e. absurd (none-some g (sym none ∙ ap group_of (sym is) ∙ e)));
     each_once = (λ k j g is also e f. is ∙ sym also);
   }
 
   pub one_has : (h : Holder) (g : Group) (a b : List Group) → group_of h ≡ Some g → has_group a g ≡ false
       → ((k : Group) → has_group b k ≡ (same_group k g || has_group a k)) → Gathered group_of a b (λ k. k ≡ h)
   one_has h g a b has new added = record {
-    keeps = (λ k e. added k ∙ either_true (same_group k g) (has_group a k) e);
+    keeps = (λ k e. added k ∙ or_right (same_group k g) (has_group a k) e);
     has_each = (λ j k is e.
-        let same : g ≡ k = some_same g k (sym has ∙ ap group_of (sym is) ∙ e) in
+        let same : g ≡ k = same_Some g k (sym has ∙ ap group_of (sym is) ∙ e) in
         added k ∙ ap (λ v. same_group k v || has_group a k) same ∙ ap (λ b. b || has_group a k) (own_group k));
     no_other = (λ k e. elim (same_group k g) as (λ b. same_group k g ≡ b → (b || has_group a k) ≡ true
         → (has_group a k ≡ true) ⊎ HasOneOf group_of (λ j. j ≡ h) k) [
@@ -48,7 +43,7 @@ module _ (group_of : Holder → Option Group) where
           | false ↦ λ is e. inl e
         ] refl (sym (added k) ∙ e));
     each_new = (λ j k is e.
-        let same : g ≡ k = some_same g k (sym has ∙ ap group_of (sym is) ∙ e) in ap (has_group a) (sym same) ∙ new);
+        let same : g ≡ k = same_Some g k (sym has ∙ ap group_of (sym is) ∙ e) in ap (has_group a) (sym same) ∙ new);
     each_once = (λ k j v is also e f. is ∙ sym also);
   }
 
@@ -231,13 +226,5 @@ module _ (group_of : Holder → Option Group) where
       → IfOk r (λ new. new ≡ not (has_group a g)) → OnOk r ((k : Group) → has_group b k ≡ (same_group k g || has_group a k))
       → IfOk r (AddsEach group_of a b (λ k. k ≡ h))
   group_put h g a b (Err e) has new added = tt
-  group_put h g a b (Ok true) has new added = one_has h g a b has (was_not (has_group a g) (sym new)) added
-    where
-      was_not : (b : Bool) → not b ≡ true → b ≡ false
-      was_not true e = cc
-      was_not false e = refl
-  group_put h g a b (Ok false) has new added = one_clashes h g a has (was (has_group a g) (sym new))
-    where
-      was : (b : Bool) → not b ≡ false → b ≡ true
-      was true e = refl
-      was false e = cc
+  group_put h g a b (Ok true) has new added = one_has h g a b has (not-true (has_group a g) (sym new)) added
+  group_put h g a b (Ok false) has new added = one_clashes h g a has (not-false (has_group a g) (sym new))

@@ -37,7 +37,7 @@ leg_of (Holder.a_leg p) = p.leg
 
 -- ---- who stands in a group
 
-given_if : {X : Type 0} (b : Bool) (o : Option X) (x : X) → (if b then o else None) ≡ Some x → (b ≡ true) × (o ≡ Some x)
+pub given_if : {X : Type 0} (b : Bool) (o : Option X) (x : X) → (if b then o else None) ≡ Some x → (b ≡ true) × (o ≡ Some x)
 given_if true o x e = (refl, e)
 given_if false o x e = cc
 

@@ -5,7 +5,7 @@ use Rattle.std.specs.Prelude.{if◌then◌else◌, refl}
 use Rattle.std.specs.List.{AllByRecursion}
 use Rattle.std.specs.Option.{option_map_or}
 use Rattle.std.proofs.Common.{ap, ap₂, inl, inr, sym, ◌∙◌, subst, append_assoc}
-use Rattle.std.proofs.lemmas.Bool.{and_parts, true≢false}
+use Rattle.std.proofs.lemmas.Bool.{and_parts, false≢true, true≢false}
 use Rattle.std.proofs.lemmas.List.{append-nil}
 use Rattle.group_name.specs.Group.{Group}
 use Rattle.run_plan.specs.declared.command.Command.{Command}
@@ -160,9 +160,6 @@ own_pending : (o : Option Holder) (h : Holder)
 own_pending None h = refl
 own_pending (Some k) h = own_arrival h k (same_holder h k) refl
 
-unheld : false ≡ true → ⊥
-unheld e = cc
-
 module _ (runs : List RunState) (g : Group) (fit : RunsFit runs) (each : HasOneEach runs) where
   found : (test : Holder → Bool) (h : Holder) → test h ≡ true → IsOneOf runs h → ((k : Holder) → test k ≡ true → k ≡ h)
       → find test (all_holders runs) ≡ Some h
@@ -241,20 +238,20 @@ module _ (runs : List RunState) (g : Group) (fit : RunsFit runs) (each : HasOneE
 
   fits_by : (h : Holder) (s : Status) → status runs h ≡ s → is_in runs g h ≡ true → Fits s h (own h (base_moves (group_state runs g)))
   fits_by h Status.unarrived at is =
-      own_by h false false (idle h (λ e. unheld (sym (ap is_held at) ∙ e))) (unqueued h (λ e. unheld (sym (ap is_waiting at) ∙ e)))
+      own_by h false false (idle h (λ e. false≢true (sym (ap is_held at) ∙ e))) (unqueued h (λ e. false≢true (sym (ap is_waiting at) ∙ e)))
   fits_by h Status.waiting at is =
       let waits_it : waits runs h ≡ true = waits_as runs h ∙ ap is_waiting at in
-      own_by h false true (idle h (λ e. unheld (sym (ap is_held at) ∙ e)))
+      own_by h false true (idle h (λ e. false≢true (sym (ap is_held at) ∙ e)))
       (the_same (group_state runs g).pending h (waits_in h (both (is_in runs g h) (waits runs h) is waits_it)))
   fits_by h (Status.running told) at is =
       let holds_it : holds runs h ≡ true = holds_as runs h ∙ ap is_held at in
       let one = runs_in h (both (is_in runs g h) (holds runs h) is holds_it) in
       let flag : (group_state runs g).stopping ≡ told = ap (λ o. option_map_or (is_told_to_stop runs) o false) one
       ∙ told_as runs h told at in
-      own_by h true false (the_same (group_state runs g).running h one) (unqueued h (λ e. unheld (sym (ap is_waiting at) ∙ e)))
+      own_by h true false (the_same (group_state runs g).running h one) (unqueued h (λ e. false≢true (sym (ap is_waiting at) ∙ e)))
       ∙ append-nil (running_moves (group_state runs g).stopping h) ∙ ap (λ b. running_moves b h) flag
   fits_by h Status.over at is =
-      let none = own_by h false false (idle h (λ e. unheld (sym (ap is_held at) ∙ e))) (unqueued h (λ e. unheld (sym (ap is_waiting at)
+      let none = own_by h false false (idle h (λ e. false≢true (sym (ap is_held at) ∙ e))) (unqueued h (λ e. false≢true (sym (ap is_waiting at)
       ∙ e))) in
       (ap (is_running h) none, ap (is_pending h) none)
 
@@ -269,7 +266,7 @@ module _ (runs : List RunState) (g : Group) (fit : RunsFit runs) (each : HasOneE
       absurd (true≢false (sym (runs_started h (base_moves (group_state runs g))
       (fits_running (Status.running told) h (base_moves (group_state runs g)) (fits_by h (Status.running told) at is))) ∙ unstarted))
   waits_by h Status.over at is arrives unstarted =
-      let none = own_by h false false (idle h (λ e. unheld (sym (ap is_held at) ∙ e))) (unqueued h (λ e. unheld (sym (ap is_waiting at)
+      let none = own_by h false false (idle h (λ e. false≢true (sym (ap is_held at) ∙ e))) (unqueued h (λ e. false≢true (sym (ap is_waiting at)
       ∙ e))) in
       absurd (true≢false (sym arrives ∙ sym (arrived_by_own h (base_moves (group_state runs g))) ∙ ap (has_arrived h) none))
 

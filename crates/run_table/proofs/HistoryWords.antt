@@ -2,7 +2,8 @@
 use Rattle.std.specs.Prelude.{◌≡◌, ℕ, ◌≤◌, List, [], ◌∷◌, ◌++◌, ◌&&◌, ◌||◌, length, not, Bool, true, false, Option, Some, None}
 use Rattle.std.specs.Prelude.{slice_get, refl}
 use Rattle.std.proofs.Common.{ap, sym, ◌∙◌}
-use Rattle.std.proofs.lemmas.Bool.{and_parts, true≢false}
+use Rattle.std.proofs.lemmas.Bool.{and_parts, or_right, true≢false}
+use Rattle.std.proofs.lemmas.Option.{same_Some}
 use Rattle.wf_value.specs.declared.outcome.Outcome.{Outcome}
 use Rattle.group_name.specs.Group.{Group}
 use Rattle.run_plan.specs.declared.command.Command.{Command}
@@ -21,7 +22,6 @@ use Rattle.workflow_runs.specs.declared.phases.RunPhase.{RunPhase}
 use Rattle.workflow_runs.specs.declared.phases.RunPhase.TheVariants as run
 use Rattle.run_table.proofs.GroupFollows.{displaced_by_a_later_one, displaced_never_starts, displaced_waits, first_has_ended}
 use Rattle.run_table.proofs.GroupSaid.{arrived_on, ended_on, own_holder}
-use Rattle.run_table.proofs.GroupTruths.{or_true}
 use Rattle.run_table.proofs.HistoryLaw.{all_so_far, group_keeps_law}
 use Rattle.run_table.proofs.HolderStatus.{Fits, Status, leg_status, run_status, status, status_by, status_of_leg, status_of_run}
 use Rattle.run_table.proofs.HoldersOnce.{one_pending, one_running}
@@ -119,7 +119,7 @@ displaced_never_began t cs g before after_it newcomer h s e is =
     ap (has_ended h) begins.1 ∙ ap (λ b. b || has_ended h begins.0) (own_holder h) in
     let ends : has_ended h moves ≡ true =
     ap (has_ended h) e ∙ ended_on h before (Move.arrive newcomer ∷ after_it) ∙ ap (λ b. has_ended h before || b) ends_then
-    ∙ or_true (has_ended h before) in
+    ∙ or_right (has_ended h before) true refl in
     let of_it : is_in runs g h ≡ true = in_it runs g h moves so_far arrives in
     never_began runs h (over_by h (status runs h) moves (so_far.each h of_it) arrives ends unstarted)
     (so_far.unbegun h of_it arrives unstarted)
@@ -142,23 +142,17 @@ no_lease_then (Some n) never = absurd (never n refl)
 none_there : (l : ℕ) (z : LegState) (legs : List LegState) → legs ≡ [] → slice_get legs l ≡ Some z → ⊥
 none_there l z legs none e = let past : slice_get [] l ≡ Some z = sym (ap (λ (ls : List LegState). slice_get ls l) none) ∙ e in cc
 
-same_run : (x y : RunState) → Some x ≡ Some y → x ≡ y
-same_run x y e = cc
-
-same_leg : (y z : LegState) → Some y ≡ Some z → y ≡ z
-same_leg y z e = cc
-
 never_had : (runs : List RunState) (h : Holder) → NeverBegan runs h → (p : LegPlace) → IsOf h p → (n : ℕ) → had_at runs p ≡ Some n → ⊥
 never_had runs (Holder.a_run r) began p of_it n e =
     let from = leg_from_had runs p n e in
     let place = leg_in runs p from.value from.is in
     let same : place.place.run ≡ began.0 =
-    same_run place.place.run began.0 (sym place.place.run_is ∙ ap (run_at runs) of_it ∙ began.1) in
+    same_Some place.place.run began.0 (sym place.place.run_is ∙ ap (run_at runs) of_it ∙ began.1) in
     let its_job = ap (λ (x : RunState). slice_get x.jobs p.job) (sym same) ∙ place.place.job_is in
     none_there p.leg from.value place.job.legs (began.2.no_legs p.job place.job its_job) place.leg_is
 never_had runs (Holder.a_leg q) began p of_it n e =
     let from = leg_from_had runs p n e in
-    let same : from.value ≡ began.0 = same_leg from.value began.0 (sym from.is ∙ ap (leg_at runs) of_it ∙ began.1) in
+    let same : from.value ≡ began.0 = same_Some from.value began.0 (sym from.is ∙ ap (leg_at runs) of_it ∙ began.1) in
     let none : None ≡ Some n = sym (ap (λ (z : LegState). z.lease) same ∙ began.2.no_lease) ∙ from.gives in
     none_is_not_some n none
 

@@ -4,6 +4,7 @@ use Rattle.std.specs.Prelude.{slice_get, if◌then◌else◌, refl}
 use Rattle.std.specs.Option.{option_map_or}
 use Rattle.std.proofs.Common.{ap, sym, ◌∙◌, append_assoc, subst}
 use Rattle.std.proofs.lemmas.List.{append-nil}
+use Rattle.std.proofs.lemmas.Bool.{and_right, or_right}
 use Rattle.wf_value.specs.declared.outcome.Outcome.{Outcome}
 use Rattle.workflow_runs.specs.Fitting.{is_stopping_leg}
 use Rattle.workflow_runs.specs.GroupWords.{has_arrived, has_ended, has_started, is_pending, is_running, was_stopped}
@@ -17,7 +18,6 @@ use Rattle.workflow_runs.specs.declared.phases.LegPhase.TheVariants as leg
 use Rattle.workflow_runs.specs.declared.phases.RunPhase.{RunPhase}
 use Rattle.workflow_runs.specs.declared.phases.RunPhase.TheVariants as run
 use Rattle.run_table.proofs.GroupSaid.{ended_on, own_holder}
-use Rattle.run_table.proofs.GroupTruths.{and_false, or_true}
 use Rattle.run_table.proofs.OwnMoves.{ended_by_own, own, runs_by_own, stopped_by_own, waits_by_own}
 
 pub data Status : Type 0 where
@@ -186,10 +186,10 @@ Fits Status.over h moves = IsOver h moves
 
 pub over_by_end : (h : Holder) (moves : List Move) → has_ended h moves ≡ true → IsOver h moves
 over_by_end h moves e = (
-  ap (λ b. has_started h moves && not b) e ∙ and_false (has_started h moves),
+  ap (λ b. has_started h moves && not b) e ∙ and_right (has_started h moves) false refl,
   ap (λ b. has_arrived h moves && (not (has_started h moves) && not b)) e
-      ∙ ap (λ b. has_arrived h moves && b) (and_false (not (has_started h moves)))
-      ∙ and_false (has_arrived h moves),
+      ∙ ap (λ b. has_arrived h moves && b) (and_right (not (has_started h moves)) false refl)
+      ∙ and_right (has_arrived h moves) false refl,
 )
 
 runs_as_told : (h : Holder) (told : Bool) → is_running h (Move.arrive h ∷ Move.start h ∷ stop_if told h) ≡ true
@@ -243,7 +243,7 @@ goes_on h a b c first second one two moves fits =
 
 pub goes_over : (h : Holder) (s : Status) (more : List Move) → has_ended h more ≡ true → Goes h s more Status.over
 goes_over h s more e moves fits =
-    over_by_end h (moves ++ more) (ended_on h moves more ∙ ap (λ b. has_ended h moves || b) e ∙ or_true (has_ended h moves))
+    over_by_end h (moves ++ more) (ended_on h moves more ∙ ap (λ b. has_ended h moves || b) e ∙ or_right (has_ended h moves) true refl)
 
 pub goes_to_arrive : (h : Holder) → Goes h Status.unarrived (Move.arrive h ∷ []) Status.waiting
 goes_to_arrive h moves fits = ap (λ ms. ms ++ Move.arrive h ∷ []) fits

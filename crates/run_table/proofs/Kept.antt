@@ -3,6 +3,7 @@ use Rattle.std.specs.Prelude.{◌≡◌, ℕ, ◌+◌, ◌≤◌, List, [], leng
 use Rattle.std.specs.Prelude.{if◌then◌else◌, refl}
 use Rattle.std.specs.Option.{option_map_or}
 use Rattle.std.proofs.Common.{ap, sym, ◌∙◌, subst}
+use Rattle.std.proofs.lemmas.Option.{same_Some}
 use Rattle.workflow_runs.specs.Groups.{HasOneEach}
 use Rattle.run_plan.specs.declared.planned.PlannedJob.{PlannedJob}
 use Rattle.workflow_runs.specs.Places.{LegPlace, run_at, leg_at, plan_at}
@@ -72,9 +73,6 @@ held_by_name : (runners : List RunnerState) (n : ℕ) (k : ℕ) (x : RunnerState
 held_by_name runners n k x rise at holds =
     ap (option_and_then (λ (v : RunnerState). v.holds)) (found_by_name runners rise k x at) ∙ holds
 
-some_same : (x y : RunnerState) → Some x ≡ Some y → x ≡ y
-some_same x y e = cc
-
 work_somewhere : (runs : List RunState) (n : ℕ) (p : LegPlace) → works_at runs p ≡ Some n → IsAtWork runs n
 work_somewhere runs n p e =
     let f = leg_from_works runs p n e in
@@ -108,7 +106,7 @@ leases_agree last runs runners rise given differ work held once = record {
       let one = stood runners a in
       let other = stood runners b in
       let place = once one.place other.place f.value h.value n (one.was ∙ f.is) (other.was ∙ h.is) f.gives h.gives in
-      let same : f.value ≡ h.value = some_same f.value h.value
+      let same : f.value ≡ h.value = same_Some f.value h.value
       (sym (one.was ∙ f.is) ∙ ap (slice_get runners) place ∙ (other.was ∙ h.is)) in
       sym (has_the_name runners a f.value f.is) ∙ ap (λ (x : RunnerState). x.name) same ∙ has_the_name runners b h.value h.is);
 }

@@ -5,8 +5,9 @@ use Rattle.std.specs.Prelude.{Option, Some, None, option_map, if◌then◌else�
 use Rattle.std.specs.Cmp.Lexicographic.{pointwise}
 use Rattle.std.specs.Option.{option_map_or, option_or}
 use Rattle.std.specs.Str.{bytes_eq}
-use Rattle.std.proofs.lemmas.Bool.{and_parts, eq-eqb, eqb-true, true≢false}
+use Rattle.std.proofs.lemmas.Bool.{and_from, and_parts, eq-eqb, eqb-true, true≢false}
 use Rattle.std.proofs.lemmas.Slice.Eq.{bytes_eq-Decides}
+use Rattle.std.proofs.lemmas.Option.{same_Some}
 use Rattle.wf_value.specs.declared.code.Code.TheVariants.{HasLease, LastCounter, LeaseNotHeld, NoRunner}
 use Rattle.wf_value.specs.declared.outcome.Outcome.{Outcome}
 use Rattle.wf_value.specs.declared.outcome.Outcome.TheVariants as ended
@@ -31,9 +32,6 @@ use Rattle.run_table.specs.Step.{reporting_runner, outcome, serving_nothing, ste
 use Rattle.run_table.specs.Turns.{answer_of_turn, holds_lease, holds_this, is_repeated, number_of, runner_named, turn_answer, with_runner}
 use Rattle.run_table.proofs.RunnerPut.{found_new, found_other, has_the_name}
 use Rattle.run_table.specs.ExactlyOnce.{HasTurn, HaveNoLaterTurn, IsRefused}
-
-some_same : {X : Type 0} (x y : X) → Some x ≡ Some y → x ≡ y
-some_same x y e = cc
 
 -- ---- what is kept
 
@@ -88,7 +86,7 @@ module _ (name : List ℕ) (number : ℕ) (same : LastCommand → Bool) (kept : 
       → next.runners ≡ with_runner t.runners (released runner) → Has t → Has next
   releasing t next lost_one runner found is has =
       has_beside t next (released runner) is (λ has named.
-      let same_one : has.runner ≡ runner = some_same has.runner runner
+      let same_one : has.runner ≡ runner = same_Some has.runner runner
       (sym has.found ∙ ap (runner_named t.runners) (named ∙ has_the_name t.runners lost_one runner found) ∙ found) in
       record {
         runner = released runner;
@@ -196,13 +194,10 @@ same_labels [] = refl
 same_labels (x ∷ xs) =
     ap (λ (b : Bool). b && pointwise bytes_eq xs xs) ((bytes_eq-Decides x x).1 refl) ∙ ap (λ (b : Bool). true && b) (same_labels xs)
 
-both : (a b : Bool) → a ≡ true → b ≡ true → (a && b) ≡ true
-both a b one two = ap (λ (x : Bool). x && b) one ∙ ap (λ (x : Bool). true && x) two
-
 same_claim : (claim : Claimed) → same_claims claim claim ≡ true
-same_claim claim = both (bytes_eq claim.runner claim.runner && nat_eq claim.number claim.number)
+same_claim claim = and_from (bytes_eq claim.runner claim.runner && nat_eq claim.number claim.number)
     (pointwise bytes_eq claim.labels claim.labels)
-    (both (bytes_eq claim.runner claim.runner) (nat_eq claim.number claim.number) ((bytes_eq-Decides claim.runner claim.runner).1 refl)
+    (and_from (bytes_eq claim.runner claim.runner) (nat_eq claim.number claim.number) ((bytes_eq-Decides claim.runner claim.runner).1 refl)
     (eq-eqb claim.number claim.number refl)) (same_labels claim.labels)
 
 same_outcome : (o : Outcome) → same_outcomes o o ≡ true
@@ -212,10 +207,10 @@ same_outcome ended.Cancelled = refl
 
 same_report : (report : Reported) → same_reports report report ≡ true
 same_report report =
-    both (bytes_eq report.runner report.runner && nat_eq report.number report.number && nat_eq report.lease report.lease)
+    and_from (bytes_eq report.runner report.runner && nat_eq report.number report.number && nat_eq report.lease report.lease)
     (same_outcomes report.result report.result)
-    (both (bytes_eq report.runner report.runner && nat_eq report.number report.number) (nat_eq report.lease report.lease)
-    (both (bytes_eq report.runner report.runner) (nat_eq report.number report.number)
+    (and_from (bytes_eq report.runner report.runner && nat_eq report.number report.number) (nat_eq report.lease report.lease)
+    (and_from (bytes_eq report.runner report.runner) (nat_eq report.number report.number)
     ((bytes_eq-Decides report.runner report.runner).1 refl)
     (eq-eqb report.number report.number refl)) (eq-eqb report.lease report.lease refl)) (same_outcome report.result)
 
@@ -305,7 +300,7 @@ claim_has t claim taken =
     refuses r is =
         elim (holds_lease (runner_named t.runners claim.runner)) as
         (λ b. (if b then Some (refused HasLease) else lease_answer t claim) ≡ Some r → IsRefused r) [
-          | true ↦ λ h. (Numbered HasLease, some_same r (refused HasLease) (sym h))
+          | true ↦ λ h. (Numbered HasLease, same_Some r (refused HasLease) (sym h))
           | false ↦ λ h. if_refused (has_no_lease_left t claim) (Numbered LastCounter) r h
         ] is
 
@@ -336,7 +331,7 @@ report_has t report taken =
         elim (holds_this report.lease (runner_named t.runners report.runner)) as
         (λ b. (if b then None else Some (refused LeaseNotHeld)) ≡ Some r → IsRefused r) [
           | true ↦ λ h. absurd (cc h)
-          | false ↦ λ h. (Numbered LeaseNotHeld, some_same r (refused LeaseNotHeld) (sym h))
+          | false ↦ λ h. (Numbered LeaseNotHeld, same_Some r (refused LeaseNotHeld) (sym h))
         ] is
 
     changes : others ≡ None → HasKept (reporting t report).table report.runner report.number (is_last_report report)

@@ -4,6 +4,7 @@ use Rattle.std.specs.Prelude.{if◌then◌else◌, refl}
 use Rattle.std.specs.Option.{option_map_or}
 use Rattle.std.proofs.Common.{ap, ap₂, sym, ◌∙◌, subst}
 use Rattle.std.proofs.lemmas.List.Elements.{filter_map-append}
+use Rattle.std.proofs.lemmas.Bool.{or_right}
 use Rattle.wf_value.specs.declared.outcome.Outcome.TheVariants.{Cancelled}
 use Rattle.workflow_runs.specs.FirstOf.{placed}
 use Rattle.workflow_runs.specs.GroupWords.{arrival_of, was_stopped}
@@ -20,7 +21,7 @@ use Rattle.workflow_runs.specs.declared.phases.RunPhase.{RunPhase}
 use Rattle.workflow_runs.specs.declared.phases.RunPhase.TheVariants as run
 use Rattle.run_table.proofs.GroupLawWalk.{Lawful, still_lawful}
 use Rattle.run_table.proofs.GroupSaid.{own_holder, stopped_on}
-use Rattle.run_table.proofs.GroupTruths.{not_both, or_true}
+use Rattle.run_table.proofs.GroupTruths.{not_both}
 use Rattle.run_table.proofs.ListWalk.{Walk, walk_on}
 use Rattle.run_table.proofs.OwnMoves.{of_group, of_group_on}
 
@@ -66,7 +67,7 @@ one_stop h = record {
 
 pub told_then : (before : List Move) (h : Holder) → was_stopped h (before ++ Move.stop h ∷ []) ≡ true
 told_then before h =
-    stopped_on h before (Move.stop h ∷ []) ∙ ap (λ b. was_stopped h before || (b || false)) (own_holder h) ∙ or_true (was_stopped h before)
+    stopped_on h before (Move.stop h ∷ []) ∙ ap (λ b. was_stopped h before || (b || false)) (own_holder h) ∙ or_right (was_stopped h before) true refl
 
 stop_and_end : (h : Holder) → OnlyStops (Move.stop h ∷ Move.end_with Cancelled h ∷ [])
 stop_and_end h = record {

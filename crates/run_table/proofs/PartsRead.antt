@@ -19,13 +19,7 @@ use Rattle.run_table.specs.declared.parts.LastParts.TheVariants as stored
 use Rattle.workflow_runs.proofs.LegReads.{had_from_leg, leg_from_had}
 use Rattle.workflow_runs.proofs.Optional.{from_and_then, from_map}
 
-some_same : {X : Type 0} (x y : X) → Some x ≡ Some y → x ≡ y
-some_same x y e = cc
-
 -- ---- replies
-
-no_number : (n : ℕ) → None ≡ Some n → ⊥
-no_number n e = cc
 
 -- a lease that no leg has is no reply
 pub no_reply : (runs : List RunState) (n : ℕ) → ((p : LegPlace) → lease_of_leg runs p ≡ Some n → ⊥) → (reply : ClaimReply)

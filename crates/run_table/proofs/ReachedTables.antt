@@ -4,7 +4,7 @@ use Rattle.std.specs.Prelude.{option_map, option_and_then, slice_get, if◌then�
 use Rattle.std.specs.Option.{option_map_or}
 use Rattle.std.proofs.Common.{arith, ap, sym, ◌∙◌, inl, inr}
 use Rattle.std.proofs.lemmas.Bool.{cases_eq}
-use Rattle.std.proofs.lemmas.Option.{slice_get_past}
+use Rattle.std.proofs.lemmas.Option.{none-some, same_Some, slice_get_past}
 use Rattle.wf_value.specs.declared.code.Code.TheVariants.{LeaseNotHeld, NoRunner}
 use Rattle.wf_value.specs.declared.outcome.Outcome.{Outcome}
 use Rattle.run_plan.specs.Admitted.{Admitted}
@@ -174,19 +174,13 @@ admit_reads t event s =
     (λ i a e. arrival.stay.same_admitted i ∙ events_stay i a e)
     (λ p n e. inl (sym (same_reads t.runs event (λ z. z.lease) p) ∙ sym (arrival.same_had p) ∙ e)))
   where
-    none_some : (a : Admitted) → None ≡ Some a → ⊥
-    none_some a e = cc
-
     events_stay : (i : ℕ) (a : Admitted) → admitted_at t.runs i ≡ Some a → admitted_at (t.runs ++ new_run event ∷ []) i ≡ Some a
     events_stay i a e =
         elim (cases_eq i (length t.runs)) [
-          | inl same ↦ absurd (none_some a
+          | inl same ↦ absurd (none-some a
               (sym (ap (option_map (λ (x : RunState). x.admitted)) (slice_get_past t.runs i (omega (arith, same)))) ∙ e))
           | inr other ↦ ap (option_map (λ (x : RunState). x.admitted)) (before_the_end t.runs (new_run event) i other) ∙ e
         ]
-
-some_is : (n m : ℕ) → Some n ≡ Some m → n ≡ m
-some_is n m e = cc
 
 leasing_reads : (t : TableState) (claim : Claimed) (p : LegPlace) → IsSound t → claim_answer t claim ≡ None
     → first_fit claim.labels t.runs ≡ Some p → Reads t (command.Claim claim) (leasing t claim p)
@@ -207,7 +201,7 @@ leasing_reads t claim p s none fit =
     p.run t.runs i ∙ e)
     (λ q n e. elim (place_or_another q p) [
       | inl same ↦
-          let number : lease ≡ n = some_is lease n (sym changes.here
+          let number : lease ≡ n = same_Some lease n (sym changes.here
           ∙ ap (had_at (with_leg p (λ _. leased_leg lease) t.runs)) (sym same) ∙ e) in
           inr (record {
             claim = claim;

@@ -5,6 +5,7 @@ use Rattle.std.specs.Bool.{Decides}
 use Rattle.std.specs.List.{enumerate_from}
 use Rattle.std.specs.Option.{option_map_or, option_or}
 use Rattle.std.proofs.Common.{arith, ap, sym, ◌∙◌}
+use Rattle.std.proofs.lemmas.Bool.{not-false, not-true}
 use Rattle.group_name.specs.Group.{Group}
 use Rattle.workflow_runs.specs.FirstOf.{first_some, placed}
 use Rattle.workflow_runs.specs.GroupOf.{group_at}
@@ -21,6 +22,8 @@ use Rattle.workflow_runs.specs.declared.place.Place.TheVariants.{AtLeg, Closing,
 use Rattle.workflow_runs.proofs.Firsts.{none_found}
 use Rattle.workflow_runs.proofs.OneAfterAnother.{OfEach, like, no}
 use Rattle.workflow_runs.proofs.Walks.{first_place_by_run}
+use Rattle.run_table.proofs.RunnerPut.{or_none}
+use Rattle.run_table.proofs.AdmitKeeps.{nothing_in_or}
 
 -- ---- a group that is taken keeps back
 
@@ -42,21 +45,17 @@ no_answer : {X Y : Type 0} (f : X → Option Y) (x : X) (o : Option X) → o ≡
 no_answer f x None is e = cc
 no_answer f x (Some y) is e = let same : y ≡ x = cc in sym (ap f same) ∙ e
 
-none_first : {Y : Type 0} (o p : Option Y) → option_or o p ≡ None → (o ≡ None) × (p ≡ None)
-none_first None p e = (refl, e)
-none_first (Some y) p e = cc
-
 each_none_from : {X Y : Type 0} (f : ℕ → X → Option Y) (xs : List X) (n : ℕ) → first_some (λ e. f e.0 e.1) (enumerate_from n xs) ≡ None
     → (k : ℕ) (x : X) → slice_get xs k ≡ Some x → f (n + k) x ≡ None
 each_none_from f [] n e k x at = cc
 each_none_from f (y ∷ ys) n e zero x at =
     let same : y ≡ x = cc in
     let here : n + 0 ≡ n = omega arith in
-    ap (λ m. f m x) here ∙ ap (f n) (sym same) ∙ (none_first (f n y) (first_some (λ e. f e.0 e.1) (enumerate_from (n + 1) ys)) e).0
+    ap (λ m. f m x) here ∙ ap (f n) (sym same) ∙ (nothing_in_or (f n y) (first_some (λ e. f e.0 e.1) (enumerate_from (n + 1) ys)) e).0
 each_none_from f (y ∷ ys) n e (suc k) x at =
     let there : n + suc k ≡ (n + 1) + k = omega arith in
     ap (λ m. f m x) there
-    ∙ each_none_from f ys (n + 1) (none_first (f n y) (first_some (λ e. f e.0 e.1) (enumerate_from (n + 1) ys)) e).1 k x at
+    ∙ each_none_from f ys (n + 1) (nothing_in_or (f n y) (first_some (λ e. f e.0 e.1) (enumerate_from (n + 1) ys)) e).1 k x at
 
 -- the question has no answer at any element
 abbrev pub NoneAt : {X Y : Type 0} → (ℕ → X → Option Y) → ℕ → X → Type 0
@@ -115,10 +114,6 @@ job_closes runs r j run x done =
     (first_of_legs runs r j x.legs)
     done e)
 
-or_none : {Y : Type 0} (o : Option Y) → option_or o None ≡ o
-or_none None = refl
-or_none (Some y) = refl
-
 pub job_decided : (runs : List RunState) (r j : ℕ) (run : RunState) (x : JobState) (rest : Bool)
     → (is_blocked x.phase && needs_settled_in run j) ≡ false → is_done x ≡ false → Decides rest (first_of_legs runs r j x.legs ≡ None)
     → Decides rest (first_in_job runs r run j x ≡ None)
@@ -131,14 +126,6 @@ job_decided runs r j run x rest shut undone d =
 
 -- ---- a run
 
-not_so : (b : Bool) → true ≡ not b → b ≡ false
-not_so true e = cc
-not_so false e = refl
-
-so : (b : Bool) → false ≡ not b → b ≡ true
-so true e = refl
-so false e = cc
-
 some_last : {Y : Type 0} (o : Option Y) (y : Y) → option_or o (Some y) ≡ None → ⊥
 some_last None y e = cc
 some_last (Some x) y e = cc
@@ -149,14 +136,14 @@ in_its_jobs runs r x = if is_live x.phase then first_in_jobs runs r x x.jobs els
 pub whole_moves : (runs : List RunState) (r : ℕ) (x : RunState) (rests : Bool) → rests ≡ not (whole_goes_on_in x.phase runs r x)
     → rests ≡ false → Decides false (first_in_run runs r x ≡ None)
 whole_moves runs r x rests e moves =
-    let due = so (whole_goes_on_in x.phase runs r x) (sym moves ∙ e) in
+    let due = not-false (whole_goes_on_in x.phase runs r x) (sym e ∙ moves) in
     no (λ none. some_last (in_its_jobs runs r x) (Whole r)
     (sym (ap (λ b. option_or (in_its_jobs runs r x) (if b then Some (Whole r) else None)) due) ∙ none))
 
 rests_by_jobs : (runs : List RunState) (r : ℕ) (x : RunState) (rests : Bool) → rests ≡ not (whole_goes_on_in x.phase runs r x)
     → rests ≡ true → first_in_run runs r x ≡ in_its_jobs runs r x
 rests_by_jobs runs r x rests e still =
-    let undue = not_so (whole_goes_on_in x.phase runs r x) (sym still ∙ e) in
+    let undue = not-true (whole_goes_on_in x.phase runs r x) (sym e ∙ still) in
     ap (λ b. option_or (in_its_jobs runs r x) (if b then Some (Whole r) else None)) undue ∙ or_none (in_its_jobs runs r x)
 
 pub run_decided : (runs : List RunState) (r : ℕ) (x : RunState) (rests rest : Bool) → rests ≡ not (whole_goes_on_in x.phase runs r x)

@@ -4,8 +4,8 @@ use Rattle.std.specs.Prelude.{slice_get, refl}
 use Rattle.std.specs.List.{list_all}
 use Rattle.std.specs.Option.{option_map_or}
 use Rattle.std.proofs.Common.{ap, sym, ◌∙◌, subst}
-use Rattle.std.proofs.lemmas.Bool.{and_parts, true≢false}
-use Rattle.std.proofs.lemmas.Option.{same_Some}
+use Rattle.std.proofs.lemmas.Bool.{and_parts, false≢true, true≢false}
+use Rattle.std.proofs.lemmas.Option.{none-some, same_Some}
 use Rattle.wf_value.specs.declared.outcome.JobResult.TheVariants as result
 use Rattle.wf_value.specs.declared.outcome.Outcome.TheVariants as outcome
 use Rattle.group_name.specs.Group.{Group}
@@ -56,9 +56,6 @@ use Rattle.workflow_runs.proofs.SettlingKeeps.{first_rule_settles, settles_withi
 use Rattle.run_table.proofs.StopsTold.{Tells, goes_by}
 use Rattle.run_table.proofs.Unbegun.{AllStill, LegUnbegun, There, leg_all_still, live_job_still, opened_still, phase_still, still_of_all}
 
-bad : false ≡ true → ⊥
-bad e = cc
-
 -- ---- a job that opens
 
 decided_same : (may stopping : Bool) (n l : ℕ) (y : JobState) → y.legs ≡ []
@@ -89,9 +86,6 @@ leg_goes_by runs p z phase to moves was is goes y at =
     let same : y.phase ≡ phase = ap (λ (x : LegState). x.phase) (same_Some y z (sym at ∙ was)) ∙ is in
     subst (λ (ph : LegPhase). Goes (Holder.a_leg p) (leg_status ph) (own (Holder.a_leg p) moves) (leg_status to)) (sym same) goes
 
-none_is_not_there : (o : Option LegState) (z : LegState) → o ≡ Some z → o ≡ None → ⊥
-none_is_not_there o z some none = cc
-
 own_itself : (h : Holder) (m : Move) → holder_of m ≡ h → own h (m ∷ []) ≡ m ∷ []
 own_itself h m is = ap (λ b. if b then m ∷ [] else []) (ap (same_holder h) is ∙ own_holder h)
 
@@ -105,7 +99,7 @@ leg_set_tells runs p z phase to m was is of_it goes =
     (goes_by (Holder.a_leg p) (leg_status phase) (leg_status to) (own (Holder.a_leg p) (m ∷ [])) (m ∷ []) (sym (own_itself
     (Holder.a_leg p) m of_it))
     goes))
-    (λ none. absurd (none_is_not_there (leg_at runs p) z was none)) (only_one (Holder.a_leg p) m of_it)
+    (λ none. absurd (none-some z (sym none ∙ was))) (only_one (Holder.a_leg p) m of_it)
 
 unseen_tells : (runs : List RunState) (p : LegPlace) (z : LegState) → leg_at runs p ≡ Some z → z.phase ≡ leg.New
     → Tells runs (without_moves (with_leg_in (leg.Ended outcome.Cancelled) p runs))
@@ -148,10 +142,7 @@ run_set_tells runs r x to m was of_it goes =
     (sym (same_Some y x (sym at ∙ was)))
     (goes_by (Holder.a_run r) (status_of_run x) (run_status to x.stopping) (own (Holder.a_run r) (m ∷ [])) (m ∷ [])
     (sym (own_itself (Holder.a_run r) m of_it)) goes))
-    (λ none. absurd (none_is_not_a_run (run_at runs r) x was none)) (only_one (Holder.a_run r) m of_it)
-  where
-    none_is_not_a_run : (o : Option RunState) (x : RunState) → o ≡ Some x → o ≡ None → ⊥
-    none_is_not_a_run o x some none = cc
+    (λ none. absurd (none-some x (sym none ∙ was))) (only_one (Holder.a_run r) m of_it)
 
 -- ---- the rules, on the way to a table that is reached; `later` is one that follows
 
@@ -203,7 +194,7 @@ module _ (reached later : List RunState) (g : Group) (cancels : Holder → Bool)
       let next = with_leg_in (leg.Ended outcome.Cancelled) p runs in
       quiet_goes_on (is_in reached g) cancels runs (without_moves next)
       (unmoved_is_quiet (is_in reached g) cancels runs next (unseen_tells runs p z was is)
-      (leg_fades (leg_in_phase (leg.Ended outcome.Cancelled)) p runs (λ v e. absurd (bad e)) (λ v e. absurd (bad e))).waited
+      (leg_fades (leg_in_phase (leg.Ended outcome.Cancelled)) p runs (λ v e. absurd (false≢true e)) (λ v e. absurd (false≢true e))).waited
       (still_of_all runs next (leg_all_still runs p (leg_in_phase (leg.Ended outcome.Cancelled)) ended_unbegun)))
 
   -- or it arrives
@@ -215,7 +206,7 @@ module _ (reached later : List RunState) (g : Group) (cancels : Holder → Bool)
       let stay = (newcomer_waits runs p z fit was is).stay in
       let comes : Comes runs now (Holder.a_leg p) = record {
         waited = set_waits runs p z was (leg_in_phase leg.Waiting);
-        held = holds_before_leg (leg_in_phase leg.Waiting) p runs (λ v e. absurd (bad e));
+        held = holds_before_leg (leg_in_phase leg.Waiting) p runs (λ v e. absurd (false≢true e));
       } in
       arrival_keeps runs now (Holder.a_leg p) fit stay.fit
       (leg_set_tells runs p z leg.New leg.Waiting (Move.arrive (Holder.a_leg p)) was is refl (goes_to_arrive (Holder.a_leg p)))
@@ -233,7 +224,7 @@ module _ (reached later : List RunState) (g : Group) (cancels : Holder → Bool)
       quiet_goes_on (is_in reached g) cancels runs (started k next)
       (start_is_quiet (is_in reached g) cancels g runs (agrees runs fit from) next k
       (leg_set_tells runs p z leg.Waiting leg.Ready (Move.start k) was is refl (goes_to_start k))
-      (waits_before_leg (leg_in_phase leg.Ready) p runs (λ v e. absurd (bad e)))
+      (waits_before_leg (leg_in_phase leg.Ready) p runs (λ v e. absurd (false≢true e)))
       (still_of_all runs next (leg_all_still runs p (leg_in_phase leg.Ready) (λ v un. record {
         no_lease = un.no_lease;
         cancelled =

@@ -4,6 +4,7 @@ use Rattle.std.specs.Prelude.{true, false, if◌then◌else◌, refl}
 use Rattle.std.specs.Option.{option_map_or}
 use Rattle.std.proofs.Common.{ap, sym, ◌∙◌, subst, inl, inr}
 use Rattle.std.proofs.lemmas.Bool.{cases_eq}
+use Rattle.std.proofs.lemmas.Option.{same_Some}
 use Rattle.wf_value.specs.declared.code.Code.TheVariants.{LeaseNotHeld, NoRunner}
 use Rattle.wf_value.specs.declared.outcome.Outcome.{Outcome}
 use Rattle.run_plan.specs.Admitted.{Admitted}
@@ -47,9 +48,6 @@ use Rattle.workflow_runs.proofs.StopKeeps.{stopped_run_settles}
 
 -- ---- a new run
 
-same_run : (x y : RunState) → Some x ≡ Some y → x ≡ y
-same_run x y e = cc
-
 module _ (runs : List RunState) (event : Admitted) (all : Decided runs) where
   blocked_decided : (r j : ℕ) (y : JobState) (x : RunState) → new_run event ≡ x → slice_get x.jobs j ≡ Some y
       → JobDecided (runs ++ new_run event ∷ []) r j y.phase
@@ -64,7 +62,7 @@ module _ (runs : List RunState) (event : Admitted) (all : Decided runs) where
       elim (cases_eq r (length runs)) [
         | inl s ↦
             blocked_decided r j y new.run
-            (same_run (new_run event) new.run (sym (at_the_end runs (new_run event)) ∙ ap (slice_get next) (sym s) ∙ new.run_is)) new.job_is
+            (same_Some (new_run event) new.run (sym (at_the_end runs (new_run event)) ∙ ap (slice_get next) (sym s) ∙ new.run_is)) new.job_is
         | inr n ↦
             let before = before_the_end runs (new_run event) r n in
             decided_stays runs next all r (ap (option_map (λ (v : RunState). v.admitted)) before)

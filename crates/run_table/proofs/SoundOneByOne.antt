@@ -2,6 +2,7 @@
 use Rattle.std.specs.Prelude.{◌≡◌, ℕ, ◌≤◌, List, true, false, Option, Some, None, option_and_then, slice_get, refl}
 use Rattle.std.specs.Option.{option_map_or}
 use Rattle.std.proofs.Common.{ap, sym, ◌∙◌}
+use Rattle.std.proofs.lemmas.Option.{same_Some}
 use Rattle.run_table.specs.ByLease.{lease_of_leg, lease_of_runner}
 use Rattle.run_table.specs.ByNumber.{Finds}
 use Rattle.workflow_runs.specs.Groups.{HasOneEach}
@@ -23,9 +24,6 @@ use Rattle.workflow_runs.proofs.RunFits.{job_in_run, leg_in_job}
 
 abbrev pub table_with : Leases → List RunState → List RunnerState → TableState
 table_with leases runs runners = record { last_lease = leases.last; runs = runs; runners = runners }
-
-same_one : {X : Type 0} (x y : X) → Some x ≡ Some y → x ≡ y
-same_one x y e = cc
 
 holds_at : (runners : List RunnerState) (k n : ℕ) (x : RunnerState) → slice_get runners k ≡ Some x → x.holds ≡ Some n
     → lease_of_runner runners k ≡ Some n
@@ -128,13 +126,13 @@ module _ (leases : Leases) (runs : List RunState) (runners : List RunnerState)
       leases_fit = (λ p x at. (of_leg p x at).lease_fits);
       leases_are_given = (λ p x n at e. (of_leg p x at).lease_is_given n e);
       leases_differ = (λ p q x y n at_p at_q e f.
-          same_one p q (sym ((of_leg p x at_p).is_found n e).0 ∙ ((of_leg q y at_q).is_found n f).0));
+          same_Some p q (sym ((of_leg p x at_p).is_found n e).0 ∙ ((of_leg q y at_q).is_found n f).0));
       last_lease_in_range = last;
       runners_in_order = rise;
       work_is_held = is_held;
       held_is_at_work = (λ k x n at e. at_work n (leg_of leases n) refl ((each_of_runners k x at).holds_work n e).1);
       held_once = (λ a b x y n at_a at_b e f.
-          same_one a b (sym ((each_of_runners a x at_a).holds_work n e).0 ∙ ((each_of_runners b y at_b).holds_work n f).0));
+          same_Some a b (sym ((each_of_runners a x at_a).holds_work n e).0 ∙ ((each_of_runners b y at_b).holds_work n f).0));
       no_rule_applies = rests;
       lasts_are_own = (λ k x at. (each_of_runners k x at).last_is_own);
       kept_leases_are_legs = kept;

@@ -4,8 +4,8 @@ use Rattle.std.specs.Prelude.{option_map}
 use Rattle.std.specs.Prelude.{slice_get, if◌then◌else◌, refl}
 use Rattle.std.specs.Option.{option_map_or}
 use Rattle.std.proofs.Common.{ap, inl, inr, sym, ◌∙◌, subst}
-use Rattle.std.proofs.lemmas.Bool.{cases_eq, true≢false}
-use Rattle.std.proofs.lemmas.Option.{slice_get-map}
+use Rattle.std.proofs.lemmas.Bool.{cases_eq, false≢true, true≢false}
+use Rattle.std.proofs.lemmas.Option.{none-some, same_Some, slice_get-map}
 use Rattle.wf_value.specs.declared.outcome.Outcome.{Outcome}
 use Rattle.group_name.specs.Group.{Group}
 use Rattle.run_plan.specs.Admitted.{Admitted}
@@ -136,12 +136,6 @@ at_work_holds leg.Running e = refl
 at_work_holds leg.Stopping e = refl
 at_work_holds (leg.Ended r) e = cc
 
-bad : false ≡ true → ⊥
-bad e = cc
-
-none_is_not_there : (o : Option LegState) (z : LegState) → o ≡ Some z → o ≡ None → ⊥
-none_is_not_there o z some none = cc
-
 module _ (in_group cancels : Holder → Bool) (runs : List RunState) (p : LegPlace) (o : Outcome) (lease : ℕ) (works : works_at runs p
     ≡ Some lease) where
   it_holds : holds runs (Holder.a_leg p) ≡ true
@@ -158,7 +152,7 @@ module _ (in_group cancels : Holder → Bool) (runs : List RunState) (p : LegPla
       leg_tells p (leg_in_phase (leg.Ended o)) runs ends
       (λ z is. goes_by h (status_of_leg z) Status.over (own h ends) ends (sym (ap (λ b. if b then ends else []) (own_holder h)))
       (goes_over h (status_of_leg z) ends (ends_at_once h o)))
-      (λ none. absurd (none_is_not_there (leg_at runs p) from.value from.is none)) (only_one h (Move.end_with o h) refl)
+      (λ none. absurd (none-some from.value (sym none ∙ from.is))) (only_one h (Move.end_with o h) refl)
 
   end_still : Still runs (with_leg p (leg_in_phase (leg.Ended o)) runs)
   end_still =
@@ -176,7 +170,7 @@ module _ (in_group cancels : Holder → Bool) (runs : List RunState) (p : LegPla
       let next = with_leg p (leg_in_phase (leg.Ended o)) runs in
       quiet_goes_on in_group cancels runs (record { runs = next; moves = Move.end_with o (Holder.a_leg p) ∷ [] })
       (end_is_quiet in_group cancels runs next o (Holder.a_leg p) end_tells
-      (leg_fades (leg_in_phase (leg.Ended o)) p runs (λ v e. absurd (bad e)) (λ v e. absurd (bad e))).waited end_still it_holds)
+      (leg_fades (leg_in_phase (leg.Ended o)) p runs (λ v e. absurd (false≢true e)) (λ v e. absurd (false≢true e))).waited end_still it_holds)
 
   after_end_goes_on : GoesOn in_group cancels runs (record { runs = after_end p o runs; moves = end_moves p o runs })
   after_end_goes_on =
@@ -285,7 +279,7 @@ module _ (later : List RunState) (g : Group) (cancels : Holder → Bool) (asks :
         let tells : Tells t.runs (without_moves next) =
         leg_tells p (λ _. leased_leg lease) t.runs []
         (λ y at. goes_same (Holder.a_leg p) (status_of_leg y) (Status.running false)
-        (sym (ap status_of_leg (same_leg y z (sym at ∙ ready.is)) ∙ ap leg_status ready.ready))) (λ nothing. refl) (only_none
+        (sym (ap status_of_leg (same_Some y z (sym at ∙ ready.is)) ∙ ap leg_status ready.ready))) (λ nothing. refl) (only_none
         (Holder.a_leg p)) in
         rest_says t (record {
           last_lease = lease;
@@ -298,9 +292,6 @@ module _ (later : List RunState) (g : Group) (cancels : Holder → Bool) (asks :
         (unmoved_is_quiet (is_in (settled next) g) cancels t.runs next tells (leased_fades t.runs kept.fit claim.labels p lease is).waited
         (leg_still t.runs p z (λ _. leased_leg lease) ready.is (leg_now t.runs p z (λ _. leased_leg lease) place)
         (leg_elsewhere t.runs p z (λ _. leased_leg lease) place) (λ before now. true≢false now))))
-      where
-        same_leg : (y z : LegState) → Some y ≡ Some z → y ≡ z
-        same_leg y z e = cc
 
     claim_says : (t : TableState) (claim : Claimed) → IsSound t → StepSays t (claimed t claim)
     claim_says t claim s =

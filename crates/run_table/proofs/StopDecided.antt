@@ -5,6 +5,7 @@ use Rattle.std.specs.List.{enumerate_from, slice_index_or}
 use Rattle.std.proofs.Common.{arith, ap, sym, ◌∙◌, subst}
 use Rattle.std.proofs.lemmas.List.{length-map}
 use Rattle.std.proofs.lemmas.Option.{slice_get-map}
+use Rattle.std.proofs.lemmas.Bool.{and_from}
 use Rattle.wf_value.specs.declared.outcome.JobResult.{JobResult}
 use Rattle.wf_value.specs.declared.outcome.JobResult.TheVariants as result
 use Rattle.needs_graph.specs.Ancestors.{needs_at}
@@ -21,7 +22,6 @@ use Rattle.workflow_runs.specs.Words.{all_have_results, needs_have_settled, resu
 use Rattle.workflow_runs.specs.declared.phases.JobPhase.{JobPhase}
 use Rattle.workflow_runs.specs.declared.phases.RunPhase.{RunPhase}
 use Rattle.workflow_runs.specs.declared.phases.RunPhase.TheVariants as run
-use Rattle.run_table.proofs.AncestorsSettled.{both_true}
 use Rattle.workflow_runs.proofs.Changed.{at_changed, holds_of_each}
 use Rattle.run_table.proofs.Decided.{JobDecided, Decided, decided_stays}
 use Rattle.workflow_runs.proofs.JobKeeps.{job_in}
@@ -45,7 +45,7 @@ places_have {X} test results (x ∷ xs) a each =
     (λ k below. let at : (a + 1) + k ≡ a + suc k = omega arith in ap (has_result results) at ∙ each (suc k) (omega arith)) in
     let later : List (ℕ × X) = filter (λ e. test e.1) (enumerate_from (a + 1) xs) in
     elim (test x) as (λ b. all_have_results results (map (λ e. e.0) (if b then (a, x) ∷ later else later)) ≡ true) [
-      | true ↦ both_true (has_result results a) (all_have_results results (map (λ e. e.0) later))
+      | true ↦ and_from (has_result results a) (all_have_results results (map (λ e. e.0) later))
           (ap (has_result results) first ∙ each zero (omega arith)) rest
       | false ↦ rest
     ]

@@ -31,6 +31,7 @@ use Rattle.workflow_runs.specs.declared.phases.JobPhase.TheVariants as job
 use Rattle.workflow_runs.specs.declared.phases.RunPhase.{RunPhase}
 use Rattle.workflow_runs.specs.declared.phases.RunPhase.TheVariants as run
 use Rattle.workflow_runs.proofs.Found.{each_of_append, each_of_flat_map, each_of_map, each_of_placed, none_found}
+use Rattle.workflow_runs.proofs.Optional.{each_passes}
 
 -- ---- the legs of a job are few
 
@@ -105,13 +106,6 @@ new_goes_on runs p x at new =
     ap (λ o. is_some (option_and_then (leg_rule runs p) o)) at
     ∙ ap (λ phase. is_some (leg_rule_in phase runs p)) new
 
-all_at : {X : Type 0} (test : X → Bool) (xs : List X) (k : ℕ) (x : X) → list_all test xs ≡ true → slice_get xs k ≡ Some x → test x ≡ true
-all_at test [] k x all at = cc
-all_at {X} test (y ∷ ys) zero x all at =
-    let same : y ≡ x = cc in
-    subst (λ (z : X). test z ≡ true) same (and_parts (test y) (list_all test ys) all).0
-all_at test (y ∷ ys) (suc k) x all at = all_at test ys k x (and_parts (test y) (list_all test ys) all).1 at
-
 none_at : {X : Type 0} (xs : List X) (k : ℕ) (x : X) → xs ≡ [] → slice_get xs k ≡ Some x → ⊥
 none_at [] k x none at = cc
 none_at (y ∷ ys) k x none at = cc
@@ -131,7 +125,7 @@ has_not_settled planned gathered job.Blocked legs l x fits at new is = cc
 has_not_settled planned gathered job.Open legs l x fits at new is = cc
 has_not_settled planned gathered (job.Settled r) legs l x (inl none) at new is = none_at legs l x none.0 at
 has_not_settled planned gathered (job.Settled r) legs l x (inr all) at new is =
-    let ended : is_some (outcome_of x.phase) ≡ true = all_at has_ended legs l x all.1 at in
+    let ended : is_some (outcome_of x.phase) ≡ true = each_passes has_ended legs l x all.1 at in
     let not_ended : is_some (outcome_of x.phase) ≡ false = ap (λ phase. is_some (outcome_of phase)) new in
     cc
 
