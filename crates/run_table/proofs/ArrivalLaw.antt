@@ -19,12 +19,12 @@ use Rattle.workflow_runs.specs.Groups.{HasOneBeside, holds, is_in, is_pending_in
 use Rattle.workflow_runs.specs.Moves.{Holder, Move, Moved, at_each, without_moves}
 use Rattle.workflow_runs.specs.StopMoves.{displace, stop_holder}
 use Rattle.workflow_runs.specs.RunState.{RunState}
-use Rattle.workflow_runs.proofs.ArrivalKeeps.{displaced_one_each, nobody_else, one_or_another}
+use Rattle.workflow_runs.proofs.ArrivalKeeps.{displaced_one_each, itself, nobody_else, one_or_another}
 use Rattle.run_table.proofs.ArrivalTold.{displace_tells, each_tells, stop_begins, tells_nothing, tells_then}
 use Rattle.run_table.proofs.ChangesTold.{only_one, stop_tells}
 use Rattle.run_table.proofs.GroupFollows.{displaced_waits, next_shown}
 use Rattle.run_table.proofs.GroupLawWalk.{Lawful, law_goes_on}
-use Rattle.run_table.proofs.GroupSaid.{arrived_on, latest_on, own_holder}
+use Rattle.run_table.proofs.GroupSaid.{arrived_on, latest_on}
 use Rattle.run_table.proofs.GroupTruths.{not_both, or_false}
 use Rattle.run_table.proofs.HolderStatus.{Fits, Status, fits_pending, fits_running, fits_stopped, held_is, holds_as, is_held}
 use Rattle.run_table.proofs.HolderStatus.{is_waiting, running_by, status, waiting_is, waits_as}
@@ -83,7 +83,7 @@ beside_by runs g n d e =
     let parts = and_parts (is_pending_in runs g d) (not (same_holder d n)) e in
     record {
       pends = parts.0;
-      other = (λ same. not_both (same_holder d n) (ap (λ h. same_holder h n) same ∙ own_holder n) (not-true (same_holder d n) parts.1));
+      other = (λ same. not_both (same_holder d n) (ap (λ h. same_holder h n) same ∙ itself n) (not-true (same_holder d n) parts.1));
     }
 
 who_is_displaced : (runs : List RunState) (g : Group) (n : Holder) → HasOneBeside runs n → (o : Option Holder) × Displaces runs g n o

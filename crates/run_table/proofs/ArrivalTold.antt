@@ -15,10 +15,9 @@ use Rattle.workflow_runs.specs.declared.phases.LegPhase.{LegPhase}
 use Rattle.workflow_runs.specs.declared.phases.LegPhase.TheVariants as leg
 use Rattle.workflow_runs.specs.declared.phases.RunPhase.{RunPhase}
 use Rattle.workflow_runs.specs.declared.phases.RunPhase.TheVariants as run
-use Rattle.workflow_runs.proofs.ArrivalKeeps.{one_or_another}
+use Rattle.workflow_runs.proofs.ArrivalKeeps.{itself, one_or_another}
 use Rattle.workflow_runs.proofs.Changed.{at_changed}
 use Rattle.run_table.proofs.ChangesTold.{only_one, stop_tells}
-use Rattle.run_table.proofs.GroupSaid.{own_holder}
 use Rattle.run_table.proofs.HolderStatus.{Goes, Status, ends_at_once, goes_not, goes_on, goes_over, leg_status, run_status, status}
 use Rattle.run_table.proofs.HolderStatus.{status_by, status_by_run, status_in_job, status_in_run, status_of_leg, status_of_run}
 use Rattle.workflow_runs.proofs.JobKeeps.{with_job_of, with_leg_of}
@@ -119,7 +118,7 @@ displace_tells d runs waiting h =
     elim (one_or_another h d) [
       | inl same ↦ subst (λ (k : Holder). Goes k (status runs k) (own k ended) (status next k)) (sym same)
           (goes_by d (status runs d) (status next d) (own d ended) ended
-          (sym (ap (λ b. if b then Move.end_with Cancelled d ∷ [] else []) (own_holder d)))
+          (sym (ap (λ b. if b then Move.end_with Cancelled d ∷ [] else []) (itself d)))
           (subst (λ (s : Status). Goes d (status runs d) ended s) (sym (stop_is_over d runs waiting))
           (goes_over d (status runs d) ended (ends_at_once d Cancelled))))
       | inr other ↦

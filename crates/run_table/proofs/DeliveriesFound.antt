@@ -6,6 +6,7 @@ use Rattle.std.proofs.Common.{ap, sym, ◌∙◌}
 use Rattle.std.proofs.lemmas.Bool.{true≢false}
 use Rattle.std.proofs.lemmas.Bool.Decides.{Decides-eqb, Decides-like}
 use Rattle.std.proofs.lemmas.Slice.Eq.{bytes_eq-Decides}
+use Rattle.std.proofs.lemmas.Option.{none-some, same_Some}
 use Rattle.run_table.specs.Sound.{DeliveriesDiffer}
 use Rattle.workflow_runs.specs.NewRun.{is_delivered_as}
 use Rattle.workflow_runs.specs.RunState.{RunState}
@@ -17,16 +18,10 @@ use Rattle.workflow_runs.proofs.OneAfterAnother.{OfEach, no}
 
 pub is_place : (o : Option ℕ) (p r : ℕ) → Some p ≡ o → Decides (nat_eq p r) (o ≡ Some r)
 is_place o p r is =
-    Decides-like (nat_eq p r) (λ same. sym is ∙ ap Some same) (λ at. one (is ∙ at)) (Decides-eqb p r)
-  where
-    one : Some p ≡ Some r → p ≡ r
-    one e = cc
+    Decides-like (nat_eq p r) (λ same. sym is ∙ ap Some same) (λ at. same_Some p r (is ∙ at)) (Decides-eqb p r)
 
 pub is_no_place : (o : Option ℕ) (r : ℕ) → None ≡ o → Decides false (o ≡ Some r)
-is_no_place o r is = no (λ at. none (is ∙ at))
-  where
-    none : None ≡ Some r → ⊥
-    none e = cc
+is_no_place o r is = no (λ at. none-some r (is ∙ at))
 
 -- ---- each is found by its own
 
@@ -35,10 +30,7 @@ IsFoundAt runs r x = position (is_delivered_as x.admitted.delivery) runs ≡ Som
 
 pub found_differ : (runs : List RunState) → OfEach (IsFoundAt runs) runs → DeliveriesDiffer runs
 found_differ runs each a b x y at_a at_b same =
-    one (sym (each a x at_a) ∙ ap (λ (d : List ℕ). position (is_delivered_as d) runs) same ∙ each b y at_b)
-  where
-    one : Some a ≡ Some b → a ≡ b
-    one e = cc
+    same_Some a b (sym (each a x at_a) ∙ ap (λ (d : List ℕ). position (is_delivered_as d) runs) same ∙ each b y at_b)
 
 pub differ_found : (runs : List RunState) → DeliveriesDiffer runs → OfEach (IsFoundAt runs) runs
 differ_found runs differ k x at =

@@ -14,10 +14,11 @@ use Rattle.workflow_runs.specs.GroupWords.{arrival_of, end_of, start_of, stop_of
 use Rattle.workflow_runs.specs.GroupWords.{holder_of, is_pending, is_running, is_the, latest, next_displaced, same_holder}
 use Rattle.workflow_runs.specs.Moves.{Holder, Move}
 use Rattle.run_table.proofs.GroupLawWalk.{Lawful}
-use Rattle.run_table.proofs.GroupSaid.{latest_on, one_holder, pending_on, running_on, stopped_on, own_holder, the_one, the_same}
+use Rattle.run_table.proofs.GroupSaid.{latest_on, pending_on, running_on, stopped_on, the_one, the_same}
 use Rattle.run_table.proofs.GroupTruths.{not_both, or_false, pending_after_arrival, running_after_arrival}
 use Rattle.run_table.proofs.ListWalk.{Walk}
 use Rattle.run_table.proofs.OwnMoves.{arrival_is_own, end_is_own, start_is_own, stop_is_own}
+use Rattle.workflow_runs.proofs.ArrivalKeeps.{holder_tested, itself}
 
 -- ---- whom the next arrival displaces
 
@@ -26,7 +27,7 @@ next_by : (moves : List Move) (last one : Option Holder) → ((h : Holder) → i
     → option_and_then (λ h. cond (is_pending h moves) (Some h) None) last ≡ one
 next_by moves last (Some p) pending late =
     ap (λ l. option_and_then (λ h. cond (is_pending h moves) (Some h) None) l) (late p refl)
-    ∙ ap (λ b. cond b (Some p) None) (pending p ∙ own_holder p)
+    ∙ ap (λ b. cond b (Some p) None) (pending p ∙ itself p)
 next_by moves None None pending late = refl
 next_by moves (Some h) None pending late = ap (λ b. cond b (Some h) None) (pending h)
 
@@ -117,7 +118,7 @@ any_weaker p q so (x ∷ xs) none =
 
 -- what is false of the newcomer is so of every holder that is the newcomer
 apart_by : (f : Holder → Bool) (h k : Holder) (b : Bool) → same_holder h k ≡ b → f k ≡ false → (b && f h) ≡ false
-apart_by f h k true same isnt = subst (λ x. f x ≡ false) (sym (one_holder h k same)) isnt
+apart_by f h k true same isnt = subst (λ x. f x ≡ false) (sym (holder_tested h k same)) isnt
 apart_by f h k false same isnt = refl
 
 record NothingOf (k : Holder) (moves : List Move) : Type 0 where

@@ -13,9 +13,10 @@ use Rattle.workflow_runs.specs.GroupWords.{has_arrived, is_the, same_holder}
 use Rattle.workflow_runs.specs.Moves.{Holder, Move}
 use Rattle.run_table.proofs.GroupChangeKeeps.{change_keeps_law, change_matches}
 use Rattle.run_table.proofs.GroupLawWalk.{Lawful, walk_is_law}
-use Rattle.run_table.proofs.GroupSaid.{arrived_on, one_holder, own_holder, the_same}
+use Rattle.run_table.proofs.GroupSaid.{arrived_on, the_same}
 use Rattle.run_table.proofs.GroupTruths.{not_both, or_false}
 use Rattle.run_table.proofs.ListWalk.{Walk}
+use Rattle.workflow_runs.proofs.ArrivalKeeps.{holder_tested, itself}
 
 -- ---- nobody holds the group yet
 
@@ -142,13 +143,13 @@ pending_arrived g p one =
     let base : List Move = option_map_or (running_moves g.stopping) g.running [] in
     arrived_on p base (map (λ h. Move.arrive h) (option_to_list g.pending))
     ∙ ap (λ o. has_arrived p base || has_arrived p (map (λ h. Move.arrive h) (option_to_list o))) one
-    ∙ ap (λ b. has_arrived p base || (b || false)) (own_holder p)
+    ∙ ap (λ b. has_arrived p base || (b || false)) (itself p)
     ∙ or_right (has_arrived p base) true refl
 
 apart_by : (r p : Holder) (b : Bool) → same_holder p r ≡ b → same_holder r p ≡ false → same_holder p r ≡ false
 apart_by r p false same isnt = same
 apart_by r p true same isnt =
-    absurd (not_both (same_holder r p) (ap (λ x. same_holder r x) (one_holder p r same) ∙ own_holder r) isnt)
+    absurd (not_both (same_holder r p) (ap (λ x. same_holder r x) (holder_tested p r same) ∙ itself r) isnt)
 
 apart_here : (cancels : Holder → Bool) (g : GroupState) → ((h : Holder) → g.running ≡ Some h → is_the g.pending h ≡ false)
     → Apart (beyond_base cancels g) g.running g.pending

@@ -11,8 +11,9 @@ use Rattle.run_table.specs.GroupLaw.{BeginsWith, KeepsLaw}
 use Rattle.workflow_runs.specs.GroupWords.{arrival_of, end_of, has_arrived, has_ended, has_started, was_stopped}
 use Rattle.workflow_runs.specs.GroupWords.{is_pending, is_running, is_the, latest, next_displaced, same_holder}
 use Rattle.workflow_runs.specs.Moves.{Holder, Move}
-use Rattle.run_table.proofs.GroupSaid.{arrived_on, ended_on, latest_on, one_holder, own_holder, started_on, runs_started, waits_unstarted}
+use Rattle.run_table.proofs.GroupSaid.{arrived_on, ended_on, latest_on, started_on, runs_started, waits_unstarted}
 use Rattle.run_table.proofs.GroupTruths.{not_both, or_second}
+use Rattle.workflow_runs.proofs.ArrivalKeeps.{holder_tested, itself}
 
 -- ---- where a move is
 
@@ -23,7 +24,7 @@ behind m moves found spot = (m ∷ spot.0, spot.1, ap (λ ms. m ∷ ms) spot.2)
 start_by : (h k : Holder) (moves : List Move) (b : Bool) → same_holder h k ≡ b → (b || has_started h moves) ≡ true
     → (has_started h moves ≡ true → (x : List Move) × (y : List Move) × (moves ≡ x ++ Move.start h ∷ y))
     → (x : List Move) × (y : List Move) × (Move.start k ∷ moves ≡ x ++ Move.start h ∷ y)
-start_by h k moves true same is next = ([], moves, ap (λ x. Move.start x ∷ moves) (sym (one_holder h k same)))
+start_by h k moves true same is next = ([], moves, ap (λ x. Move.start x ∷ moves) (sym (holder_tested h k same)))
 start_by h k moves false same is next = behind (Move.start k) moves (Move.start h) (next is)
 
 pub start_found : (h : Holder) (moves : List Move) → has_started h moves ≡ true
@@ -37,7 +38,7 @@ start_found h (Move.end_with r k ∷ moves) is = behind (Move.end_with r k) move
 arrival_by : (h k : Holder) (moves : List Move) (b : Bool) → same_holder h k ≡ b → (b || has_arrived h moves) ≡ true
     → (has_arrived h moves ≡ true → (x : List Move) × (y : List Move) × (moves ≡ x ++ Move.arrive h ∷ y))
     → (x : List Move) × (y : List Move) × (Move.arrive k ∷ moves ≡ x ++ Move.arrive h ∷ y)
-arrival_by h k moves true same is next = ([], moves, ap (λ x. Move.arrive x ∷ moves) (sym (one_holder h k same)))
+arrival_by h k moves true same is next = ([], moves, ap (λ x. Move.arrive x ∷ moves) (sym (holder_tested h k same)))
 arrival_by h k moves false same is next = behind (Move.arrive k) moves (Move.arrive h) (next is)
 
 arrival_found : (h : Holder) (moves : List Move) → has_arrived h moves ≡ true
@@ -85,7 +86,7 @@ first_has_ended cancels moves before between after h k law e =
     (e ∙ sym (append_assoc before (Move.start h ∷ between) (Move.start k ∷ after))) in
     let started : has_started h (before ++ Move.start h ∷ between) ≡ true =
     started_on h before (Move.start h ∷ between)
-    ∙ ap (λ b. has_started h before || (b || has_started h between)) (own_holder h)
+    ∙ ap (λ b. has_started h before || (b || has_started h between)) (itself h)
     ∙ or_right (has_started h before) true refl in
     let ended = and_second (has_started h (before ++ Move.start h ∷ between)) (has_ended h (before ++ Move.start h ∷ between)) started
     (later.0 h) in
@@ -125,7 +126,7 @@ in_order cancels moves before after x y h k law e is starts =
 one_by : (cancels : Holder → Bool) (moves before after x y : List Move) (h k : Holder) → KeepsLaw cancels moves → moves ≡ before ++ after
     → before ≡ x ++ Move.start h ∷ y → is_running h before ≡ true → is_running k before ≡ true → (a b c : Bool) → has_started k x ≡ a
     → same_holder k h ≡ b → has_started k y ≡ c → (a || (b || c)) ≡ true → h ≡ k
-one_by cancels moves before after x y h k law e is one other a true c in_x same in_y found = sym (one_holder k h same)
+one_by cancels moves before after x y h k law e is one other a true c in_x same in_y found = sym (holder_tested k h same)
 one_by cancels moves before after x y h k law e is one other a false true in_x same in_y found =
     absurd (not_both (has_ended h before) (in_order cancels moves before after x y h k law e is in_y) (runs_unended h before one))
 one_by cancels moves before after x y h k law e is one other true false false in_x same in_y found =
@@ -134,7 +135,7 @@ one_by cancels moves before after x y h k law e is one other true false false in
     is ∙ ap (λ ms. ms ++ Move.start h ∷ y) spot.2 ∙ append_assoc spot.0 (Move.start k ∷ spot.1) (Move.start h ∷ y) in
     let later : has_started h (spot.1 ++ Move.start h ∷ y) ≡ true =
     started_on h spot.1 (Move.start h ∷ y)
-    ∙ ap (λ b. has_started h spot.1 || (b || has_started h y)) (own_holder h)
+    ∙ ap (λ b. has_started h spot.1 || (b || has_started h y)) (itself h)
     ∙ or_right (has_started h spot.1) true refl in
     absurd (not_both (has_ended k before)
     (in_order cancels moves before after spot.0 (spot.1 ++ Move.start h ∷ y) k h law e parts later) (runs_unended k before other))
@@ -183,7 +184,7 @@ latest_then h x y none = latest_on x (Move.arrive h ∷ y) ∙ ap (λ hs. last_o
 
 arrived_then : (h : Holder) (x y : List Move) → has_arrived h (x ++ Move.arrive h ∷ y) ≡ true
 arrived_then h x y =
-    arrived_on h x (Move.arrive h ∷ y) ∙ ap (λ b. has_arrived h x || (b || has_arrived h y)) (own_holder h) ∙ or_right (has_arrived h x) true refl
+    arrived_on h x (Move.arrive h ∷ y) ∙ ap (λ b. has_arrived h x || (b || has_arrived h y)) (itself h) ∙ or_right (has_arrived h x) true refl
 
 same_head : (m n : Move) (xs ys : List Move) → m ∷ xs ≡ n ∷ ys → m ≡ n
 same_head m n xs ys e = cc
@@ -195,7 +196,7 @@ end_is_next before x [] after h is unended begins = begins
 end_is_next before x (m ∷ y) after h is unended begins =
     let same : m ≡ Move.end_with Cancelled h = same_head m (Move.end_with Cancelled h) (y ++ after) begins.0 begins.1 in
     let ended : has_ended h (m ∷ y) ≡ true =
-    ap (λ z. is_the (end_of z) h || has_ended h y) same ∙ ap (λ b. b || has_ended h y) (own_holder h) in
+    ap (λ z. is_the (end_of z) h || has_ended h y) same ∙ ap (λ b. b || has_ended h y) (itself h) in
     absurd (not_both (has_ended h before)
     (ap (λ ms. has_ended h ms) is ∙ ended_on h x (m ∷ y) ∙ ap (λ b. has_ended h x || b) ended ∙ or_right (has_ended h x) true refl) unended)
 
@@ -250,7 +251,7 @@ displaced_never_starts cancels moves before after newcomer h law e is =
     let whole : moves ≡ (before ++ pair) ++ rest =
     e ∙ ap (λ ms. before ++ Move.arrive newcomer ∷ ms) begins.1 ∙ sym (append_assoc before pair rest) in
     let ended : has_ended h (before ++ pair) ≡ true =
-    ended_on h before pair ∙ ap (λ b. has_ended h before || (b || false)) (own_holder h) ∙ or_right (has_ended h before) true refl in
+    ended_on h before pair ∙ ap (λ b. has_ended h before || (b || false)) (itself h) ∙ or_right (has_ended h before) true refl in
     let unstarted : has_started h before ≡ false =
     not-true (has_started h before) (waits_unstarted h before (displaced_waits before h is)).0 in
     let started : has_started h moves ≡ has_started h rest =

@@ -14,9 +14,10 @@ use Rattle.workflow_runs.specs.GroupWords.{has_ended, has_started, holder_of, is
 use Rattle.workflow_runs.specs.GroupWords.{same_holder, was_stopped}
 use Rattle.workflow_runs.specs.Moves.{Holder, Move}
 use Rattle.run_table.proofs.GroupLawWalk.{Lawful, law_walks, walk_is_law}
-use Rattle.run_table.proofs.GroupSaid.{one_holder, own_holder, runs_started, the_one, the_same}
+use Rattle.run_table.proofs.GroupSaid.{runs_started, the_one, the_same}
 use Rattle.run_table.proofs.GroupTruths.{or_second}
 use Rattle.run_table.proofs.ListWalk.{Walk}
+use Rattle.workflow_runs.proofs.ArrivalKeeps.{holder_tested, itself}
 
 -- ---- from the test to the law
 
@@ -32,13 +33,13 @@ end_shown h (Move.start k ∷ moves) is = absurd (cc)
 end_shown h (Move.stop k ∷ moves) is = absurd (cc)
 end_shown h (Move.end_with r k ∷ moves) is =
     let parts = and_parts (is_cancelled r) (same_holder h k) is in
-    (moves, ap₂ (λ s x. Move.end_with s x ∷ moves) (cancelled_is r parts.0) (sym (one_holder h k parts.1)))
+    (moves, ap₂ (λ s x. Move.end_with s x ∷ moves) (cancelled_is r parts.0) (sym (holder_tested h k parts.1)))
 
 stop_shown : (h : Holder) (after : List Move) → begins_with_stop h after ≡ true → BeginsWith (Move.stop h ∷ []) after
 stop_shown h [] is = absurd (cc)
 stop_shown h (Move.arrive k ∷ moves) is = absurd (cc)
 stop_shown h (Move.start k ∷ moves) is = absurd (cc)
-stop_shown h (Move.stop k ∷ moves) is = (moves, ap (λ x. Move.stop x ∷ moves) (sym (one_holder h k is)))
+stop_shown h (Move.stop k ∷ moves) is = (moves, ap (λ x. Move.stop x ∷ moves) (sym (holder_tested h k is)))
 stop_shown h (Move.end_with r k ∷ moves) is = absurd (cc)
 
 displaced_shown : (o : Option Holder) (h : Holder) (after : List Move) → o ≡ Some h → ends_displaced o after ≡ true
@@ -59,7 +60,7 @@ behind_shown (Some p) h (m ∷ after) is =
 
 named_by : (test : Holder → Bool) (h k : Holder) (moves : List Move) (b : Bool) → same_holder h k ≡ b → (b || has_started h moves) ≡ true
     → (test k ≡ true) → (has_started h moves ≡ true → test h ≡ true) → test h ≡ true
-named_by test h k moves true same is here next = subst (λ x. test x ≡ true) (sym (one_holder h k same)) here
+named_by test h k moves true same is here next = subst (λ x. test x ≡ true) (sym (holder_tested h k same)) here
 named_by test h k moves false same is here next = next is
 
 -- what is so of every holder of the moves is so of one that has started
@@ -144,7 +145,7 @@ law_by_test cancels moves is = walk_is_law cancels moves (walk_by_test cancels [
 -- ---- and back
 
 end_tested : (h : Holder) (after : List Move) → BeginsWith (Move.end_with Cancelled h ∷ []) after → begins_with_end h after ≡ true
-end_tested h after begins = ap (λ ms. begins_with_end h ms) begins.1 ∙ own_holder h
+end_tested h after begins = ap (λ ms. begins_with_end h ms) begins.1 ∙ itself h
 
 displaced_tested : (o : Option Holder) (after : List Move)
     → ((h : Holder) → o ≡ Some h → BeginsWith (Move.end_with Cancelled h ∷ []) after) → ends_displaced o after ≡ true
@@ -153,9 +154,9 @@ displaced_tested (Some h) after begins = end_tested h after (begins h refl)
 
 behind_tested : (o : Option Holder) (h : Holder) (after : List Move) → BeginsWith (cancelled_end o ++ Move.stop h ∷ []) after
     → stops_behind o h after ≡ true
-behind_tested None h after begins = ap (λ ms. begins_with_stop h ms) begins.1 ∙ own_holder h
+behind_tested None h after begins = ap (λ ms. begins_with_stop h ms) begins.1 ∙ itself h
 behind_tested (Some p) h after begins =
-    ap (λ ms. stops_behind (Some p) h ms) begins.1 ∙ ap₂ (λ a b. a && b) (own_holder p) (own_holder h)
+    ap (λ ms. stops_behind (Some p) h ms) begins.1 ∙ ap₂ (λ a b. a && b) (itself p) (itself h)
 
 all_pass : {X : Type 0} (test : X → Bool) → ((x : X) → test x ≡ true) → (xs : List X) → list_all test xs ≡ true
 all_pass test each [] = refl

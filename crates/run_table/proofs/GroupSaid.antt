@@ -11,6 +11,7 @@ use Rattle.workflow_runs.specs.GroupWords.{is_pending, is_running, is_the, lates
 use Rattle.workflow_runs.specs.Moves.{Holder, Move}
 use Rattle.workflow_runs.specs.Places.{LegPlace}
 use Rattle.workflow_runs.proofs.LeaseReads.{same_place as place_by}
+use Rattle.workflow_runs.proofs.ArrivalKeeps.{holder_tested, itself}
 
 -- ---- the same holder
 
@@ -20,23 +21,12 @@ one_place p q is =
     let second = and_parts (nat_eq p.job q.job) (nat_eq p.leg q.leg) first.1 in
     place_by p q (eqb-true p.run q.run first.0) (eqb-true p.job q.job second.0) (eqb-true p.leg q.leg second.1)
 
-pub one_holder : (h k : Holder) → same_holder h k ≡ true → h ≡ k
-one_holder (Holder.a_run r) (Holder.a_run s) is = ap (λ n. Holder.a_run n) (eqb-true r s is)
-one_holder (Holder.a_run r) (Holder.a_leg p) is = absurd (cc)
-one_holder (Holder.a_leg p) (Holder.a_run s) is = absurd (cc)
-one_holder (Holder.a_leg p) (Holder.a_leg q) is = ap (λ l. Holder.a_leg l) (one_place p q is)
-
-pub own_holder : (h : Holder) → same_holder h h ≡ true
-own_holder (Holder.a_run r) = eq-eqb r r refl
-own_holder (Holder.a_leg p) =
-    ap₂ (λ a b. a && b) (eq-eqb p.run p.run refl) (ap₂ (λ a b. a && b) (eq-eqb p.job p.job refl) (eq-eqb p.leg p.leg refl))
-
 pub the_one : (o : Option Holder) (h : Holder) → is_the o h ≡ true → o ≡ Some h
 the_one None h is = absurd (cc)
-the_one (Some k) h is = ap (λ x. Some x) (sym (one_holder h k is))
+the_one (Some k) h is = ap (λ x. Some x) (sym (holder_tested h k is))
 
 pub the_same : (o : Option Holder) (h : Holder) → o ≡ Some h → is_the o h ≡ true
-the_same o h is = ap (λ x. is_the x h) is ∙ own_holder h
+the_same o h is = ap (λ x. is_the x h) is ∙ itself h
 
 -- ---- what all moves together say
 

@@ -25,7 +25,7 @@ use Rattle.run_table.specs.TableState.{TableState}
 use Rattle.workflow_runs.specs.RunState.{LegState, RunState}
 use Rattle.workflow_runs.proofs.Found.{find_passes, none_found}
 use Rattle.run_table.proofs.GroupBase.{base_keeps_law, base_matches}
-use Rattle.run_table.proofs.GroupSaid.{one_holder, runs_started, the_one, the_same}
+use Rattle.run_table.proofs.GroupSaid.{runs_started, the_one, the_same}
 use Rattle.run_table.proofs.GroupsKept.{Grows, grows_not, grows_on, is_in_kept}
 use Rattle.run_table.proofs.HolderStatus.{Fits, Status, fits_running, holds_as, is_held, is_waiting, status, status_by, status_of_leg}
 use Rattle.run_table.proofs.HolderStatus.{status_of_run, told_as, waits_as}
@@ -37,6 +37,7 @@ use Rattle.workflow_runs.proofs.RunFits.{RunsFit}
 use Rattle.run_table.proofs.StepKeeps.{stepped_is_sound}
 use Rattle.run_table.proofs.StepsLaw.{step_says}
 use Rattle.run_table.proofs.Unbegun.{waiting_unbegun}
+use Rattle.workflow_runs.proofs.ArrivalKeeps.{holder_tested}
 
 -- ---- the same moves, by the groups of a later table
 
@@ -142,7 +143,7 @@ own_of_running : (h k : Holder) (told b : Bool) → same_holder h k ≡ b
     → own h (running_moves told k) ≡ (if b then running_moves told h else [])
 own_of_running h k told true e =
     all_kept (λ m. same_holder h (holder_of m)) (running_moves told k) (each_running h k true told e)
-    ∙ ap (running_moves told) (sym (one_holder h k e))
+    ∙ ap (running_moves told) (sym (holder_tested h k e))
 own_of_running h k told false e = all_dropped (λ m. same_holder h (holder_of m)) (running_moves told k) (each_running h k false told e)
 
 own_running : (o : Option Holder) (told : Bool) (h : Holder)
@@ -152,7 +153,7 @@ own_running (Some k) told h = own_of_running h k told (same_holder h k) refl
 
 own_arrival : (h k : Holder) (b : Bool) → same_holder h k ≡ b → own h (Move.arrive k ∷ []) ≡ (if b then Move.arrive h ∷ [] else [])
 own_arrival h k true e = all_kept (λ m. same_holder h (holder_of m)) (Move.arrive k ∷ []) (e, tt)
-    ∙ ap (λ x. Move.arrive x ∷ []) (sym (one_holder h k e))
+    ∙ ap (λ x. Move.arrive x ∷ []) (sym (holder_tested h k e))
 own_arrival h k false e = all_dropped (λ m. same_holder h (holder_of m)) (Move.arrive k ∷ []) (e, tt)
 
 own_pending : (o : Option Holder) (h : Holder)

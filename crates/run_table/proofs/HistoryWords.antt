@@ -21,7 +21,7 @@ use Rattle.workflow_runs.specs.declared.phases.LegPhase.TheVariants as leg
 use Rattle.workflow_runs.specs.declared.phases.RunPhase.{RunPhase}
 use Rattle.workflow_runs.specs.declared.phases.RunPhase.TheVariants as run
 use Rattle.run_table.proofs.GroupFollows.{displaced_by_a_later_one, displaced_never_starts, displaced_waits, first_has_ended}
-use Rattle.run_table.proofs.GroupSaid.{arrived_on, ended_on, own_holder}
+use Rattle.run_table.proofs.GroupSaid.{arrived_on, ended_on}
 use Rattle.run_table.proofs.HistoryLaw.{all_so_far, group_keeps_law}
 use Rattle.run_table.proofs.HolderStatus.{Fits, Status, leg_status, run_status, status, status_by, status_of_leg, status_of_run}
 use Rattle.run_table.proofs.HoldersOnce.{one_pending, one_running}
@@ -33,6 +33,7 @@ use Rattle.workflow_runs.proofs.LegReads.{had_at, had_from_leg, leg_from_had}
 use Rattle.run_table.proofs.OwnMoves.{arrived_by_own, ended_by_own, own}
 use Rattle.run_table.proofs.ReachedTables.{after_is_sound}
 use Rattle.run_table.proofs.Unbegun.{Unbegun}
+use Rattle.workflow_runs.proofs.ArrivalKeeps.{itself}
 
 -- ---- starts and ends
 
@@ -116,7 +117,7 @@ displaced_never_began t cs g before after_it newcomer h s e is =
     ∙ ap (λ b. b || has_arrived h (Move.arrive newcomer ∷ after_it)) arrived_before in
     let begins = law.displaced_are_cancelled before after_it newcomer h e is in
     let ends_then : has_ended h after_it ≡ true =
-    ap (has_ended h) begins.1 ∙ ap (λ b. b || has_ended h begins.0) (own_holder h) in
+    ap (has_ended h) begins.1 ∙ ap (λ b. b || has_ended h begins.0) (itself h) in
     let ends : has_ended h moves ≡ true =
     ap (has_ended h) e ∙ ended_on h before (Move.arrive newcomer ∷ after_it) ∙ ap (λ b. has_ended h before || b) ends_then
     ∙ or_right (has_ended h before) true refl in

@@ -17,8 +17,9 @@ use Rattle.workflow_runs.specs.declared.phases.LegPhase.{LegPhase}
 use Rattle.workflow_runs.specs.declared.phases.LegPhase.TheVariants as leg
 use Rattle.workflow_runs.specs.declared.phases.RunPhase.{RunPhase}
 use Rattle.workflow_runs.specs.declared.phases.RunPhase.TheVariants as run
-use Rattle.run_table.proofs.GroupSaid.{ended_on, own_holder}
+use Rattle.run_table.proofs.GroupSaid.{ended_on}
 use Rattle.run_table.proofs.OwnMoves.{ended_by_own, own, runs_by_own, stopped_by_own, waits_by_own}
+use Rattle.workflow_runs.proofs.ArrivalKeeps.{itself}
 
 pub data Status : Type 0 where
   -- not there, or new
@@ -193,15 +194,15 @@ over_by_end h moves e = (
 )
 
 runs_as_told : (h : Holder) (told : Bool) → is_running h (Move.arrive h ∷ Move.start h ∷ stop_if told h) ≡ true
-runs_as_told h true = ap (λ b. (b || false) && true) (own_holder h)
-runs_as_told h false = ap (λ b. (b || false) && true) (own_holder h)
+runs_as_told h true = ap (λ b. (b || false) && true) (itself h)
+runs_as_told h false = ap (λ b. (b || false) && true) (itself h)
 
 runs_not_pending : (h : Holder) (told : Bool) → is_pending h (Move.arrive h ∷ Move.start h ∷ stop_if told h) ≡ false
-runs_not_pending h true = ap (λ b. (b || false) && (not (b || false) && true)) (own_holder h)
-runs_not_pending h false = ap (λ b. (b || false) && (not (b || false) && true)) (own_holder h)
+runs_not_pending h true = ap (λ b. (b || false) && (not (b || false) && true)) (itself h)
+runs_not_pending h false = ap (λ b. (b || false) && (not (b || false) && true)) (itself h)
 
 stopped_as_told : (h : Holder) (told : Bool) → was_stopped h (Move.arrive h ∷ Move.start h ∷ stop_if told h) ≡ told
-stopped_as_told h true = ap (λ b. b || false) (own_holder h)
+stopped_as_told h true = ap (λ b. b || false) (itself h)
 stopped_as_told h false = refl
 
 pub running_by : (s : Status) (h : Holder) (moves : List Move) → Fits s h moves → is_running h moves ≡ is_held s
@@ -212,7 +213,7 @@ running_by Status.over h moves e = e.0
 
 pub pending_by : (s : Status) (h : Holder) (moves : List Move) → Fits s h moves → is_pending h moves ≡ is_waiting s
 pending_by Status.unarrived h moves e = ap (is_pending h) e
-pending_by Status.waiting h moves e = ap (is_pending h) e ∙ ap (λ b. (b || false) && true) (own_holder h)
+pending_by Status.waiting h moves e = ap (is_pending h) e ∙ ap (λ b. (b || false) && true) (itself h)
 pending_by (Status.running told) h moves e = ap (is_pending h) e ∙ runs_not_pending h told
 pending_by Status.over h moves e = e.1
 
@@ -259,7 +260,7 @@ goes_unseen h moves fits =
     let none : moves ++ [] ≡ [] = append-nil moves ∙ fits in (ap (is_running h) none, ap (is_pending h) none)
 
 pub ends_by_stop : (h : Holder) (r : Outcome) → has_ended h (Move.stop h ∷ Move.end_with r h ∷ []) ≡ true
-ends_by_stop h r = ap (λ b. b || false) (own_holder h)
+ends_by_stop h r = ap (λ b. b || false) (itself h)
 
 pub ends_at_once : (h : Holder) (r : Outcome) → has_ended h (Move.end_with r h ∷ []) ≡ true
-ends_at_once h r = ap (λ b. b || false) (own_holder h)
+ends_at_once h r = ap (λ b. b || false) (itself h)

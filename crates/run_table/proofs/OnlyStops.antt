@@ -20,10 +20,11 @@ use Rattle.workflow_runs.specs.declared.phases.LegPhase.TheVariants as leg
 use Rattle.workflow_runs.specs.declared.phases.RunPhase.{RunPhase}
 use Rattle.workflow_runs.specs.declared.phases.RunPhase.TheVariants as run
 use Rattle.run_table.proofs.GroupLawWalk.{Lawful, still_lawful}
-use Rattle.run_table.proofs.GroupSaid.{own_holder, stopped_on}
+use Rattle.run_table.proofs.GroupSaid.{stopped_on}
 use Rattle.run_table.proofs.GroupTruths.{not_both}
 use Rattle.run_table.proofs.ListWalk.{Walk, walk_on}
 use Rattle.run_table.proofs.OwnMoves.{of_group, of_group_on}
+use Rattle.workflow_runs.proofs.ArrivalKeeps.{itself}
 
 -- of each group: nobody arrives, and the law allows them behind any moves
 pub record OnlyStops (moves : List Move) : Type 0 where
@@ -67,7 +68,7 @@ one_stop h = record {
 
 pub told_then : (before : List Move) (h : Holder) → was_stopped h (before ++ Move.stop h ∷ []) ≡ true
 told_then before h =
-    stopped_on h before (Move.stop h ∷ []) ∙ ap (λ b. was_stopped h before || (b || false)) (own_holder h) ∙ or_right (was_stopped h before) true refl
+    stopped_on h before (Move.stop h ∷ []) ∙ ap (λ b. was_stopped h before || (b || false)) (itself h) ∙ or_right (was_stopped h before) true refl
 
 stop_and_end : (h : Holder) → OnlyStops (Move.stop h ∷ Move.end_with Cancelled h ∷ [])
 stop_and_end h = record {

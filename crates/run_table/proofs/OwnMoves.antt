@@ -5,8 +5,8 @@ use Rattle.std.proofs.lemmas.List.Elements.{filter-append}
 use Rattle.workflow_runs.specs.GroupWords.{arrival_of, end_of, start_of, stop_of, has_arrived, has_ended, has_started, was_stopped}
 use Rattle.workflow_runs.specs.GroupWords.{holder_of, is_pending, is_running, is_the, same_holder}
 use Rattle.workflow_runs.specs.Moves.{Holder, Move}
-use Rattle.run_table.proofs.GroupSaid.{one_holder}
 use Rattle.run_table.proofs.PlacedOne.{any_filtered, filter_apart, filter_twice}
+use Rattle.workflow_runs.proofs.ArrivalKeeps.{holder_tested}
 
 -- those of the holder
 abbrev pub own : Holder → List Move → List Move
@@ -28,14 +28,14 @@ pub own_of_group : (in_group : Holder → Bool) (h : Holder) (moves : List Move)
     → own h (of_group in_group moves) ≡ own h moves
 own_of_group in_group h moves is =
     filter_twice (λ m. same_holder h (holder_of m)) (λ m. in_group (holder_of m)) moves
-    (λ m same. ap in_group (sym (one_holder h (holder_of m) same)) ∙ is)
+    (λ m same. ap in_group (sym (holder_tested h (holder_of m) same)) ∙ is)
 
 -- and no others
 pub own_of_another : (in_group : Holder → Bool) (h : Holder) (moves : List Move) → in_group h ≡ false
     → own h (of_group in_group moves) ≡ []
 own_of_another in_group h moves isnt =
     filter_apart (λ m. same_holder h (holder_of m)) (λ m. in_group (holder_of m)) moves
-    (λ m same. ap in_group (sym (one_holder h (holder_of m) same)) ∙ isnt)
+    (λ m same. ap in_group (sym (holder_tested h (holder_of m) same)) ∙ isnt)
 
 -- ---- what is said of a holder its own moves say
 

@@ -6,6 +6,7 @@ use Rattle.std.specs.List.{enumerate_from}
 use Rattle.std.specs.Option.{option_map_or, option_or}
 use Rattle.std.proofs.Common.{arith, ap, sym, ◌∙◌}
 use Rattle.std.proofs.lemmas.Bool.{not-false, not-true}
+use Rattle.std.proofs.lemmas.Option.{none-some}
 use Rattle.group_name.specs.Group.{Group}
 use Rattle.workflow_runs.specs.FirstOf.{first_some, placed}
 use Rattle.workflow_runs.specs.GroupOf.{group_at}
@@ -93,18 +94,15 @@ leg_decided runs r j l x rests e = if_none (goes_on runs (leg_place r j l) x) re
 
 -- ---- a job
 
-some_is_something : {Y : Type 0} (y : Y) → Some y ≡ None → ⊥
-some_is_something y e = cc
-
 pub job_opens : (runs : List RunState) (r j : ℕ) (run : RunState) (x : JobState) → (is_blocked x.phase && needs_settled_in run j) ≡ true
     → Decides false (first_in_job runs r run j x ≡ None)
 job_opens runs r j run x opens =
-    no (λ e. some_is_something (Opening r j) (sym (ap (λ b. if b then Some (Opening r j) else first_of_open runs r j x) opens) ∙ e))
+    no (λ e. none-some (Opening r j) (sym e ∙ ap (λ b. if b then Some (Opening r j) else first_of_open runs r j x) opens))
 
 done_closes : {Y : Type 0} (b done : Bool) (y z : Y) (o : Option Y) → done ≡ true
     → (if b then Some y else option_or o (if done then Some z else None)) ≡ None → ⊥
 done_closes true done y z o is e = cc
-done_closes false done y z None is e = some_is_something z (sym (ap (λ d. if d then Some z else None) is) ∙ e)
+done_closes false done y z None is e = none-some z (sym e ∙ ap (λ d. if d then Some z else None) is)
 done_closes false done y z (Some x) is e = cc
 
 pub job_closes : (runs : List RunState) (r j : ℕ) (run : RunState) (x : JobState) → is_done x ≡ true

@@ -35,7 +35,6 @@ use Rattle.workflow_runs.specs.declared.place.Place.TheVariants.{Opening}
 use Rattle.run_table.proofs.ArrivalLaw.{arrival_goes_on}
 use Rattle.run_table.proofs.ChangesTold.{leg_tells, new_legs_same, only_none, only_one, quiet_job_tells, run_tells}
 use Rattle.run_table.proofs.EachRule.{by_rule}
-use Rattle.run_table.proofs.GroupSaid.{own_holder}
 use Rattle.run_table.proofs.GroupsKept.{Grows, cancels_kept, grows_on, is_in_kept, stays_grows}
 use Rattle.run_table.proofs.HolderStatus.{Goes, Status, ends_at_once, goes_over, goes_to_arrive, goes_to_start, goes_unseen, leg_status}
 use Rattle.run_table.proofs.HolderStatus.{run_status, status, status_by, status_in_job, status_of_leg, status_of_run}
@@ -55,6 +54,7 @@ use Rattle.workflow_runs.proofs.RunFits.{RunsFit, job_in_run, jobs_fit}
 use Rattle.workflow_runs.proofs.SettlingKeeps.{first_rule_settles, settles_within}
 use Rattle.run_table.proofs.StopsTold.{Tells, goes_by}
 use Rattle.run_table.proofs.Unbegun.{AllStill, LegUnbegun, There, leg_all_still, live_job_still, opened_still, phase_still, still_of_all}
+use Rattle.workflow_runs.proofs.ArrivalKeeps.{itself}
 
 -- ---- a job that opens
 
@@ -87,7 +87,7 @@ leg_goes_by runs p z phase to moves was is goes y at =
     subst (λ (ph : LegPhase). Goes (Holder.a_leg p) (leg_status ph) (own (Holder.a_leg p) moves) (leg_status to)) (sym same) goes
 
 own_itself : (h : Holder) (m : Move) → holder_of m ≡ h → own h (m ∷ []) ≡ m ∷ []
-own_itself h m is = ap (λ b. if b then m ∷ [] else []) (ap (same_holder h) is ∙ own_holder h)
+own_itself h m is = ap (λ b. if b then m ∷ [] else []) (ap (same_holder h) is ∙ itself h)
 
 leg_set_tells : (runs : List RunState) (p : LegPlace) (z : LegState) (phase to : LegPhase) (m : Move) → leg_at runs p ≡ Some z
     → z.phase ≡ phase

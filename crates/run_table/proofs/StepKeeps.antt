@@ -2,6 +2,7 @@
 use Rattle.std.specs.Prelude.{◌≡◌, ℕ, ◌+◌, ◌-◌, List, Option, Some, None, refl}
 use Rattle.std.specs.Option.{option_map_or}
 use Rattle.std.proofs.Common.{arith}
+use Rattle.std.proofs.lemmas.Option.{none-some}
 use Rattle.wf_value.specs.declared.code.Code.TheVariants.{LeaseNotHeld, NoRun, NoRunner}
 use Rattle.run_plan.specs.Admitted.{Admitted}
 use Rattle.run_plan.specs.declared.command.Claim.{Claim as Claimed}
@@ -138,23 +139,20 @@ empty_is_sound = record {
   few_runs = omega arith;
   deliveries_differ = (λ a b x y e f g. cc);
   jobs_are_the_plans = (λ r x e. cc);
-  run_phases_fit = (λ r x e. absurd (no_element r x e));
-  jobs_fit = (λ r j x e. absurd (no_element r x e));
-  needs_settled_first = (λ r j x e. absurd (no_element r x e));
-  parallel_bounded = (λ r j x most e f. absurd (no_element r x e));
-  leases_fit = (λ p x e. absurd (no_element p x e));
+  run_phases_fit = (λ r x e. absurd (none-some x e));
+  jobs_fit = (λ r j x e. absurd (none-some x e));
+  needs_settled_first = (λ r j x e. absurd (none-some x e));
+  parallel_bounded = (λ r j x most e f. absurd (none-some x e));
+  leases_fit = (λ p x e. absurd (none-some x e));
   leases_are_given = (λ p x n e f. cc);
   leases_differ = (λ p q x y n e f g h. cc);
   last_lease_in_range = omega arith;
   runners_in_order = refl;
-  work_is_held = (λ p x n e f g. absurd (no_element p x e));
-  held_is_at_work = (λ k x n e f. absurd (no_element k x e));
+  work_is_held = (λ p x n e f g. absurd (none-some x e));
+  held_is_at_work = (λ k x n e f. absurd (none-some x e));
   held_once = (λ a b x y n e f g h. cc);
   one_of_each_group = none_of_each;
   no_rule_applies = refl;
-  lasts_are_own = (λ k x e. absurd (no_element k x e));
-  kept_leases_are_legs = (λ k x e. absurd (no_element k x e));
+  lasts_are_own = (λ k x e. absurd (none-some x e));
+  kept_leases_are_legs = (λ k x e. absurd (none-some x e));
 }
-  where
-    no_element : {K X : Type 0} (k : K) (x : X) → None ≡ Some x → ⊥
-    no_element k x e = cc

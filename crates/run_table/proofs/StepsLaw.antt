@@ -46,7 +46,6 @@ use Rattle.run_table.proofs.ClaimKeeps.{fitting_leg}
 use Rattle.run_table.proofs.CommandsOneEach.{ended_one_each, leased_fades, leased_one_each, stopped_one_each}
 use Rattle.run_table.proofs.Entered.{entered_keeps, entered_one_each, entered_settles, groups_before, held, new_run_waits, waited}
 use Rattle.workflow_runs.proofs.Found.{at_the_end, before_the_end, find_passes}
-use Rattle.run_table.proofs.GroupSaid.{own_holder}
 use Rattle.run_table.proofs.GroupsKept.{Grows, grows_not, grows_on, new_run_grows, past_the_end, stays_grows}
 use Rattle.run_table.proofs.HolderStatus.{Goes, Status, ends_at_once, goes_over, goes_to_arrive, leg_status, status, status_by}
 use Rattle.run_table.proofs.HolderStatus.{status_by_run, status_in_job, status_in_run, status_of_leg, status_of_run}
@@ -69,6 +68,7 @@ use Rattle.workflow_runs.proofs.Settles.{StayFit}
 use Rattle.workflow_runs.proofs.SettlingKeeps.{settling_settles}
 use Rattle.run_table.proofs.StopsTold.{Tells, goes_by, goes_same}
 use Rattle.run_table.proofs.Unbegun.{Still, leg_still, legs_all_still, new_run_still}
+use Rattle.workflow_runs.proofs.ArrivalKeeps.{itself}
 
 -- ---- a new run
 
@@ -93,7 +93,7 @@ module _ (runs : List RunState) (event : Admitted) where
         | inl same ↦ subst (λ (k : ℕ). Goes (Holder.a_run k) (status runs (Holder.a_run k)) (own (Holder.a_run k) arrives) (status next
             (Holder.a_run k)))
             (sym same)
-            (goes_by n (status runs n) (status next n) (own n arrives) arrives (sym (ap (λ b. if b then arrives else []) (own_holder n)))
+            (goes_by n (status runs n) (status next n) (own n arrives) arrives (sym (ap (λ b. if b then arrives else []) (itself n)))
             (subst (λ (s : Status). Goes n s arrives (status next n)) (sym new_is_unseen)
             (subst (λ (s : Status). Goes n Status.unarrived arrives s) (sym (ap (status_by status_of_run) (at_the_end runs
             (new_run event))))
@@ -150,7 +150,7 @@ module _ (in_group cancels : Holder → Bool) (runs : List RunState) (p : LegPla
       let ends : List Move = Move.end_with o h ∷ [] in
       let from = leg_from_works runs p lease works in
       leg_tells p (leg_in_phase (leg.Ended o)) runs ends
-      (λ z is. goes_by h (status_of_leg z) Status.over (own h ends) ends (sym (ap (λ b. if b then ends else []) (own_holder h)))
+      (λ z is. goes_by h (status_of_leg z) Status.over (own h ends) ends (sym (ap (λ b. if b then ends else []) (itself h)))
       (goes_over h (status_of_leg z) ends (ends_at_once h o)))
       (λ none. absurd (none-some from.value (sym none ∙ from.is))) (only_one h (Move.end_with o h) refl)
 

@@ -22,9 +22,8 @@ use Rattle.workflow_runs.specs.declared.phases.LegPhase.{LegPhase}
 use Rattle.workflow_runs.specs.declared.phases.LegPhase.TheVariants as leg
 use Rattle.workflow_runs.specs.declared.phases.RunPhase.{RunPhase}
 use Rattle.workflow_runs.specs.declared.phases.RunPhase.TheVariants as run
-use Rattle.workflow_runs.proofs.ArrivalKeeps.{one_or_another}
+use Rattle.workflow_runs.proofs.ArrivalKeeps.{itself, one_or_another}
 use Rattle.workflow_runs.proofs.Changed.{at_another, at_changed}
-use Rattle.run_table.proofs.GroupSaid.{own_holder}
 use Rattle.run_table.proofs.HolderStatus.{Goes, Status, ends_by_stop, goes_not, goes_over, goes_to_stop, goes_unseen, leg_status}
 use Rattle.run_table.proofs.HolderStatus.{run_status, status}
 use Rattle.run_table.proofs.HolderStatus.{status_by, status_by_run, status_in_job, status_in_run, status_of_leg, status_of_run}
@@ -92,9 +91,9 @@ own_one h k false e = ap (λ b. if b then Move.stop k ∷ [] else []) e
 
 pub own_leg_stop : (p : LegPlace) (phase : LegPhase) → own (Holder.a_leg p) (leg_stop_moves p phase) ≡ leg_stop_moves p phase
 own_leg_stop p leg.New = refl
-own_leg_stop p leg.Waiting = own_both (Holder.a_leg p) (Holder.a_leg p) true (own_holder (Holder.a_leg p))
-own_leg_stop p leg.Ready = own_both (Holder.a_leg p) (Holder.a_leg p) true (own_holder (Holder.a_leg p))
-own_leg_stop p leg.Running = own_one (Holder.a_leg p) (Holder.a_leg p) true (own_holder (Holder.a_leg p))
+own_leg_stop p leg.Waiting = own_both (Holder.a_leg p) (Holder.a_leg p) true (itself (Holder.a_leg p))
+own_leg_stop p leg.Ready = own_both (Holder.a_leg p) (Holder.a_leg p) true (itself (Holder.a_leg p))
+own_leg_stop p leg.Running = own_one (Holder.a_leg p) (Holder.a_leg p) true (itself (Holder.a_leg p))
 own_leg_stop p leg.Stopping = refl
 own_leg_stop p (leg.Ended r) = refl
 
@@ -240,7 +239,7 @@ leg_of_run_goes q run.Ended x = goes_not (Holder.a_leg q) (status_in_run q.job q
 own_run_told : (r : ℕ) (x : RunState) → own (Holder.a_run r) (told_moves r x) ≡ Move.stop (Holder.a_run r) ∷ []
 own_run_told r x =
     let rest : List Move = own (Holder.a_run r) (jobs_stop_moves r (record x { stopping = true })) in
-    ap (λ b. if b then Move.stop (Holder.a_run r) ∷ rest else rest) (own_holder (Holder.a_run r))
+    ap (λ b. if b then Move.stop (Holder.a_run r) ∷ rest else rest) (itself (Holder.a_run r))
     ∙ ap (λ ms. Move.stop (Holder.a_run r) ∷ ms) (not_own_jobs (Holder.a_run r) r (record x { stopping = true }) (λ j l. refl))
 
 run_goes_in : (r : ℕ) (phase : RunPhase) (x : RunState) → x.phase ≡ phase
@@ -249,7 +248,7 @@ run_goes_in r run.Waiting x e =
     goes_by (Holder.a_run r) (status_of_run x) Status.over
     (own (Holder.a_run r) (Move.stop (Holder.a_run r) ∷ Move.end_with Cancelled (Holder.a_run r) ∷ []))
     (Move.stop (Holder.a_run r) ∷ Move.end_with Cancelled (Holder.a_run r) ∷ [])
-    (sym (own_both (Holder.a_run r) (Holder.a_run r) true (own_holder (Holder.a_run r))))
+    (sym (own_both (Holder.a_run r) (Holder.a_run r) true (itself (Holder.a_run r))))
     (goes_over (Holder.a_run r) (status_of_run x) (Move.stop (Holder.a_run r) ∷ Move.end_with Cancelled (Holder.a_run r) ∷ [])
     (ends_by_stop (Holder.a_run r) Cancelled))
 run_goes_in r run.Live x e =
