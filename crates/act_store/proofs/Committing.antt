@@ -1,10 +1,11 @@
 -- What a commit leaves.
-use Rattle.std.proofs.Common.{◌≡◌, ⊎_elim, ℕ, ◌+◌, ◌-◌, ◌<◌, ◌≤◌, List, [], ◌∷◌, ◌++◌, length, drop}
+use Rattle.std.proofs.Common.{◌≡◌, ⊎_elim, ℕ, ◌+◌, ◌-◌, ◌<◌, ◌≤◌, ◌^◌, List, [], ◌∷◌, ◌++◌, length, drop}
 use Rattle.std.proofs.Common.{false, refl, sym, ◌∙◌, ap, subst, arith, drop_of_length-le}
 use Rattle.std.specs.List.{AllByRecursion}
 use Rattle.std.proofs.lemmas.List.{take_all, length-drop, length-map}
 use Rattle.act_disk.specs.Images.{EachSince}
 use Rattle.act_disk.specs.Moments.{weakened}
+use Rattle.gated_journal.specs.Appends.{record_of}
 use Rattle.gated_journal.specs.Layout.{Head, opened}
 use Rattle.gated_journal.specs.Whole.{StandsWhole, WholeOrGrew}
 use Rattle.gated_journal.specs.declared.gate.Gate.{Gate}
@@ -16,10 +17,12 @@ use Rattle.act_store.specs.Images.{StandsFor}
 use Rattle.act_store.specs.Kept.{Kept, StandsForEither, covered_table, pending_commands, table_of}
 use Rattle.act_store.specs.Plain.{broken, committed, used_after}
 use Rattle.act_store.specs.Promise.{IsCounted, IsSettled, IsStanding}
+use Rattle.act_store.specs.StoreSeen.{as_kept}
 use Rattle.act_store.specs.Waiting.{Waits, body_of, waits_of}
 use Rattle.act_store.specs.declared.entry.Entry.{Entry}
+use Rattle.act_store.specs.declared.store.Store.TheInside.{Inside}
 use Rattle.act_store.proofs.Records.{batch_body}
-use Rattle.act_store.proofs.Settling.{grown, resettled, settled_stands, standing_fresh}
+use Rattle.act_store.proofs.Settling.{grown, resettled}
 
 -- an image of now is one since any moment
 pub now_of : {D : Type 0} (moment : D → ℕ) (images_since : D → ℕ → List ℕ → Type 0) (images : D → List ℕ → Type 0) (old new : D)
@@ -91,29 +94,18 @@ module _ {D : Type 0} (s : Kept D) (table : TableState) (waiting : Waits) (count
 
     module _ (images : D → List ℕ → Type 0) (side : Side) (gate : Gate)
         (settled : IsSettled s.area side gate s.generation s.used (covered_table s) (images s.disk)) where
-      pub commit_each : (c : List ℕ) → WholeOrGrew s.area side gate settled.head settled.bodies (body_of waiting) c → StandsForEither s c
+      commit_each : (c : List ℕ) → WholeOrGrew s.area side gate settled.head settled.bodies (body_of waiting) c → StandsForEither s c
       commit_each c either =
           grown images side gate s counted.size settled takes c
           (subst (λ (b : List ℕ). WholeOrGrew s.area side gate settled.head settled.bodies b c) waits either)
 
-      pub commit_settled : (disk : D)
+      commit_settled : (disk : D)
           → ((c : List ℕ) → images disk c → StandsWhole s.area side gate c settled.head (settled.bodies ++ body_of waiting ∷ []))
           → IsSettled s.area side gate s.generation (used_after s) (table_of s) (images disk)
       commit_settled disk each =
           resettled images side gate s counted.size settled takes disk (used_after s) refl
           (subst (λ (b : List ℕ). (c : List ℕ) → images disk c → StandsWhole s.area side gate c settled.head (settled.bodies ++ b ∷ []))
           waits each)
-
-      pub commit_standing : (disk : D)
-          → ((c : List ℕ) → images disk c → StandsWhole s.area side gate c settled.head (settled.bodies ++ body_of waiting ∷ []))
-          → IsStanding images side gate (committed s disk)
-      commit_standing disk each = standing_fresh images side gate s counted.size disk (commit_settled disk each)
-
-      pub commit_stands : (disk : D)
-          → ((c : List ℕ) → images disk c → StandsWhole s.area side gate c settled.head (settled.bodies ++ body_of waiting ∷ []))
-          → (c : List ℕ) → images disk c → StandsFor (table_of s) c
-      commit_stands disk each =
-          settled_stands s.area side gate s.generation (used_after s) (table_of s) (images disk) counted.size (commit_settled disk each)
 
 -- a store whose counts are those after a commit
 pub same_committed : {D : Type 0} (s : Kept D) (disk : D) (covered used : ℕ) → covered ≡ length s.history → used ≡ used_after s
@@ -122,17 +114,48 @@ same_committed s disk covered used all is =
     ap (λ (n : ℕ). record s { disk = disk; covered = n; used = used_after s }) (sym all)
     ∙ ap (λ (n : ℕ). record s { disk = disk; covered = covered; used = n }) (sym is)
 
--- Each image since a commit began, as a store of this view says it, where the disk grew from what was settled.
-pub commit_moments : {D : Type 0} (s v : Kept D) (table : TableState) (waiting : Waits) → IsCounted s table waiting → 0 < waiting.count
-    → s.failed ≡ false → (images : D → List ℕ → Type 0) (side : Side) (gate : Gate) (honest : D → Type 0)
-    → (honest s.disk → IsStanding images side gate s) → (moment : D → ℕ) (images_since : D → ℕ → List ℕ → Type 0) (disk : D)
-    → ((head : Head) (bodies : List (List ℕ)) → honest s.disk
-    → ((c : List ℕ) → images s.disk c → StandsWhole s.area side gate c head bodies) → s.used ≡ length (opened head bodies)
-    → EachSince moment images_since s.disk disk (WholeOrGrew s.area side gate head bodies (body_of waiting)))
-    → s ≡ v → honest v.disk → EachSince moment images_since v.disk disk (StandsForEither v)
-commit_moments {D} s v table waiting counted some live images side gate honest standing moment images_since disk grows is =
-    subst (λ (k : Kept D). honest k.disk → EachSince moment images_since k.disk disk (StandsForEither k)) is (λ is_honest.
-    let settled = (standing is_honest).settled live in
-    weakened moment images_since s.disk disk (WholeOrGrew s.area side gate settled.head settled.bodies (body_of waiting))
-    (StandsForEither s) (grows settled.head settled.bodies is_honest settled.each settled.used_is)
-    (commit_each s table waiting counted some images side gate settled))
+-- What a commit leaves, where the disk grows by these bytes, the record of what waits, behind what was settled.
+module _ {D : Type 0} (honest : D → Type 0) (images : D → List ℕ → Type 0) (s : Inside D)
+    (counted : IsCounted (as_kept s) s.table s.waiting) (live : s.failed ≡ false) (some : 0 < s.waiting.count)
+    (standing : honest s.disk → IsStanding images s.areas.side s.other (as_kept s)) (bytes : List ℕ)
+    (record_is : 0 < s.waiting.count → bytes ≡ record_of (body_of s.waiting))
+    (short : 0 < s.waiting.count → length (body_of s.waiting) < 2 ^ 32) (disk : D) where
+  -- what is promised of an append of the bytes, as a record of any body to whatever is settled
+  abbrev Promises : (Gate → Head → List (List ℕ) → List ℕ → Type 0) → Type 0
+  Promises what =
+      (gate : Gate) (head : Head) (bodies : List (List ℕ)) (body : List ℕ) → honest s.disk
+      → ((c : List ℕ) → images s.disk c → StandsWhole s.areas.len s.areas.side gate c head bodies) → s.used ≡ length (opened head bodies)
+      → bytes ≡ record_of body → length body < 2 ^ 32 → what gate head bodies body
+
+  promised : (what : Gate → Head → List (List ℕ) → List ℕ → Type 0) → Promises what → (is_honest : honest s.disk)
+      → what s.other ((standing is_honest).settled live).head ((standing is_honest).settled live).bodies (body_of s.waiting)
+  promised what grows is_honest =
+      let settled = (standing is_honest).settled live in
+      grows s.other settled.head settled.bodies (body_of s.waiting) is_honest settled.each settled.used_is (record_is some) (short some)
+
+  -- each image since the commit began, as a store of this view says it
+  module _ (moment : D → ℕ) (images_since : D → ℕ → List ℕ → Type 0) where
+    abbrev grows_since : Gate → Head → List (List ℕ) → List ℕ → Type 0
+    grows_since gate head bodies body =
+        EachSince moment images_since s.disk disk (WholeOrGrew s.areas.len s.areas.side gate head bodies body)
+
+    pub commit_moments : Promises grows_since → (v : Kept D) → as_kept s ≡ v → honest v.disk
+        → EachSince moment images_since v.disk disk (StandsForEither v)
+    commit_moments grows v is =
+        subst (λ (k : Kept D). honest k.disk → EachSince moment images_since k.disk disk (StandsForEither k)) is (λ is_honest.
+        let settled = (standing is_honest).settled live in
+        weakened moment images_since s.disk disk
+        (WholeOrGrew s.areas.len s.areas.side s.other settled.head settled.bodies (body_of s.waiting)) (StandsForEither (as_kept s))
+        (promised grows_since grows is_honest)
+        (commit_each (as_kept s) s.table s.waiting counted some images s.areas.side s.other settled))
+
+  -- and once it was done, all are settled at all entries
+  abbrev grown_now : Gate → Head → List (List ℕ) → List ℕ → Type 0
+  grown_now gate head bodies body =
+      (c : List ℕ) → images disk c → StandsWhole s.areas.len s.areas.side gate c head (bodies ++ body ∷ [])
+
+  pub commit_settles : Promises grown_now → honest s.disk
+      → IsSettled s.areas.len s.areas.side s.other s.generation (used_after (as_kept s)) (table_of (as_kept s)) (images disk)
+  commit_settles grows is_honest =
+      commit_settled (as_kept s) s.table s.waiting counted some images s.areas.side s.other ((standing is_honest).settled live) disk
+      (promised grown_now grows is_honest)

@@ -16,7 +16,7 @@ use Rattle.act_store.specs.Images.{StandsFor}
 use Rattle.act_store.specs.Kept.{Kept, StandsForEither, StandsForSome, pending_commands}
 use Rattle.act_store.specs.Plain.{area_full, broken, committed, entered, entry_of, failed_earlier, history_full, record_end}
 use Rattle.act_store.specs.Plain.{refusal_of_apply}
-use Rattle.act_store.specs.Steps.{Covers, Grows, Plays, PlaysSome, Survives, Takes}
+use Rattle.act_store.specs.Steps.{Covers, Grows, PlayEnds, Plays, PlaysSome, Survives, Takes}
 use Rattle.act_store.specs.declared.entry.Entry.{Entry}
 use Rattle.act_store.specs.declared.step.Played.{Played}
 use Rattle.act_store.specs.declared.step.Played.TheVariants as told
@@ -244,12 +244,12 @@ module _ {D : Type 0} where
       pub stands : honest new.disk → (c : List ℕ) → images new.disk c → StandsForSome new.base new.history new.covered c
 
     pub play_leaves : (images : D → List ℕ → Type 0) → ((disk : D) → honest disk → (c : List ℕ) → images_since disk (moment disk) c
-        → images disk c) → {V E : Type 0} (items : V → List Played) (result : Result V E) (old new : Kept D) (steps : List Step)
-        → IfOk result (λ v. Plays during old steps (items v) new) → OnErr result (PlaysSome during old steps new)
-        → old.covered ≤ length old.history → (honest new.disk → (c : List ℕ) → images new.disk c → StandsForEither new c)
+        → images disk c) → {V : Type 0} (items : V → List Played) (result : Result V Refusal) (old new : Kept D) (steps : List Step)
+        → PlayEnds during items old steps result new → old.covered ≤ length old.history
+        → (honest new.disk → (c : List ℕ) → images new.disk c → StandsForEither new c)
         → PlayLeaves images old new
-    play_leaves images only items result old new steps all part within promise =
-        let some = some_played during items result old new steps all part in
+    play_leaves images only items result old new steps ends within promise =
+        let some = some_played during items result old new steps ends.played ends.part in
         let grows = plays_grows during old new some.first some.answers some.plays within in
         let stays = honest_of old new some.first some.answers some.plays in
         record {

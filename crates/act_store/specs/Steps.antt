@@ -1,6 +1,8 @@
 -- A list of steps of a store, one after another, and what each is answered.
 use Rattle.std.specs.Prelude.{◌≡◌, ◌⊎◌, ◌↔◌, ℕ, ◌<◌, ◌≤◌, List, [], ◌∷◌, ◌++◌, length, true, false, Some, None}
+use Rattle.std.specs.Prelude.{Result, IfErr, IfOk, IsOk, OnErr}
 use Rattle.wf_value.specs.Gives.{no_memory}
+use Rattle.wf_value.specs.declared.refusal.Refusal.{Refusal}
 use Rattle.act_disk.specs.Failed.{device_failed}
 use Rattle.act_disk.specs.Images.{EachSince}
 use Rattle.run_table.specs.Step.{stepped}
@@ -61,6 +63,15 @@ pub record PlaysSome {D : Type 0} (during : Kept D → Played → Kept D → Typ
   pub split : steps ≡ first ++ others
   pub answers : List Played
   pub plays : Plays during old first answers new
+
+-- How a play of steps, one after another, ends: each was answered, or memory was wanting, for an answer or a copy of a command, after some
+-- of the first. Where there are no steps it isn't.
+pub record PlayEnds {D V : Type 0} (during : Kept D → Played → Kept D → Type 0) (items : V → List Played) (old : Kept D) (steps : List Step)
+    (result : Result V Refusal) (new : Kept D) : Type 0 where
+  pub played : IfOk result (λ answers. Plays during old steps (items answers) new)
+  pub part : OnErr result (PlaysSome during old steps new)
+  pub refused : IfErr result (λ e. e ≡ no_memory)
+  pub empty : length steps ≡ 0 → IsOk result
 
 -- The base stays, entries come behind those that there are, and what is covered stays covered.
 pub record Grows {D : Type 0} (old new : Kept D) : Type 0 where

@@ -1,8 +1,9 @@
 ghost use Rattle.std.specs.Prelude.{◌≡◌, ◌⊎◌, ◌<◌, ◌≤◌, ◌+◌, Err, IfErr, IfOk, IfSome, OnOk};
 ghost use Rattle.wf_value.specs.Gives.{no_memory};
 ghost use Rattle.act_disk.specs.Failed.{device_failed};
-ghost use Rattle.act_disk.specs.Images.{EachSince, Only, SameImages};
+ghost use Rattle.act_disk.specs.Images.{Only, SameImages};
 ghost use Rattle.gated_journal.specs.Choice.{part};
+ghost use Rattle.gated_journal.specs.Reading.{OnlyRead};
 ghost use Rattle.act_store.specs.Images.{HasNoArea, HasNoTable, IsAreaLength};
 ghost use Rattle.act_store.specs.Opened.{IsFound};
 ghost use Rattle.act_store.specs.Plain.{RefusesOpening, TellsNoArea, no_area, no_table};
@@ -45,12 +46,9 @@ fn spelled_at<D: Disk>(alloc: Global, disk: &mut D, area: Area) -> Result<Option
     ensures spelled { IfOk result (λ found. D.honest disk.new → IsSpelled (part area.start area.len (D.seen disk.old)) found) }
     ensures fits { IfOk result (λ found. IfSome found (λ s. s.used < area.len)) }
     ensures images { D.honest disk.new → SameImages (D.images disk.old) (D.images disk.new) }
-    ensures any_moment { D.honest disk.new → EachSince D.moment D.images_since disk.old disk.new (D.images disk.old) }
-    ensures seen { D.honest disk.new → D.seen disk.new ≡ D.seen disk.old }
-    ensures size { D.size disk.new ≡ D.size disk.old }
+    ensures only_read { OnlyRead D.honest D.seen D.size D.moment D.images D.images_since disk.old disk.new }
     ensures faults { TellsFault result (D.fault_count disk.old) (D.fault_count disk.new) }
     ensures refused { IfErr result (λ e. (e ≡ no_memory) ⊎ (e ≡ device_failed)) }
-    ensures honest { D.honest disk.new → D.honest disk.old }
 {
     let mut bytes = vec![in alloc; 0; area.len as usize]?;
     area.read(disk, bytes.as_mut_slice())?;
@@ -68,9 +66,8 @@ pub(crate) fn find<D: Disk>(alloc: Global, disk: &mut D) -> Result<Found, Refusa
     ensures nothing_stands { IfErr result (λ e. D.honest disk.new → HasNoArea (D.seen disk.old) → TellsNoArea e) }
     ensures refused { IfErr result RefusesOpening }
     ensures stable { OnOk result (D.honest disk.new → Only (D.seen disk.old) (D.images disk.new)) }
-    ensures any_moment { D.honest disk.new → EachSince D.moment D.images_since disk.old disk.new (D.images disk.old) }
+    ensures only_read { OnlyRead D.honest D.seen D.size D.moment D.images D.images_since disk.old disk.new }
     ensures faults { TellsFault result (D.fault_count disk.old) (D.fault_count disk.new) }
-    ensures honest { D.honest disk.new → D.honest disk.old }
 {
     let len = area_length(disk.len()).ok_or(Refusal::Numbered(Code::NoArea))?;
     let chosen = choose(disk, len)?.ok_or(Refusal::Numbered(Code::NoArea))?;

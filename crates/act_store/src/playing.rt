@@ -1,10 +1,10 @@
-ghost use Rattle.std.specs.Prelude.{◌≡◌, ◌↔◌, ℕ, List, length, IfErr, IfOk, IsOk, OnErr};
+ghost use Rattle.std.specs.Prelude.{◌≡◌, ◌↔◌, ℕ, List, IfErr, IfOk, OnErr};
 ghost use Rattle.wf_value.specs.Gives.{no_memory};
 ghost use Rattle.act_disk.specs.Images.{EachSince};
 ghost use Rattle.act_store.specs.Entries.{IsLegal};
 ghost use Rattle.act_store.specs.GroupsOfHistory.{KeepsGroups};
 ghost use Rattle.act_store.specs.Kept.{StandsForSome};
-ghost use Rattle.act_store.specs.Steps.{Grows, Plays, PlaysSome, Survives, Takes};
+ghost use Rattle.act_store.specs.Steps.{Grows, PlayEnds, Survives, Takes};
 ghost use Rattle.act_store.specs.declared.step.Step.TheVariants as asked;
 
 use crate::receipt::Receipt;
@@ -28,11 +28,8 @@ pub fn play<D: Disk>(
     store: &mut Store<D>,
     steps: &[Step],
 ) -> Result<Vec<Played>, Refusal>
-    ensures played { IfOk result (λ answers.
-        Plays (Survives D.honest D.moment D.fault_count D.images_since) store.old steps.now answers.items store.new) }
-    ensures part { OnErr result (PlaysSome (Survives D.honest D.moment D.fault_count D.images_since) store.old steps.now store.new) }
-    ensures refused { IfErr result (λ e. e ≡ no_memory) }
-    ensures empty { length steps.now ≡ 0 → IsOk result }
+    ensures ends { PlayEnds (Survives D.honest D.moment D.fault_count D.images_since) (λ answers. answers.items)
+        store.old steps.now result store.new }
     ensures any_moment { D.honest store.old.disk → EachSince D.moment D.images_since store.old.disk store.new.disk
         (StandsForSome store.new.base store.new.history store.old.covered) }
     ensures stands { D.honest store.new.disk → (c : List ℕ) → D.images store.new.disk c
@@ -55,11 +52,8 @@ fn take_all<D: Disk>(
     store: &mut Store<D>,
     steps: &[Step],
 ) -> Result<Vec<Played>, Refusal>
-    ensures played { IfOk result (λ answers.
-        Plays (Survives D.honest D.moment D.fault_count D.images_since) store.old steps.now answers.items store.new) }
-    ensures part { OnErr result (PlaysSome (Survives D.honest D.moment D.fault_count D.images_since) store.old steps.now store.new) }
-    ensures refused { IfErr result (λ e. e ≡ no_memory) }
-    ensures empty { length steps.now ≡ 0 → IsOk result }
+    ensures { PlayEnds (Survives D.honest D.moment D.fault_count D.images_since) (λ answers. answers.items)
+        store.old steps.now result store.new }
 {
     let mut answers = Vec::new(alloc);
     for step in steps {

@@ -3,6 +3,7 @@ pub mod Choice
 pub mod CutOff
 pub mod Layout
 pub mod OnDisk
+pub mod Reading
 pub mod Scanned
 pub mod ScannedHead
 pub mod Spelled

@@ -1,6 +1,7 @@
 ghost use Rattle.std.specs.Prelude.{◌≡◌, ◌+◌, ◌<◌, ◌≤◌, OnOk, IfOk};
-ghost use Rattle.act_disk.specs.Images.{Only, EachSince, CountsFault};
+ghost use Rattle.act_disk.specs.Images.{Only, CountsFault};
 ghost use Rattle.gated_journal.specs.Choice.{newer, open_generation};
+ghost use Rattle.gated_journal.specs.Reading.{OnlyRead};
 ghost use Rattle.gated_journal.specs.Whole.{IsChosen, StandsBetween, gate_of};
 
 use crate::append::OPEN;
@@ -62,12 +63,9 @@ pub fn choose<D: Disk>(disk: &mut D, len: u64) -> Result<Option<Chosen>, DiskFau
     requires long { 10 ≤ len }
     ensures found { IfOk result (λ found. D.honest disk.new → IsChosen len found (D.seen disk.old)) }
     ensures stable { OnOk result (D.honest disk.new → Only (D.seen disk.old) (D.images disk.new)) }
-    ensures any_moment { D.honest disk.new → EachSince D.moment D.images_since disk.old disk.new (D.images disk.old) }
-    ensures seen { D.honest disk.new → D.seen disk.new ≡ D.seen disk.old }
-    ensures size { D.size disk.new ≡ D.size disk.old }
+    ensures only_read { OnlyRead D.honest D.seen D.size D.moment D.images D.images_since disk.old disk.new }
     ensures calls { D.calls disk.new ≤ D.calls disk.old + 3 }
     ensures faults { CountsFault result (D.fault_count disk.old) (D.fault_count disk.new) }
-    ensures honest { D.honest disk.new → D.honest disk.old }
 {
     disk.sync()?;
     let mut front = [0; FRONT];

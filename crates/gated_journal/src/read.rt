@@ -1,6 +1,7 @@
 ghost use Rattle.std.specs.Prelude.{◌≡◌, ◌+◌, ◌<◌, ◌≤◌, length, OnOk, IfOk};
-ghost use Rattle.act_disk.specs.Images.{SameImages, Only, EachSince, CountsFault};
+ghost use Rattle.act_disk.specs.Images.{SameImages, Only, CountsFault};
 ghost use Rattle.gated_journal.specs.Choice.{part};
+ghost use Rattle.gated_journal.specs.Reading.{OnlyRead};
 ghost use Rattle.gated_journal.specs.Spelled.{EachSpells};
 
 use crate::area::Area;
@@ -15,12 +16,9 @@ impl Area {
         requires within { self.now.start + self.now.len ≤ D.size disk.old }
         ensures bytes { OnOk result (D.honest disk.new → bytes.new ≡ part self.now.start self.now.len (D.seen disk.old)) }
         ensures images { D.honest disk.new → SameImages (D.images disk.old) (D.images disk.new) }
-        ensures any_moment { D.honest disk.new → EachSince D.moment D.images_since disk.old disk.new (D.images disk.old) }
-        ensures seen { D.honest disk.new → D.seen disk.new ≡ D.seen disk.old }
-        ensures size { D.size disk.new ≡ D.size disk.old }
+        ensures only_read { OnlyRead D.honest D.seen D.size D.moment D.images D.images_since disk.old disk.new }
         ensures calls { D.calls disk.new ≡ D.calls disk.old + 1 }
         ensures faults { CountsFault result (D.fault_count disk.old) (D.fault_count disk.new) }
-        ensures honest { D.honest disk.new → D.honest disk.old }
         ensures length { length bytes.new ≡ length bytes.old }
     {
         disk.read(self.start, bytes)
@@ -35,12 +33,9 @@ impl Area {
         requires within { self.now.start + self.now.len ≤ D.size disk.old }
         ensures bytes { OnOk result (D.honest disk.new → bytes.new ≡ part self.now.start self.now.len (D.seen disk.old)) }
         ensures stable { OnOk result (D.honest disk.new → Only (D.seen disk.old) (D.images disk.new)) }
-        ensures any_moment { D.honest disk.new → EachSince D.moment D.images_since disk.old disk.new (D.images disk.old) }
-        ensures seen { D.honest disk.new → D.seen disk.new ≡ D.seen disk.old }
-        ensures size { D.size disk.new ≡ D.size disk.old }
+        ensures only_read { OnlyRead D.honest D.seen D.size D.moment D.images D.images_since disk.old disk.new }
         ensures calls { D.calls disk.new ≤ D.calls disk.old + 2 }
         ensures faults { CountsFault result (D.fault_count disk.old) (D.fault_count disk.new) }
-        ensures honest { D.honest disk.new → D.honest disk.old }
         ensures length { length bytes.new ≡ length bytes.old }
     {
         disk.sync()?;
@@ -59,12 +54,9 @@ impl Area {
         ensures spells { IfOk result (λ found. D.honest disk.new
             → EachSpells self.now.start self.now.len (D.images disk.new) found) }
         ensures stable { OnOk result (D.honest disk.new → Only (D.seen disk.old) (D.images disk.new)) }
-        ensures any_moment { D.honest disk.new → EachSince D.moment D.images_since disk.old disk.new (D.images disk.old) }
-        ensures seen { D.honest disk.new → D.seen disk.new ≡ D.seen disk.old }
-        ensures size { D.size disk.new ≡ D.size disk.old }
+        ensures only_read { OnlyRead D.honest D.seen D.size D.moment D.images D.images_since disk.old disk.new }
         ensures calls { D.calls disk.new ≤ D.calls disk.old + 2 }
         ensures faults { CountsFault result (D.fault_count disk.old) (D.fault_count disk.new) }
-        ensures honest { D.honest disk.new → D.honest disk.old }
     {
         self.read_synced(disk, bytes)?;
         Ok(scan(bytes))

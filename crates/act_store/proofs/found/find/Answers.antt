@@ -24,15 +24,15 @@ returns-in-None-clause-no_table g c = λ _ honest2.
     let len = c.in_ok-len.len in
     let chosen = c.in_ok-chosen.chosen in
     let area = c.area.result in
-    let honest1 = c.spelled_at.ensures.honest honest2 in
-    let honest0 = c.choose.ensures.honest honest1 in
+    let honest1 = c.spelled_at.ensures.only_read.was_honest honest2 in
+    let honest0 = c.choose.ensures.only_read.was_honest honest1 in
     let some_len : c.area_length.result ≡ Some len = search rules in
     let some_chosen : c.in_ok-choose.field-0 ≡ Some chosen = search rules in
     let half = subst (λ (o : Option ℕ). IsHalf c.len.result o) some_len c.area_length.ensures in
     let there : part area.start area.len (disk.seen d1) ≡ area_on len chosen.side file =
     ap (λ (n : ℕ). part n area.len (disk.seen d1)) c.area.ensures.start
     ∙ ap (λ (n : ℕ). part (start_of len chosen.side) n (disk.seen d1)) c.area.ensures.len
-    ∙ ap (λ (l : List ℕ). part (start_of len chosen.side) len l) (c.choose.ensures.seen honest1) in
+    ∙ ap (λ (l : List ℕ). part (start_of len chosen.side) len l) (c.choose.ensures.only_read.same_seen honest1) in
     no_table_in len file (g.met.D.Disk.seen_length d0 honest0 ∙ sym c.len.ensures ∙ half.0) chosen
     (subst (λ (o : Option Chosen). IsChosen len o file) some_chosen (c.in_ok-choose.ensures.found honest1)) half.1
     (subst (λ (l : List ℕ). IsSpelled l None) there

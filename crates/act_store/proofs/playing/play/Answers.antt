@@ -10,7 +10,7 @@ leaves g c =
     let disk = g.D.Disk in
     let all = c.take_all-answers in
     play_leaves disk.honest disk.moment disk.fault_count disk.images_since disk.images g.met.D.Disk.only_now (λ v. v.items) all.result
-    c.args.store.now all.new.store c.args.steps.now all.ensures.played all.ensures.part c.covered-first.ensures.within
+    c.args.store.now all.new.store c.args.steps.now all.ensures c.covered-first.ensures.within
     c.covered-last.ensures.promise
 
 pub returns-clause-any_moment : goal.returns-clause-any_moment
@@ -30,6 +30,6 @@ prove-unreachable-requires g c =
     let disk = g.D.Disk in
     let all = c.take_all-answers in
     let left = play_leaves disk.honest disk.moment disk.fault_count disk.images_since disk.images g.met.D.Disk.only_now (λ v. v.items)
-    all.result c.args.store.now all.new.store c.args.steps.now all.ensures.played all.ensures.part c.covered-first.ensures.within
+    all.result c.args.store.now all.new.store c.args.steps.now all.ensures c.covered-first.ensures.within
     c.covered-last.ensures.promise in
     omega (arith, left.grows.covers, c.covered-first.ensures.value, c.covered-last.ensures.value)

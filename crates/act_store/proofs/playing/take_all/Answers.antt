@@ -1,22 +1,27 @@
-use Rattle.std.proofs.Common.{◌+◌, ◌++◌, [], ◌∷◌, refl, sym, subst}
+use Rattle.std.proofs.Common.{◌+◌, ◌++◌, [], ◌∷◌, refl, rules, arith, sym, subst}
 use Rattle.std.specs.Prelude.{OnErr}
 use Rattle.act_store.specs.Kept.{Kept}
 use Rattle.act_store.specs.Steps.{PlaysSome, Survives}
 use Rattle.act_store.proofs.Plays.{first_played, plays_next}
 use Rattle.act_store.proofs.playing.take_all.Goals as goal
 
-pub returns-in_err-answer-clause-part : goal.returns-in_err-answer-clause-part
-returns-in_err-answer-clause-part g c =
+pub returns-in_err-answer : goal.returns-in_err-answer
+returns-in_err-answer g c =
     let disk = g.D.Disk in
     let l = c.loop-step in
     let during = Survives disk.honest disk.moment disk.fault_count disk.images_since in
     let result = c.from_residual.result in
-    subst (λ (k : Kept g.row.D.Denot). OnErr result (PlaysSome during c.args.store.now c.args.steps.now k))
-    (sym c.in_err-answer.ensures.unchanged)
-    (first_played during c.args.store.now c.args.steps.now result l.store l.step-index l.answers.items l.invariant)
+    record {
+      played = search rules;
+      part = subst (λ (k : Kept g.row.D.Denot). OnErr result (PlaysSome during c.args.store.now c.args.steps.now k))
+          (sym c.in_err-answer.ensures.unchanged)
+          (first_played during c.args.store.now c.args.steps.now result l.store l.step-index l.answers.items l.invariant);
+      refused = search rules;
+      empty = λ none. absurd (omega (arith, none));
+    }
 
-pub returns-in_err-push-clause-part : goal.returns-in_err-push-clause-part
-returns-in_err-push-clause-part g c =
+pub returns-in_err-push : goal.returns-in_err-push
+returns-in_err-push g c =
     let disk = g.D.Disk in
     let l = c.loop-step in
     let old = c.args.store.now in
@@ -25,9 +30,14 @@ returns-in_err-push-clause-part g c =
     let during = Survives disk.honest disk.moment disk.fault_count disk.images_since in
     let answer = c.in_ok-answer.answer in
     let answers = l.answers.items ++ answer ∷ [] in
-    first_played during old steps c.from_residual-in_err-push.result new (l.step-index + 1) answers
-    (plays_next during old steps l.store new l.step-index l.answers.items answers c.step-item.result answer
-    c.loop-step-test.true c.step-item.is refl l.invariant c.in_ok-answer.ensures.takes c.in_ok-answer.ensures.survives)
+    record {
+      played = search rules;
+      part = first_played during old steps c.from_residual-in_err-push.result new (l.step-index + 1) answers
+          (plays_next during old steps l.store new l.step-index l.answers.items answers c.step-item.result answer
+          c.loop-step-test.true c.step-item.is refl l.invariant c.in_ok-answer.ensures.takes c.in_ok-answer.ensures.survives);
+      refused = search rules;
+      empty = λ none. absurd (omega (arith, none));
+    }
 
 pub loop-step-preserved : goal.loop-step-preserved
 loop-step-preserved g c =

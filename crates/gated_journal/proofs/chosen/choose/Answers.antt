@@ -7,8 +7,8 @@ pub returns-clause-found : goal.returns-clause-found
 returns-clause-found g c = λ honest3.
     let disk = g.D.Disk in
     let len = c.args.len in
-    let honest2 = c.read-2.ensures.honest honest3 in
-    let honest1 = c.read.ensures.honest honest2 in
+    let honest2 = c.read-2.ensures.only_read.was_honest honest3 in
+    let honest1 = c.read.ensures.only_read.was_honest honest2 in
     let honest0 = c.sync.ensures.honest.0 honest1 in
     let file = disk.seen c.args.disk.now in
     let synced = c.sync.ensures.seen honest0 in
@@ -19,6 +19,6 @@ returns-clause-found g c = λ honest3.
     ∙ ap open_generation (c.in_ok-read.ensures.bytes honest2 ∙ ap (part 0 10) synced)
     ∙ same_generation 0 len file c.requires.long)
     (c.generation_of-second.ensures
-    ∙ ap open_generation (c.in_ok-read-2.ensures.bytes honest3 ∙ ap (part len 10) (c.read.ensures.seen honest2 ∙ synced))
+    ∙ ap open_generation (c.in_ok-read-2.ensures.bytes honest3 ∙ ap (part len 10) (c.read.ensures.only_read.same_seen honest2 ∙ synced))
     ∙ same_generation len len file c.requires.long)
     c.chosen_of.ensures

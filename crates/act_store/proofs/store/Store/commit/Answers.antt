@@ -1,15 +1,14 @@
-use Rattle.std.proofs.Common.{rules, ◌≡◌, ℕ, List, ◌+◌, ◌<◌, ◌^◌, ◌∙◌, ◌-◌, length, false, arith, ap, subst, sym}
-use Rattle.gated_journal.specs.Whole.{WholeOrGrew}
+use Rattle.std.proofs.Common.{rules, ◌≡◌, ℕ, List, ◌+◌, ◌<◌, ◌^◌, ◌∙◌, ◌-◌, length, false, refl, arith, ap, subst, sym}
 use Rattle.act_store.specs.Images.{StandsFor}
-use Rattle.act_store.specs.Kept.{Kept, table_of}
-use Rattle.act_store.specs.Plain.{committed}
-use Rattle.act_store.specs.Promise.{IsCounted, IsStanding}
+use Rattle.act_store.specs.Kept.{Kept, StandsForEither, table_of}
+use Rattle.act_store.specs.Plain.{committed, used_after}
+use Rattle.act_store.specs.Promise.{IsCounted, IsSettled, IsStanding}
 use Rattle.act_store.specs.StoreSeen.{as_kept}
 use Rattle.act_store.specs.Waiting.{body_of}
-use Rattle.act_store.proofs.Committing.{now_of, none_waits, all_stands, counted_broken, counted_committed, commit_each, commit_moments}
-use Rattle.act_store.proofs.Committing.{commit_standing, commit_stands, more, used_is, same_committed}
+use Rattle.act_store.proofs.Committing.{now_of, none_waits, all_stands, counted_broken, counted_committed, commit_moments}
+use Rattle.act_store.proofs.Committing.{commit_settles, more, used_is, same_committed}
 use Rattle.act_store.proofs.Records.{length_record}
-use Rattle.act_store.proofs.Settling.{standing_broken}
+use Rattle.act_store.proofs.Settling.{settled_stands, standing_broken, standing_fresh}
 use Rattle.act_store.proofs.store.Store.commit.Given.{Over}
 use Rattle.act_store.proofs.store.Store.commit.Goals as goal
 
@@ -41,25 +40,17 @@ grow-requires-clause-fits g c =
 
 pub returns-in-Err-clause-any_moment : goal.returns-in-Err-clause-any_moment
 returns-in-Err-clause-any_moment g c =
-    let s = c.self.inside in
     let disk = g.D.Disk in
-    let some : 0 < s.waiting.count = search (rules, arith) in
-    let bytes = c.as_slice-bytes.ensures in
-    commit_moments (as_kept s) c.args.self.now s.table s.waiting c.self.invariant.0 some (search rules) disk.images s.areas.side s.other
-    disk.honest c.self.invariant.2 disk.moment disk.images_since c.grow.new.disk
-    (λ head bodies honest each used. c.grow.ensures.any_moment s.other head bodies (body_of s.waiting) honest each used
-    (bytes.bytes some) (bytes.short some)) c.self.view_is
+    commit_moments disk.honest disk.images c.self.inside c.self.invariant.0 (search rules) (search (rules, arith)) c.self.invariant.2
+    c.as_slice-bytes.result.now c.as_slice-bytes.ensures.bytes c.as_slice-bytes.ensures.short c.grow.new.disk disk.moment
+    disk.images_since c.grow.ensures.any_moment c.args.self.now c.self.view_is
 
 pub returns-in-Ok-clause-any_moment : goal.returns-in-Ok-clause-any_moment
 returns-in-Ok-clause-any_moment g c =
-    let s = c.self.inside in
     let disk = g.D.Disk in
-    let some : 0 < s.waiting.count = search (rules, arith) in
-    let bytes = c.as_slice-bytes.ensures in
-    commit_moments (as_kept s) c.args.self.now s.table s.waiting c.self.invariant.0 some (search rules) disk.images s.areas.side s.other
-    disk.honest c.self.invariant.2 disk.moment disk.images_since c.grow.new.disk
-    (λ head bodies honest each used. c.grow.ensures.any_moment s.other head bodies (body_of s.waiting) honest each used
-    (bytes.bytes some) (bytes.short some)) c.self.view_is
+    commit_moments disk.honest disk.images c.self.inside c.self.invariant.0 (search rules) (search (rules, arith)) c.self.invariant.2
+    c.as_slice-bytes.result.now c.as_slice-bytes.ensures.bytes c.as_slice-bytes.ensures.short c.grow.new.disk disk.moment
+    disk.images_since c.grow.ensures.any_moment c.args.self.now c.self.view_is
 
 pub invariant_of-self : goal.invariant_of-self
 invariant_of-self g c =
@@ -67,23 +58,16 @@ invariant_of-self g c =
     let disk = g.D.Disk in
     let k = as_kept s in
     let counted = c.self.invariant.0 in
-    let live : s.failed ≡ false = search rules in
-    let some : 0 < s.waiting.count = search (rules, arith) in
-    let body = body_of s.waiting in
-    let bytes = c.as_slice-bytes.ensures in
-    let d1 = c.grow.new.disk in (
+    let d1 = c.grow.new.disk in
+    let since = commit_moments disk.honest disk.images s counted (search rules) (search (rules, arith)) c.self.invariant.2
+    c.as_slice-bytes.result.now c.as_slice-bytes.ensures.bytes c.as_slice-bytes.ensures.short d1 disk.moment
+    disk.images_since c.grow.ensures.any_moment k refl in (
       counted_broken k s.table s.waiting counted d1,
       (λ impossible. absurd (cc impossible)),
       λ honest1.
-          let honest = c.grow.ensures.honest.0 honest1 in
-          let settled = (c.self.invariant.2 honest).settled live in
-          let since = c.grow.ensures.any_moment s.other settled.head settled.bodies body honest settled.each settled.used_is
-          (bytes.bytes some) (bytes.short some) in
           standing_broken disk.images s.areas.side s.other k counted.size d1
-          (λ image now. commit_each k s.table s.waiting counted some disk.images s.areas.side s.other settled image
-          (now_of disk.moment disk.images_since disk.images s.disk d1
-          (WholeOrGrew s.areas.len s.areas.side s.other settled.head settled.bodies body)
-          (g.met.D.Disk.counts_now d1 honest1) since image now)),
+          (now_of disk.moment disk.images_since disk.images s.disk d1 (StandsForEither k) (g.met.D.Disk.counts_now d1 honest1)
+          (since (c.grow.ensures.honest.0 honest1))),
     )
 
 -- the counts are those after a commit
@@ -103,46 +87,39 @@ is_committed g c =
     (used_is (as_kept s) s.table s.waiting c.self.invariant.0 some (length bytes)
     (ap (λ (l : List ℕ). length l) (c.as_slice-bytes.ensures.bytes some) ∙ length_record (body_of s.waiting)))
 
+-- all images are settled at all entries
+settled : (g : Over) (c : goal.After-keep g) → g.D.Disk.honest c.grow.new.disk
+    → IsSettled c.self.inside.areas.len c.self.inside.areas.side c.self.inside.other c.self.inside.generation
+    (used_after (as_kept c.self.inside)) (table_of (as_kept c.self.inside)) (g.D.Disk.images c.grow.new.disk)
+settled g c honest1 =
+    let disk = g.D.Disk in
+    commit_settles disk.honest disk.images c.self.inside c.self.invariant.0 (search rules) (search (rules, arith)) c.self.invariant.2
+    c.as_slice-bytes.result.now c.as_slice-bytes.ensures.bytes c.as_slice-bytes.ensures.short c.grow.new.disk c.in-Ok.ensures.grown
+    (c.grow.ensures.honest.0 honest1)
+
 pub invariant_of-self-in-Ok : goal.invariant_of-self-in-Ok
 invariant_of-self-in-Ok g c =
     let s = c.self.inside in
     let disk = g.D.Disk in
     let k = as_kept s in
     let counted = c.self.invariant.0 in
-    let live : s.failed ≡ false = search rules in
-    let some : 0 < s.waiting.count = search (rules, arith) in
-    let body = body_of s.waiting in
-    let bytes = c.as_slice-bytes.ensures in
     let d1 = c.grow.new.disk in
     subst (λ (v : Kept g.row.D.Denot). IsCounted v s.table c.keep.new.self × (v.failed ≡ false → disk.fault_count v.disk < 2 ^ 64 - 1)
     × (disk.honest v.disk → IsStanding disk.images s.areas.side s.other v))
     (is_committed g c) (
-      counted_committed k s.table s.waiting counted some d1 c.keep.new.self c.keep.ensures.count c.keep.ensures.spelled,
+      counted_committed k s.table s.waiting counted (search (rules, arith)) d1 c.keep.new.self c.keep.ensures.count c.keep.ensures.spelled,
       (λ _. search (rules, arith)),
-      λ honest1.
-          let honest = c.grow.ensures.honest.0 honest1 in
-          let settled = (c.self.invariant.2 honest).settled live in
-          commit_standing k s.table s.waiting counted some disk.images s.areas.side s.other settled d1
-          (c.in-Ok.ensures.grown s.other settled.head settled.bodies body honest settled.each settled.used_is (bytes.bytes some)
-          (bytes.short some)),
+      λ honest1. standing_fresh disk.images s.areas.side s.other k counted.size d1 (settled g c honest1),
     )
 
 pub returns-in-Ok-clause-stands : goal.returns-in-Ok-clause-stands
 returns-in-Ok-clause-stands g c = λ honest1.
     let s = c.self.inside in
-    let disk = g.D.Disk in
     let k = as_kept s in
-    let live : s.failed ≡ false = search rules in
-    let some : 0 < s.waiting.count = search (rules, arith) in
-    let body = body_of s.waiting in
-    let bytes = c.as_slice-bytes.ensures in
-    let d1 = c.grow.new.disk in
-    let honest = c.grow.ensures.honest.0 honest1 in
-    let settled = (c.self.invariant.2 honest).settled live in
-    subst (λ (v : Kept g.row.D.Denot). (image : List ℕ) → disk.images d1 image → StandsFor (table_of v) image) c.self.view_is
-    (commit_stands k s.table s.waiting c.self.invariant.0 some disk.images s.areas.side s.other settled d1
-    (c.in-Ok.ensures.grown s.other settled.head settled.bodies body honest settled.each settled.used_is (bytes.bytes some)
-    (bytes.short some)))
+    let images = g.D.Disk.images c.grow.new.disk in
+    subst (λ (v : Kept g.row.D.Denot). (image : List ℕ) → images image → StandsFor (table_of v) image) c.self.view_is
+    (settled_stands s.areas.len s.areas.side s.other s.generation (used_after k) (table_of k) images c.self.invariant.0.size
+    (settled g c honest1))
 
 pub returns-in-Ok-clause-some : goal.returns-in-Ok-clause-some
 returns-in-Ok-clause-some g c =
