@@ -1,8 +1,9 @@
 -- What a call is told of an input that it reads.
-use Rattle.std.proofs.Common.{◌≡◌, ◌⊎◌, inl, inr, ℕ, ◌<◌, List, length, Option, Some, None, Result, Ok, Err, IfErr, IfSome, refl, sym, ap}
-use Rattle.std.proofs.Common.{subst, arith, length-append}
-use Rattle.std.specs.Io.KnownBytes.{Consumes}
+use Rattle.std.proofs.Common.{◌≡◌, ◌⊎◌, inl, inr, ℕ, ◌<◌, List, [], length, Option, Some, None, Result, Ok, Err, IfErr, IfSome}
+use Rattle.std.proofs.Common.{refl, sym, ap, subst, arith, length-append}
+use Rattle.std.specs.Io.KnownBytes.{Appends, Consumes}
 use Rattle.std.specs.Prelude.{IsErrAnd}
+use Rattle.std.proofs.KnownBytes.{Appends-nil}
 use Rattle.wf_value.specs.Gives.{no_memory}
 use Rattle.wf_value.specs.declared.code.Code.TheVariants.{InputTooLong}
 use Rattle.wf_value.specs.declared.refusal.Refusal.{Refusal}
@@ -17,6 +18,12 @@ for_any (Some x) f = f x
 pub from_each : {X : Type 0} {P Q : X → Type 0} (o : Option X) → IfSome o P → ((x : X) → P x → Q x) → IfSome o Q
 from_each None h f = tt
 from_each (Some x) h f = f x h
+
+-- an input that was not read is answered, and nothing written
+pub nothing_written : {P : List ℕ → List ℕ → Type 0} (input writer : Option (List ℕ)) (e : Refusal) → IfSome input (RefusesInput e)
+    → ((text : List ℕ) → RefusesInput e text → P text [])
+    → IfSome input (λ text. (out : List ℕ) × Appends writer writer out × P text out)
+nothing_written input writer e refused unread = from_each input refused (λ text why. ([], Appends-nil writer, unread text why))
 
 -- it was not read to its end
 pub unread : {U : Type 0} (r : Result U Refusal) (e : Refusal) (input : Option (List ℕ)) → IsErrAnd r (λ f. f ≡ e)

@@ -47,9 +47,10 @@ there t place run is =
     ]
 
 -- its line stands before those of the later ones
-pub behind_run : (t : TableState) (out all : List ℕ) (place : ℕ) (run : Seen) → seen t (place + 1) ≡ Some run
-    → out ++ lines_behind t place ≡ all → out ++ (view_line run ++ lines_behind t (place + 1)) ≡ all
-behind_run t out all place run is h =
+pub behind_run : (t : TableState) (out : List ℕ) (place id : ℕ) (run : Seen) → Some run ≡ seen t id → id ≡ place + 1
+    → out ++ lines_behind t place ≡ shown t → out ++ (view_line run ++ lines_behind t (place + 1)) ≡ shown t
+behind_run t out place id run looked id_is h =
+    let is : seen t (place + 1) ≡ Some run = sym (looked ∙ ap (seen t) id_is) in
     let below : place < length t.runs = there t place run is in
     let left : length t.runs - place ≡ suc (length t.runs - (place + 1)) = omega arith in
     ap (λ x. out ++ x) (sym (ap (λ n. lines_from t (place + 1) n) left

@@ -15,7 +15,8 @@ returns-in_err-workflow-clause-lines c =
 pub returns-in_err-check_plan-clause-lines : goal.returns-in_err-check_plan-clause-lines
 returns-in_err-check_plan-clause-lines c =
     passed_on _ _ _ _ c.in_err-check_plan.field-0.0 c.from_residual-in_err-check_plan.ensures.1 c.in_err-check_plan.ensures
-    (λ refused. plan_refused c.args.text.now c.in_ok-workflow.workflow _ c.in_err-check_plan.field-0.0 c.in_ok-workflow.ensures.gives refused)
+    (λ refused.
+    plan_refused c.args.text.now c.in_ok-workflow.workflow _ c.in_err-check_plan.field-0.0 c.in_ok-workflow.ensures.gives refused)
 
 pub returns-clause-lines : goal.returns-clause-lines
 returns-clause-lines c =

@@ -1,23 +1,17 @@
-use Rattle.std.proofs.Common.{[], ℕ, List, subst}
+use Rattle.std.proofs.Common.{ℕ, List, subst}
 use Rattle.std.specs.Io.KnownBytes.{Appends}
-use Rattle.std.proofs.KnownBytes.{Appends-nil}
 use Rattle.acts_cli.specs.Check.{Written, ChecksTo}
-use Rattle.acts_cli.specs.Input.{IsReadAs, RefusesInput}
+use Rattle.acts_cli.specs.Input.{IsReadAs}
 use Rattle.acts_cli.proofs.Checks.{checks_within, unread}
-use Rattle.acts_cli.proofs.Inputs.{from_each}
+use Rattle.acts_cli.proofs.Inputs.{from_each, nothing_written}
 use Rattle.acts_cli.proofs.check.run_check.Goals as goal
 
 pub returns-in_err-text-clause-written : goal.returns-in_err-text-clause-written
 returns-in_err-text-clause-written g c =
     let e = c.in_err-text.field-0.0 in
     let ended = c.from_residual.result in
-    let unwritten : (text : List ℕ) → RefusesInput e text → (out : List ℕ)
-    × Appends (g.W.Write.contents c.args.writer.now) (g.W.Write.contents c.args.writer.now) out × ChecksTo text out ended = λ text why. (
-      [],
-      Appends-nil (g.W.Write.contents c.args.writer.now),
-      unread text ended e c.from_residual.ensures.1 why,
-    ) in
-    from_each (g.R.Read.remaining c.args.reader.now) c.in_err-text.ensures.refused unwritten
+    nothing_written {P = λ text out. ChecksTo text out ended} (g.R.Read.remaining c.args.reader.now)
+    (g.W.Write.contents c.args.writer.now) e c.in_err-text.ensures.refused (λ text. unread text ended e c.from_residual.ensures.1)
 
 pub returns-clause-written : goal.returns-clause-written
 returns-clause-written g c =

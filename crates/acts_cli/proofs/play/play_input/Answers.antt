@@ -1,10 +1,10 @@
-use Rattle.std.proofs.Common.{◌++◌, [], ℕ, List, subst, Err}
+use Rattle.std.proofs.Common.{◌++◌, ℕ, List, subst, Err}
 use Rattle.std.specs.Io.KnownBytes.{Appends}
-use Rattle.std.proofs.KnownBytes.{Appends-nil, Appends-kept}
-use Rattle.acts_cli.specs.Input.{IsReadAs, RefusesInput}
+use Rattle.std.proofs.KnownBytes.{Appends-kept}
+use Rattle.acts_cli.specs.Input.{IsReadAs}
 use Rattle.acts_cli.specs.PlainStore.{PlainStore, without_disk}
 use Rattle.acts_cli.specs.Play.{PlaysFrom, Plays, Ends}
-use Rattle.acts_cli.proofs.Inputs.{from_each}
+use Rattle.acts_cli.proofs.Inputs.{from_each, nothing_written}
 use Rattle.acts_cli.proofs.Plays.{ends_within, ends_after, unread_ends}
 use Rattle.acts_cli.proofs.play.play_input.Goals as goal
 
@@ -12,13 +12,9 @@ pub returns-in_err-script-clause-written : goal.returns-in_err-script-clause-wri
 returns-in_err-script-clause-written g c =
     let e = c.in_err-script.field-0.0 in
     let ended = c.from_residual.result in
-    let unwritten : (script : List ℕ) → RefusesInput e script → (out : List ℕ)
-    × Appends (g.W.Write.contents c.args.writer.now) (g.W.Write.contents c.args.writer.now) out × Ends script out ended = λ script why. (
-      [],
-      Appends-nil (g.W.Write.contents c.args.writer.now),
-      unread_ends script ended e c.from_residual.ensures.1 why,
-    ) in
-    from_each (g.R.Read.remaining c.args.reader.now) c.in_err-script.ensures.refused unwritten
+    nothing_written {P = λ script out. Ends script out ended} (g.R.Read.remaining c.args.reader.now)
+    (g.W.Write.contents c.args.writer.now) e c.in_err-script.ensures.refused
+    (λ script. unread_ends script ended e c.from_residual.ensures.1)
 
 pub returns-in-Ok-clause-written : goal.returns-in-Ok-clause-written
 returns-in-Ok-clause-written g c =

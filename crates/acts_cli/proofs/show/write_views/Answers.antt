@@ -1,7 +1,6 @@
-use Rattle.std.proofs.Common.{◌≡◌, ◌∙◌, ◌≤◌, ◌+◌, ◌++◌, [], length, Some, sym, ap, subst, arith}
+use Rattle.std.proofs.Common.{◌≤◌, ◌+◌, ◌++◌, [], length, subst, arith}
 use Rattle.std.specs.Io.KnownBytes.{Appends}
 use Rattle.std.proofs.KnownBytes.{Appends-nil, Appends-trans}
-use Rattle.run_table.specs.Step.{seen}
 use Rattle.act_store.specs.Kept.{table_of}
 use Rattle.acts_cli.specs.Show.{shown, view_line}
 use Rattle.acts_cli.proofs.Showing.{before_all, behind_run, lines_behind, past_last}
@@ -17,11 +16,11 @@ loop-place-preserved g c =
     let so_far = c.loop-place.invariant in
     let t = table_of c.args.store.now in
     let place = c.loop-place.place in
-    let view = c.in-Some.view in
-    let is : seen t (place + 1) ≡ Some view = sym (c.in-Some.ensures.seen ∙ ap (seen t) c.new.ensures) in (
-      so_far.0 ++ view_line view,
-      Appends-trans _ _ _ so_far.0 (view_line view) so_far.1 c.in_ok-write_view.ensures,
-      past_part so_far.0 (view_line view) (lines_behind t (place + 1)) (shown t) (behind_run t so_far.0 (shown t) place view is so_far.2),
+    let line = view_line c.in-Some.view in (
+      so_far.0 ++ line,
+      Appends-trans _ _ _ so_far.0 line so_far.1 c.in_ok-write_view.ensures,
+      past_part so_far.0 line (lines_behind t (place + 1)) (shown t)
+          (behind_run t so_far.0 place c.new.result c.in-Some.view c.in-Some.ensures.seen c.new.ensures so_far.2),
       λ some. c.in-Some.ensures.sound.few_runs,
     )
 
@@ -30,11 +29,10 @@ returns-in_err-write_view g c =
     let so_far = c.loop-place.invariant in
     let t = table_of c.args.store.now in
     let place = c.loop-place.place in
-    let view = c.in-Some.view in
-    let is : seen t (place + 1) ≡ Some view = sym (c.in-Some.ensures.seen ∙ ap (seen t) c.new.ensures) in
     stopped _ _ (shown t) _ c.in_err-write_view.field-0.0 c.from_residual.ensures.1 c.in_err-write_view.ensures.0
-    (more_written _ _ _ so_far.0 (view_line view) (lines_behind t (place + 1)) (shown t) so_far.1
-    (behind_run t so_far.0 (shown t) place view is so_far.2) c.in_err-write_view.ensures.1)
+    (more_written _ _ _ so_far.0 (view_line c.in-Some.view) (lines_behind t (place + 1)) (shown t) so_far.1
+    (behind_run t so_far.0 place c.new.result c.in-Some.view c.in-Some.ensures.seen c.new.ensures so_far.2)
+    c.in_err-write_view.ensures.1)
 
 pub returns : goal.returns
 returns g c =
