@@ -69,7 +69,8 @@ module _ (runs : List RunState) (event : Admitted) where
       let next = runs ++ new_run event ∷ [] in
       elim (cases_eq r (length runs)) [
         | inl s ↦
-            let same : new_run event ≡ x = same_Some (new_run event) x (sym (at_the_end runs (new_run event)) ∙ ap (slice_get next) (sym s) ∙ e) in
+            let same : new_run event ≡ x = same_Some (new_run event) x
+            (sym (at_the_end runs (new_run event)) ∙ ap (slice_get next) (sym s) ∙ e) in
             subst (RunFits next r) same (new_run_fits next r event)
         | inr n ↦
             let before = before_the_end runs (new_run event) r n in

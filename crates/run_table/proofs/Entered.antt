@@ -71,7 +71,8 @@ module _ (runs : List RunState) (event : Admitted) where
   held (Holder.a_run r) e =
       let live = passes (λ (x : RunState). is_live x.phase) in
       elim (cases_eq r (length runs)) [
-        | inl same ↦ absurd (false≢true (sym (ap live (ap (slice_get (runs ++ new_run event ∷ [])) same ∙ at_the_end runs (new_run event))) ∙ e))
+        | inl same ↦ absurd (false≢true
+            (sym (ap live (ap (slice_get (runs ++ new_run event ∷ [])) same ∙ at_the_end runs (new_run event))) ∙ e))
         | inr other ↦ ap live (sym (before_the_end runs (new_run event) r other)) ∙ e
       ]
   held (Holder.a_leg p) e = leg_before_it leg_holds p e

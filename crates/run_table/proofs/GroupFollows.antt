@@ -184,7 +184,8 @@ latest_then h x y none = latest_on x (Move.arrive h ∷ y) ∙ ap (λ hs. last_o
 
 arrived_then : (h : Holder) (x y : List Move) → has_arrived h (x ++ Move.arrive h ∷ y) ≡ true
 arrived_then h x y =
-    arrived_on h x (Move.arrive h ∷ y) ∙ ap (λ b. has_arrived h x || (b || has_arrived h y)) (itself h) ∙ or_right (has_arrived h x) true refl
+    arrived_on h x (Move.arrive h ∷ y) ∙ ap (λ b. has_arrived h x || (b || has_arrived h y)) (itself h)
+    ∙ or_right (has_arrived h x) true refl
 
 same_head : (m n : Move) (xs ys : List Move) → m ∷ xs ≡ n ∷ ys → m ≡ n
 same_head m n xs ys e = cc

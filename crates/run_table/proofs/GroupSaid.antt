@@ -15,12 +15,6 @@ use Rattle.workflow_runs.proofs.ArrivalKeeps.{holder_tested, itself}
 
 -- ---- the same holder
 
-one_place : (p q : LegPlace) → same_place p q ≡ true → p ≡ q
-one_place p q is =
-    let first = and_parts (nat_eq p.run q.run) (nat_eq p.job q.job && nat_eq p.leg q.leg) is in
-    let second = and_parts (nat_eq p.job q.job) (nat_eq p.leg q.leg) first.1 in
-    place_by p q (eqb-true p.run q.run first.0) (eqb-true p.job q.job second.0) (eqb-true p.leg q.leg second.1)
-
 pub the_one : (o : Option Holder) (h : Holder) → is_the o h ≡ true → o ≡ Some h
 the_one None h is = absurd (cc)
 the_one (Some k) h is = ap (λ x. Some x) (sym (holder_tested h k is))

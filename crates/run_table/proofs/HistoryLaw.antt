@@ -252,8 +252,8 @@ module _ (runs : List RunState) (g : Group) (fit : RunsFit runs) (each : HasOneE
       own_by h true false (the_same (group_state runs g).running h one) (unqueued h (λ e. false≢true (sym (ap is_waiting at) ∙ e)))
       ∙ append-nil (running_moves (group_state runs g).stopping h) ∙ ap (λ b. running_moves b h) flag
   fits_by h Status.over at is =
-      let none = own_by h false false (idle h (λ e. false≢true (sym (ap is_held at) ∙ e))) (unqueued h (λ e. false≢true (sym (ap is_waiting at)
-      ∙ e))) in
+      let none = own_by h false false (idle h (λ e. false≢true (sym (ap is_held at) ∙ e)))
+      (unqueued h (λ e. false≢true (sym (ap is_waiting at) ∙ e))) in
       (ap (is_running h) none, ap (is_pending h) none)
 
   -- one that has arrived, and not started, waits
@@ -267,8 +267,8 @@ module _ (runs : List RunState) (g : Group) (fit : RunsFit runs) (each : HasOneE
       absurd (true≢false (sym (runs_started h (base_moves (group_state runs g))
       (fits_running (Status.running told) h (base_moves (group_state runs g)) (fits_by h (Status.running told) at is))) ∙ unstarted))
   waits_by h Status.over at is arrives unstarted =
-      let none = own_by h false false (idle h (λ e. false≢true (sym (ap is_held at) ∙ e))) (unqueued h (λ e. false≢true (sym (ap is_waiting at)
-      ∙ e))) in
+      let none = own_by h false false (idle h (λ e. false≢true (sym (ap is_held at) ∙ e)))
+      (unqueued h (λ e. false≢true (sym (ap is_waiting at) ∙ e))) in
       absurd (true≢false (sym arrives ∙ sym (arrived_by_own h (base_moves (group_state runs g))) ∙ ap (has_arrived h) none))
 
   pub base_so_far : (cancels : Holder → Bool)

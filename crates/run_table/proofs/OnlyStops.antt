@@ -68,7 +68,8 @@ one_stop h = record {
 
 pub told_then : (before : List Move) (h : Holder) → was_stopped h (before ++ Move.stop h ∷ []) ≡ true
 told_then before h =
-    stopped_on h before (Move.stop h ∷ []) ∙ ap (λ b. was_stopped h before || (b || false)) (itself h) ∙ or_right (was_stopped h before) true refl
+    stopped_on h before (Move.stop h ∷ []) ∙ ap (λ b. was_stopped h before || (b || false)) (itself h)
+    ∙ or_right (was_stopped h before) true refl
 
 stop_and_end : (h : Holder) → OnlyStops (Move.stop h ∷ Move.end_with Cancelled h ∷ [])
 stop_and_end h = record {

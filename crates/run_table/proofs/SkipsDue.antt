@@ -62,7 +62,8 @@ module _ (runs : List RunState) (event : Admitted) (all : Decided runs) where
       elim (cases_eq r (length runs)) [
         | inl s ↦
             blocked_decided r j y new.run
-            (same_Some (new_run event) new.run (sym (at_the_end runs (new_run event)) ∙ ap (slice_get next) (sym s) ∙ new.run_is)) new.job_is
+            (same_Some (new_run event) new.run (sym (at_the_end runs (new_run event)) ∙ ap (slice_get next) (sym s) ∙ new.run_is))
+            new.job_is
         | inr n ↦
             let before = before_the_end runs (new_run event) r n in
             decided_stays runs next all r (ap (option_map (λ (v : RunState). v.admitted)) before)

@@ -170,7 +170,8 @@ module _ (in_group cancels : Holder → Bool) (runs : List RunState) (p : LegPla
       let next = with_leg p (leg_in_phase (leg.Ended o)) runs in
       quiet_goes_on in_group cancels runs (record { runs = next; moves = Move.end_with o (Holder.a_leg p) ∷ [] })
       (end_is_quiet in_group cancels runs next o (Holder.a_leg p) end_tells
-      (leg_fades (leg_in_phase (leg.Ended o)) p runs (λ v e. absurd (false≢true e)) (λ v e. absurd (false≢true e))).waited end_still it_holds)
+      (leg_fades (leg_in_phase (leg.Ended o)) p runs (λ v e. absurd (false≢true e))
+      (λ v e. absurd (false≢true e))).waited end_still it_holds)
 
   after_end_goes_on : GoesOn in_group cancels runs (record { runs = after_end p o runs; moves = end_moves p o runs })
   after_end_goes_on =
