@@ -1,5 +1,5 @@
 -- A new run keeps what a table keeps.
-use Rattle.std.specs.Prelude.{◌≡◌, ℕ, ◌+◌, ◌<◌, ◌≤◌, List, [], ◌∷◌, ◌++◌, map, length, find, nat_le, Bool, true, false, Option, Some, None}
+use Rattle.std.specs.Prelude.{◌≡◌, ℕ, ◌+◌, ◌<◌, ◌≤◌, List, [], ◌∷◌, ◌++◌, map, length, find, nat_le, true, false, Option, Some, None}
 use Rattle.std.specs.Prelude.{option_map, option_and_then, slice_get, if◌then◌else◌, refl}
 use Rattle.std.specs.List.{position}
 use Rattle.std.specs.Option.{option_or}

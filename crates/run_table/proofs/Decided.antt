@@ -11,11 +11,9 @@ use Rattle.wf_value.specs.declared.outcome.JobResult.{JobResult}
 use Rattle.wf_value.specs.declared.outcome.JobResult.TheVariants as result
 use Rattle.needs_graph.specs.Ancestors.{ancestors_of}
 use Rattle.needs_graph.specs.Conditions.{condition_value, results_at}
-use Rattle.run_plan.specs.Admitted.{Admitted}
-use Rattle.run_plan.specs.PlanOf.{plan_of}
 use Rattle.run_plan.specs.declared.planned.PlannedJob.{PlannedJob}
 use Rattle.workflow_runs.specs.FirstOf.{changed_at}
-use Rattle.workflow_runs.specs.Places.{LegPlace, run_at, job_at, plan_at, with_job, with_leg}
+use Rattle.workflow_runs.specs.Places.{LegPlace, run_at, job_at, with_job, with_leg}
 use Rattle.workflow_runs.specs.RunState.{LegState, JobState, RunState}
 use Rattle.workflow_runs.specs.Words.{ancestor_results, condition_of, job_results, needs_graph_at, needs_have_settled, settled_result}
 use Rattle.workflow_runs.specs.declared.phases.JobPhase.{JobPhase}
@@ -24,7 +22,7 @@ use Rattle.run_table.proofs.AncestorsSettled.{NeedsBefore, ancestors_settled, re
 use Rattle.workflow_runs.proofs.Changed.{holds_of_each}
 use Rattle.workflow_runs.proofs.JobKeeps.{JobIn, job_in, with_job_of}
 use Rattle.workflow_runs.proofs.NeedsSettled.{KeepsResults, graph_same, needs_stay_settled, result_in, result_of_job}
-use Rattle.workflow_runs.proofs.Optional.{from_and_then, and_then-option_map}
+use Rattle.workflow_runs.proofs.Optional.{from_and_then}
 use Rattle.workflow_runs.proofs.RunFits.{admitted_at, job_in_run, plan_at_same}
 
 -- what holds of a job, once it is no longer blocked

@@ -20,7 +20,6 @@ use Rattle.run_table.proofs.GroupTruths.{pending_after_withdrawal, running_after
 use Rattle.run_table.proofs.GroupTruths.{running_after_stop}
 use Rattle.run_table.proofs.ListWalk.{Walk}
 use Rattle.run_table.proofs.OnlyStops.{told_then}
-use Rattle.workflow_runs.proofs.ArrivalKeeps.{itself}
 
 -- ---- who waits does not run
 

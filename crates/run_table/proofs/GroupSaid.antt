@@ -1,15 +1,14 @@
 -- What a list of moves says of a holder once more moves stand behind it.
 use Rattle.std.specs.List.{last_or}
-use Rattle.std.specs.Prelude.{filter_map, nat_eq}
+use Rattle.std.specs.Prelude.{filter_map}
 use Rattle.std.proofs.Common.{◌≡◌, List, [], ◌∷◌, ◌++◌, Bool, true, ◌&&◌, ◌||◌, not, Option, Some, None}
 use Rattle.std.proofs.Common.{refl, ap, ap₂, sym, ◌∙◌}
-use Rattle.std.proofs.lemmas.Bool.{and_parts, eq-eqb, eqb-true}
+use Rattle.std.proofs.lemmas.Bool.{and_parts}
 use Rattle.std.proofs.lemmas.List.Elements.{filter_map-append}
 use Rattle.std.proofs.lemmas.List.Folds.{list_any-append}
 use Rattle.workflow_runs.specs.GroupWords.{arrival_of, end_of, start_of, stop_of, has_arrived, has_ended, has_started, was_stopped}
-use Rattle.workflow_runs.specs.GroupWords.{is_pending, is_running, is_the, latest, same_holder, same_place}
+use Rattle.workflow_runs.specs.GroupWords.{is_pending, is_running, is_the, latest}
 use Rattle.workflow_runs.specs.Moves.{Holder, Move}
-use Rattle.workflow_runs.specs.Places.{LegPlace}
 use Rattle.workflow_runs.proofs.LeaseReads.{same_place as place_by}
 use Rattle.workflow_runs.proofs.ArrivalKeeps.{holder_tested, itself}
 

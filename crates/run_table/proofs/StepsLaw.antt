@@ -36,7 +36,7 @@ use Rattle.workflow_runs.specs.StopMoves.{lease_end_moves, with_ended, end_moves
 use Rattle.run_table.specs.Step.{refused, released, report_answer, reported, reporting, reporting_runner, serving_nothing, stepped}
 use Rattle.run_table.specs.Step.{unchanged}
 use Rattle.workflow_runs.specs.Stops.{after_end, outcome_of_loss, stops_others, with_stopped_legs}
-use Rattle.workflow_runs.specs.RunState.{LegState, RunState}
+use Rattle.workflow_runs.specs.RunState.{RunState}
 use Rattle.run_table.specs.Turns.{runner_named, with_runner}
 use Rattle.workflow_runs.specs.declared.phases.LegPhase.{LegPhase}
 use Rattle.workflow_runs.specs.declared.phases.LegPhase.TheVariants as leg

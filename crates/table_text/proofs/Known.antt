@@ -5,7 +5,7 @@ use Rattle.std.specs.Prelude.{Bool, true, false, ◌&&◌, ◌≢◌, ◌⊎◌,
 use Rattle.std.specs.List.{list_all, flat_map, AllByRecursion}
 use Rattle.std.proofs.lemmas.List.{flat_map_more}
 use Rattle.std.proofs.lemmas.Grind.{take_at_read}
-use Rattle.std.proofs.lemmas.Bool.{leb-true, le-leb, cases_Bool}
+use Rattle.std.proofs.lemmas.Bool.{and_parts, cases_Bool, le-leb, leb-true}
 use Rattle.std.proofs.lemmas.Option.{same_Some, cond_some}
 use Rattle.wf_value.specs.declared.code.Code.TheVariants.{NotJson, TooLong}
 use Rattle.wf_value.specs.declared.refusal.Refusal.{Refusal}
@@ -23,13 +23,13 @@ use Rattle.table_text.specs.declared.not_read.NotRead.TheVariants.{NoMemory, NoS
 use Rattle.table_text.specs.Commands.{is_numbered, are_none, is_faultless, small_text, labels}
 use Rattle.table_text.specs.Reading.{◌>>=◌, Fails, kept, text_at, items_at}
 use Rattle.table_text.specs.ReadingCommands.{small_text_at}
-use Rattle.table_text.proofs.Readers.{bind_some, both}
+use Rattle.table_text.proofs.Readers.{bind_some}
 
 -- a short text is one that a length can tell
 pub short_fits : (kind : ℕ → Bool) (t : List ℕ) → is_short kind t ≡ true → length t < 2 ^ 32
 short_fits kind t h =
-    let parts = both (is_of_short_length t) (list_all kind t) h in
-    let range = both (nat_le 1 (length t)) (nat_le (length t) 64) parts.0 in
+    let parts = and_parts (is_of_short_length t) (list_all kind t) h in
+    let range = and_parts (nat_le 1 (length t)) (nat_le (length t) 64) parts.0 in
     let most : length t ≤ 64 = leb-true (length t) 64 range.1 in
     omega (arith, most)
 
@@ -78,13 +78,13 @@ labels_read n bytes found within h =
     let items = short_items is_label_byte n bytes found h in
     let ls = found.0 in
     let counted : (nat_le 1 (length ls) && nat_le (length ls) 16) ≡ true = ap (λ k. nat_le 1 k && nat_le k 16) items.0 ∙ within in
-    let range = both (nat_le 1 (length ls)) (nat_le (length ls) 16) counted in
+    let range = and_parts (nat_le 1 (length ls)) (nat_le (length ls) 16) counted in
     all_three (nat_le 1 (length ls)) (nat_le (length ls) 16) (list_all (is_short is_label_byte) ls) range.0 range.1 items.1
 
 label_items : (ls : List (List ℕ)) → list_all (is_short is_label_byte) ls ≡ true → AllByRecursion (small_text is_label_byte).Takes ls
 label_items [] h = tt
 label_items (l ∷ ls) h =
-    let parts = both (is_short is_label_byte l) (list_all (is_short is_label_byte) ls) h in
+    let parts = and_parts (is_short is_label_byte l) (list_all (is_short is_label_byte) ls) h in
     ((short_fits is_label_byte l parts.0, parts.0), label_items ls parts.1)
 
 three_of : (a b c : Bool) → (a && b && c) ≡ true → (a ≡ true) × (b ≡ true) × (c ≡ true)

@@ -3,7 +3,7 @@ use Rattle.std.proofs.Common.{◌≡◌, ℕ, suc, ◌+◌, ◌<◌, ◌≤◌, 
 use Rattle.std.proofs.Common.{length-append}
 use Rattle.std.specs.Prelude.{Bool, true, flat_map, sum_by, nat_le}
 use Rattle.std.specs.List.{list_all}
-use Rattle.std.proofs.lemmas.Bool.{leb-true}
+use Rattle.std.proofs.lemmas.Bool.{and_parts, leb-true}
 use Rattle.std.proofs.lemmas.List.Concat.{length-flat_map}
 use Rattle.std.proofs.lemmas.List.Sums.{sum_by-cons, sum_by_more}
 use Rattle.wf_value.specs.declared.outcome.Outcome.{Outcome}
@@ -14,7 +14,6 @@ use Rattle.run_plan.specs.declared.command.Command.TheVariants as asked
 use Rattle.table_text.specs.Commands.{admit, batch, command, command_bytes, labels, outcome_byte}
 use Rattle.table_text.specs.Format.{text_bytes, word_bytes}
 use Rattle.table_text.specs.Lengths.{batch_length, command_length, fields_length, length_of, text_length, texts_length}
-use Rattle.table_text.proofs.Readers.{both}
 
 pub length_word : (n : ℕ) → length (word_bytes n) ≡ 4
 unfolding word_bytes
@@ -100,6 +99,6 @@ length_batch commands = length_counted command_bytes command_length commands len
 
 pub short_length : (kind : ℕ → Bool) (t : List ℕ) → is_short kind t ≡ true → length t ≤ 64
 short_length kind t h =
-    let parts = both (is_of_short_length t) (list_all kind t) h in
-    let range = both (nat_le 1 (length t)) (nat_le (length t) 64) parts.0 in
+    let parts = and_parts (is_of_short_length t) (list_all kind t) h in
+    let range = and_parts (nat_le 1 (length t)) (nat_le (length t) 64) parts.0 in
     leb-true (length t) 64 range.1

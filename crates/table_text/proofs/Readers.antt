@@ -4,7 +4,7 @@ use Rattle.std.proofs.Common.{append_assoc, append-nil, length-append, take-appe
 use Rattle.std.specs.Prelude.{Bool, IsTrue, true, false, ◌&&◌, Option, Some, None, flat_map, nat_lt, nat_le, if◌then◌else◌}
 use Rattle.std.specs.List.{AllByRecursion}
 use Rattle.std.specs.Int.{from_be_bytes, to_be_bytes, w32}
-use Rattle.std.proofs.lemmas.Bool.{ltb-false, le-ltb, leb-true, le-leb}
+use Rattle.std.proofs.lemmas.Bool.{and_parts, le-leb, le-ltb, leb-true, ltb-false}
 use Rattle.std.proofs.lemmas.List.{take_at, drop_at, length-take}
 use Rattle.std.proofs.lemmas.Nat.{from_be_bytes-to_be_bytes_4}
 use Rattle.std.proofs.lemmas.Option.{same_Some, none-some, cond_some, some_pair_parts}
@@ -13,6 +13,7 @@ use Rattle.table_text.specs.Format.{pair, parts, counted}
 use Rattle.table_text.specs.Reading.{◌>>=◌, Reader, word_at, bytes_at, text_at, kept, only_at, pair_at, parts_at, items_at, with_front}
 use Rattle.table_text.specs.Reading.{counted_at, some_at}
 use Rattle.wf_value.proofs.Bytes.{AreBytes, AreBytes-drop, spell_number, number_below}
+use Rattle.run_table.proofs.GroupsOfTable.{given_if}
 
 -- The bytes are a spelling of what was found, and then the bytes behind it.
 pub record Fronts {A : Type 0} (format : Format A) (bytes : List ℕ) (found : A × List ℕ) : Type 0 where
@@ -224,13 +225,6 @@ items_complete format at reads (x ∷ xs) rest fits =
     (items_complete format at reads xs rest fits.1)
 
 -- a test that was passed
-pub took : {A : Type 0} (b : Bool) (x : Option A) (y : A) → (if b then x else None) ≡ Some y → (b ≡ true) × (x ≡ Some y)
-took true x y h = (refl, h)
-took false x y h = absurd (none-some y h)
-
-pub both : (a b : Bool) → (a && b) ≡ true → (a ≡ true) × (b ≡ true)
-both true b h = (refl, h)
-both false b h = absurd (cc)
 
 pub counted_reads : {A : Type 0} (least most : ℕ) (format : Format A) (at : Reader A) → most < 2 ^ 32 → Reads format at
     → Reads (counted least most format) (counted_at least most at)
@@ -239,8 +233,8 @@ counted_reads least most format at small reads = record {
       let step = bind_some (word_at bytes) (λ n. if nat_le least n.0 && nat_le n.0 most then items_at at n.0 n.1 else None) found h in
       let n = step.0 in
       let front = word_reads.sound bytes n are step.1 in
-      let by = took (nat_le least n.0 && nat_le n.0 most) (items_at at n.0 n.1) found step.2 in
-      let range = both (nat_le least n.0) (nat_le n.0 most) by.0 in
+      let by = given_if (nat_le least n.0 && nat_le n.0 most) (items_at at n.0 n.1) found step.2 in
+      let range = and_parts (nat_le least n.0) (nat_le n.0 most) by.0 in
       let items = items_sound format at reads n.0 n.1 found front.rest by.1 in
       let low : least ≤ n.0 = leb-true least n.0 range.0 in
       let high : n.0 ≤ most = leb-true n.0 most range.1 in

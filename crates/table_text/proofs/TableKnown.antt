@@ -25,6 +25,7 @@ use Rattle.table_text.specs.Commands.{admit}
 use Rattle.table_text.specs.Tables.{IsLease, flag_byte, job, job_byte, jobs_planned, leg, leg_byte, run, run_byte, runner, table}
 use Rattle.table_text.specs.Format.{word_bytes}
 use Rattle.table_text.specs.Writing.{HasByte, JobHasBytes, RunHasBytes}
+use Rattle.run_table.proofs.RunnerPut.{all_from_each}
 
 leg_byte_fits : (p : LegPhase) → leg_byte p < 256
 leg_byte_fits leg_phase.New = omega arith
@@ -85,19 +86,15 @@ rises_over name f (x ∷ y ∷ ys) = ap (λ b. is_lt (slice_cmp nat_cmp (name (f
 
 -- ---- the runs of a table have bytes
 
-all_by_place : {X : Type 0} (P : X → Type 0) (xs : List X) → ((i : ℕ) (x : X) → slice_get xs i ≡ Some x → P x) → AllByRecursion P xs
-all_by_place P [] each = tt
-all_by_place P (x ∷ xs) each = (each zero x refl, all_by_place P xs (λ i y at. each (suc i) y at))
-
 pub runs_have_bytes : (runs : List RunState) → IsStorable runs → AllByRecursion RunHasBytes runs
 runs_have_bytes runs s =
-    all_by_place RunHasBytes runs (λ r x at.
+    all_from_each RunHasBytes runs (λ r x at.
     let job_is : (j : ℕ) (y : JobState) → slice_get x.jobs j ≡ Some y → job_at runs r j ≡ Some y = λ j y there.
     ap (option_and_then (λ (z : RunState). slice_get z.jobs j)) at ∙ there in (
       s.jobs_are_the_plans r x at,
-      all_by_place JobHasBytes x.jobs (λ j y there. (
+      all_from_each JobHasBytes x.jobs (λ j y there. (
         s.legs_are_few r j y (job_is j y there),
-        all_by_place HasByte y.legs (λ l z here.
+        all_from_each HasByte y.legs (λ l z here.
             s.no_leg_is_new (record { run = r; job = j; leg = l }) z
             (ap (option_and_then (λ (w : JobState). slice_get w.legs l)) (job_is j y there) ∙ here)),
       )),

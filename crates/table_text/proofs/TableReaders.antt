@@ -1,7 +1,7 @@
 -- What reading of tables finds is what is spelled there, and nothing else.
 use Rattle.std.proofs.Common.{◌≡◌, inl, inr, ℕ, ◌≤◌, ◌<◌, ◌^◌, List, [], ◌∷◌, refl, sym, ◌∙◌, ap, subst, arith}
 use Rattle.std.specs.Prelude.{◌==◌, Bool, true, false, not, nat_le, find, Option, Some, None, if◌then◌else◌}
-use Rattle.std.proofs.lemmas.Bool.{eqb-true, leb-true, cases_Bool}
+use Rattle.std.proofs.lemmas.Bool.{and_parts, cases_Bool, eqb-true, leb-true}
 use Rattle.std.proofs.lemmas.Option.{same_Some, none-some, cond_some}
 use Rattle.wf_value.specs.declared.outcome.JobResult.TheVariants as result
 use Rattle.wf_value.specs.declared.outcome.Outcome.TheVariants as outcome
@@ -37,8 +37,9 @@ use Rattle.table_text.specs.declared.kept.Kept.{Kept}
 use Rattle.table_text.specs.declared.kept.Kept.TheVariants as replied
 use Rattle.table_text.proofs.CommandReaders.{admit_reads, chosen, command_reads, number_reads, small_text_reads}
 use Rattle.table_text.proofs.FormReaders.{byte_reads, follow_reads, row_reads}
-use Rattle.table_text.proofs.Readers.{Reads, both, counted_reads, only_reads, pair_reads, parts_reads, some_reads}
+use Rattle.table_text.proofs.Readers.{Reads, counted_reads, only_reads, pair_reads, parts_reads, some_reads}
 use Rattle.table_text.proofs.Readers.{these_read, word_reads}
+use Rattle.workflow_runs.proofs.Found.{find_passes}
 
 -- ---- leases
 
@@ -53,7 +54,7 @@ lease_sound n l fits h =
 
 not_zero : (n : ℕ) → is_numbered n ≡ true → (n == 0) ≡ false
 not_zero n h =
-    let range = both (nat_le 1 n) (nat_le n 999999999) h in
+    let range = and_parts (nat_le 1 n) (nat_le n 999999999) h in
     let low : 1 ≤ n = leb-true 1 n range.0 in
     elim (cases_Bool (n == 0)) [
       | inl zero ↦ (let e : n ≡ 0 = eqb-true n 0 zero in absurd (omega (arith, e, low)))
@@ -77,15 +78,10 @@ lease_reads =
 
 -- ---- values in one byte
 
-found_passes : {X : Type 0} (test : X → Bool) (xs : List X) (x : X) → find test xs ≡ Some x → test x ≡ true
-found_passes test [] x h = absurd (none-some x h)
-found_passes {X} test (y ∷ ys) x h = elim (chosen (test y) (Some y) (find test ys) (Some x) h) [
-  | inl one ↦ subst (λ (z : X). test z ≡ true) (same_Some y x one.1) one.0
-  | inr other ↦ found_passes test ys x other.1
 ]
 
 byte_of_found : {A : Type 0} (code : A → ℕ) (values : List A) (b : ℕ) (x : A) → of_byte code values b ≡ Some x → code x ≡ b
-byte_of_found code values b x h = sym (eqb-true b (code x) (found_passes (λ y. b == code y) values x h))
+byte_of_found code values b x h = sym (eqb-true b (code x) (find_passes (λ y. b == code y) values x h))
 
 one_byte_reads : {A : Type 0} (code : A → ℕ) (values : List A) → ((x : A) → of_byte code values (code x) ≡ Some x)
     → Reads (parts code byte) (some_at (of_byte code values) byte_at)
