@@ -20,10 +20,10 @@ from_each None h f = tt
 from_each (Some x) h f = f x h
 
 -- an input that was not read is answered, and nothing written
-pub nothing_written : {P : List ℕ → List ℕ → Type 0} (input writer : Option (List ℕ)) (e : Refusal) → IfSome input (RefusesInput e)
+pub nothing_written : (P : List ℕ → List ℕ → Type 0) (input writer : Option (List ℕ)) (e : Refusal) → IfSome input (RefusesInput e)
     → ((text : List ℕ) → RefusesInput e text → P text [])
     → IfSome input (λ text. (out : List ℕ) × Appends writer writer out × P text out)
-nothing_written input writer e refused unread = from_each input refused (λ text why. ([], Appends-nil writer, unread text why))
+nothing_written P input writer e refused unread = from_each input refused (λ text why. ([], Appends-nil writer, unread text why))
 
 -- it was not read to its end
 pub unread : {U : Type 0} (r : Result U Refusal) (e : Refusal) (input : Option (List ℕ)) → IsErrAnd r (λ f. f ≡ e)

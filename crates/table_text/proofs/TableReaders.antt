@@ -78,8 +78,6 @@ lease_reads =
 
 -- ---- values in one byte
 
-]
-
 byte_of_found : {A : Type 0} (code : A → ℕ) (values : List A) (b : ℕ) (x : A) → of_byte code values b ≡ Some x → code x ≡ b
 byte_of_found code values b x h = sym (eqb-true b (code x) (find_passes (λ y. b == code y) values x h))
 

@@ -10,7 +10,7 @@ pub returns-in_err-text-clause-written : goal.returns-in_err-text-clause-written
 returns-in_err-text-clause-written g c =
     let e = c.in_err-text.field-0.0 in
     let ended = c.from_residual.result in
-    nothing_written {P = λ text out. ChecksTo text out ended} (g.R.Read.remaining c.args.reader.now)
+    nothing_written (λ text out. ChecksTo text out ended) (g.R.Read.remaining c.args.reader.now)
     (g.W.Write.contents c.args.writer.now) e c.in_err-text.ensures.refused (λ text. unread text ended e c.from_residual.ensures.1)
 
 pub returns-clause-written : goal.returns-clause-written

@@ -12,7 +12,7 @@ pub returns-in_err-script-clause-written : goal.returns-in_err-script-clause-wri
 returns-in_err-script-clause-written g c =
     let e = c.in_err-script.field-0.0 in
     let ended = c.from_residual.result in
-    nothing_written {P = λ script out. Ends script out ended} (g.R.Read.remaining c.args.reader.now)
+    nothing_written (λ script out. Ends script out ended) (g.R.Read.remaining c.args.reader.now)
     (g.W.Write.contents c.args.writer.now) e c.in_err-script.ensures.refused
     (λ script. unread_ends script ended e c.from_residual.ensures.1)
 
