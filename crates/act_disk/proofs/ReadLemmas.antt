@@ -1,22 +1,13 @@
 -- Reads of the system, one after another, as one read.
-use Rattle.std.proofs.Common.{◌≡◌, ◌+◌, ◌-◌, ◌≤◌, ℕ, List, ◌∷◌, ◌++◌, length, take, drop, IsTrue, refl, sym, ◌∙◌, ap, arith}
+use Rattle.std.proofs.Common.{◌≡◌, ◌+◌, ◌-◌, ◌≤◌, ℕ, List, ◌∷◌, ◌++◌, length, take, drop, IsTrue, sym, ◌∙◌, ap, arith}
 use Rattle.std.proofs.lemmas.List.{length-take-le, drop-drop, take-append-le, drop_at, take_at}
 use Rattle.std.proofs.Math.Seq.{take-add}
 use borrow.Rule.Slice.PartMut.{put_mid}
-use Rattle.act_disk.specs.Past.{elapses_same, elapses_push, elapses_then}
+use Rattle.act_disk.specs.Past.{elapses_push, elapses_then}
 use Rattle.act_disk.specs.SystemCalls.{FileCall, Gave, is_sound, contents, MayLeave, MayHaveLeft, IsHonest}
 use Rattle.act_disk.specs.FileCalls.{Reads}
 
 module _ (left : List ℕ → Type 0) (held : List ℕ) where
-  pub read_none : (calls : List FileCall) → Reads left held calls calls
-  read_none calls = record {
-    same = refl;
-    images = λ c. ((λ now. now), (λ now. now));
-    passed = elapses_same (MayLeave left held) (length calls) calls;
-    honest = λ h. h;
-    sound = refl;
-  }
-
   pub read_more : (at : ℕ) (bytes : List ℕ) (old mid : List FileCall) → Reads left held old mid → Reads left held old (Gave at bytes ∷ mid)
   read_more at bytes old mid so_far =
       let new = Gave at bytes ∷ mid in record {

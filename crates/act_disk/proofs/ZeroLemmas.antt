@@ -3,8 +3,7 @@ use Rattle.std.proofs.Common.{◌≡◌, ◌+◌, ◌≤◌, ℕ, List, [], ◌+
 use Rattle.std.proofs.lemmas.List.{append-nil, take_all, drop_all, replicate-append-replicate}
 use Rattle.act_disk.specs.Images.{Torn, IsWritten, From, Follows, Elapses, EachSince}
 use Rattle.act_disk.specs.Kept.{written_is}
-use Rattle.act_disk.specs.Laid.{torn_refl}
-use Rattle.act_disk.specs.Moments.{started, goes_on}
+use Rattle.act_disk.specs.Moments.{goes_on}
 use Rattle.act_disk.proofs.WriteLemmas.{torn_within}
 
 -- a write of zeros at the end adds them
@@ -29,12 +28,6 @@ module _ {D : Type 0} (moment : D → ℕ) (images_since : D → ℕ → List �
   pub record Grows (mid : D) : Type 0 where
     pub since : EachSince moment images_since old mid Grown
     pub now : (c : List ℕ) → images mid c → Grown c
-
-  as_before : (c : List ℕ) → images old c → Grown c
-  as_before c here = (c, here, torn_refl end n c)
-
-  pub not_yet : ((c : List ℕ) → images_since old (moment old) c → images old c) → Grows old
-  not_yet last = record { since = started moment images_since old Grown (λ c left. as_before c (last c left)); now = as_before }
 
   -- one write more, of a range past the old end
   pub grows_on : (mid new : D) (at count : ℕ) → end ≤ at → at + count ≤ end + n → Grows mid

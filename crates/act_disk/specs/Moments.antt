@@ -1,14 +1,6 @@
 -- How a run of calls is put together from its calls: what each image since its start has.
-use Rattle.std.proofs.Common.{◌≡◌, inl, inr, ⊎_elim, ℕ, List, sym, subst, arith, Result, Ok, Err, OnOk, OnErr}
-use Rattle.act_disk.specs.Images.{Only, SameImages, Elapses, EachSince}
-
--- A sync makes no new image, whether it succeeds or not.
-pub after_sync : {T E H : Type 0} (r : Result T E) (seen : List ℕ) (before after : List ℕ → Type 0) → OnOk r (H → Only seen after)
-    → OnErr r (H → SameImages before after)
-    → H → before seen → (c : List ℕ) → after c → before c
-after_sync (Ok x) seen before after stable failed honest here c now =
-    let same : c ≡ seen = (stable honest c).0 now in subst before (sym same) here
-after_sync (Err e) seen before after stable failed honest here c now = (failed honest c).0 now
+use Rattle.std.proofs.Common.{inl, inr, ⊎_elim, ℕ, List, arith}
+use Rattle.act_disk.specs.Images.{Elapses, EachSince}
 
 module _ {D : Type 0} (moment : D → ℕ) (images_since : D → ℕ → List ℕ → Type 0) where
   -- before the first call

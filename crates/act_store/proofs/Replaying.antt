@@ -5,7 +5,7 @@ use Rattle.std.specs.List.{AllByRecursion}
 use Rattle.gated_journal.specs.Layout.{framed, record_bytes}
 use Rattle.gated_journal.specs.Scanned.{OpensWith, Parts}
 use Rattle.gated_journal.proofs.OneReading.{same_frames}
-use Rattle.gated_journal.proofs.Parting.{parts_more, all_parted, shorter as shorter_rest}
+use Rattle.gated_journal.proofs.Parting.{all_parted, parts_more}
 use Rattle.run_plan.specs.declared.command.Command.{Command}
 use Rattle.run_table.specs.Histories.{after}
 use Rattle.run_table.specs.TableState.{TableState}
@@ -107,6 +107,3 @@ module _ (records rest : List ℕ) (first table : TableState) (so : SoFar record
       let found = starts (so.parted ++ body ∷ []) bodies behind parts.short short (sym parts.split ∙ is) in
       let one = among spelled.batches so.parted body found.0 spelled.takes (found.1 ∙ spelled.spelled) in
       none one.0 one.1
-
-pub shorter : (rest body behind : List ℕ) → OpensWith rest body behind → length behind < length rest
-shorter rest body behind opens = shorter_rest rest body behind opens

@@ -64,8 +64,8 @@ pub record PlaysSome {D : Type 0} (during : Kept D → Played → Kept D → Typ
   pub answers : List Played
   pub plays : Plays during old first answers new
 
--- How a play of steps, one after another, ends: each was answered, or memory was wanting, for an answer or a copy of a command, after some
--- of the first. Where there are no steps it isn't.
+-- How a play of steps, one after another, ends: each of them was answered, or some of the first were, and then memory was wanting for an
+-- answer or for a copy of a command. A play of no steps needs none.
 pub record PlayEnds {D V : Type 0} (during : Kept D → Played → Kept D → Type 0) (items : V → List Played) (old : Kept D) (steps : List Step)
     (result : Result V Refusal) (new : Kept D) : Type 0 where
   pub played : IfOk result (λ answers. Plays during old steps (items answers) new)

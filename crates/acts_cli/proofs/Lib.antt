@@ -5,5 +5,4 @@ pub mod Making
 pub mod Plays
 mod Rows
 pub mod Showing
-pub mod Taking
 pub mod Writing

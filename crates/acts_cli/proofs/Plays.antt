@@ -1,5 +1,5 @@
 -- What a play writes, line by line.
-use Rattle.std.proofs.Common.{◌≡◌, ◌≢◌, ◌∙◌, ◌⊎◌, inl, inr, ℕ, List, [], ◌∷◌, ◌++◌, length, take, drop, true, false}
+use Rattle.std.proofs.Common.{◌≡◌, ◌≢◌, ◌∙◌, ◌⊎◌, inl, inr, ℕ, List, [], ◌∷◌, ◌++◌, length, take, drop, true}
 use Rattle.std.proofs.Common.{cond, filter, Result, Ok, Err, IfErr, ◌≤◌, refl, sym, ap, subst, append_assoc, append-nil}
 use Rattle.std.proofs.Common.{take-append-drop}
 use Rattle.std.specs.Prelude.{IsErrAnd}
@@ -48,22 +48,9 @@ Leads first script s rest out =
     (more : List (List ℕ)) → Answers s (script_lines rest) more
     → (all : List (List ℕ)) × Answers first (script_lines script) all × (printed all ≡ out ++ printed more)
 
-pub leads_from_start : (first : PlainStore) (script : List ℕ) → Leads first script first script []
-leads_from_start first script more h = (more, h, refl)
-
-without_empty : (ls : List (List ℕ)) (line : List ℕ) (rest : List (List ℕ)) → ls ≡ line ∷ rest → has_bytes line ≡ false
-    → filter has_bytes ls ≡ filter has_bytes rest
-without_empty ls line rest e h = ap (filter has_bytes) e ∙ ap (λ b. cond b (line ∷ filter has_bytes rest) (filter has_bytes rest)) h
-
 with_line : (ls : List (List ℕ)) (line : List ℕ) (rest : List (List ℕ)) → ls ≡ line ∷ rest → has_bytes line ≡ true
     → filter has_bytes ls ≡ line ∷ filter has_bytes rest
 with_line ls line rest e h = ap (filter has_bytes) e ∙ ap (λ b. cond b (line ∷ filter has_bytes rest) (filter has_bytes rest)) h
-
-pub leads_past_empty : (first : PlainStore) (script : List ℕ) (t : PlainStore) (rest out line after : List ℕ)
-    → Leads first script t rest out
-    → lines rest ≡ line ∷ lines after → has_bytes line ≡ false → Leads first script t after out
-leads_past_empty first script t rest out line after before e h more k =
-    before more (subst (λ ls. Answers t ls more) (sym (without_empty (lines rest) line (lines after) e h)) k)
 
 pub leads_past_line : (first : PlainStore) (script : List ℕ) (t then : PlainStore) (rest out line after a : List ℕ)
     → Leads first script t rest out → lines rest ≡ line ∷ lines after → has_bytes line ≡ true → IsAnswer t line a then

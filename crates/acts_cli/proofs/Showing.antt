@@ -63,15 +63,6 @@ past_last t out all place past h =
     let none : length t.runs - place ≡ 0 = omega arith in
     sym (append-nil out) ∙ ap (λ n. out ++ lines_from t (place + 1) n) (sym none) ∙ h
 
-pub not_there : (t : TableState) (place : ℕ) → seen t (place + 1) ≡ None → length t.runs ≤ place
-not_there t place is =
-    let same : place + 1 - 1 ≡ place = omega arith in
-    let cases = slice_get_cases t.runs (place + 1 - 1) in
-    elim cases.1 [
-      | inl found ↦ absurd (let clash : Some (shown_of t (place + 1) found.0) ≡ None = sym (ap (seen_by t (place + 1)) found.2) ∙ is in cc)
-      | inr past ↦ omega (arith, past.0)
-    ]
-
 -- the table of a store that was just opened is its base
 pub opened_table : {D : Type 0} (s : Kept D) → s.history ≡ [] → s.base ≡ table_of s
 opened_table s begun = ap (λ (h : List Entry). table_after s.base h) (sym begun)

@@ -7,7 +7,7 @@ use Rattle.std.proofs.lemmas.List.{length-take, length-drop, take_at, drop_at}
 use Rattle.std.proofs.lemmas.Nat.{be_bytes_8, from_be_bytes-to_be_bytes_8}
 use Rattle.gated_journal.specs.Layout.{Head}
 use Rattle.gated_journal.specs.Scanned.{HasNumber, HasText, HasHead, HasFront}
-use Rattle.gated_journal.proofs.OneReading.{same_number_8, same_head, apart}
+use Rattle.gated_journal.proofs.OneReading.{same_head, apart}
 use Rattle.wf_value.proofs.Bytes.{AreBytes, AreBytes-take}
 
 -- eight bytes spell the number that they are read as
@@ -25,9 +25,6 @@ pub no_number : (bytes : List ℕ) (n : ℕ) (rest : List ℕ) → length bytes 
 no_number bytes n rest few has =
     let eight : length (to_be_bytes w64 n) ≡ 8 = refl in
     omega (arith, few, eight, ap (λ (l : List ℕ). length l) has.split, length-append (to_be_bytes w64 n) rest)
-
-one_number : (bytes : List ℕ) (m n : ℕ) (x y : List ℕ) → HasNumber bytes m x → HasNumber bytes n y → (m ≡ n) × (x ≡ y)
-one_number bytes m n x y one two = same_number_8 m n x y one.fits two.fits (sym one.split ∙ two.split)
 
 -- the number of bytes that the number says, and what stands behind them
 pub has_text : (bytes : List ℕ) (n : ℕ) (behind text rest : List ℕ) → HasNumber bytes n behind → n ≤ length behind

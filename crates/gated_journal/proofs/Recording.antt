@@ -1,8 +1,8 @@
 -- The frame of a record, written over bytes.
-use Rattle.std.proofs.Common.{◌≡◌, ℕ, ◌+◌, ◌-◌, ◌<◌, ◌≤◌, ◌^◌, List, [], ◌∷◌}
+use Rattle.std.proofs.Common.{◌≡◌, ℕ, ◌+◌, ◌-◌, ◌≤◌, List, [], ◌∷◌}
 use Rattle.std.proofs.Common.{◌++◌, length, get_or, take, drop, set, refl, sym, ◌∙◌, ap, arith}
-use Rattle.std.proofs.Common.{append_assoc, take-append-drop, drop_of_length-le, length-take, length-drop, length-append}
-use Rattle.std.proofs.lemmas.List.{take-set, drop_more, get_or-set_same, length-set, take_at, drop_at}
+use Rattle.std.proofs.Common.{take-append-drop, drop_of_length-le, length-take, length-drop}
+use Rattle.std.proofs.lemmas.List.{take-set, drop_more, get_or-set_same, length-set}
 use Rattle.std.proofs.Math.Seq.{take-append-add}
 use Rattle.std.specs.Int.{to_be_bytes, w32}
 use Rattle.gated_journal.specs.Appends.{record_of, body_in}
@@ -49,16 +49,3 @@ framed_over l number n long is =
     ∙ ap (λ (k : List ℕ). k ++ take n (drop 4 l)) front
     ∙ ap (λ (k : ℕ). to_be_bytes w32 n ++ take k (drop 4 l)) (sym many)
     ∙ ap (λ (k : ℕ). to_be_bytes w32 k ++ body_in l) (sym short))
-
--- a record is a record of what stands in it
-pub is_record : (bytes body : List ℕ) → length body < 2 ^ 32 → bytes ≡ record_of body → body_in bytes ≡ body
-is_record bytes body short is =
-    let n = to_be_bytes w32 (length body) in
-    let size : length n ≡ 4 = refl in
-    let long : length bytes ≡ length body + 5 =
-    omega (arith, ap (λ (l : List ℕ). length l) is, length-append (n ++ body) (0 ∷ []), length-append n body, size) in
-    let many : length bytes - 5 ≡ length body = omega (arith, long) in
-    ap (λ (k : ℕ). take k (drop 4 bytes)) many
-    ∙ ap (λ (l : List ℕ). take (length body) (drop 4 l)) (is ∙ append_assoc n body (0 ∷ []))
-    ∙ ap (λ (l : List ℕ). take (length body) l) (drop_at n (body ++ 0 ∷ []) 4 refl)
-    ∙ take_at body (0 ∷ []) (length body) refl

@@ -5,15 +5,16 @@ use Rattle.std.proofs.Common.{refl, ap, ap₂, sym, subst, ◌∙◌, arith}
 use Rattle.std.proofs.lemmas.Bool.{and_right}
 use Rattle.std.proofs.lemmas.List.{append-nil, map-append}
 use Rattle.std.proofs.lemmas.List.Elements.{filter-append}
-use Rattle.group_name.specs.Group.{Group}
+use Rattle.group_name.specs.Group.{Group, same_group}
+use Rattle.group_name.proofs.SameGroups.{same_is_one, own_group}
 use Rattle.group_book.specs.Changes.{arrived, newcomer_in, stays, told_to_stop}
-use Rattle.group_book.specs.Holders.{HoldingState, HasOneEach, same_group, is_in, is_pending, is_pending_in, has_started_in}
+use Rattle.group_book.specs.Holders.{HoldingState, HasOneEach, is_in, is_pending, is_pending_in, has_started_in}
 use Rattle.group_book.specs.Holders.{can_be_stopped_in}
 use Rattle.group_book.specs.Holders.{group_in, holders, pending_in, running_in, unstopped_in}
 use Rattle.group_book.specs.declared.holder.Holder.{Holder}
 use Rattle.group_book.proofs.Filtered.{count_after, filter_after, filter_apart, filter_of_never, filter_of_unchanged}
 use Rattle.group_book.proofs.Keeping.{count_of_holders, pending_after_stop, running_after_stop}
-use Rattle.group_book.proofs.Lines.{apart_in, group_told, one_group, own_group, started_stays, told_nothing, told_once}
+use Rattle.group_book.proofs.Lines.{apart_in, group_told, started_stays, told_nothing, told_once}
 
 -- those who stay, told to stop where the arrival does so
 abbrev staying : Group → Bool → List HoldingState → List HoldingState
@@ -64,7 +65,7 @@ pending_by : (other g : Group) (newcomer : Holder) (cancels : Bool) (held : List
     → HasOneEach held → length (pending_in other (arrived g newcomer cancels held)) ≤ 1
 pending_by other g newcomer cancels held true is one =
     let P : Group → Type 0 = λ k. length (pending_in k (arrived g newcomer cancels held)) ≤ 1 in
-    subst P (sym (one_group other g is)) (omega (arith, ap length (newcomer_waits g newcomer cancels held)))
+    subst P (sym (same_is_one other g is)) (omega (arith, ap length (newcomer_waits g newcomer cancels held)))
 pending_by other g newcomer cancels held false is one =
     let whole = pending_arrived other g newcomer cancels held
     ∙ ap (λ b. pending_in other (filter (stays g) held) ++ cond b (newcomer ∷ []) []) is
@@ -89,7 +90,7 @@ arrivals_keep g newcomer cancels held one = record {
 
 apart_newcomer : (other g : Group) (newcomer : Holder) (b : Bool) → other ≢ g → same_group other g ≡ b
     → filter (is_in other) (newcomer_in g newcomer ∷ []) ≡ []
-apart_newcomer other g newcomer true apart is = absurd (apart (one_group other g is))
+apart_newcomer other g newcomer true apart is = absurd (apart (same_is_one other g is))
 apart_newcomer other g newcomer false apart is = ap (λ b. cond b (newcomer_in g newcomer ∷ []) []) is
 
 -- an arrival in one group changes nothing in another

@@ -5,9 +5,10 @@ use Rattle.std.proofs.Common.{refl, ap, sym, subst, ◌∙◌, arith, inl, inr}
 use Rattle.std.proofs.lemmas.Bool.{and_parts}
 use Rattle.std.proofs.lemmas.List.{length-map}
 use Rattle.wf_value.specs.declared.refusal.Refusal.{Refusal}
-use Rattle.group_name.specs.Group.{Group}
+use Rattle.group_name.specs.Group.{Group, same_group}
+use Rattle.group_name.proofs.SameGroups.{same_is_one}
 use Rattle.group_book.specs.Changes.{may_start, start_of, started, stopped, told_to_stop, without}
-use Rattle.group_book.specs.Holders.{HoldingState, HasOneEach, same_group, same_holder, is_in, is_of, is_pending, has_started}
+use Rattle.group_book.specs.Holders.{HoldingState, HasOneEach, same_holder, is_in, is_of, is_pending, has_started}
 use Rattle.group_book.specs.Holders.{can_be_stopped, is_pending_in}
 use Rattle.group_book.specs.Holders.{has_started_in, can_be_stopped_in, holders, is_taken, pending_in, running_in, unstopped_in}
 use Rattle.group_book.specs.declared.holder.Holder.{Holder}
@@ -15,7 +16,7 @@ use Rattle.group_book.specs.declared.holder.HolderPhase.{HolderPhase}
 use Rattle.group_book.specs.declared.holder.HolderPhase.TheVariants.{Pending, Running, Stopping}
 use Rattle.group_book.proofs.Filtered.{count_after, count_of_changed, count_of_either, count_within, filter_of_no, filter_of_none}
 use Rattle.group_book.proofs.Filtered.{filter_of_some, names_of_changed, names_without, witness}
-use Rattle.group_book.proofs.Lines.{free_group, holder_told, one_group, pending_start, pending_told, started_start, started_told}
+use Rattle.group_book.proofs.Lines.{free_group, holder_told, pending_start, pending_told, started_start, started_told}
 
 pub count_of_holders : (held : List HoldingState) → length (holders held) ≡ length held
 count_of_holders held = length-map held (λ h. h.holder)
@@ -130,7 +131,7 @@ free_of : (g : Group) (holder : Holder) (held : List HoldingState) (h : HoldingS
     → (not (is_of holder h) || not (is_taken h.group held)) ≡ true → filter (has_started_in g) held ≡ []
 free_of g holder held h starts free =
     let own = and_parts (is_of holder h) (is_pending_in g h) starts in
-    let group = one_group g h.group (and_parts (same_group g h.group) (is_pending h.phase) own.1).0 in
+    let group = same_is_one g h.group (and_parts (same_group g h.group) (is_pending h.phase) own.1).0 in
     ap (λ k. filter (has_started_in k) held) group
     ∙ filter_of_no (has_started_in h.group) held (free_group (is_of holder h) (is_taken h.group held) own.0 free)
 

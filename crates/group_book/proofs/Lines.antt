@@ -1,30 +1,14 @@
 -- The lines of a book: the same group, and what a change of phase leaves.
-use Rattle.std.specs.Str.{bytes_eq}
 use Rattle.std.specs.Prelude.{◌≢◌}
-use Rattle.std.proofs.Common.{◌≡◌, ℕ, List, Bool, true, false, ◌&&◌, ◌||◌, not, cond, refl, ap, ap₂, sym, ◌∙◌}
+use Rattle.std.proofs.Common.{◌≡◌, Bool, true, false, ◌&&◌, ◌||◌, not, cond, refl, ap, sym, ◌∙◌}
 use Rattle.std.proofs.lemmas.Bool.{and_parts, and_right}
-use Rattle.std.proofs.lemmas.Slice.Eq.{bytes_eq-Decides}
-use Rattle.group_name.specs.Group.{Group}
+use Rattle.group_name.specs.Group.{Group, same_group}
+use Rattle.group_name.proofs.SameGroups.{same_is_one}
 use Rattle.group_book.specs.Changes.{start_of, stays, told_to_stop}
-use Rattle.group_book.specs.Holders.{HoldingState, same_group, is_in, is_of, is_pending_in, has_started_in, can_be_stopped_in, is_pending}
+use Rattle.group_book.specs.Holders.{HoldingState, is_in, is_of, is_pending_in, has_started_in, can_be_stopped_in, is_pending}
 use Rattle.group_book.specs.declared.holder.Holder.{Holder}
 use Rattle.group_book.specs.declared.holder.HolderPhase.{HolderPhase}
 use Rattle.group_book.specs.declared.holder.HolderPhase.TheVariants.{Pending, Running, Stopping}
-
--- ---- the same group
-
-group_by : (g h : Group) → g.repository ≡ h.repository → g.folded ≡ h.folded → g ≡ h
-group_by g h repository folded =
-    let of : List ℕ → List ℕ → Group = λ r f. record { repository = r; folded = f } in ap₂ of repository folded
-
-pub one_group : (g h : Group) → same_group g h ≡ true → g ≡ h
-one_group g h is =
-    let both = and_parts (bytes_eq g.repository h.repository) (bytes_eq g.folded h.folded) is in
-    group_by g h ((bytes_eq-Decides g.repository h.repository).0 both.0) ((bytes_eq-Decides g.folded h.folded).0 both.1)
-
-pub own_group : (g : Group) → same_group g g ≡ true
-own_group g =
-    ap₂ (λ a b. a && b) ((bytes_eq-Decides g.repository g.repository).1 refl) ((bytes_eq-Decides g.folded g.folded).1 refl)
 
 -- ---- told to stop
 
@@ -104,7 +88,7 @@ started_stays other g h is = started_stays_by other g h.group h.holder h.phase i
 -- ---- another group
 
 other_by : (other g k : Group) (b : Bool) → other ≢ g → same_group other k ≡ true → same_group g k ≡ b → same_group g k ≡ false
-other_by other g k true apart is own = absurd (apart (one_group other k is ∙ sym (one_group g k own)))
+other_by other g k true apart is own = absurd (apart (same_is_one other k is ∙ sym (same_is_one g k own)))
 other_by other g k false apart is own = own
 
 -- who is in another group is not in this one

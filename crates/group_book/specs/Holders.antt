@@ -2,8 +2,7 @@
 -- concurrency of workflows and jobs": a group has one running and one pending holder at most.
 use Rattle.std.specs.Prelude.{ℕ, ◌≤◌, List, length, map, filter, Bool, true, false, ◌&&◌, nat_eq}
 use Rattle.std.specs.List.{list_any}
-use Rattle.std.specs.Str.{bytes_eq}
-use Rattle.group_name.specs.Group.{Group}
+use Rattle.group_name.specs.Group.{Group, same_group}
 use Rattle.group_book.specs.declared.holder.Holder.{Holder}
 use Rattle.group_book.specs.declared.holder.Holder.TheVariants.{Run, Leg}
 use Rattle.group_book.specs.declared.holder.HolderPhase.{HolderPhase}
@@ -21,9 +20,6 @@ pub record BookState : Type 0 where
   pub room : ℕ
 
 -- ---- the same group, the same holder
-
-abbrev pub same_group : Group → Group → Bool
-same_group g h = bytes_eq g.repository h.repository && bytes_eq g.folded h.folded
 
 abbrev pub same_holder : Holder → Holder → Bool
 same_holder (Run r) (Run s) = nat_eq r s

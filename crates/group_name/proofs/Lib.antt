@@ -1,3 +1,4 @@
 mod BoundFolding
 mod Folding
 pub mod OnLiterals
+pub mod SameGroups

@@ -1,7 +1,8 @@
 -- The group that a name means in a repository. GitHub Docs, "Control the concurrency of workflows and jobs":
 -- names of groups are compared without upper and lower case. Which comparison is meant is not said there: it is
 -- the default caseless match of The Unicode Standard, section 3.13. Repositories are compared by their bytes.
-use Rattle.std.specs.Prelude.{ℕ, List, [], ◌∷◌, Option, None, Some, chars, refl}
+use Rattle.std.specs.Prelude.{ℕ, List, [], ◌∷◌, ◌&&◌, Bool, Option, None, Some, chars, refl}
+use Rattle.std.specs.Str.{bytes_eq}
 use Rattle.std.specs.Coded.{Coded, code_by, coded_ℕ, coded_list, coded×}
 use Rattle.caseless.specs.Caseless.{default_case_fold}
 
@@ -23,3 +24,7 @@ folded_name name = default_case_fold (chars name)
 abbrev pub group_of : List ℕ → List ℕ → Option Group
 group_of repository [] = None
 group_of repository (b ∷ bs) = Some (record { repository = repository; folded = folded_name (b ∷ bs) })
+
+-- whether two groups are one: by the repository's bytes and the folded name's
+abbrev pub same_group : Group → Group → Bool
+same_group g h = bytes_eq g.repository h.repository && bytes_eq g.folded h.folded

@@ -12,6 +12,7 @@ use Rattle.std.specs.declared.cmp.Ordering.TheVariants.{Less, Equal, Greater}
 use Rattle.std.proofs.lemmas.Bool.{and_parts, and_from, or_parts}
 use Rattle.std.proofs.lemmas.List.{get_or_at, length-map, append_assoc}
 use Rattle.std.proofs.lemmas.Map.Lookups.{exact_bytes}
+use Rattle.std.proofs.lemmas.List.Folds.{list_any-append}
 use Rattle.wf_value.specs.Matrix.{MatrixLists}
 use Rattle.wf_value.specs.Names.{names_rise}
 use Rattle.wf_value.specs.declared.scalar.Scalar.{Scalar}
@@ -23,9 +24,10 @@ use Rattle.matrix_expand.specs.Numbered.{chosen, axes_of, original_at, pattern_o
 use Rattle.matrix_expand.specs.Values.{EntryValue}
 use Rattle.matrix_expand.proofs.Agreement.{agrees_numbered}
 use Rattle.matrix_expand.proofs.Firsts.{value_at-firsts, names_rise-firsts, names_ascend-flagged, names_ascend-final, names_rise-map}
-use Rattle.matrix_expand.proofs.Merging.{option_or-None, value_at-merged, value_at-object, names_ascend-rise, pairs_of-object}
-use Rattle.matrix_expand.proofs.Rising.{equal_from, same_from_find, rise_from}
-use Rattle.wf_value.proofs.Rising.{name_cmp}
+use Rattle.matrix_expand.proofs.Merging.{value_at-merged, value_at-object, names_ascend-rise, pairs_of-object}
+use Rattle.matrix_expand.proofs.Rising.{same_from_find, rise_from}
+use Rattle.wf_value.proofs.Rising.{Equal-from_is_eq, name_cmp}
+use Rattle.wf_value.proofs.OptionOr.{or_none}
 
 -- names with nothing beside them
 abbrev marks : List (List ℕ) → List (List ℕ × Unit {0})
@@ -114,17 +116,9 @@ module _ (value : List ℕ → Option Scalar) where
       (λ b. is_eq (name_cmp name n) ≡ b → value_at (valued (n ∷ ns)) name ≡ cond
       (is_some (cond b (Some tt) (find name_cmp name (marks ns)))) (value name) None) [
         | true ↦ λ same. found_here name n (valued ns) (is_some (find name_cmp name (marks ns))) (value n)
-            (ap value (exact_bytes name n (equal_from _ same))) same rest
+            (ap value (exact_bytes name n (Equal-from_is_eq _ same))) same rest
         | false ↦ λ other. found_past name n (valued ns) (value n) other ∙ rest
       ] refl
-
-list_any-append : {X : Type 0} (p : X → Bool) (xs ys : List X) → list_any p (xs ++ ys) ≡ (list_any p xs || list_any p ys)
-list_any-append p [] ys = refl
-list_any-append p (x ∷ xs) ys = ap (λ b. p x || b) (list_any-append p xs ys) ∙ or_assoc (p x) (list_any p xs) (list_any p ys)
-  where
-    or_assoc : (a b c : Bool) → (a || (b || c)) ≡ ((a || b) || c)
-    or_assoc true b c = refl
-    or_assoc false b c = refl
 
 -- nothing is found at a name that no pair has
 not_named : (c : Combination) (name : List ℕ) → list_any (λ n. is_eq (name_cmp name n)) (map (λ p. p.0) c) ≡ false → value_at c name ≡ None
@@ -195,7 +189,7 @@ added_is test name front (c ∷ cs) behind =
     (λ b. option_or (last_value (filter test cs) name) (cond b (value_at c name) None) ≡ last_value
     (cond b (c ∷ filter test cs) (filter test cs)) name) [
       | true ↦ refl
-      | false ↦ option_or-None (last_value (filter test cs) name)
+      | false ↦ or_none (last_value (filter test cs) name)
     ]
 
 pub map-map : {A B C : Type 0} (f : A → B) (g : B → C) (h : A → C) → ((x : A) → g (f x) ≡ h x) → (xs : List A) → map g (map f xs) ≡ map h xs

@@ -17,8 +17,8 @@ use Rattle.matrix_expand.specs.Entries.{is_least, names_ascend, pairs_of, flagge
 use Rattle.matrix_expand.specs.Numbered.{original_at, chosen}
 use Rattle.matrix_expand.specs.Values.{AxisValue, EntryValue}
 use Rattle.matrix_expand.proofs.Merging.{names_ascend-merged, names_ascend-rise, pairs_of-object}
-use Rattle.matrix_expand.proofs.Rising.{equal_from, same_test, below_all-less, rise_from}
-use Rattle.wf_value.proofs.Rising.{name_cmp}
+use Rattle.matrix_expand.proofs.Rising.{same_test, below_all-less, rise_from}
+use Rattle.wf_value.proofs.Rising.{Equal-from_is_eq, name_cmp}
 
 module _ (flags : List Bool) where
   -- an entry on
@@ -111,7 +111,7 @@ differs_from_last : (last : Option (List ℕ)) (other name : List ℕ) → is_la
     → is_eq (name_cmp name other) ≡ false
 differs_from_last None other name t n = absurd (true≢false (sym t))
 differs_from_last (Some last) other name t n =
-    let same : last ≡ other = exact_bytes last other (equal_from _ (sym (texts_ties last other) ∙ t)) in
+    let same : last ≡ other = exact_bytes last other (Equal-from_is_eq _ (sym (texts_ties last other) ∙ t)) in
     subst (λ m. is_eq (name_cmp name m) ≡ false) same (same_test name last ∙ sym (texts_ties last name) ∙ n)
 
 -- what is found among the first pairs at a name that is not the last

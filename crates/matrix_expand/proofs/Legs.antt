@@ -1,24 +1,23 @@
 -- The combinations as the code counts and makes them.
-use Rattle.std.proofs.Common.{◌≡◌, ℕ, zero, suc, ◌+◌, ◌<◌, ◌≤◌, min, true, cond, List, [], ◌∷◌, ◌++◌, map, length, Result, Ok, Err, refl}
+use Rattle.std.proofs.Common.{◌≡◌, ℕ, zero, suc, ◌+◌, ◌<◌, ◌≤◌, true, cond, List, [], ◌∷◌, ◌++◌, map, length, Result, Ok, Err, refl}
 use Rattle.std.proofs.Common.{sym, ap, ◌∙◌, inl, inr, arith, length-append}
 use Rattle.std.specs.Ordering.{is_lt}
 use Rattle.std.proofs.lemmas.Bool.{lt-ltb, le-ltb, cases_lt, and_parts, and_from}
 use Rattle.std.proofs.lemmas.List.{length-map}
 use Rattle.wf_value.specs.Matrix.{NamedValues, MatrixLists}
 use Rattle.wf_value.specs.Names.{names_rise}
-use Rattle.wf_value.specs.declared.code.Code.TheVariants.{MatrixTooLarge, LegCount}
+use Rattle.wf_value.specs.declared.code.Code.TheVariants.{LegCount}
 use Rattle.wf_value.specs.declared.refusal.Refusal.{Refusal}
 use Rattle.wf_value.specs.declared.refusal.Refusal.TheVariants.{Numbered}
-use Rattle.matrix_expand.specs.Combinations.{Combination, choice_count, kept, final_combination, combinations, legs_or_refusal}
-use Rattle.matrix_expand.specs.Combinations.{within_choices, combinations_or_refusal}
+use Rattle.matrix_expand.specs.Combinations.{Combination, kept, final_combination, combinations, legs_or_refusal}
 use Rattle.matrix_expand.specs.Entries.{SortsEntries, final_from}
 use Rattle.matrix_expand.specs.Numbered.{axes_of, axes_where, numbered_axes, original_at, original_count, pattern_of, kept_from}
 use Rattle.matrix_expand.specs.Numbered.{kept_of, added_of, new_objects, kept_or_refusal}
 use Rattle.matrix_expand.specs.Values.{AxisValue, PatternValue, EntryValue}
 use Rattle.matrix_expand.proofs.Agreement.{kept_is, new_is}
 use Rattle.matrix_expand.proofs.Finals.{final_is, map-map}
-use Rattle.matrix_expand.proofs.Merging.{same_Ok}
 use Rattle.wf_value.proofs.Rising.{name_cmp}
+use Rattle.wf_value.proofs.PassedOn.{same_Ok}
 
 pub legs_few : (cs : List Combination) → 0 < length cs → length cs ≤ 256 → legs_or_refusal cs ≡ Ok cs
 legs_few [] h l = absurd (omega arith)
@@ -80,18 +79,6 @@ legs_refused m numbers e is h = elim (cases_lt 256 (length numbers)) [
   | inr few ↦ absurd (not_Err _ _ (sym (ap (λ b. cond b (Err (Numbered LegCount)) (Ok numbers)) (le-ltb 256 (length numbers) few)) ∙ h))
 ]
 
--- the choices decide
-pub too_large : (m : MatrixLists) (n : ℕ) → n ≡ min 4097 (choice_count m.variables) → 4096 < n
-    → combinations_or_refusal m ≡ Err (Numbered MatrixTooLarge)
-too_large m n e h = ap (λ b. within_choices b m) (lt-ltb 4096 (choice_count m.variables) (omega arith))
-
-pub small_enough : (m : MatrixLists) (n : ℕ) → n ≡ min 4097 (choice_count m.variables) → n ≤ 4096
-    → combinations_or_refusal m ≡ legs_or_refusal (combinations m)
-small_enough m n e h = ap (λ b. within_choices b m) (le-ltb 4096 (choice_count m.variables) (omega arith))
-
-pub all_counted : (vs : List NamedValues) (n : ℕ) → n ≡ min 4097 (choice_count vs) → n ≤ 4096 → n ≡ choice_count vs
-all_counted vs n e h = omega arith
-
 -- numbered variables keep their names
 pub names_rise-axes : (vs : List NamedValues) → names_rise vs ≡ true → names_rise (axes_of vs) ≡ true
 names_rise-axes [] h = refl
@@ -121,10 +108,6 @@ finals_are m entries rise sorts =
     finals_where m (original_count m.variables) entries (kept_of m) rise sorts
     (λ e. ap (λ n. kept_from (map (pattern_of (numbered_axes m.variables)) m.exclude) 0 n) e)
     ∙ ap (map (final_combination m)) (sym (kept_is m))
-
-pub axes_where_some : (n : ℕ) (vs : List NamedValues) → 0 < n → axes_where n vs ≡ axes_of vs
-axes_where_some zero vs h = absurd (omega arith)
-axes_where_some (suc n) vs h = refl
 
 -- the new combinations, as the code has found them
 pub added_are : (m : MatrixLists) (axes : List AxisValue) (objects : List Combination) (patterns includes : List PatternValue)

@@ -19,8 +19,10 @@ use Rattle.matrix_expand.specs.Combinations.{Combination, value_at}
 use Rattle.matrix_expand.specs.Entries.{comes_before, placed, merged, is_least, names_ascend, pairs_of, flagged, added_value}
 use Rattle.matrix_expand.specs.Entries.{object_entries, SortsEntries}
 use Rattle.matrix_expand.specs.Values.{EntryValue}
-use Rattle.matrix_expand.proofs.Rising.{equal_from, below_all_first, rise_rest}
-use Rattle.wf_value.proofs.Rising.{name_cmp, Less-from_is_lt}
+use Rattle.matrix_expand.proofs.Rising.{below_all_first, rise_rest}
+use Rattle.wf_value.proofs.Rising.{Equal-from_is_eq, Less-from_is_lt, name_cmp}
+use Rattle.wf_value.proofs.PassedOn.{same_Ok}
+use Rattle.wf_value.proofs.OptionOr.{or_none}
 
 pub merged-nil : (es : List EntryValue) → merged es [] ≡ es
 merged-nil [] = refl
@@ -32,9 +34,6 @@ pub merged_end : (left right : List EntryValue) (i j : ℕ) → (length left ≤
 merged_end left right i j (inl l) = rw (drop_all i left l) refl
 merged_end left right i j (inr l) = rw (drop_all j right l) (merged-nil (drop i left) ∙ sym (append-nil (drop i left)))
 
-pub same_Ok : {X : Type 0} (x y : X) → ◌≡◌ {A = Result X Refusal} (Ok x) (Ok y) → x ≡ y
-same_Ok x y e = cc
-
 -- what is merged when the rest of both sides has been added
 pub joined_end : (left right made one two after_left after_right : List EntryValue) (i j : ℕ) → (length left ≤ i) ⊎ (length right ≤ j)
     → made ++ merged (drop i left) (drop j right) ≡ merged left right → after_left ≡ drop i left → after_right ≡ drop j right
@@ -44,10 +43,6 @@ joined_end left right made one two after_left after_right i j ends all a b p q =
     sym all ∙ ap (λ es. made ++ es) (merged_end left right i j ends) ∙ sym (append_assoc made (drop i left) (drop j right))
     ∙ ap (λ es. made ++ es ++ drop j right) (sym a) ∙ ap (λ es. es ++ drop j right) (same_Ok _ _ p) ∙ ap (λ es. one ++ es) (sym b)
     ∙ same_Ok _ _ q
-
-pub option_or-None : {X : Type 0} (o : Option X) → option_or o None ≡ o
-option_or-None None = refl
-option_or-None (Some x) = refl
 
 pub option_or_assoc : {X : Type 0} (a b c : Option X) → option_or a (option_or b c) ≡ option_or (option_or a b) c
 option_or_assoc None b c = refl
@@ -85,14 +80,6 @@ less_least x y z p q = go (name_cmp y z) refl q
     go : (o : Ordering) → name_cmp y z ≡ o → is_gt o ≡ false → name_cmp x z ≡ Less
     go Less e h = nat_list_cmp_total.trans x y z p e
     go Equal e h = subst (λ n. name_cmp x n ≡ Less) (exact_bytes y z e) p
-    go Greater e h = absurd (true≢false h)
-
-pub at_most_less : (x y z : List ℕ) → is_gt (name_cmp x y) ≡ false → name_cmp y z ≡ Less → name_cmp x z ≡ Less
-at_most_less x y z q p = go (name_cmp x y) refl q
-  where
-    go : (o : Ordering) → name_cmp x y ≡ o → is_gt o ≡ false → name_cmp x z ≡ Less
-    go Less e h = nat_list_cmp_total.trans x y z e p
-    go Equal e h = subst (λ n. name_cmp n z ≡ Less) (sym (exact_bytes x y e)) p
     go Greater e h = absurd (true≢false h)
 
 -- a name below the least is below all
@@ -191,7 +178,7 @@ module _ (flags : List Bool) (name : List ℕ) where
             (value_at (flagged flags (f ∷ fs)) name) (cond b (Some e.1.1) (value_at (flagged flags es) name))) [
               | true ↦ λ here.
                   let same : name ≡ e.1.0 = exact_bytes _ _
-                  (equal_from _ (and_parts (get_or flags e.0 false) (is_eq (name_cmp name e.1.0)) here).1) in
+                  (Equal-from_is_eq _ (and_parts (get_or flags e.0 false) (is_eq (name_cmp name e.1.0)) here).1) in
                   let before : name_cmp name f.1.0 ≡ Less = subst (λ n. name_cmp n f.1.0 ≡ Less) (sym same) (Less-from_is_lt _ t) in
                   ap (λ o. option_or o (Some e.1.1))
                   (sym (value_at_before flags name (f ∷ fs)
@@ -213,7 +200,7 @@ module _ (flags : List Bool) (name : List ℕ) where
   pub value_at-merged : (left right : List EntryValue) → names_ascend (pairs_of right) ≡ true
       → value_at (flagged flags (merged left right)) name ≡ option_or (value_at (flagged flags right) name)
       (value_at (flagged flags left) name)
-  value_at-merged [] right g = sym (option_or-None (value_at (flagged flags right) name))
+  value_at-merged [] right g = sym (or_none (value_at (flagged flags right) name))
   value_at-merged (e ∷ es) right g = value_at-placed e es (λ fs k. value_at-merged es fs k) right g
 
 pub pairs_of-object : (place : ℕ) (c : Combination) → pairs_of (object_entries place c) ≡ c
@@ -262,7 +249,7 @@ added_value-append : (flags : List Bool) (name : List ℕ) (place : ℕ) (cs ds 
     → added_value flags place (cs ++ ds) name ≡ option_or (added_value flags (place + length cs) ds name) (added_value flags place cs name)
 added_value-append flags name place [] ds =
     let e : place ≡ place + 0 = omega arith in
-    ap (λ n. added_value flags n ds name) e ∙ sym (option_or-None _)
+    ap (λ n. added_value flags n ds name) e ∙ sym (or_none _)
 added_value-append flags name place (c ∷ cs) ds =
     let e : place + 1 + length cs ≡ place + suc (length cs) = omega arith in
     ap (λ o. option_or o (cond (get_or flags place false) (value_at c name) None)) (added_value-append flags name (place + 1) cs ds

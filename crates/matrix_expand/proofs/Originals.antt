@@ -34,10 +34,6 @@ map_ranges f g a b (suc n) h =
     let q : b + suc r ≡ b + 1 + r = omega arith in
     ap f p ∙ h (suc r) (omega arith) ∙ ap g q))
 
-positive_left : (a b : ℕ) → 0 < a * b → 0 < a
-positive_left zero b h = absurd (omega arith)
-positive_left (suc a) b h = omega arith
-
 positive_right : (a b : ℕ) → 0 < a * b → 0 < b
 positive_right a zero h = absurd (omega arith)
 positive_right a (suc b) h = omega arith

@@ -3,7 +3,7 @@ use Rattle.std.proofs.Common.{◌≡◌, ℕ, zero, suc, ◌+◌, ◌<◌, ◌�
 use Rattle.std.proofs.Common.{◌∙◌, subst, inl, inr, add-one, arith}
 use Rattle.std.specs.Prelude.{T}
 use Rattle.std.specs.Cmp.Lexicographic.{nat_list_cmp_total}
-use Rattle.std.specs.Ordering.{is_lt, is_eq, ordering_reverse, ordering_index}
+use Rattle.std.specs.Ordering.{is_lt, is_eq, ordering_index}
 use Rattle.std.specs.Option.{option_map}
 use Rattle.std.specs.List.Sorted.{IsNonDecreasingBy}
 use Rattle.std.proofs.lemmas.List.{get_or_read}
@@ -13,23 +13,15 @@ use Rattle.std.specs.declared.cmp.Ordering.TheVariants.{Less, Equal, Greater}
 use Rattle.std.specs.FinMap.{find, is_sorted}
 use Rattle.std.specs.FinMap.Entries.{below_all, same_entries}
 use Rattle.std.specs.List.{slice_get}
-use Rattle.std.proofs.lemmas.Bool.{and_parts, and_from, true≢false, cases_lt}
+use Rattle.std.proofs.lemmas.Bool.{and_parts, and_from, cases_lt}
 use Rattle.std.proofs.lemmas.Cmp.{tied_back, eq_by_cmp_equiv}
 use Rattle.std.proofs.lemmas.Map.Lookups.{exact_bytes}
 use Rattle.wf_value.specs.Names.{names_rise}
-use Rattle.wf_value.proofs.Rising.{name_cmp, Less-from_is_lt}
-
-pub equal_from : (o : Ordering) → is_eq o ≡ true → o ≡ Equal
-equal_from Equal h = refl
-equal_from Less h = absurd (true≢false (sym h))
-equal_from Greater h = absurd (true≢false (sym h))
+use Rattle.wf_value.proofs.Rising.{Less-from_is_lt, after_less, name_cmp}
 
 -- a test of two names, turned round
 pub same_test : (x y : List ℕ) → is_eq (name_cmp x y) ≡ is_eq (name_cmp y x)
 same_test x y = (eq_by_cmp_equiv nat_list_cmp_total).symm x y
-
-pub after_less : (x y : List ℕ) → name_cmp x y ≡ Less → name_cmp y x ≡ Greater
-after_less x y h = nat_list_cmp_total.antisymm y x ∙ ap ordering_reverse h
 
 pub not_equal_after : (x y : List ℕ) → name_cmp x y ≡ Less → is_eq (name_cmp y x) ≡ false
 not_equal_after x y h = ap is_eq (after_less x y h)

@@ -126,21 +126,10 @@ rows_if known rows = cond known (Ok rows) (Err unknown_need)
 abbrev graph_if : Bool → Result (List (List ℕ)) Refusal → Result (List (List ℕ)) Refusal
 graph_if known graph = cond known graph (Err unknown_need)
 
-refused_if : (known : Bool) (rows : List (List Bool)) (graph : Result (List (List ℕ)) Refusal) (e : Refusal) → rows_if known rows ≡ Err e
-    → graph_if known graph ≡ Err e
-refused_if true rows graph e h = absurd (cc)
-refused_if false rows graph e h = cc
-
 made_if : (known : Bool) (rows made : List (List Bool)) (graph : Result (List (List ℕ)) Refusal) → rows_if known rows ≡ Ok made
     → (rows ≡ made) × (graph_if known graph ≡ graph)
 made_if true rows made graph h = (cc, refl)
 made_if false rows made graph h = absurd (cc)
-
--- 13: where there are no rows there is no graph, for the same reason
-pub graph_refused : (jobs : List JobNeeds) (e : Refusal) → needs_rows_of jobs ≡ Err e → graph_of jobs ≡ Err e
-graph_refused jobs e h =
-    refused_if (list_all (λ job. list_all (is_job jobs) job.needs) jobs) (needs_rows jobs)
-    (unless_cycle (own_ancestors jobs) (needs_of jobs)) e h
 
 -- what the rows of the jobs say
 record Made (jobs : List JobNeeds) (rows : List (List Bool)) : Type 0 where

@@ -5,7 +5,7 @@ use Rattle.std.specs.Int.{bit_at, w64}
 use Rattle.std.specs.Int.Bits.{bit_or}
 use Rattle.std.proofs.lemmas.Bool.{cases_eq, cases_lt}
 use Rattle.std.proofs.lemmas.List.{get_or-set_same, get_or-set_other, get_or-take, get_or_past, length-take-le}
-use Rattle.std.proofs.lemmas.Nat.Bits.{bit_at-zero, bit_at_set_same, bit_at_set_other}
+use Rattle.std.proofs.lemmas.Nat.Bits.{bit_at_set_same, bit_at_set_other}
 use Rattle.needs_graph.specs.JobSets.{is_in}
 use Rattle.needs_graph.specs.Marks.{is_marked}
 
@@ -44,9 +44,6 @@ get_or-zeros : (n i : ℕ) → get_or (replicate n zero) i zero ≡ zero
 get_or-zeros zero i = refl
 get_or-zeros (suc n) zero = refl
 get_or-zeros (suc n) (suc i) = get_or-zeros n i
-
-pub none_in_zeros : (n job : ℕ) → is_in (replicate n 0) job ≡ false
-none_in_zeros n job = ap (λ w. nat_eq (bit_at w (job % 64)) 1) (get_or-zeros n (job / 64)) ∙ ap (λ b. nat_eq b 1) (bit_at-zero (job % 64))
 
 -- ---- one more mark
 

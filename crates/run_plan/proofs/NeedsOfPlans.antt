@@ -1,11 +1,9 @@
 -- The graph of a plan is that of the jobs that are planned.
-use Rattle.std.specs.Prelude.{◌≡◌, ℕ, List, [], ◌∷◌, ◌++◌, ◌&&◌, map, Bool, true, false, IsTrue, if◌then◌else◌, Ok, Err, refl}
-use Rattle.std.specs.Cmp.Lexicographic.{slice_cmp}
+use Rattle.std.specs.Prelude.{◌≡◌, ℕ, List, [], ◌∷◌, ◌++◌, map, Bool, true, false, IsTrue, if◌then◌else◌, Ok, Err}
 use Rattle.std.specs.List.{list_all}
-use Rattle.std.specs.Ordering.{is_lt, nat_cmp}
 use Rattle.std.proofs.Common.{sym, ap, ◌∙◌}
 use Rattle.std.proofs.lemmas.Simd.{map-map}
-use Rattle.wf_value.specs.Names.{rises_by}
+use Rattle.wf_value.proofs.Rising.{rises_over}
 use Rattle.wf_reader.specs.Faults.{unless_faulty}
 use Rattle.wf_reader.specs.JobCode as read
 use Rattle.wf_reader.specs.declared.job.Job.{Job}
@@ -14,11 +12,6 @@ use Rattle.needs_graph.specs.JobNeeds.{JobNeeds}
 use Rattle.needs_graph.specs.Needs.{graph_of, ids_rise, is_job, needs_of, own_ancestors, unknown_need, unless_cycle}
 use Rattle.run_plan.specs.PlanOf.{jobs_faults, legs_faults, needs_faults, needs_listed, needs_of_job, needs_of_planned, planned_job}
 use Rattle.run_plan.specs.declared.planned.PlannedJob.{PlannedJob}
-
-rises_over : {X Y : Type 0} (name : Y → List ℕ) (f : X → Y) (xs : List X) → rises_by name (map f xs) ≡ rises_by (λ x. name (f x)) xs
-rises_over name f [] = refl
-rises_over name f (x ∷ []) = refl
-rises_over name f (x ∷ y ∷ ys) = ap (λ b. is_lt (slice_cmp nat_cmp (name (f x)) (name (f y))) && b) (rises_over name f (y ∷ ys))
 
 -- jobs that are listed with what they need keep their order
 pub listed_rise : (jobs : List Job) → IsTrue (read.ids_rise jobs) → IsTrue (ids_rise (map needs_of_job jobs))

@@ -1,24 +1,16 @@
 -- The tests of two commands decide whether they are equal.
-use Rattle.std.specs.Prelude.{◌≡◌, ℕ, List, ◌&&◌, Bool, true, false, refl}
+use Rattle.std.specs.Prelude.{◌≡◌, ℕ, List, refl}
 use Rattle.std.specs.Bool.{Decides}
 use Rattle.std.specs.Cmp.Lexicographic.{pointwise}
 use Rattle.std.specs.Str.{bytes_eq}
 use Rattle.std.proofs.Common.{ap, ◌∙◌}
-use Rattle.std.proofs.lemmas.Bool.Decides.{Decides-eqb}
+use Rattle.std.proofs.lemmas.Bool.Decides.{Decides-and, Decides-eqb, Decides-like}
 use Rattle.std.proofs.lemmas.Slice.Eq.{bytes_eq-Decides, slice_eq-Decides}
 use Rattle.wf_value.specs.declared.outcome.Outcome.{Outcome}
 use Rattle.wf_value.specs.declared.outcome.Outcome.TheVariants as outcome
 use Rattle.run_plan.specs.declared.command.Claim.{Claim}
 use Rattle.run_plan.specs.declared.command.Done.{Done}
 use Rattle.run_plan.specs.LastCommand.{same_claims, same_outcomes, same_reports}
-
--- both tests hold where both facts do
-and_decides : {P Q : Type 0} (a b : Bool) → Decides a P → Decides b Q → Decides (a && b) (P × Q)
-and_decides true b p q = (λ h. (p.0 refl, q.0 h), λ h. q.1 h.1)
-and_decides false b p q = (λ h. absurd (cc), λ h. absurd (let t : false ≡ true = p.1 h.0 in cc))
-
-weaker : {P Q : Type 0} (a : Bool) → (P → Q) → (Q → P) → Decides a P → Decides a Q
-weaker a there back p = (λ h. there (p.0 h), λ h. p.1 (back h))
 
 labels_decide : (a b : List (List ℕ)) → Decides (pointwise bytes_eq a b) (a ≡ b)
 labels_decide a b = slice_eq-Decides bytes_eq-Decides a b (pointwise bytes_eq a b) refl
@@ -41,8 +33,8 @@ claim_by a b runner number labels =
 
 pub claims_decide : (a b : Claim) → Decides (same_claims a b) (a ≡ b)
 claims_decide a b =
-    weaker _ (λ h. claim_by a b h.0.0 h.0.1 h.1) (λ h. ((ap (λ c. c.runner) h, ap (λ c. c.number) h), ap (λ c. c.labels) h))
-    (and_decides _ _ (and_decides _ _ (bytes_eq-Decides a.runner b.runner) (Decides-eqb a.number b.number))
+    Decides-like _ (λ h. claim_by a b h.0.0 h.0.1 h.1) (λ h. ((ap (λ c. c.runner) h, ap (λ c. c.number) h), ap (λ c. c.labels) h))
+    (Decides-and _ _ (Decides-and _ _ (bytes_eq-Decides a.runner b.runner) (Decides-eqb a.number b.number))
     (labels_decide a.labels b.labels))
 
 report_by : (a b : Done) → a.runner ≡ b.runner → a.number ≡ b.number → a.lease ≡ b.lease → a.result ≡ b.result → a ≡ b
@@ -53,8 +45,8 @@ report_by a b runner number lease outcome =
 
 pub reports_decide : (a b : Done) → Decides (same_reports a b) (a ≡ b)
 reports_decide a b =
-    weaker _ (λ h. report_by a b h.0.0.0 h.0.0.1 h.0.1 h.1)
+    Decides-like _ (λ h. report_by a b h.0.0.0 h.0.0.1 h.0.1 h.1)
     (λ h. (((ap (λ d. d.runner) h, ap (λ d. d.number) h), ap (λ d. d.lease) h), ap (λ d. d.result) h))
-    (and_decides _ _
-    (and_decides _ _ (and_decides _ _ (bytes_eq-Decides a.runner b.runner) (Decides-eqb a.number b.number)) (Decides-eqb a.lease b.lease))
+    (Decides-and _ _
+    (Decides-and _ _ (Decides-and _ _ (bytes_eq-Decides a.runner b.runner) (Decides-eqb a.number b.number)) (Decides-eqb a.lease b.lease))
     (outcomes_decide a.result b.result))

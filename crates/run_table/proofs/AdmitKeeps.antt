@@ -2,13 +2,13 @@
 use Rattle.std.specs.Prelude.{◌≡◌, ℕ, ◌+◌, ◌<◌, ◌≤◌, List, [], ◌∷◌, ◌++◌, map, length, find, nat_le, true, false, Option, Some, None}
 use Rattle.std.specs.Prelude.{option_map, option_and_then, slice_get, if◌then◌else◌, refl}
 use Rattle.std.specs.List.{position}
-use Rattle.std.specs.Option.{option_or}
 use Rattle.std.proofs.Common.{arith, ap, sym, ◌∙◌, subst, inl, inr, length-append}
 use Rattle.std.proofs.lemmas.Bool.{cases_eq, leb-false, true≢false}
 use Rattle.std.proofs.lemmas.List.{length-map}
-use Rattle.std.proofs.lemmas.Option.{same_Some, slice_get-map, slice_get_past, slice_get_within}
+use Rattle.std.proofs.lemmas.Option.{none-some, same_Some, slice_get-map, slice_get_past, slice_get_within}
 use Rattle.std.proofs.lemmas.Slice.Eq.{bytes_eq-Decides}
 use Rattle.wf_value.specs.declared.code.Code.TheVariants.{LastCounter}
+use Rattle.wf_value.proofs.OptionOr.{or_nothing}
 use Rattle.run_plan.specs.Admitted.{Admitted}
 use Rattle.run_plan.specs.PlanOf.{plan_of}
 use Rattle.run_plan.specs.declared.planned.PlannedJob.{PlannedJob}
@@ -24,7 +24,7 @@ use Rattle.workflow_runs.specs.RunState.{LegState, JobState, RunState}
 use Rattle.workflow_runs.specs.Words.{planned_legs}
 use Rattle.workflow_runs.proofs.Found.{none_found, found_nowhere, each_at, at_the_end, before_the_end}
 use Rattle.run_table.proofs.Kept.{IsKept, kept_still_had}
-use Rattle.workflow_runs.proofs.LeaseReads.{leases_same, none_is_not_some}
+use Rattle.workflow_runs.proofs.LeaseReads.{leases_same}
 use Rattle.workflow_runs.proofs.LegReads.{work_of, had_at, had_in, works_at}
 use Rattle.workflow_runs.proofs.NeedsSettled.{result_in}
 use Rattle.workflow_runs.proofs.Optional.{from_map, if_none}
@@ -142,17 +142,13 @@ plan_was_there : (runs : List RunState) (event : Admitted) (p : LegPlace) (n : �
     → plan_at (runs ++ new_run event ∷ []) p.run p.job ≡ plan_at runs p.run p.job
 plan_was_there runs event p n had =
     elim (cases_eq p.run (length runs)) [
-      | inl s ↦ absurd (none_is_not_some n
+      | inl s ↦ absurd (none-some n
           (sym (ap (option_and_then (λ (run : RunState). had_in run p.job p.leg)) (slice_get_past runs p.run (omega (arith, s)))) ∙ had))
       | inr m ↦ ap (option_and_then (λ (run : RunState). slice_get (plan_of run.admitted.body) p.job))
           (before_the_end runs (new_run event) p.run m)
     ]
 
 -- ---- what was looked at first
-
-pub nothing_in_or : {X : Type 0} (a b : Option X) → option_or a b ≡ None → (a ≡ None) × (b ≡ None)
-nothing_in_or None b e = (refl, e)
-nothing_in_or (Some x) b e = cc
 
 nothing_mapped : {X Y : Type 0} (f : X → Y) (o : Option X) → option_map f o ≡ None → o ≡ None
 nothing_mapped f None e = refl
@@ -164,7 +160,7 @@ pub admit_keeps : (t : TableState) (event : Admitted) → IsKept t → admission
     → IsKept (record t { runs = t.runs ++ new_run event ∷ [] })
 admit_keeps t event s none =
     let next = t.runs ++ new_run event ∷ [] in
-    let looked = nothing_in_or (option_map (λ i. reply.Created (i + 1)) (position (is_delivered_as event.delivery) t.runs))
+    let looked = or_nothing (option_map (λ i. reply.Created (i + 1)) (position (is_delivered_as event.delivery) t.runs))
     (if nat_le 100000 (length t.runs) then Some (refused LastCounter) else None) none in
     let nowhere =
     found_nowhere (is_delivered_as event.delivery) t.runs

@@ -1,6 +1,6 @@
 -- Where each job that was decided has its needs settled, all ancestors of a job with settled needs have settled, and
 -- their results stay.
-use Rattle.std.specs.Prelude.{◌≡◌, ℕ, zero, suc, ◌&&◌, ◌||◌, List, [], ◌∷◌, ◌++◌, filter, length, nat_eq, Bool, true, false, is_some}
+use Rattle.std.specs.Prelude.{◌≡◌, ℕ, zero, suc, ◌||◌, List, [], ◌∷◌, ◌++◌, filter, length, nat_eq, Bool, true, false, is_some}
 use Rattle.std.specs.Prelude.{Option, Some, None, if◌then◌else◌, refl}
 use Rattle.std.specs.List.{flat_map, list_any, range_with_len, slice_index_or}
 use Rattle.std.proofs.Common.{ap, ◌∙◌}
@@ -9,6 +9,7 @@ use Rattle.wf_value.specs.declared.outcome.JobResult.{JobResult}
 use Rattle.needs_graph.specs.Ancestors.{ancestors_of, is_ancestor, needs_at, walk_ends}
 use Rattle.needs_graph.specs.Conditions.{results_at}
 use Rattle.workflow_runs.specs.Words.{all_have_results}
+use Rattle.workflow_runs.proofs.LegFacts.{result_kept}
 
 abbrev has_result : List (Option JobResult) → ℕ → Bool
 has_result results j = is_some (slice_index_or results j None)
@@ -84,10 +85,6 @@ ancestors_settled graph results before j h =
 
 -- ---- and their results
 
-same_result : (o next : Option JobResult) → is_some o ≡ true → ((a : JobResult) → o ≡ Some a → next ≡ Some a) → next ≡ o
-same_result None next some keeps = cc
-same_result (Some a) next some keeps = keeps a refl
-
 pub results_stay : (results next : List (Option JobResult))
     → ((j : ℕ) (a : JobResult) → slice_index_or results j None ≡ Some a → slice_index_or next j None ≡ Some a) → (places : List ℕ)
     → all_have_results results places ≡ true → results_at next places ≡ results_at results places
@@ -95,5 +92,5 @@ results_stay results next keeps [] h = refl
 results_stay results next keeps (p ∷ ps) h =
     let both = and_parts (has_result results p) (all_have_results results ps) h in
     ap (λ o. o ∷ results_at next ps)
-    (same_result (slice_index_or results p None) (slice_index_or next p None) both.0 (keeps p))
+    (result_kept (slice_index_or results p None) (slice_index_or next p None) both.0 (keeps p))
     ∙ ap (λ os. slice_index_or results p None ∷ os) (results_stay results next keeps ps both.1)

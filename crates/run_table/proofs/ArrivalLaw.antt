@@ -4,22 +4,22 @@ use Rattle.std.specs.Prelude.{option_to_list, if◌then◌else◌, refl}
 use Rattle.std.specs.List.{last_or}
 use Rattle.std.specs.Option.{option_map_or}
 use Rattle.std.proofs.Common.{ap, ap₂, append_assoc, inl, inr, sym, ◌∙◌, subst}
-use Rattle.std.proofs.lemmas.Bool.{and_parts, not-true, true≢false}
+use Rattle.std.proofs.lemmas.Bool.{and_from, and_parts, not-true, true≢false}
 use Rattle.std.proofs.lemmas.List.{append-nil}
 use Rattle.std.proofs.lemmas.List.Elements.{filter_map-append}
 use Rattle.std.proofs.lemmas.Option.{same_Some}
 use Rattle.wf_value.specs.declared.outcome.Outcome.TheVariants.{Cancelled}
-use Rattle.group_name.specs.Group.{Group}
+use Rattle.group_name.specs.Group.{Group, same_group}
 use Rattle.workflow_runs.specs.Arrivals.{arrived, displaced, others_pending, room_made, stopped_where_asked}
 use Rattle.run_table.specs.GroupLaw.{BeginsWith, KeepsLaw, cancelled_end}
 use Rattle.workflow_runs.specs.GroupOf.{cancels_in_progress, group_at}
 use Rattle.workflow_runs.specs.GroupWords.{arrival_of, has_arrived, has_started, is_pending, is_running, latest, next_displaced}
 use Rattle.workflow_runs.specs.GroupWords.{same_holder, was_stopped}
-use Rattle.workflow_runs.specs.Groups.{HasOneBeside, holds, is_in, is_pending_in, is_running_in, running_in, same_group, waits}
+use Rattle.workflow_runs.specs.Groups.{HasOneBeside, holds, is_in, is_pending_in, is_running_in, running_in, waits}
 use Rattle.workflow_runs.specs.Moves.{Holder, Move, Moved, at_each, without_moves}
 use Rattle.workflow_runs.specs.StopMoves.{displace, stop_holder}
 use Rattle.workflow_runs.specs.RunState.{RunState}
-use Rattle.workflow_runs.proofs.ArrivalKeeps.{displaced_one_each, itself, nobody_else, one_or_another}
+use Rattle.workflow_runs.proofs.ArrivalKeeps.{asked_fades, displaced_one_each, itself, nobody_else, one_or_another}
 use Rattle.run_table.proofs.ArrivalTold.{displace_tells, each_tells, stop_begins, tells_nothing, tells_then}
 use Rattle.run_table.proofs.ChangesTold.{only_one, stop_tells}
 use Rattle.run_table.proofs.GroupFollows.{displaced_waits, next_shown}
@@ -33,7 +33,7 @@ use Rattle.run_table.proofs.HoldersOnce.{first_kept, one_holder_kept, some_kept}
 use Rattle.run_table.proofs.LawSoFar.{IsQuiet, LawSoFar, each_on, goes_on_then, nobody_arrives, others_on, quiet_goes_on}
 use Rattle.run_table.proofs.LawSoFar.{started_before, stops_are_quiet}
 use Rattle.run_table.proofs.ListWalk.{Walk}
-use Rattle.workflow_runs.proofs.OneEach.{Comes, Fades, IsOneOf, both, fades_not, group_is, one_that_holds, one_that_waits}
+use Rattle.workflow_runs.proofs.OneEach.{Comes, Fades, IsOneOf, group_is, one_that_holds, one_that_waits}
 use Rattle.run_table.proofs.OnlyStops.{OnlyStops, holder_stops, no_stops, stops_on}
 use Rattle.run_table.proofs.OwnMoves.{of_group, of_group_on, own, runs_by_own, waits_by_own}
 use Rattle.workflow_runs.proofs.RunFits.{RunsFit}
@@ -62,10 +62,6 @@ asked_all_still false g runs = λ h un. un
 
 displaced_all_still : (g : Group) (n : Holder) (runs : List RunState) → AllStill runs (displaced g n runs).runs
 displaced_all_still g n runs = each_all_still displace (λ h rs. stop_all_still h rs) (others_pending g n runs) runs
-
-asked_fades : (c : Bool) (g : Group) (runs : List RunState) → Fades runs (stopped_where_asked c g runs).runs
-asked_fades true g runs = each_fades stop_holder holder_stop_fades (running_in runs g) runs
-asked_fades false g runs = fades_not runs
 
 -- ---- who is displaced: at most one
 
@@ -276,9 +272,9 @@ module _ (in_group cancels : Holder → Bool) (g : Group) (before now : List Run
             let waits_now = waits_then h (not_the_newcomer h (inr pends)) too pends in
             let other : same_holder h n ≡ false = apart h (not_the_newcomer h (inr pends)) in
             let there = one_that_waits now h waits_now in
-            let pends_in = both (is_in now g h) (waits now h) (sym (same h there) ∙ too) waits_now in
+            let pends_in = and_from (is_in now g h) (waits now h) (sym (same h there) ∙ too) waits_now in
             some_kept now (λ k. is_pending_in now g k && not (same_holder k n)) h there
-            (both (is_pending_in now g h) (not (same_holder h n)) pends_in (ap not other)) (displaces.are ∙ ap option_to_list none)
+            (and_from (is_pending_in now g h) (not (same_holder h n)) pends_in (ap not other)) (displaces.are ∙ ap option_to_list none)
 
         by_one : (x : Option Holder) → o ≡ x → next_displaced moves ≡ x
         by_one None none = none_next (next_displaced moves) (nobody none)
@@ -338,7 +334,8 @@ module _ (in_group cancels : Holder → Bool) (g : Group) (before now : List Run
       only_it =
           let held : holds (displaced g n now).runs h ≡ true = holds_as (displaced g n now).runs h ∙ held_then in
           let there = one_that_holds (displaced g n now).runs h held in
-          let passes = both (is_in (displaced g n now).runs g h) (holds (displaced g n now).runs h) (sym (same_then h there) ∙ of_h) held in
+          let passes =
+          and_from (is_in (displaced g n now).runs g h) (holds (displaced g n now).runs h) (sym (same_then h there) ∙ of_h) held in
           one_holder_kept (displaced g n now).runs (is_running_in (displaced g n now).runs g) h there passes
           (λ k too. (displaced_one_each now fit n g waiting its besides).running g k h too passes)
 
@@ -358,9 +355,6 @@ module _ (in_group cancels : Holder → Bool) (g : Group) (before now : List Run
     module _ (c : Bool) (asked : cancels n ≡ true → c ≡ true) where
       rest : List Move
       rest = of_group in_group (stopped_where_asked c g (displaced g n now).runs).moves
-
-      stops_rest : OnlyStops (stopped_where_asked c g (displaced g n now).runs).moves
-      stops_rest = asked_stops c g (displaced g n now).runs
 
       tail_walks : (x : Option Holder) → o ≡ x
           → Walk (Lawful cancels) (moves ++ Move.arrive n ∷ []) (cancelled_end x ++ of_group in_group (stopped_where_asked c g
@@ -411,7 +405,7 @@ module _ (in_group cancels : Holder → Bool) (g : Group) (before now : List Run
           let waits_then_too = (asked_fades c g (displaced g n now).runs).waited h e in
           let there = one_that_waits (displaced g n now).runs h waits_then_too in
           nobody_else now fit n g h
-          (both (is_in (displaced g n now).runs g h) (waits (displaced g n now).runs h) (sym (same_then h there) ∙ too) waits_then_too)
+          (and_from (is_in (displaced g n now).runs g h) (waits (displaced g n now).runs h) (sym (same_then h there) ∙ too) waits_then_too)
 
       rest_is_silent : filter_map arrival_of (cancelled_end o ++ of_group in_group (stopped_where_asked c g
           (displaced g n now).runs).moves) ≡ []

@@ -32,10 +32,6 @@ work_at legs l = option_and_then work_of (slice_get legs l)
 
 -- ---- a leg at work has a lease
 
-some_lease : (lease : Option ℕ) → (n : ℕ) → lease ≡ Some n → (b : Bool) → b ≡ true → (if b then lease else None) ≡ Some n
-some_lease lease n e true h = e
-some_lease lease n e false h = cc
-
 record WorksUnder (l : LegState) : Type 0 where
   lease : ℕ
   is : work_of l ≡ Some lease

@@ -30,15 +30,6 @@ use Rattle.run_table.proofs.ReportKeeps.{loss_stays, report_stays}
 use Rattle.workflow_runs.proofs.RunFits.{RunsFit}
 use Rattle.workflow_runs.proofs.SoundRuns.{sound_runs}
 
-pub runs_of_table : (t : TableState) → IsSound t → RunsAreSound t.runs
-runs_of_table t s = record {
-  jobs_are_the_plans = s.jobs_are_the_plans;
-  run_phases_fit = s.run_phases_fit;
-  jobs_fit = s.jobs_fit;
-  needs_settled_first = s.needs_settled_first;
-  leases_fit = s.leases_fit;
-}
-
 -- the runs fit, and no group has two holders of a kind
 pub record MaySettle (runs : List RunState) : Type 0 where
   pub sound : RunsAreSound runs

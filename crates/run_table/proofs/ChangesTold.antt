@@ -95,9 +95,6 @@ pub record TellsOfJob (r j : ℕ) (f : JobState → JobState) (runs : List RunSt
   pub only : (h : Holder) → ((l : ℕ) → h ≡ Holder.a_leg (leg_place r j l) → ⊥) → own h moves ≡ []
 
 module _ (r j : ℕ) (f : JobState → JobState) (runs : List RunState) (moves : List Move) (tells : TellsOfJob r j f runs moves) where
-  next_runs : List RunState
-  next_runs = with_job r j f runs
-
   no_move : (h : Holder) → own h moves ≡ [] → status (with_job r j f runs) h ≡ status runs h
       → Goes h (status runs h) (own h moves) (status (with_job r j f runs) h)
   no_move h none same =

@@ -4,7 +4,9 @@ use Rattle.std.specs.Prelude.{option_and_then, slice_get, count_by, if◌then◌
 use Rattle.std.specs.Option.{option_map_or}
 use Rattle.std.proofs.Common.{arith, ap, sym, ◌∙◌, subst, inl, inr}
 use Rattle.std.proofs.lemmas.Bool.{cases_eq, and_parts, leb-false, ltb-true}
+use Rattle.std.proofs.lemmas.Option.{none-some}
 use Rattle.wf_value.specs.declared.code.Code.TheVariants.{HasLease, LastCounter}
+use Rattle.wf_value.proofs.OptionOr.{or_nothing}
 use Rattle.run_plan.specs.declared.command.Claim.{Claim as Claimed}
 use Rattle.run_plan.specs.declared.reply.Reply.{Reply}
 use Rattle.workflow_runs.specs.FirstOf.{changed_at}
@@ -23,13 +25,12 @@ use Rattle.run_table.specs.Turns.{runner_named, answer_of_turn, with_runner, hol
 use Rattle.run_plan.specs.declared.last_command.ClaimReply.TheVariants as given
 use Rattle.workflow_runs.specs.declared.phases.LegPhase.{LegPhase}
 use Rattle.workflow_runs.specs.declared.phases.LegPhase.TheVariants as leg
-use Rattle.run_table.proofs.AdmitKeeps.{nothing_in_or}
 use Rattle.workflow_runs.proofs.Found.{find_passes}
 use Rattle.run_table.proofs.AtWork.{at_work, one_at_work, at_most_one, fewer_in_job, most_same}
 use Rattle.workflow_runs.proofs.JobKeeps.{leg_in, leg_stays, leg_now, leg_elsewhere, job_is_now, with_leg_of}
 use Rattle.workflow_runs.proofs.Lowered.{sum_of_changed}
 use Rattle.run_table.proofs.Kept.{IsKept, KeptIsHad, kept_still_had, told_the_same, deliveries_still_differ}
-use Rattle.workflow_runs.proofs.LeaseReads.{ChangesAt, names_same, place_or_another, lease_given, leases_same, none_is_not_some}
+use Rattle.workflow_runs.proofs.LeaseReads.{ChangesAt, names_same, place_or_another, lease_given, leases_same}
 use Rattle.workflow_runs.proofs.LegReads.{work_of, had_at, works_at, had_is, works_is, had_from_leg, works_from_leg}
 use Rattle.workflow_runs.proofs.RunFits.{RunsFit, admitted_at, plan_at_same, leases_fit}
 use Rattle.run_table.proofs.RunnerOrder.{names_still_rise}
@@ -171,7 +172,7 @@ pub serving_keeps : (t : TableState) (claim : Claimed) → IsKept t → claim_an
 serving_keeps t claim s none =
     let new = claiming_runner claim None given.Nothing in
     let runner = runner_named t.runners claim.runner in
-    let looked = nothing_in_or (answer_of_turn runner claim.number (is_last_claim claim))
+    let looked = or_nothing (answer_of_turn runner claim.number (is_last_claim claim))
     (if holds_lease runner then Some (refused HasLease) else
     (if has_no_lease_left t claim then Some (refused LastCounter) else None)) none in
     let free = holds_none runner
@@ -211,7 +212,7 @@ still_had : (before after : LegPlace → Option ℕ) (at : LegPlace) (new : Opti
     → (p : LegPlace) (n : ℕ) → before p ≡ Some n → after p ≡ Some n
 still_had before after at new changes free p n e =
     elim (place_or_another p at) [
-      | inl s ↦ absurd (none_is_not_some n (sym free ∙ ap before (sym s) ∙ e))
+      | inl s ↦ absurd (none-some n (sym free ∙ ap before (sym s) ∙ e))
       | inr m ↦ changes.elsewhere p m ∙ e
     ]
 
@@ -228,7 +229,7 @@ leasing_keeps t claim p s none fit =
     let new = claiming_runner claim (Some lease) (given.Lease (lease_at t.runs p lease)) in
     let next = with_leg p (λ _. leased_leg lease) t.runs in
     let runner = runner_named t.runners claim.runner in
-    let looked = nothing_in_or (answer_of_turn runner claim.number (is_last_claim claim))
+    let looked = or_nothing (answer_of_turn runner claim.number (is_last_claim claim))
     (if holds_lease runner then Some (refused HasLease) else
     (if has_no_lease_left t claim then Some (refused LastCounter) else None)) none in
     let tests = looked_first (holds_lease runner) (has_no_lease_left t claim) (refused HasLease) (refused LastCounter) looked.1 in

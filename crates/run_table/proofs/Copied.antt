@@ -6,6 +6,7 @@ use Rattle.std.proofs.Common.{inl, inr, ap, sym, ◌∙◌}
 use Rattle.std.proofs.lemmas.Bool.{cases_Bool, not-true}
 use Rattle.wf_value.specs.declared.code.Code.TheVariants.{LeaseNotHeld, NoRunner}
 use Rattle.wf_value.specs.declared.refusal.Refusal.{Refusal}
+use Rattle.wf_value.proofs.PassedOn.{same_Ok}
 use Rattle.run_plan.specs.ReplyText.{carries_text}
 use Rattle.run_plan.specs.declared.command.Claim.{Claim as Claimed}
 use Rattle.run_plan.specs.declared.command.Command.{Command}
@@ -17,7 +18,6 @@ use Rattle.run_table.specs.Step.{admission_answer, admitting, beat_answer, cance
 use Rattle.run_table.specs.Step.{answered as answer_of, is_free, look_answer, losing, lost, refused, released, report_answer, reporting}
 use Rattle.run_table.specs.Step.{step, stepped, unchanged}
 use Rattle.run_table.specs.Turns.{runner_named}
-use Rattle.workflow_runs.proofs.Doors.{given}
 
 abbrev Stays : TableState → Step → Type 0
 Stays t s = carries_text s.reply ≡ true → s.table ≡ t
@@ -56,7 +56,7 @@ pub copy_refused : {T : Type 0} (t next : TableState) (reply : Reply) (c : Comma
     → OnErr r (next ≡ t)
 copy_refused t next reply c (Ok x) other gave answers = tt
 copy_refused t next reply c (Err e) other gave answers =
-    let is = given (step t c) (next, reply) gave in
+    let is = same_Ok (step t c) (next, reply) gave in
     let table : (stepped t c).table ≡ next = ap (λ (p : TableState × Reply). p.0) is in
     let told : (stepped t c).reply ≡ reply = ap (λ (p : TableState × Reply). p.1) is in
     elim (cases_Bool (carries_text reply)) [
@@ -112,5 +112,5 @@ pub copied_free : {T : Type 0} (t next : TableState) (reply : Reply) (c : Comman
     → ◌≡◌ {A = Result (TableState × Reply) Refusal} (Ok (step t c)) (Ok (next, reply)) → (carries_text reply ≡ false → IsOk r)
     → is_free (answer_of t c) ≡ true → IsOk r
 copied_free t next reply c r gave answers free =
-    let told : (stepped t c).reply ≡ reply = ap (λ (p : TableState × Reply). p.1) (given (step t c) (next, reply) gave) in
+    let told : (stepped t c).reply ≡ reply = ap (λ (p : TableState × Reply). p.1) (same_Ok (step t c) (next, reply) gave) in
     answers (ap carries_text (sym told) ∙ free_plain t c free)

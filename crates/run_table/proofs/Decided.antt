@@ -1,6 +1,6 @@
 -- Each job that is no longer blocked has its needs settled, and each that was skipped has a condition that is false: what
 -- each change of the runs keeps of it.
-use Rattle.std.specs.Prelude.{◌≡◌, ℕ, zero, suc, List, [], ◌∷◌, true, false, is_some, Option, Some, None}
+use Rattle.std.specs.Prelude.{◌≡◌, ℕ, zero, suc, List, [], ◌∷◌, true, false, Option, Some, None}
 use Rattle.std.specs.Prelude.{option_map, option_and_then, slice_get, refl}
 use Rattle.std.specs.List.{slice_index_or}
 use Rattle.std.specs.Option.{option_map_or}
@@ -22,7 +22,7 @@ use Rattle.run_table.proofs.AncestorsSettled.{NeedsBefore, ancestors_settled, re
 use Rattle.workflow_runs.proofs.Changed.{holds_of_each}
 use Rattle.workflow_runs.proofs.JobKeeps.{JobIn, job_in, with_job_of}
 use Rattle.workflow_runs.proofs.NeedsSettled.{KeepsResults, graph_same, needs_stay_settled, result_in, result_of_job}
-use Rattle.workflow_runs.proofs.Optional.{from_and_then}
+use Rattle.workflow_runs.proofs.Optional.{from_and_then, some_of}
 use Rattle.workflow_runs.proofs.RunFits.{admitted_at, job_in_run, plan_at_same}
 
 -- what holds of a job, once it is no longer blocked
@@ -37,10 +37,6 @@ abbrev pub Decided : List RunState → Type 0
 Decided runs = (r j : ℕ) (y : JobState) → job_at runs r j ≡ Some y → JobDecided runs r j y.phase
 
 -- ---- what was decided stays so
-
-some_of : {X : Type 0} (o : Option X) → is_some o ≡ true → (x : X) × (o ≡ Some x)
-some_of None h = cc
-some_of (Some x) h = (x, refl)
 
 needs_of_settled : (runs : List RunState) (r j : ℕ) (phase : JobPhase) (a : JobResult) → settled_result phase ≡ Some a
     → JobDecided runs r j phase → needs_have_settled runs r j ≡ true

@@ -25,7 +25,7 @@ use Rattle.workflow_runs.specs.declared.phases.LegPhase.TheVariants as leg
 use Rattle.workflow_runs.specs.declared.phases.RunPhase.{RunPhase}
 use Rattle.workflow_runs.specs.declared.phases.RunPhase.TheVariants as run
 use Rattle.workflow_runs.specs.declared.place.Place.{Place}
-use Rattle.run_table.proofs.EachRule.{by_rule}
+use Rattle.workflow_runs.proofs.EachRule.{by_rule}
 use Rattle.workflow_runs.proofs.Optional.{from_and_then}
 
 -- ---- a change of one run that keeps its event

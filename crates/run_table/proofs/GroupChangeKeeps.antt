@@ -15,9 +15,9 @@ use Rattle.run_table.proofs.GroupArrival.{arrival_matches, arrival_walks}
 use Rattle.run_table.proofs.GroupLawWalk.{Lawful, law_goes_on}
 use Rattle.run_table.proofs.GroupSaid.{latest_on, pending_on, running_on, runs_started, stopped_on}
 use Rattle.run_table.proofs.GroupSaid.{the_same, waits_unstarted}
-use Rattle.run_table.proofs.GroupTruths.{not_both, or_false, pending_after_end, pending_after_start, pending_after_stop}
+use Rattle.run_table.proofs.GroupTruths.{not_both, pending_after_end, pending_after_start, pending_after_stop}
 use Rattle.run_table.proofs.GroupTruths.{pending_after_withdrawal, running_after_arrival, running_after_end, running_after_start}
-use Rattle.run_table.proofs.GroupTruths.{running_after_stop}
+use Rattle.run_table.proofs.GroupTruths.{or_false, running_after_stop}
 use Rattle.run_table.proofs.ListWalk.{Walk}
 use Rattle.run_table.proofs.OnlyStops.{told_then}
 

@@ -9,7 +9,6 @@ use Rattle.std.proofs.lemmas.List.Folds.{list_any-append}
 use Rattle.workflow_runs.specs.GroupWords.{arrival_of, end_of, start_of, stop_of, has_arrived, has_ended, has_started, was_stopped}
 use Rattle.workflow_runs.specs.GroupWords.{is_pending, is_running, is_the, latest}
 use Rattle.workflow_runs.specs.Moves.{Holder, Move}
-use Rattle.workflow_runs.proofs.LeaseReads.{same_place as place_by}
 use Rattle.workflow_runs.proofs.ArrivalKeeps.{holder_tested, itself}
 
 -- ---- the same holder

@@ -10,15 +10,14 @@ use Rattle.std.specs.Str.{bytes_eq}
 use Rattle.std.specs.declared.cmp.Ordering.{Ordering}
 use Rattle.std.specs.declared.cmp.Ordering.TheVariants.{Less, Equal, Greater}
 use Rattle.std.proofs.Common.{ap, sym, ◌∙◌}
-use Rattle.std.proofs.lemmas.Bool.{or_parts, or_right, true≢false}
+use Rattle.std.proofs.lemmas.Bool.{and_from, or_parts, or_right, true≢false}
 use Rattle.std.proofs.lemmas.Map.Lookups.{exact_bytes}
-use Rattle.std.proofs.lemmas.Map.Text.{is_eq-slice_cmp}
 use Rattle.std.proofs.lemmas.Slice.Eq.{bytes_eq-Decides}
-use Rattle.group_name.specs.Group.{Group}
+use Rattle.group_name.specs.Group.{Group, same_group}
 use Rattle.group_name.specs.Order.{group_cmp, group_eq, name_bytes, repository_bytes}
+use Rattle.group_name.proofs.SameGroups.{same_is_one}
 use Rattle.run_table.specs.GroupSets.{has_group}
-use Rattle.workflow_runs.specs.Groups.{same_group}
-use Rattle.workflow_runs.proofs.OneEach.{both, same_is_one}
+use Rattle.wf_value.proofs.Rising.{Equal-from_same}
 
 -- ---- one test or another
 
@@ -35,27 +34,17 @@ both_equal Less p e = cc
 both_equal Equal p e = (refl, e)
 both_equal Greater p e = cc
 
-is_equal : (o : Ordering) → is_eq o ≡ true → o ≡ Equal
-is_equal Less e = cc
-is_equal Equal e = refl
-is_equal Greater e = cc
-
 -- groups that the order does not tell apart are equal for a map
 pub equal_for_maps : (g k : Group) → group_cmp g k ≡ Equal → IsTrue (group_eq g k)
 equal_for_maps g k e =
     let parts = both_equal (slice_cmp nat_cmp (repository_bytes g) (repository_bytes k))
     (slice_cmp nat_cmp (name_bytes g) (name_bytes k)) e in
-    both (bytes_eq (repository_bytes g) (repository_bytes k)) (bytes_eq (name_bytes g) (name_bytes k))
+    and_from (bytes_eq (repository_bytes g) (repository_bytes k)) (bytes_eq (name_bytes g) (name_bytes k))
     ((bytes_eq-Decides (repository_bytes g) (repository_bytes k)).1 (exact_bytes (repository_bytes g) (repository_bytes k) parts.0))
     ((bytes_eq-Decides (name_bytes g) (name_bytes k)).1 (exact_bytes (name_bytes g) (name_bytes k) parts.1))
 
-pub own_group : (g : Group) → same_group g g ≡ true
-own_group g =
-    both (bytes_eq g.repository g.repository) (bytes_eq g.folded g.folded) ((bytes_eq-Decides g.repository g.repository).1 refl)
-    ((bytes_eq-Decides g.folded g.folded).1 refl)
-
 equal_itself : (xs : List ℕ) → slice_cmp nat_cmp xs xs ≡ Equal
-equal_itself xs = is_equal (slice_cmp nat_cmp xs xs) (is_eq-slice_cmp xs xs ∙ (bytes_eq-Decides xs xs).1 refl)
+equal_itself xs = Equal-from_same xs xs refl
 
 -- the order does not tell a group from itself
 at_itself : (g : Group) → is_at (group_cmp g) g ≡ true
@@ -91,14 +80,6 @@ none_passes test other (x ∷ xs) so none =
 pub not_there : (groups : List Group) (g : Group) → list_any (is_at (group_cmp g)) groups ≡ false → has_group groups g ≡ false
 not_there groups g none = none_passes (is_at (group_cmp g)) (same_group g) groups (λ k same. at_same g k same) none
 
--- and one that is there is found
-pub there_found : (groups : List Group) (g : Group) → has_group groups g ≡ true → list_any (is_at (group_cmp g)) groups ≡ true
-there_found groups g has =
-    elim (list_any (is_at (group_cmp g)) groups) as (λ b. list_any (is_at (group_cmp g)) groups ≡ b → b ≡ true) [
-      | true ↦ λ is. refl
-      | false ↦ λ is. absurd (true≢false (sym has ∙ not_there groups g is))
-    ] refl
-
 -- ---- what was put in
 
 at_key : {X : Type 0} (test : X → Bool) (k x : X) (xs more : List X) (o : Ordering) → is_eq o ≡ false
@@ -114,12 +95,3 @@ put_in cmp test k [] none = refl
 put_in cmp test k (x ∷ xs) none =
     let parts = or_parts (is_at (cmp k) x) (list_any (is_at (cmp k)) xs) none in
     at_key test k x xs (insert_key cmp xs k) (cmp k x) parts.0 (put_in cmp test k xs parts.1)
-
--- what is there already is there afterwards
-pub there_already : (groups : List Group) (g k : Group) → has_group groups g ≡ true
-    → has_group groups k ≡ (same_group k g || has_group groups k)
-there_already groups g k has =
-    elim (same_group k g) as (λ b. same_group k g ≡ b → has_group groups k ≡ (b || has_group groups k)) [
-      | true ↦ λ is. ap (has_group groups) (same_is_one k g is) ∙ has
-      | false ↦ λ is. refl
-    ] refl

@@ -5,14 +5,12 @@ use Rattle.std.proofs.Common.{arith, ap, sym, subst, ◌∙◌, inl, inr}
 use Rattle.std.proofs.lemmas.Bool.{cases_eq, not-false, not-true, or_right, true≢false}
 use Rattle.std.proofs.lemmas.Option.{none-some, same_Some}
 use Rattle.wf_value.specs.declared.refusal.Refusal.{Refusal}
-use Rattle.group_name.specs.Group.{Group}
+use Rattle.group_name.specs.Group.{Group, same_group}
+use Rattle.group_name.proofs.SameGroups.{same_is_one, own_group}
 use Rattle.run_table.specs.GroupSets.{AddsEach, AreGroupsOf, Clash, DifferInGroup, Gathered, HasOneOf, IsALegOfRun, IsAny, IsOfRun}
 use Rattle.run_table.specs.GroupSets.{has_group}
-use Rattle.workflow_runs.specs.Groups.{same_group}
 use Rattle.workflow_runs.specs.Holders.{run_of}
 use Rattle.workflow_runs.specs.Moves.{Holder}
-use Rattle.run_table.proofs.GroupSetReads.{own_group}
-use Rattle.workflow_runs.proofs.OneEach.{same_is_one}
 
 -- those of them that are passed
 abbrev pub SoFar : (Holder → Type 0) → (Holder → ℕ) → ℕ → Holder → Type 0
@@ -112,31 +110,9 @@ module _ (group_of : Holder → Option Group) where
     ];
   }
 
-  pub some_clash : (a : List Group) (first all : Holder → Type 0) → Clash group_of a first → ((h : Holder) → first h → all h)
-      → Clash group_of a all
-  some_clash a first all one of_first = record {
-    group = one.group;
-    one = one.one;
-    is_one = of_first one.one one.is_one;
-    has_it = one.has_it;
-    other = elim (one.other) [
-      | inl old ↦ inl old
-      | inr s ↦ inr (record { one = s.one; is_one = (of_first s.one s.is_one.0, s.is_one.1); has_it = s.has_it })
-    ];
-  }
-
   -- ---- place by place
 
   module _ (these : Holder → Type 0) (place : Holder → ℕ) where
-    pub none_gathered : (a : List Group) → Gathered group_of a a (SoFar these place 0)
-    none_gathered a = record {
-      keeps = (λ g e. e);
-      has_each = (λ h g is e. let lt = is.1 in absurd (omega arith));
-      no_other = (λ g e. inl e);
-      each_new = (λ h g is e. let lt = is.1 in absurd (omega arith));
-      each_once = (λ h k g is also e f. let lt = is.1 in absurd (omega arith));
-    }
-
     pub next_gathered : (i : ℕ) (a b c : List Group) (next : Holder → Type 0) → Gathered group_of a b (SoFar these place i)
         → Gathered group_of b c next → ((h : Holder) → next h → these h × (place h ≡ i)) → ((h : Holder) → these h → place h ≡ i → next h)
         → Gathered group_of a c (SoFar these place (i + 1))
@@ -148,12 +124,6 @@ module _ (group_of : Holder → Option Group) where
         ])
         (λ h is. (is.0, let lt = is.1 in omega arith))
         (λ h is. let is_here = from_next h is in (is_here.0, omega (arith, is_here.1)))
-
-    pub next_clashes : (i : ℕ) (a b : List Group) (next : Holder → Type 0) → Gathered group_of a b (SoFar these place i)
-        → Clash group_of b next → ((h : Holder) → next h → these h × (place h ≡ i)) → Clash group_of a these
-    next_clashes i a b next before more from_next =
-        others_clash a b (SoFar these place i) next these before more (λ h is. is.0) (λ h is. (from_next h is).0)
-        (λ h is is_next. let lt = is.1 in absurd (omega (arith, (from_next h is_next).1)))
 
     pub all_gathered : (i : ℕ) (a b : List Group) → Gathered group_of a b (SoFar these place i)
         → ((h : Holder) (g : Group) → these h → group_of h ≡ Some g → place h < i) → Gathered group_of a b these
@@ -170,12 +140,6 @@ module _ (group_of : Holder → Option Group) where
 
   -- ---- all of them
 
-  pub two_clash : Clash group_of [] IsAny → DifferInGroup group_of → ⊥
-  two_clash clash differ = elim (clash.other) [
-    | inl there ↦ absurd (true≢false (sym there))
-    | inr s ↦ s.is_one.1 (differ s.one clash.one clash.group s.has_it clash.has_it)
-  ]
-
   pub all_differ : (b : List Group) → Gathered group_of [] b IsAny → DifferInGroup group_of × AreGroupsOf group_of b
   all_differ b all = (
     (λ h k g e f. all.each_once h k g tt tt e f),
@@ -190,11 +154,6 @@ module _ (group_of : Holder → Option Group) where
   all_new a b these true adds is = adds
   all_new a b these false adds is = cc
 
-  pub one_not_new : (a b : List Group) (these : Holder → Type 0) (new : Bool) → AddsEach group_of a b these new → new ≡ false
-      → Clash group_of a these
-  one_not_new a b these true adds is = cc
-  one_not_new a b these false adds is = adds
-
   -- ---- a run, and then its legs
 
   run_or_leg : (r : ℕ) (h : Holder) → IsOfRun r h → (h ≡ Holder.a_run r) ⊎ IsALegOfRun r h
@@ -207,9 +166,6 @@ module _ (group_of : Holder → Option Group) where
   its_leg : (r : ℕ) (h : Holder) → IsALegOfRun r h → IsOfRun r h
   its_leg r (Holder.a_run s) is = absurd is
   its_leg r (Holder.a_leg p) is = is
-
-  pub run_clashes : (r : ℕ) (a : List Group) → Clash group_of a (λ h. h ≡ Holder.a_run r) → Clash group_of a (IsOfRun r)
-  run_clashes r a clash = some_clash a (λ h. h ≡ Holder.a_run r) (IsOfRun r) clash (the_run r)
 
   pub legs_put : (r : ℕ) (a b c : List Group) (result : Result Bool Refusal) → Gathered group_of a b (λ h. h ≡ Holder.a_run r)
       → IfOk result (AddsEach group_of b c (IsALegOfRun r)) → IfOk result (AddsEach group_of a c (IsOfRun r))

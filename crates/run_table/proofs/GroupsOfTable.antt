@@ -6,25 +6,25 @@ use Rattle.std.specs.Prelude.{IfOk, Result, Ok, Err, refl}
 use Rattle.std.specs.List.{list_any}
 use Rattle.std.specs.Option.{option_map_or}
 use Rattle.std.proofs.Common.{ap, sym, subst, ◌∙◌}
-use Rattle.std.proofs.lemmas.Bool.{and_parts}
+use Rattle.std.proofs.lemmas.Bool.{and_from, and_parts}
 use Rattle.std.proofs.lemmas.Option.{slice_get_within}
 use Rattle.wf_value.specs.declared.refusal.Refusal.{Refusal}
-use Rattle.group_name.specs.Group.{Group}
+use Rattle.group_name.specs.Group.{Group, same_group}
+use Rattle.group_name.proofs.SameGroups.{own_group}
 use Rattle.workflow_runs.specs.GroupOf.{group_at}
 use Rattle.run_table.specs.GroupSets.{AreGroupsOf, AreTaken, DifferInGroup, IsALegOfJob, IsALegOfRun, group_as, has_group}
 use Rattle.run_table.specs.GroupSets.{stands}
-use Rattle.workflow_runs.specs.Groups.{HasOneEach, all_holders, holds, is_in, is_pending_in, is_running_in, is_taken, same_group, waits}
+use Rattle.workflow_runs.specs.Groups.{HasOneEach, all_holders, holds, is_in, is_pending_in, is_running_in, is_taken, waits}
 use Rattle.workflow_runs.specs.Holders.{run_of}
 use Rattle.workflow_runs.specs.Moves.{Holder}
 use Rattle.workflow_runs.specs.Places.{job_at, leg_place, run_at}
 use Rattle.workflow_runs.specs.RunState.{JobState, RunState}
 use Rattle.run_table.specs.declared.sound.groups.Standing.{Standing}
 use Rattle.run_table.specs.declared.sound.groups.Standing.TheVariants.{Pending, Running}
-use Rattle.run_table.proofs.GroupSetReads.{own_group}
 use Rattle.workflow_runs.proofs.JobKeeps.{leg_in}
 use Rattle.workflow_runs.proofs.LeaseReads.{same_place}
 use Rattle.workflow_runs.proofs.RunFits.{job_in_run}
-use Rattle.workflow_runs.proofs.OneEach.{IsOneOf, both, group_is, not_taken, one_that_holds, one_that_waits}
+use Rattle.workflow_runs.proofs.OneEach.{IsOneOf, group_is, not_taken, one_that_holds, one_that_waits}
 
 -- the place of its job, and its own
 abbrev pub job_of : Holder → ℕ
@@ -97,11 +97,11 @@ module _ (runs : List RunState) where
 
   as_pending : (g : Group) (h : Holder) → group_as runs Pending h ≡ Some g → is_pending_in runs g h ≡ true
   as_pending g h e =
-      let parts = given_if (waits runs h) (group_at runs h) g e in both (is_in runs g h) (waits runs h) (in_own g h parts.1) parts.0
+      let parts = given_if (waits runs h) (group_at runs h) g e in and_from (is_in runs g h) (waits runs h) (in_own g h parts.1) parts.0
 
   as_running : (g : Group) (h : Holder) → group_as runs Running h ≡ Some g → is_running_in runs g h ≡ true
   as_running g h e =
-      let parts = given_if (holds runs h) (group_at runs h) g e in both (is_in runs g h) (holds runs h) (in_own g h parts.1) parts.0
+      let parts = given_if (holds runs h) (group_at runs h) g e in and_from (is_in runs g h) (holds runs h) (in_own g h parts.1) parts.0
 
   pub one_of_each : DifferInGroup (group_as runs Pending) → DifferInGroup (group_as runs Running) → HasOneEach runs
   one_of_each pending running = record {

@@ -1,11 +1,11 @@
 -- The moves of a group over all commands keep its law, behind those of the holders that the group has already.
-use Rattle.std.specs.Prelude.{◌≡◌, ◌⊎◌, List, [], ◌∷◌, ◌++◌, filter, find, map, not, option_to_list, Bool, true, false, Option}
+use Rattle.std.specs.Prelude.{◌≡◌, ◌⊎◌, List, [], ◌∷◌, ◌++◌, find, map, not, option_to_list, Bool, true, false, Option}
 use Rattle.std.specs.Prelude.{Some, None}
 use Rattle.std.specs.Prelude.{if◌then◌else◌, refl}
 use Rattle.std.specs.List.{AllByRecursion}
 use Rattle.std.specs.Option.{option_map_or}
 use Rattle.std.proofs.Common.{ap, ap₂, inl, inr, sym, ◌∙◌, subst, append_assoc}
-use Rattle.std.proofs.lemmas.Bool.{and_parts, false≢true, true≢false}
+use Rattle.std.proofs.lemmas.Bool.{and_from, and_parts, false≢true, true≢false}
 use Rattle.std.proofs.lemmas.List.{append-nil}
 use Rattle.group_name.specs.Group.{Group}
 use Rattle.run_plan.specs.declared.command.Command.{Command}
@@ -31,12 +31,13 @@ use Rattle.run_table.proofs.HolderStatus.{Fits, Status, fits_running, holds_as, 
 use Rattle.run_table.proofs.HolderStatus.{status_of_run, told_as, waits_as}
 use Rattle.run_table.proofs.Kept.{kept_from_sound}
 use Rattle.run_table.proofs.LawSoFar.{LawSoFar}
-use Rattle.workflow_runs.proofs.OneEach.{IsOneOf, both, each_holder, one_that_holds, one_that_waits}
+use Rattle.workflow_runs.proofs.OneEach.{IsOneOf, each_holder, one_that_holds, one_that_waits}
 use Rattle.run_table.proofs.OwnMoves.{arrived_by_own, own, own_on}
 use Rattle.workflow_runs.proofs.RunFits.{RunsFit}
 use Rattle.run_table.proofs.StepKeeps.{stepped_is_sound}
 use Rattle.run_table.proofs.StepsLaw.{step_says}
 use Rattle.run_table.proofs.Unbegun.{waiting_unbegun}
+use Rattle.run_table.proofs.RunnerOrder.{filter_all, filter_none}
 use Rattle.workflow_runs.proofs.ArrivalKeeps.{holder_tested}
 
 -- ---- the same moves, by the groups of a later table
@@ -126,14 +127,6 @@ module _ (later : List RunState) (g : Group) (cancels : Holder → Bool) (asks :
 
 -- ---- the holders that a group has already
 
-all_kept : {X : Type 0} (test : X → Bool) (xs : List X) → AllByRecursion (λ x. test x ≡ true) xs → filter test xs ≡ xs
-all_kept test [] all = refl
-all_kept test (x ∷ xs) all = ap (λ b. if b then x ∷ filter test xs else filter test xs) all.0 ∙ ap (λ ys. x ∷ ys) (all_kept test xs all.1)
-
-all_dropped : {X : Type 0} (test : X → Bool) (xs : List X) → AllByRecursion (λ x. test x ≡ false) xs → filter test xs ≡ []
-all_dropped test [] all = refl
-all_dropped test (x ∷ xs) all = ap (λ b. if b then x ∷ filter test xs else filter test xs) all.0 ∙ all_dropped test xs all.1
-
 each_running : (h k : Holder) (b told : Bool) → same_holder h k ≡ b
     → AllByRecursion (λ m. same_holder h (holder_of m) ≡ b) (running_moves told k)
 each_running h k b true e = (e, (e, (e, tt)))
@@ -142,9 +135,9 @@ each_running h k b false e = (e, (e, tt))
 own_of_running : (h k : Holder) (told b : Bool) → same_holder h k ≡ b
     → own h (running_moves told k) ≡ (if b then running_moves told h else [])
 own_of_running h k told true e =
-    all_kept (λ m. same_holder h (holder_of m)) (running_moves told k) (each_running h k true told e)
+    filter_all (λ m. same_holder h (holder_of m)) (running_moves told k) (each_running h k true told e)
     ∙ ap (running_moves told) (sym (holder_tested h k e))
-own_of_running h k told false e = all_dropped (λ m. same_holder h (holder_of m)) (running_moves told k) (each_running h k false told e)
+own_of_running h k told false e = filter_none (λ m. same_holder h (holder_of m)) (running_moves told k) (each_running h k false told e)
 
 own_running : (o : Option Holder) (told : Bool) (h : Holder)
     → own h (option_map_or (running_moves told) o []) ≡ (if is_the o h then running_moves told h else [])
@@ -152,9 +145,9 @@ own_running None told h = refl
 own_running (Some k) told h = own_of_running h k told (same_holder h k) refl
 
 own_arrival : (h k : Holder) (b : Bool) → same_holder h k ≡ b → own h (Move.arrive k ∷ []) ≡ (if b then Move.arrive h ∷ [] else [])
-own_arrival h k true e = all_kept (λ m. same_holder h (holder_of m)) (Move.arrive k ∷ []) (e, tt)
+own_arrival h k true e = filter_all (λ m. same_holder h (holder_of m)) (Move.arrive k ∷ []) (e, tt)
     ∙ ap (λ x. Move.arrive x ∷ []) (sym (holder_tested h k e))
-own_arrival h k false e = all_dropped (λ m. same_holder h (holder_of m)) (Move.arrive k ∷ []) (e, tt)
+own_arrival h k false e = filter_none (λ m. same_holder h (holder_of m)) (Move.arrive k ∷ []) (e, tt)
 
 own_pending : (o : Option Holder) (h : Holder)
     → own h (map (λ k. Move.arrive k) (option_to_list o)) ≡ (if is_the o h then Move.arrive h ∷ [] else [])
@@ -243,10 +236,10 @@ module _ (runs : List RunState) (g : Group) (fit : RunsFit runs) (each : HasOneE
   fits_by h Status.waiting at is =
       let waits_it : waits runs h ≡ true = waits_as runs h ∙ ap is_waiting at in
       own_by h false true (idle h (λ e. false≢true (sym (ap is_held at) ∙ e)))
-      (the_same (group_state runs g).pending h (waits_in h (both (is_in runs g h) (waits runs h) is waits_it)))
+      (the_same (group_state runs g).pending h (waits_in h (and_from (is_in runs g h) (waits runs h) is waits_it)))
   fits_by h (Status.running told) at is =
       let holds_it : holds runs h ≡ true = holds_as runs h ∙ ap is_held at in
-      let one = runs_in h (both (is_in runs g h) (holds runs h) is holds_it) in
+      let one = runs_in h (and_from (is_in runs g h) (holds runs h) is holds_it) in
       let flag : (group_state runs g).stopping ≡ told = ap (λ o. option_map_or (is_told_to_stop runs) o false) one
       ∙ told_as runs h told at in
       own_by h true false (the_same (group_state runs g).running h one) (unqueued h (λ e. false≢true (sym (ap is_waiting at) ∙ e)))
@@ -282,7 +275,7 @@ module _ (runs : List RunState) (g : Group) (fit : RunsFit runs) (each : HasOneE
         (not_the (group_state runs g).pending h (λ at. true≢false (sym (and_parts (is_in runs g h) (waits runs h) (it_waits h at)).0
         ∙ isnt))));
     newest = (λ h is e.
-        (base_matches cancels (group_state runs g) differ).latest h (waits_in h (both (is_in runs g h) (waits runs h) is e)));
+        (base_matches cancels (group_state runs g) differ).latest h (waits_in h (and_from (is_in runs g h) (waits runs h) is e)));
     unbegun = (λ h is arrives unstarted. waiting_unbegun runs fit h (waits_by h (status runs h) refl is arrives unstarted));
     law = base_keeps_law cancels (group_state runs g) differ;
   }

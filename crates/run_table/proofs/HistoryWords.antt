@@ -3,7 +3,7 @@ use Rattle.std.specs.Prelude.{◌≡◌, ℕ, ◌≤◌, List, [], ◌∷◌, �
 use Rattle.std.specs.Prelude.{slice_get, refl}
 use Rattle.std.proofs.Common.{ap, sym, ◌∙◌}
 use Rattle.std.proofs.lemmas.Bool.{and_parts, or_right, true≢false}
-use Rattle.std.proofs.lemmas.Option.{same_Some}
+use Rattle.std.proofs.lemmas.Option.{none-some, same_Some}
 use Rattle.wf_value.specs.declared.outcome.Outcome.{Outcome}
 use Rattle.group_name.specs.Group.{Group}
 use Rattle.run_plan.specs.declared.command.Command.{Command}
@@ -27,7 +27,6 @@ use Rattle.run_table.proofs.HolderStatus.{Fits, Status, leg_status, run_status, 
 use Rattle.run_table.proofs.HoldersOnce.{one_pending, one_running}
 use Rattle.workflow_runs.proofs.JobKeeps.{leg_in}
 use Rattle.run_table.proofs.LawSoFar.{LawSoFar}
-use Rattle.workflow_runs.proofs.LeaseReads.{none_is_not_some}
 use Rattle.run_table.proofs.LeasesStay.{after_both, after_had}
 use Rattle.workflow_runs.proofs.LegReads.{had_at, had_from_leg, leg_from_had}
 use Rattle.run_table.proofs.OwnMoves.{arrived_by_own, ended_by_own, own}
@@ -155,7 +154,7 @@ never_had runs (Holder.a_leg q) began p of_it n e =
     let from = leg_from_had runs p n e in
     let same : from.value ≡ began.0 = same_Some from.value began.0 (sym from.is ∙ ap (leg_at runs) of_it ∙ began.1) in
     let none : None ≡ Some n = sym (ap (λ (z : LegState). z.lease) same ∙ began.2.no_lease) ∙ from.gives in
-    none_is_not_some n none
+    none-some n none
 
 pub displaced_never_leased : (t : TableState) (first second : List Command) (g : Group) (before after_it : List Move) (newcomer h : Holder)
     → IsSound t → all_moves g t (first ++ second) ≡ before ++ Move.arrive newcomer ∷ after_it → next_displaced before ≡ Some h

@@ -86,6 +86,9 @@ module _ (runs : List RunState) (test : LegPlace → Bool) (p : LegPlace) (is : 
 
 -- ---- a holder
 
+pub leg_is : (a b : LegPlace) → Holder.a_leg a ≡ Holder.a_leg b → a ≡ b
+leg_is a b e = cc
+
 pub one_holder_kept : (runs : List RunState) (test : Holder → Bool) (h : Holder) → IsOneOf runs h → test h ≡ true
     → ((k : Holder) → test k ≡ true → k ≡ h) → filter test (all_holders runs) ≡ h ∷ []
 one_holder_kept runs test (Holder.a_run r) there is only =
@@ -114,9 +117,6 @@ one_holder_kept runs test (Holder.a_leg p) there is only =
     ∙ ap (map (λ q. Holder.a_leg q))
     (one_leg_place runs (λ q. test (Holder.a_leg q)) p is
     (λ q other. fails_else test (Holder.a_leg p) only (Holder.a_leg q) (λ e. other (leg_is q p e))) there.0 there.1))
-  where
-    leg_is : (a b : LegPlace) → Holder.a_leg a ≡ Holder.a_leg b → a ≡ b
-    leg_is a b e = cc
 
 -- one that passes is kept
 none_kept : {X : Type 0} (test : X → Bool) (xs : List X) → filter test xs ≡ [] → AllByRecursion (λ x. test x ≡ false) xs

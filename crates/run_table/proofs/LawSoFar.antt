@@ -4,7 +4,7 @@ use Rattle.std.specs.Prelude.{if◌then◌else◌, refl}
 use Rattle.std.specs.List.{last_or}
 use Rattle.std.proofs.Common.{ap, sym, ◌∙◌, subst, append_assoc}
 use Rattle.std.proofs.lemmas.List.{append-nil}
-use Rattle.std.proofs.lemmas.Bool.{or_parts}
+use Rattle.std.proofs.lemmas.Bool.{and_from, or_parts}
 use Rattle.wf_value.specs.declared.outcome.Outcome.{Outcome}
 use Rattle.group_name.specs.Group.{Group}
 use Rattle.run_table.specs.GroupLaw.{KeepsLaw}
@@ -20,7 +20,7 @@ use Rattle.run_table.proofs.GroupTruths.{not_both, or_false}
 use Rattle.run_table.proofs.HolderStatus.{Fits, Status, fits_running, fits_unended, holds_as, status, waiting_is, waits_as}
 use Rattle.workflow_runs.proofs.HoldersFade.{holder_stop_fades}
 use Rattle.run_table.proofs.ListWalk.{Walk}
-use Rattle.workflow_runs.proofs.OneEach.{IsOneOf, both, free_to_start, one_that_holds, one_that_waits}
+use Rattle.workflow_runs.proofs.OneEach.{IsOneOf, free_to_start, one_that_holds, one_that_waits}
 use Rattle.run_table.proofs.OnlyStops.{OnlyStops, holder_stops}
 use Rattle.run_table.proofs.OwnMoves.{of_group, of_group_on, own, own_of_another, own_of_group, own_on, runs_by_own}
 use Rattle.run_table.proofs.StopsTold.{Tells}
@@ -194,7 +194,7 @@ module _ (in_group cancels : Holder → Bool) where
                     let there = one_that_holds runs other held in
                     let of_k = sym (same k (one_that_waits runs k waiting)) ∙ is in
                     let of_other = sym (same other there) ∙ too in
-                    absurd (free_to_start runs g k other may of_k (both (is_in runs g other) (holds runs other) of_other held))
+                    absurd (free_to_start runs g k other may of_k (and_from (is_in runs g other) (holds runs other) of_other held))
               ] refl
         ] refl
 

@@ -2,6 +2,7 @@
 use Rattle.std.specs.Prelude.{◌≡◌, ℕ, ◌+◌, ◌-◌, List, [], ◌∷◌, ◌++◌, Option, Some, None, refl}
 use Rattle.std.specs.Option.{option_map_or}
 use Rattle.std.proofs.Common.{ap, inl, inr, sym, ◌∙◌}
+use Rattle.std.proofs.lemmas.Option.{none-some}
 use Rattle.run_plan.specs.declared.command.Claim.{Claim as Claimed}
 use Rattle.run_plan.specs.declared.command.Command.{Command}
 use Rattle.run_plan.specs.declared.command.Command.TheVariants as command
@@ -26,7 +27,7 @@ use Rattle.run_table.proofs.ClaimKeeps.{fitting_leg, had_changes, leasing_keeps,
 use Rattle.run_table.proofs.Entered.{entered_keeps, entered_settles}
 use Rattle.workflow_runs.proofs.HoldersKeep.{run_stop_settles}
 use Rattle.run_table.proofs.Kept.{kept_from_sound}
-use Rattle.workflow_runs.proofs.LeaseReads.{none_is_not_some, place_or_another}
+use Rattle.workflow_runs.proofs.LeaseReads.{place_or_another}
 use Rattle.workflow_runs.proofs.LegReads.{had_at, had_from_leg}
 use Rattle.run_table.proofs.ReachedTables.{with_ended_keeps_leases}
 use Rattle.run_table.proofs.ReportKeeps.{loss_keeps, report_keeps}
@@ -54,7 +55,7 @@ lease_had runs labels p lease fit fits q n e =
     elim (place_or_another q p) [
       | inl same ↦
           let none = ready_has_no_lease z.phase z.lease ready.ready (leases_fit runs fit p z ready.is) in
-          absurd (none_is_not_some n (sym (had_from_leg runs p z ready.is ∙ none) ∙ ap (had_at runs) (sym same) ∙ e))
+          absurd (none-some n (sym (had_from_leg runs p z ready.is ∙ none) ∙ ap (had_at runs) (sym same) ∙ e))
       | inr other ↦ (had_changes runs p z (λ _. leased_leg lease) ready.is).elsewhere q other ∙ e
     ]
 

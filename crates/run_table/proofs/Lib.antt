@@ -12,7 +12,6 @@ mod ContextRows
 pub mod Copied
 pub mod Decided
 pub mod Deliveries
-pub mod EachRule
 pub mod Entered
 pub mod EnteredRests
 pub mod EventsStay

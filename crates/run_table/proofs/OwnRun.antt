@@ -10,7 +10,7 @@ use Rattle.workflow_runs.specs.declared.phases.LegPhase.TheVariants as leg
 use Rattle.workflow_runs.specs.declared.phases.RunPhase.TheVariants as run
 use Rattle.workflow_runs.specs.declared.place.Place.{Place}
 use Rattle.workflow_runs.proofs.Changed.{at_another}
-use Rattle.run_table.proofs.EachRule.{by_rule}
+use Rattle.workflow_runs.proofs.EachRule.{by_rule}
 use Rattle.workflow_runs.proofs.JobKeeps.{with_job_of, with_leg_of}
 
 pub own_run_alone : (runs : List RunState) (m : Moved) (place : Place) (r : ℕ) → rule_at runs place ≡ Some m → IsNoArrival runs place

@@ -16,18 +16,10 @@ use Rattle.run_table.specs.TableOf.{AreRunnersAs, IsLastAs, IsReplyAs, IsRunnerA
 use Rattle.run_table.specs.TableState.{RunnerState}
 use Rattle.workflow_runs.specs.RunState.{RunState}
 use Rattle.run_table.specs.declared.parts.LastParts.TheVariants as stored
-use Rattle.workflow_runs.proofs.LegReads.{had_from_leg, leg_from_had}
+use Rattle.workflow_runs.proofs.LegReads.{leg_from_had}
 use Rattle.workflow_runs.proofs.Optional.{from_and_then, from_map}
 
 -- ---- replies
-
--- a lease that no leg has is no reply
-pub no_reply : (runs : List RunState) (n : ℕ) → ((p : LegPlace) → lease_of_leg runs p ≡ Some n → ⊥) → (reply : ClaimReply)
-    → IsReplyAs runs (Some n) reply → ⊥
-no_reply runs n none replied.Nothing is = is
-no_reply runs n none (replied.Lease told) is =
-    let (p, x, at, has, tells) = is.2 in
-    none p (had_from_leg runs p x at ∙ has ∙ ap Some is.0)
 
 pub a_reply : (runs : List RunState) (n : ℕ) (p : LegPlace) (told : Lease) → 1 ≤ n → lease_of_leg runs p ≡ Some n
     → told ≡ lease_at runs p n → IsReplyAs runs (Some n) (replied.Lease told)
@@ -38,14 +30,6 @@ a_reply runs n p told low has tells =
       omega (arith, number),
       (p, f.value, f.is, f.gives ∙ ap Some (sym number), tells ∙ ap (lease_at runs p) (sym number)),
     )
-
-pub claim_last : (runs : List RunState) (claim : _) (given : Option ℕ) (reply : ClaimReply) → IsReplyAs runs given reply
-    → IsLastAs runs (stored.Claim claim given) (last.Claim claim reply)
-claim_last runs claim None replied.Nothing is = record { stored = refl; is_a_legs = tt }
-claim_last runs claim None (replied.Lease told) is = absurd is
-claim_last runs claim (Some n) replied.Nothing is = absurd is
-claim_last runs claim (Some n) (replied.Lease told) is =
-    record { stored = ap (λ m. stored.Claim claim (Some m)) is.0; is_a_legs = (is.1, is.2) }
 
 no_claim : (runs : List RunState) (claim : _) (given : Option ℕ) → ((reply : ClaimReply) → IsReplyAs runs given reply → ⊥)
     → (x : LastCommand) → stored_last x ≡ stored.Claim claim given → KeptIsALegs runs x → ⊥
@@ -62,17 +46,6 @@ pub no_last : (runs : List RunState) (claim : _) (given : Option ℕ) → ((repl
 no_last runs claim given none x is = no_claim runs claim given none x is.stored is.is_a_legs
 
 -- ---- runners
-
-pub a_runner : (runs : List RunState) (parts : StoredRunner) (x : RunnerState) → x.name ≡ parts.name → x.number ≡ parts.number
-    → x.holds ≡ parts.holds → IsLastAs runs parts.last x.last → IsRunnerAs runs parts x
-a_runner runs parts x name number holds last = record {
-  stored = λ i. record { name = name i; number = number i; last = last.stored i; holds = holds i };
-  is_a_legs = last.is_a_legs;
-}
-
-pub no_runner : (runs : List RunState) (parts : StoredRunner) → ((x : LastCommand) → IsLastAs runs parts.last x → ⊥) → (x : RunnerState)
-    → IsRunnerAs runs parts x → ⊥
-no_runner runs parts none x is = none x.last (record { stored = ap (λ (r : StoredRunner). r.last) is.stored; is_a_legs = is.is_a_legs })
 
 pub no_runners : (runs : List RunState) (parts : List StoredRunner) (k : ℕ) (part : StoredRunner) → slice_get parts k ≡ Some part
     → ((x : RunnerState) → IsRunnerAs runs part x → ⊥) → (runners : List RunnerState) → AreRunnersAs runs parts runners → ⊥

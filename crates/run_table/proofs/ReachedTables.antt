@@ -39,7 +39,7 @@ use Rattle.run_table.proofs.Entered.{entered_keeps, entered_settles}
 use Rattle.workflow_runs.proofs.Found.{before_the_end}
 use Rattle.run_table.proofs.Kept.{IsKept, kept_from_sound, kept_settles, told_the_same}
 use Rattle.workflow_runs.proofs.JobKeeps.{leg_in}
-use Rattle.workflow_runs.proofs.LeaseReads.{none_is_not_some, place_or_another}
+use Rattle.workflow_runs.proofs.LeaseReads.{place_or_another}
 use Rattle.workflow_runs.proofs.LegReads.{had_at, had_in, had_in_job, had_from_leg}
 use Rattle.run_table.proofs.ReportKeeps.{loss_keeps, report_keeps}
 use Rattle.workflow_runs.proofs.RunFits.{admitted_at, plan_at_same}
@@ -318,6 +318,6 @@ pub leased_by_a_claim : (commands : List Command) (p : LegPlace) (leg : LegState
     → leg.lease ≡ Some n → WasAnswered commands (replies empty commands) (lease_at (after empty commands).runs p n)
 leased_by_a_claim commands p leg n at is =
     elim (leased_from empty commands empty_is_sound p n (had_from_leg (after empty commands).runs p leg at ∙ is)) [
-      | inl had ↦ absurd (none_is_not_some n had)
+      | inl had ↦ absurd (none-some n had)
       | inr w ↦ w
     ]

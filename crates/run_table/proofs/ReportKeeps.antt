@@ -5,9 +5,11 @@ use Rattle.std.specs.Option.{option_map_or}
 use Rattle.std.proofs.Common.{ap, sym, ◌∙◌, subst, inl, inr}
 use Rattle.std.proofs.lemmas.Bool.{eqb-true, eq-eqb, true≢false}
 use Rattle.std.proofs.lemmas.Slice.Eq.{bytes_eq-Decides}
+use Rattle.std.proofs.lemmas.Option.{none-some}
 use Rattle.wf_value.specs.declared.code.Code.TheVariants.{LeaseNotHeld}
 use Rattle.wf_value.specs.declared.outcome.Outcome.{Outcome}
 use Rattle.wf_value.specs.declared.outcome.Outcome.TheVariants as outcome
+use Rattle.wf_value.proofs.OptionOr.{or_nothing}
 use Rattle.run_plan.specs.declared.command.Done.{Done as Reported}
 use Rattle.run_plan.specs.declared.reply.Reply.{Reply}
 use Rattle.workflow_runs.specs.Fitting.{has_lease, place_of_lease}
@@ -25,14 +27,13 @@ use Rattle.workflow_runs.specs.RunState.{LegState}
 use Rattle.run_table.specs.Turns.{is_named, runner_named, answer_of_turn, with_runner, holds_this}
 use Rattle.workflow_runs.specs.declared.phases.LegPhase.{LegPhase}
 use Rattle.workflow_runs.specs.declared.phases.LegPhase.TheVariants as leg
-use Rattle.run_table.proofs.AdmitKeeps.{nothing_in_or}
 use Rattle.run_table.proofs.AtWork.{fewer_at_work}
 use Rattle.run_table.proofs.ClaimKeeps.{had_changes, works_changes}
 use Rattle.workflow_runs.proofs.Found.{find_passes, none_found}
 use Rattle.workflow_runs.proofs.HolderPlaces.{each_leg_place}
 use Rattle.workflow_runs.proofs.JobKeeps.{leg_in, leg_stays, job_is_now, job_is_open, with_leg_of}
 use Rattle.run_table.proofs.Kept.{IsKept, KeptIsHad, StillHad, kept_settles, kept_still_had, deliveries_still_differ}
-use Rattle.workflow_runs.proofs.LeaseReads.{ChangesAt, place_or_another, lease_ended, leases_same, none_is_not_some}
+use Rattle.workflow_runs.proofs.LeaseReads.{ChangesAt, place_or_another, lease_ended, leases_same}
 use Rattle.workflow_runs.proofs.LegReads.{had_at, works_at, had_is, had_from_leg, works_from_leg, leg_from_had, work_parts}
 use Rattle.workflow_runs.proofs.Settles.{StayFit, stay_on}
 use Rattle.workflow_runs.proofs.RunFits.{plan_at_same}
@@ -141,7 +142,7 @@ module _ (t : TableState) (new : RunnerState) (lease : ℕ) (result : Outcome) (
           → works_at (with_leg p (leg_in_phase (leg.Ended result)) t.runs) q ≡ Some n → works_at t.runs q ≡ Some n
       worked_before q p n changes e =
           elim (place_or_another q p) [
-            | inl same ↦ absurd (none_is_not_some n (sym changes.here
+            | inl same ↦ absurd (none-some n (sym changes.here
                 ∙ ap (works_at (with_leg p (leg_in_phase (leg.Ended result)) t.runs)) (sym same) ∙ e))
             | inr other ↦ sym (changes.elsewhere q other) ∙ e
           ]
@@ -242,7 +243,7 @@ pub held_for_report : (t : TableState) (report : Reported) → report_answer t r
     → holds_this report.lease (runner_named t.runners report.runner) ≡ true
 held_for_report t report none =
     let runner = runner_named t.runners report.runner in
-    let looked = nothing_in_or (answer_of_turn runner report.number (is_last_report report))
+    let looked = or_nothing (answer_of_turn runner report.number (is_last_report report))
     (if holds_this report.lease runner then None else Some (refused LeaseNotHeld)) none in
     not_held (holds_this report.lease runner) (refused LeaseNotHeld) looked.1
 

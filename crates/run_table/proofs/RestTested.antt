@@ -7,6 +7,7 @@ use Rattle.std.specs.Option.{option_map_or, option_or}
 use Rattle.std.proofs.Common.{arith, ap, sym, ◌∙◌}
 use Rattle.std.proofs.lemmas.Bool.{not-false, not-true}
 use Rattle.std.proofs.lemmas.Option.{none-some}
+use Rattle.std.proofs.lemmas.Bool.Decides.{Decides-like}
 use Rattle.group_name.specs.Group.{Group}
 use Rattle.workflow_runs.specs.FirstOf.{first_some, placed}
 use Rattle.workflow_runs.specs.GroupOf.{group_at}
@@ -21,10 +22,9 @@ use Rattle.workflow_runs.specs.WithinRun.{needs_settled_in, whole_goes_on_in}
 use Rattle.workflow_runs.specs.declared.place.Place.{Place}
 use Rattle.workflow_runs.specs.declared.place.Place.TheVariants.{AtLeg, Closing, Opening, Whole}
 use Rattle.workflow_runs.proofs.Firsts.{none_found}
-use Rattle.workflow_runs.proofs.OneAfterAnother.{OfEach, like, no}
+use Rattle.workflow_runs.proofs.OneAfterAnother.{OfEach, no}
 use Rattle.workflow_runs.proofs.Walks.{first_place_by_run}
-use Rattle.run_table.proofs.RunnerPut.{or_none}
-use Rattle.run_table.proofs.AdmitKeeps.{nothing_in_or}
+use Rattle.wf_value.proofs.OptionOr.{or_none, or_nothing}
 
 -- ---- a group that is taken keeps back
 
@@ -42,21 +42,17 @@ not_kept_back runs h none = sym (ap (λ o. not (option_map_or (λ v. not (is_tak
 
 -- ---- no answer in a list
 
-no_answer : {X Y : Type 0} (f : X → Option Y) (x : X) (o : Option X) → o ≡ Some x → option_and_then f o ≡ None → f x ≡ None
-no_answer f x None is e = cc
-no_answer f x (Some y) is e = let same : y ≡ x = cc in sym (ap f same) ∙ e
-
 each_none_from : {X Y : Type 0} (f : ℕ → X → Option Y) (xs : List X) (n : ℕ) → first_some (λ e. f e.0 e.1) (enumerate_from n xs) ≡ None
     → (k : ℕ) (x : X) → slice_get xs k ≡ Some x → f (n + k) x ≡ None
 each_none_from f [] n e k x at = cc
 each_none_from f (y ∷ ys) n e zero x at =
     let same : y ≡ x = cc in
     let here : n + 0 ≡ n = omega arith in
-    ap (λ m. f m x) here ∙ ap (f n) (sym same) ∙ (nothing_in_or (f n y) (first_some (λ e. f e.0 e.1) (enumerate_from (n + 1) ys)) e).0
+    ap (λ m. f m x) here ∙ ap (f n) (sym same) ∙ (or_nothing (f n y) (first_some (λ e. f e.0 e.1) (enumerate_from (n + 1) ys)) e).0
 each_none_from f (y ∷ ys) n e (suc k) x at =
     let there : n + suc k ≡ (n + 1) + k = omega arith in
     ap (λ m. f m x) there
-    ∙ each_none_from f ys (n + 1) (nothing_in_or (f n y) (first_some (λ e. f e.0 e.1) (enumerate_from (n + 1) ys)) e).1 k x at
+    ∙ each_none_from f ys (n + 1) (or_nothing (f n y) (first_some (λ e. f e.0 e.1) (enumerate_from (n + 1) ys)) e).1 k x at
 
 -- the question has no answer at any element
 abbrev pub NoneAt : {X Y : Type 0} → (ℕ → X → Option Y) → ℕ → X → Type 0
@@ -120,7 +116,7 @@ job_decided runs r j run x rest shut undone d =
     ap (λ b. if b then Some (Opening r j) else first_of_open runs r j x) shut
     ∙ ap (λ b. option_or (first_of_legs runs r j x.legs) (if b then Some (Closing r j) else None)) undone
     ∙ or_none (first_of_legs runs r j x.legs) in
-    like rest (λ e. is ∙ e) (λ e. sym is ∙ e) d
+    Decides-like rest (λ e. is ∙ e) (λ e. sym is ∙ e) d
 
 -- ---- a run
 
@@ -149,7 +145,7 @@ pub run_decided : (runs : List RunState) (r : ℕ) (x : RunState) (rests rest : 
     → Decides rest (first_in_run runs r x ≡ None)
 run_decided runs r x rests rest e still live d =
     let is = rests_by_jobs runs r x rests e still ∙ ap (λ b. if b then first_in_jobs runs r x x.jobs else None) live in
-    like rest (λ f. is ∙ f) (λ f. sym is ∙ f) d
+    Decides-like rest (λ f. is ∙ f) (λ f. sym is ∙ f) d
 
 pub run_rests : (runs : List RunState) (r : ℕ) (x : RunState) (rests : Bool) → rests ≡ not (whole_goes_on_in x.phase runs r x)
     → rests ≡ true → is_live x.phase ≡ false → Decides true (first_in_run runs r x ≡ None)
@@ -162,5 +158,5 @@ run_rests runs r x rests e still live =
 pub runs_decided : (runs : List RunState) (rest : Bool) → Decides rest (OfEach (NoneAt (first_in_run runs)) runs)
     → Decides rest (first_place runs ≡ None)
 runs_decided runs rest d =
-    like rest (λ each. first_place_by_run runs ∙ none_of_each (first_in_run runs) runs each)
+    Decides-like rest (λ each. first_place_by_run runs ∙ none_of_each (first_in_run runs) runs each)
     (λ none. each_none (first_in_run runs) runs (sym (first_place_by_run runs) ∙ none)) d

@@ -1,5 +1,5 @@
 -- Each settling rule keeps what was decided of jobs, and so does settling.
-use Rattle.std.specs.Prelude.{◌≡◌, ℕ, List, [], ◌∷◌, Bool, true, false, Option, Some, None, slice_get, if◌then◌else◌, refl}
+use Rattle.std.specs.Prelude.{◌≡◌, ℕ, List, [], ◌∷◌, Bool, true, false, Some, None, slice_get, if◌then◌else◌, refl}
 use Rattle.std.specs.List.{list_all, list_any}
 use Rattle.std.specs.Option.{option_map_or}
 use Rattle.std.proofs.Common.{ap, sym, ◌∙◌, subst}
@@ -30,8 +30,8 @@ use Rattle.workflow_runs.specs.declared.phases.RunPhase.TheVariants as run
 use Rattle.workflow_runs.specs.declared.place.Place.{Place}
 use Rattle.workflow_runs.proofs.Changed.{holds_of_each}
 use Rattle.run_table.proofs.Decided.{Decided, JobDecided, NowDecided, all_decided, leg_change_decided, one_decided}
-use Rattle.run_table.proofs.EachRule.{by_rule}
-use Rattle.workflow_runs.proofs.HoldersKeep.{displaced_settles, holder_stop_settles}
+use Rattle.workflow_runs.proofs.EachRule.{by_rule}
+use Rattle.workflow_runs.proofs.HoldersKeep.{displaced_settles, holder_stop_settles, no_run}
 use Rattle.workflow_runs.proofs.JobKeeps.{job_in}
 use Rattle.workflow_runs.proofs.JobPhases.{is_open_open}
 use Rattle.workflow_runs.proofs.LivePlaces.{LivePlace}
@@ -89,9 +89,6 @@ phase_now runs r x to was all =
     (λ k v e l w d. all k l w (job_in_run runs k l v e ∙ d)) s new.run new.run_is j y new.job_is)
 
 -- ---- stops and arrivals
-
-no_run : (o : Option RunState) (x y : RunState) → o ≡ None → o ≡ Some x → y ≡ x
-no_run o x y none some = cc
 
 stop_decided : (h : Holder) (runs : List RunState) → RunsFit runs → Decided runs → Decided (stop_holder h runs).runs
 stop_decided (Holder.a_run r) runs fit all =

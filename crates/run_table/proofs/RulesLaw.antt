@@ -34,11 +34,11 @@ use Rattle.workflow_runs.specs.declared.place.Place.{Place}
 use Rattle.workflow_runs.specs.declared.place.Place.TheVariants.{Opening}
 use Rattle.run_table.proofs.ArrivalLaw.{arrival_goes_on}
 use Rattle.run_table.proofs.ChangesTold.{leg_tells, new_legs_same, only_none, only_one, quiet_job_tells, run_tells}
-use Rattle.run_table.proofs.EachRule.{by_rule}
+use Rattle.workflow_runs.proofs.EachRule.{by_rule, run_ended}
 use Rattle.run_table.proofs.GroupsKept.{Grows, cancels_kept, grows_on, is_in_kept, stays_grows}
 use Rattle.run_table.proofs.HolderStatus.{Goes, Status, ends_at_once, goes_over, goes_to_arrive, goes_to_start, goes_unseen, leg_status}
 use Rattle.run_table.proofs.HolderStatus.{run_status, status, status_by, status_in_job, status_of_leg, status_of_run}
-use Rattle.workflow_runs.proofs.HoldersFade.{holds_before_leg, job_fades, leg_fades, leg_passes, passes, waits_before_leg}
+use Rattle.workflow_runs.proofs.HoldersFade.{job_fades, leg_fades, leg_passes, passes, waits_before_leg}
 use Rattle.workflow_runs.proofs.HoldersKeep.{arrival_settles, asked_settles, displaced_settles}
 use Rattle.workflow_runs.proofs.JobKeeps.{open_is_live}
 use Rattle.workflow_runs.proofs.JobPhases.{is_blocked_blocked, is_open_open, no_legs}
@@ -46,14 +46,14 @@ use Rattle.run_table.proofs.LawSoFar.{GoesOn, end_is_quiet, goes_on_still, goes_
 use Rattle.run_table.proofs.LawSoFar.{unmoved_is_quiet}
 use Rattle.workflow_runs.proofs.LivePlaces.{LivePlace, first_place_is_live}
 use Rattle.workflow_runs.proofs.OneEach.{Comes, IsOneOf, groups_stay, newcomer_besides, one_that_waits}
-use Rattle.workflow_runs.proofs.OneEachRules.{decided_fades, ended_fades, first_rule_one_each, live_waits, set_itself, set_waits}
+use Rattle.workflow_runs.proofs.OneEachRules.{decided_fades, ended_fades, first_rule_one_each, live_waits, newcomer_comes, set_itself}
 use Rattle.workflow_runs.proofs.Optional.{from_and_then}
 use Rattle.run_table.proofs.OwnMoves.{own}
-use Rattle.workflow_runs.proofs.RuleKeeps.{newcomer_waits, run_ended}
+use Rattle.workflow_runs.proofs.RuleKeeps.{newcomer_waits}
 use Rattle.workflow_runs.proofs.RunFits.{RunsFit, job_in_run, jobs_fit}
 use Rattle.workflow_runs.proofs.SettlingKeeps.{first_rule_settles, settles_within}
 use Rattle.run_table.proofs.StopsTold.{Tells, goes_by}
-use Rattle.run_table.proofs.Unbegun.{AllStill, LegUnbegun, There, leg_all_still, live_job_still, opened_still, phase_still, still_of_all}
+use Rattle.run_table.proofs.Unbegun.{AllStill, LegUnbegun, There, leg_all_still, live_job_still, new_leg_unbegun, phase_still, still_of_all}
 use Rattle.workflow_runs.proofs.ArrivalKeeps.{itself}
 
 -- ---- a job that opens
@@ -115,7 +115,7 @@ ended_unbegun z un = record { no_lease = un.no_lease; cancelled = (λ o e. cc) }
 
 decided_unbegun : (may stopping : Bool) (n l : ℕ) (y : JobState) → There LegUnbegun (slice_get y.legs l)
     → There LegUnbegun (slice_get ((if may then opened n else settled_as (if stopping then result.Cancelled else result.Skipped)) y).legs l)
-decided_unbegun true stopping n l y all = opened_still n l
+decided_unbegun true stopping n l y all = new_leg_unbegun n l
 decided_unbegun false stopping n l y all = all
 
 live_run : (runs : List RunState) (r : ℕ) → LivePlace runs (Opening r 0) → (x : RunState) → run_at runs r ≡ Some x → is_live x.phase ≡ true
@@ -204,13 +204,9 @@ module _ (reached later : List RunState) (g : Group) (cancels : Holder → Bool)
   leg_arrival_keeps runs p z fit was is each grows =
       let now = with_leg_in leg.Waiting p runs in
       let stay = (newcomer_waits runs p z fit was is).stay in
-      let comes : Comes runs now (Holder.a_leg p) = record {
-        waited = set_waits runs p z was (leg_in_phase leg.Waiting);
-        held = holds_before_leg (leg_in_phase leg.Waiting) p runs (λ v e. absurd (false≢true e));
-      } in
       arrival_keeps runs now (Holder.a_leg p) fit stay.fit
       (leg_set_tells runs p z leg.New leg.Waiting (Move.arrive (Holder.a_leg p)) was is refl (goes_to_arrive (Holder.a_leg p)))
-      (ap (status_by status_of_leg) was ∙ ap leg_status is) comes
+      (ap (status_by status_of_leg) was ∙ ap leg_status is) (newcomer_comes runs p z was)
       (ap (passes (leg_passes leg_waits)) (set_itself runs p z was (leg_in_phase leg.Waiting))) (groups_stay runs now fit stay) each
       (leg_all_still runs p (leg_in_phase leg.Waiting) (λ v un. record { no_lease = un.no_lease; cancelled = (λ o e. cc) })) grows
 

@@ -13,16 +13,13 @@ use Rattle.std.proofs.lemmas.Map.Lookups.{exact_bytes}
 use Rattle.std.proofs.lemmas.Map.Text.{is_eq-slice_cmp}
 use Rattle.wf_value.specs.Gives.{Gives}
 use Rattle.wf_value.specs.declared.refusal.Refusal.{Refusal}
-use Rattle.wf_value.proofs.Rising.{name_cmp, Less-from_is_lt, Equal-from_same, rises_next, rises_rest, earlier_below}
+use Rattle.wf_value.proofs.Rising.{Equal-from_same, Less-from_is_lt, after_less, earlier_below, name_cmp, rises_next, rises_rest}
+use Rattle.wf_value.proofs.PassedOn.{same_Ok}
 use Rattle.run_table.specs.TableState.{RunnerState}
 use Rattle.run_table.specs.Turns.{is_named, is_below, is_above, kept_named, names_rise, runner_named, with_runner}
-use Rattle.workflow_runs.proofs.Doors.{given}
 use Rattle.workflow_runs.proofs.Found.{all_weaken, all_append, each_at}
 
 -- ---- two names
-
-pub after_less : (x y : List ℕ) → name_cmp x y ≡ Less → name_cmp y x ≡ Greater
-after_less x y h = nat_list_cmp_total.antisymm y x ∙ ap ordering_reverse h
 
 pub after_greater : (x y : List ℕ) → name_cmp x y ≡ Greater → name_cmp y x ≡ Less
 after_greater x y h = nat_list_cmp_total.antisymm y x ∙ ap ordering_reverse h
@@ -376,5 +373,5 @@ names_still_rise runners new h =
 pub put_keeps_order : (old new : List RunnerState) (x : RunnerState) (r : Result (Unit {0}) Refusal) → names_rise old ≡ true
     → Gives (λ (_ : Unit {0}). new) r (Ok (with_runner old x)) → OnErr r (new ≡ old) → names_rise new ≡ true
 put_keeps_order old new x (Ok done) rise gave kept =
-    ap names_rise (sym (given (with_runner old x) new gave)) ∙ names_still_rise old x rise
+    ap names_rise (sym (same_Ok (with_runner old x) new gave)) ∙ names_still_rise old x rise
 put_keeps_order old new x (Err e) rise gave kept = ap names_rise kept ∙ rise

@@ -11,12 +11,13 @@ use Rattle.std.proofs.lemmas.List.Folds.{find-append}
 use Rattle.std.proofs.lemmas.Map.Lookups.{exact_bytes}
 use Rattle.std.proofs.lemmas.Option.{slice_get_past}
 use Rattle.std.proofs.lemmas.Slice.Eq.{bytes_eq-Decides}
-use Rattle.wf_value.proofs.Rising.{name_cmp, Equal-from_same, names_apart}
+use Rattle.wf_value.proofs.Rising.{Equal-from_same, after_less, name_cmp, names_apart}
+use Rattle.wf_value.proofs.OptionOr.{or_none}
 use Rattle.run_table.specs.TableState.{RunnerState}
 use Rattle.run_table.specs.Turns.{is_named, is_below, is_above, names_rise, runner_named, with_runner}
 use Rattle.workflow_runs.proofs.Found.{all_append, each_at, find_passes, found_at, found_nowhere, none_found}
 use Rattle.workflow_runs.proofs.LeaseReads.{ChangesAt}
-use Rattle.run_table.proofs.RunnerOrder.{after_less, after_greater, all_filter, find_gone, find_kept}
+use Rattle.run_table.proofs.RunnerOrder.{after_greater, all_filter, find_gone, find_kept}
 
 -- ---- a runner and its name
 
@@ -73,10 +74,6 @@ found_by_name runners h k x at =
 pub all_from_each : {X : Type 0} (P : X → Type 0) (xs : List X) → ((k : ℕ) (x : X) → slice_get xs k ≡ Some x → P x) → AllByRecursion P xs
 all_from_each P [] h = tt
 all_from_each P (x ∷ xs) h = (h zero x refl, all_from_each P xs (λ k y e. h (suc k) y e))
-
-pub or_none : {X : Type 0} (o : Option X) → option_or o None ≡ o
-or_none None = refl
-or_none (Some x) = refl
 
 module _ (runners : List RunnerState) (new : RunnerState) where
   -- each runner is the new one or was there

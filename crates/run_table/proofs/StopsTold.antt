@@ -29,6 +29,7 @@ use Rattle.run_table.proofs.HolderStatus.{run_status, status}
 use Rattle.run_table.proofs.HolderStatus.{status_by, status_by_run, status_in_job, status_in_run, status_of_leg, status_of_run}
 use Rattle.run_table.proofs.OwnMoves.{own}
 use Rattle.run_table.proofs.PlacedOne.{filter_flat_map, none_of_all, one_of_placed}
+use Rattle.run_table.proofs.HoldersOnce.{leg_is}
 use Rattle.workflow_runs.proofs.StopKeeps.{get_placed}
 
 -- ---- what stands at a place, changed
@@ -131,9 +132,6 @@ other_leg q r j l other =
       | inl same ↦ absurd (other (leg_is (leg_place r j l) q (sym same)))
       | inr apart ↦ apart.1
     ]
-  where
-    leg_is : (p q : LegPlace) → Holder.a_leg p ≡ Holder.a_leg q → p ≡ q
-    leg_is p q e = cc
 
 -- the holder is no leg of the job
 abbrev pub IsNoLegOf : Holder → ℕ → ℕ → Type 0

@@ -36,7 +36,7 @@ use Rattle.workflow_runs.proofs.JobPhases.{no_legs}
 use Rattle.workflow_runs.proofs.LeaseReads.{place_or_another}
 use Rattle.workflow_runs.proofs.Optional.{from_and_then}
 use Rattle.workflow_runs.proofs.RunFits.{RunsFit, leases_fit}
-use Rattle.workflow_runs.proofs.StopKeeps.{get_placed}
+use Rattle.workflow_runs.proofs.StopKeeps.{get_placed, where_no_legs}
 
 -- ---- what has not begun
 
@@ -182,14 +182,11 @@ live_job_still runs r j f live legs =
           changed_there (OfJob l) (OfJob l) j f x.jobs k (λ y is. legs l y) (λ y is un. un) all);
     })
 
-new_leg_unbegun : (n l : ℕ) → There LegUnbegun (slice_get (replicate n new_leg) l)
+pub new_leg_unbegun : (n l : ℕ) → There LegUnbegun (slice_get (replicate n new_leg) l)
 new_leg_unbegun zero l z e = cc
 new_leg_unbegun (suc n) zero z e =
     subst LegUnbegun (same_Some new_leg z e) (record { no_lease = refl; cancelled = (λ o is. cc) })
 new_leg_unbegun (suc n) (suc l) z e = new_leg_unbegun n l z e
-
-pub opened_still : (n l : ℕ) → There LegUnbegun (slice_get (replicate n new_leg) l)
-opened_still n l = new_leg_unbegun n l
 
 -- ---- legs are stopped
 
@@ -218,14 +215,6 @@ where_stopped b l y all =
       | false ↦ all
     ]
 
--- a job without legs that is changed so has none again
-no_legs_stopped : (b : Bool) (y : JobState) → y.legs ≡ [] → (stopped_where b y).legs ≡ []
-no_legs_stopped b y none =
-    elim (is_open y.phase && b) as (λ c. (if c then with_stopped_legs y else y).legs ≡ []) [
-      | true ↦ ap (map stopped) none
-      | false ↦ none
-    ]
-
 -- ---- a run is stopped
 
 told_unbegun : (x : RunState) → x.phase ≡ run.Live → RunUnbegun x → RunUnbegun (told_to_stop x)
@@ -236,7 +225,7 @@ told_unbegun x is un =
       no_legs = (λ j.
           subst (There (λ (y : JobState). y.legs ≡ [])) (sym (get_placed change x.jobs j))
           (mapped_there (λ (y : JobState). y.legs ≡ []) (λ (y : JobState). y.legs ≡ []) (λ y. change (j, y)) (slice_get x.jobs j)
-          (λ y at. no_legs_stopped (not (may_run_in told j)) y) (un.no_legs j)));
+          (λ y at. where_no_legs (not (may_run_in told j)) y) (un.no_legs j)));
       cancelled = (λ e. let wrong : run.Live ≡ run.Ended = sym is ∙ e in cc);
     }
 

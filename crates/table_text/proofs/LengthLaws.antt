@@ -1,14 +1,11 @@
 -- The length of a spelling is the sum over its fields.
-use Rattle.std.proofs.Common.{◌≡◌, ℕ, suc, ◌+◌, ◌<◌, ◌≤◌, List, [], ◌∷◌, ◌++◌, length, take, get_or, refl, sym, ◌∙◌, ap, arith}
+use Rattle.std.proofs.Common.{◌≡◌, ℕ, suc, ◌+◌, ◌<◌, List, [], ◌∷◌, ◌++◌, length, take, get_or, refl, sym, ◌∙◌, ap, arith}
 use Rattle.std.proofs.Common.{length-append}
-use Rattle.std.specs.Prelude.{Bool, true, flat_map, sum_by, nat_le}
-use Rattle.std.specs.List.{list_all}
-use Rattle.std.proofs.lemmas.Bool.{and_parts, leb-true}
+use Rattle.std.specs.Prelude.{flat_map, sum_by}
 use Rattle.std.proofs.lemmas.List.Concat.{length-flat_map}
 use Rattle.std.proofs.lemmas.List.Sums.{sum_by-cons, sum_by_more}
 use Rattle.wf_value.specs.declared.outcome.Outcome.{Outcome}
 use Rattle.run_plan.specs.Admitted.{Admitted}
-use Rattle.run_plan.specs.SmallText.{is_of_short_length, is_short}
 use Rattle.run_plan.specs.declared.command.Command.{Command}
 use Rattle.run_plan.specs.declared.command.Command.TheVariants as asked
 use Rattle.table_text.specs.Commands.{admit, batch, command, command_bytes, labels, outcome_byte}
@@ -94,11 +91,3 @@ length_command (asked.Fetch run) = behind_one _ (length_word run)
 
 pub length_batch : (commands : List Command) → length_of batch commands ≡ batch_length commands
 length_batch commands = length_counted command_bytes command_length commands length_command
-
--- ---- how long the fields may be
-
-pub short_length : (kind : ℕ → Bool) (t : List ℕ) → is_short kind t ≡ true → length t ≤ 64
-short_length kind t h =
-    let parts = and_parts (is_of_short_length t) (list_all kind t) h in
-    let range = and_parts (nat_le 1 (length t)) (nat_le (length t) 64) parts.0 in
-    leb-true (length t) 64 range.1

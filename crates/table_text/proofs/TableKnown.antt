@@ -1,28 +1,23 @@
 -- What is known of the parts of a table that is written.
-use Rattle.std.proofs.Common.{◌≡◌, ℕ, zero, suc, ◌≤◌, ◌<◌, List, [], ◌∷◌, length, get_or, ◌++◌, refl, sym, ◌∙◌, ap, arith, append_assoc}
-use Rattle.std.specs.Prelude.{Bool, true, false, ◌&&◌, not, map, flat_map, Some, slice_get, option_and_then}
-use Rattle.std.specs.Cmp.Lexicographic.{slice_cmp}
+use Rattle.std.proofs.Common.{◌≡◌, ℕ, zero, suc, ◌≤◌, ◌<◌, List, [], ◌∷◌, length, get_or, ◌++◌, sym, ◌∙◌, ap, arith, append_assoc}
+use Rattle.std.specs.Prelude.{Bool, true, false, not, map, flat_map, Some, slice_get, option_and_then}
 use Rattle.std.specs.List.{AllByRecursion}
-use Rattle.std.specs.Ordering.{is_lt, nat_cmp}
 use Rattle.std.proofs.lemmas.Bool.{le-leb}
 use Rattle.std.proofs.lemmas.List.{length-map}
 use Rattle.std.proofs.lemmas.List.Folds.{flat_map-map}
-use Rattle.wf_value.specs.Names.{rises_by}
-use Rattle.wf_value.specs.declared.outcome.JobResult.TheVariants as result
 use Rattle.wf_value.specs.declared.outcome.Outcome.TheVariants as outcome
+use Rattle.wf_value.proofs.Rising.{rises_over}
 use Rattle.workflow_runs.specs.Places.{job_at}
 use Rattle.run_table.specs.Stored.{IsStorable, stored_runner, stored_table}
 use Rattle.run_table.specs.TableState.{RunnerState, TableState}
 use Rattle.workflow_runs.specs.RunState.{LegState, JobState, RunState}
 use Rattle.run_table.specs.Turns.{names_rise}
-use Rattle.workflow_runs.specs.declared.phases.JobPhase.{JobPhase}
-use Rattle.workflow_runs.specs.declared.phases.JobPhase.TheVariants as job_phase
 use Rattle.workflow_runs.specs.declared.phases.LegPhase.{LegPhase}
 use Rattle.workflow_runs.specs.declared.phases.LegPhase.TheVariants as leg_phase
 use Rattle.workflow_runs.specs.declared.phases.RunPhase.{RunPhase}
 use Rattle.workflow_runs.specs.declared.phases.RunPhase.TheVariants as run_phase
 use Rattle.table_text.specs.Commands.{admit}
-use Rattle.table_text.specs.Tables.{IsLease, flag_byte, job, job_byte, jobs_planned, leg, leg_byte, run, run_byte, runner, table}
+use Rattle.table_text.specs.Tables.{IsLease, flag_byte, job, jobs_planned, leg, leg_byte, run, run_byte, runner, table}
 use Rattle.table_text.specs.Format.{word_bytes}
 use Rattle.table_text.specs.Writing.{HasByte, JobHasBytes, RunHasBytes}
 use Rattle.run_table.proofs.RunnerPut.{all_from_each}
@@ -37,14 +32,6 @@ leg_byte_fits (leg_phase.Ended outcome.Success) = omega arith
 leg_byte_fits (leg_phase.Ended outcome.Failure) = omega arith
 leg_byte_fits (leg_phase.Ended outcome.Cancelled) = omega arith
 
-job_byte_fits : (p : JobPhase) → job_byte p < 256
-job_byte_fits job_phase.Blocked = omega arith
-job_byte_fits job_phase.Open = omega arith
-job_byte_fits (job_phase.Settled result.Success) = omega arith
-job_byte_fits (job_phase.Settled result.Failure) = omega arith
-job_byte_fits (job_phase.Settled result.Cancelled) = omega arith
-job_byte_fits (job_phase.Settled result.Skipped) = omega arith
-
 run_byte_fits : (p : RunPhase) → run_byte p < 256
 run_byte_fits run_phase.Waiting = omega arith
 run_byte_fits run_phase.Live = omega arith
@@ -56,9 +43,6 @@ flag_byte_fits true = omega arith
 
 pub leg_takes : (l : LegState) → HasByte l → IsLease l.lease → leg.Takes l
 leg_takes l old lease = ((leg_byte_fits l.phase, ap not old), lease)
-
-pub job_takes : (j : JobState) → length j.legs ≤ 256 → AllByRecursion leg.Takes j.legs → job.Takes j
-job_takes j few all = (job_byte_fits j.phase, (omega arith, omega (arith, few), all))
 
 pub run_takes : (r : RunState) → length r.jobs ≡ jobs_planned r.admitted → admit.Takes r.admitted
     → AllByRecursion job.Takes r.jobs → run.Takes r
@@ -74,15 +58,6 @@ all_get P (x ∷ xs) (suc i) d below all = all_get P xs i d (omega (arith, below
 pub all_seen : {X Y : Type 0} (P : Y → Type 0) (f : X → Y) (xs : List X) → AllByRecursion (λ x. P (f x)) xs → AllByRecursion P (map f xs)
 all_seen P f [] all = tt
 all_seen P f (x ∷ xs) all = (all.0, all_seen P f xs all.1)
-
-pub all_behind : {X Y : Type 0} (P : Y → Type 0) (f : X → Y) (xs : List X) → AllByRecursion P (map f xs) → AllByRecursion (λ x. P (f x)) xs
-all_behind P f [] all = tt
-all_behind P f (x ∷ xs) all = (all.0, all_behind P f xs all.1)
-
-rises_over : {X Y : Type 0} (name : Y → List ℕ) (f : X → Y) (xs : List X) → rises_by name (map f xs) ≡ rises_by (λ x. name (f x)) xs
-rises_over name f [] = refl
-rises_over name f (x ∷ []) = refl
-rises_over name f (x ∷ y ∷ ys) = ap (λ b. is_lt (slice_cmp nat_cmp (name (f x)) (name (f y))) && b) (rises_over name f (y ∷ ys))
 
 -- ---- the runs of a table have bytes
 

@@ -3,7 +3,7 @@ use Rattle.std.proofs.Common.{◌≡◌, List, ℕ, ◌++◌, refl, sym, ◌∙�
 use Rattle.std.specs.Prelude.{None}
 use Rattle.run_table.specs.Sound.{IsSound, KeptLeasesAreLegs}
 use Rattle.run_table.specs.Stored.{StoredTable, stored_table}
-use Rattle.run_table.specs.TableOf.{IsNoTable, IsStoredAs}
+use Rattle.run_table.specs.TableOf.{IsNoTable}
 use Rattle.run_table.specs.TableState.{TableState}
 use Rattle.workflow_runs.specs.RunState.{RunState}
 use Rattle.run_table.proofs.StoredOnce.{same_runners}
@@ -31,12 +31,6 @@ whole_begins_none a b more other x y one two same =
     (stored.0, one_stored x y one.0.0 two.0.0 stored.1)
 
 -- ---- from the parts that stand at the front of bytes
-
-pub whole_of_parts : (bytes rest : List ℕ) (parts : StoredTable) (t : TableState) → OpensWith table bytes parts rest → IsStoredAs parts t
-    → OpensWith whole_table bytes t rest
-whole_of_parts bytes rest parts t opens is =
-    subst (λ (s : StoredTable). (IsSound t × table.Takes s) × (bytes ≡ table.spelling s ++ rest)) (sym is.stored)
-    ((is.is_sound, opens.0), opens.1)
 
 pub none_without_parts : (bytes : List ℕ) → StandsAtFront table bytes None → StandsAtFront whole_table bytes None
 none_without_parts bytes none t rest opens = none (stored_table t) rest (opens.0.1, opens.1)

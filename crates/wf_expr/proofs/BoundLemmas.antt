@@ -30,13 +30,6 @@ first-step other v vs =
       | false ↦ refl
     ]
 
--- a word is true
-word-true : (r : JobResult) → is_truthy (Text (result_word r)) ≡ true
-word-true result.Success = refl
-word-true result.Failure = refl
-word-true result.Cancelled = refl
-word-true result.Skipped = refl
-
 -- what an operand gives by the results, and what is known of it: the same, or it is a need, of which nothing is known
 abbrev Stands : Results → Scalar → Scalar → Option ℕ → Type 0
 Stands results v w None = v ≡ w

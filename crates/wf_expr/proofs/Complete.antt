@@ -7,6 +7,7 @@ use Rattle.std.specs.List.{AllByRecursion}
 use Rattle.std.specs.Str.{encode_utf8_all}
 use Rattle.std.specs.Char.{encode_utf8}
 use Rattle.std.proofs.lemmas.Str.{encode_ascii, length-encode, len_utf8_bounds}
+use Rattle.std.proofs.lemmas.Bool.{cond-false, cond-true}
 use Rattle.wf_expr.specs.Letters.{begins_name, continues_name}
 use Rattle.wf_expr.specs.Grammar.{AreSpaces, IsName, SpellsNames, doubled, SpellsOperand, SpellsMore, SpellsBraced, HoldsNoOpening}
 use Rattle.wf_expr.specs.Grammar.{SpellsPlain, SpellsPieces, BeginsBraced}
@@ -27,12 +28,6 @@ run-some r s c cs e = ap (option_and_then (λ next. run next cs)) e
 run-alike : (r s : Reader) (c : ℕ) (cs : List ℕ) → taken r c ≡ taken s c → run r (c ∷ cs) ≡ run s (c ∷ cs)
 unfolding run
 run-alike r s c cs e = ap (option_and_then (λ next. run next cs)) e
-
-cond-true : {X : Type 0} (b : Bool) (x y : X) → b ≡ true → cond b x y ≡ x
-cond-true b x y e = ap (λ t. cond t x y) e
-
-cond-false : {X : Type 0} (b : Bool) (x y : X) → b ≡ false → cond b x y ≡ y
-cond-false b x y e = ap (λ t. cond t x y) e
 
 spaces-read : (r : Reader) (s x : List ℕ) → taken r 32 ≡ Some r → AreSpaces s → run r (s ++ x) ≡ run r x
 spaces-read r [] x stays h = refl

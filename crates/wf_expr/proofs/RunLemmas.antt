@@ -9,10 +9,7 @@ use Rattle.wf_value.specs.declared.refusal.Refusal.TheVariants.{Numbered}
 use Rattle.wf_expr.specs.declared.piece.Piece.{Piece}
 use Rattle.wf_expr.specs.declared.reader.Reader.{Reader}
 use Rattle.wf_expr.specs.Reading.{needed, taken, ended, run}
-
-needed-some : {X : Type 0} (o : Option X) (x : X) → needed o ≡ Ok x → o ≡ Some x
-needed-some None x e = cc
-needed-some (Some y) x e = cc
+use Rattle.wf_expr.proofs.SpellLemmas.{needed-ok}
 
 needed-none : {X : Type 0} (o : Option X) (e : Refusal) → needed o ≡ Err e → (o ≡ None) × (Numbered Expression ≡ e)
 needed-none None e h = (refl, cc)
@@ -29,7 +26,7 @@ pub run-ok : (r s : Reader) (cs ys : List ℕ) (c : ℕ) (whole : Option (List P
 run-ok r s cs ys c whole at so_far ok =
     let e = run-turn r cs (length ys) c at in
     rw (length_push ys c)
-    (sym (ap (option_and_then (λ t. run t (drop (length ys + 1) cs))) (needed-some (taken r c) s ok)) ∙ (sym e ∙ so_far))
+    (sym (ap (option_and_then (λ t. run t (drop (length ys + 1) cs))) (needed-ok (taken r c) s ok)) ∙ (sym e ∙ so_far))
 
 pub run-err : (r : Reader) (cs ys : List ℕ) (c : ℕ) (whole : Option (List Piece)) (e : Refusal)
     → (length ys < length cs) × (c ≡ get_or cs (length ys) c) → run r (drop (length ys) cs) ≡ whole → needed (taken r c) ≡ Err e

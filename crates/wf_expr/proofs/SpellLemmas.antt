@@ -11,7 +11,7 @@ use Rattle.wf_expr.proofs.Sound.{read-spells}
 pub spelled-read : (text : List ℕ) (t : List Piece) → Spells text t → needed (pieces_of text) ≡ Ok t
 spelled-read text t h = ap needed (pieces-read [] (chars text) t h.grammar)
 
-needed-ok : {X : Type 0} (o : Option X) (x : X) → needed o ≡ Ok x → o ≡ Some x
+pub needed-ok : {X : Type 0} (o : Option X) (x : X) → needed o ≡ Ok x → o ≡ Some x
 needed-ok None x e = cc
 needed-ok (Some y) x e = cc
 

@@ -1,12 +1,12 @@
 -- Lists whose names rise: what it says of their places, and what a comparison of neighbours says of it.
-use Rattle.std.proofs.Common.{◌≡◌, ℕ, zero, suc, ◌+◌, ◌<◌, List, [], ◌∷◌, Bool, true, false, ◌&&◌, length, get_or, ⊎_elim, sym}
+use Rattle.std.proofs.Common.{◌≡◌, ℕ, zero, suc, ◌+◌, ◌<◌, List, [], ◌∷◌, Bool, true, false, ◌&&◌, length, get_or, map, ⊎_elim, sym}
 use Rattle.std.proofs.Common.{refl, subst, ap, ◌∙◌, arith}
 use Rattle.std.specs.declared.cmp.Ordering.{Ordering}
 use Rattle.std.specs.declared.cmp.Ordering.TheVariants.{Less, Equal, Greater}
 use Rattle.std.specs.Cmp.Lexicographic.{slice_cmp, nat_list_cmp_total}
 use Rattle.std.specs.List.{IsAllAdjacentAnswer}
-use Rattle.std.specs.Ordering.{nat_cmp, is_lt}
-use Rattle.std.proofs.lemmas.Bool.{and_parts, and_from, cases_lt, cases_eq, false≢true}
+use Rattle.std.specs.Ordering.{nat_cmp, is_lt, is_eq, ordering_reverse}
+use Rattle.std.proofs.lemmas.Bool.{and_parts, and_from, and_right, cases_lt, cases_eq, false≢true}
 use Rattle.std.proofs.lemmas.Cmp.{tied_itself}
 use Rattle.wf_value.specs.Names.{rises_by}
 
@@ -18,8 +18,22 @@ Less-from_is_lt Less h = refl
 Less-from_is_lt Equal h = absurd (false≢true h)
 Less-from_is_lt Greater h = absurd (false≢true h)
 
+pub Equal-from_is_eq : (o : Ordering) → is_eq o ≡ true → o ≡ Equal
+Equal-from_is_eq Less h = absurd (false≢true h)
+Equal-from_is_eq Equal h = refl
+Equal-from_is_eq Greater h = absurd (false≢true h)
+
 pub Equal-from_same : (x y : List ℕ) → x ≡ y → name_cmp x y ≡ Equal
 Equal-from_same x y same = ap (name_cmp x) (sym same) ∙ tied_itself nat_list_cmp_total x
+
+pub after_less : (x y : List ℕ) → name_cmp x y ≡ Less → name_cmp y x ≡ Greater
+after_less x y h = nat_list_cmp_total.antisymm y x ∙ ap ordering_reverse h
+
+-- the names of what a list is made into
+pub rises_over : {X Y : Type 0} (name : Y → List ℕ) (f : X → Y) (xs : List X) → rises_by name (map f xs) ≡ rises_by (λ x. name (f x)) xs
+rises_over name f [] = refl
+rises_over name f (x ∷ []) = refl
+rises_over name f (x ∷ y ∷ ys) = ap (λ b. is_lt (name_cmp (name (f x)) (name (f y))) && b) (rises_over name f (y ∷ ys))
 
 module _ {X : Type 0} (name : X → List ℕ) where
   -- ---- a list that rises
@@ -79,17 +93,13 @@ module _ {X : Type 0} (name : X → List ℕ) where
   all_rise (x ∷ []) each = refl
   all_rise (x ∷ y ∷ ys) each = and_from _ _ (each zero x (omega arith)) (all_rise (y ∷ ys) (λ k d within. each (suc k) d (omega arith)))
 
-  and_false : (b : Bool) → (b && false) ≡ false
-  and_false true = refl
-  and_false false = refl
-
   one_falls : (xs : List X) (k : ℕ) → suc k < length xs → ((d : X) → below (get_or xs k d) (get_or xs (suc k) d) ≡ false)
       → rises_by name xs ≡ false
   one_falls [] k within falls = absurd (omega arith)
   one_falls (x ∷ []) k within falls = absurd (omega arith)
   one_falls (x ∷ y ∷ ys) zero within falls = ap (λ b. b && rises_by name (y ∷ ys)) (falls x)
   one_falls (x ∷ y ∷ ys) (suc k) within falls = ap (λ b. below x y && b) (one_falls (y ∷ ys) k (omega arith) falls)
-      ∙ and_false (below x y)
+      ∙ and_right (below x y) false refl
 
   pub rise_told : (xs : List X) (r : Bool) → IsAllAdjacentAnswer (λ x y b. b ≡ below x y) xs r → r ≡ rises_by name xs
   rise_told xs true each =

@@ -139,7 +139,7 @@ module _ (runs : List RunState) (fit : RunsFit runs) (newcomer : Holder) (g : Gr
 
 -- ---- the whole arrival
 
-asked_fades : (cancels : Bool) (g : Group) (runs : List RunState) → Fades runs (stopped_where_asked cancels g runs).runs
+pub asked_fades : (cancels : Bool) (g : Group) (runs : List RunState) → Fades runs (stopped_where_asked cancels g runs).runs
 asked_fades true g runs = each_fades stop_holder holder_stop_fades (running_in runs g) runs
 asked_fades false g runs = fades_not runs
 

@@ -1,5 +1,5 @@
 -- An arrival, made by stopping the one that is found: in a group at most one other is pending, and at most one is running.
-use Rattle.std.specs.Prelude.{◌≡◌, ℕ, zero, suc, List, [], ◌∷◌, filter, find, ◌&&◌, not, Bool, true, false, is_some, Some, None}
+use Rattle.std.specs.Prelude.{◌≡◌, ℕ, zero, suc, List, [], ◌∷◌, filter, find, ◌&&◌, not, Bool, true, false, is_some, Some}
 use Rattle.std.specs.Prelude.{if◌then◌else◌, refl}
 use Rattle.std.specs.List.{AllByRecursion}
 use Rattle.std.specs.Option.{option_map_or}
@@ -144,10 +144,6 @@ arrived_in : (runs : List RunState) (newcomer : Holder) (g : Group) (cancels : B
 arrived_in runs newcomer g cancels its is =
     ap (λ b. (room_made b newcomer runs g).runs) is
     ∙ sym (ap (λ o. (option_map_or (room_made (cancels_in_progress runs newcomer) newcomer runs) o (without_moves runs)).runs) its)
-
-pub arrived_in_none : (runs : List RunState) (newcomer : Holder) → group_at runs newcomer ≡ None → runs ≡ (arrived newcomer runs).runs
-arrived_in_none runs newcomer none =
-    sym (ap (λ o. (option_map_or (room_made (cancels_in_progress runs newcomer) newcomer runs) o (without_moves runs)).runs) none)
 
 -- ---- where there is a group
 

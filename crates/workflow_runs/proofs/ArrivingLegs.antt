@@ -1,23 +1,20 @@
 -- A new leg that is to arrive: it waits then, and of the others of its group at most one is pending and at most one is running.
-use Rattle.std.specs.Prelude.{◌≡◌, List, true, false, Option, Some, None, if◌then◌else◌, refl}
+use Rattle.std.specs.Prelude.{◌≡◌, List, true, false, Option, Some, None, refl}
 use Rattle.std.specs.Option.{option_map_or}
-use Rattle.std.proofs.Common.{ap, sym}
-use Rattle.std.proofs.lemmas.Bool.{false≢true}
-use Rattle.wf_value.specs.declared.outcome.Outcome.TheVariants as outcome
-use Rattle.workflow_runs.specs.Arrivals.{arrived, is_in_group_of_run}
+use Rattle.std.proofs.Common.{ap}
 use Rattle.workflow_runs.specs.Groups.{HasOneBeside, HasOneEach, leg_waits, waits}
 use Rattle.workflow_runs.specs.LookAgain.{is_new_at}
-use Rattle.workflow_runs.specs.Moves.{Holder, without_moves}
+use Rattle.workflow_runs.specs.Moves.{Holder}
 use Rattle.workflow_runs.specs.Places.{LegPlace, leg_at}
-use Rattle.workflow_runs.specs.Rules.{newcomer_rule, with_leg_in}
+use Rattle.workflow_runs.specs.Rules.{with_leg_in}
 use Rattle.workflow_runs.specs.SoundRuns.{RunsAreSound}
 use Rattle.workflow_runs.specs.StateWords.{is_new, leg_in_phase}
 use Rattle.workflow_runs.specs.RunState.{LegState, RunState}
 use Rattle.workflow_runs.specs.declared.phases.LegPhase.{LegPhase}
 use Rattle.workflow_runs.specs.declared.phases.LegPhase.TheVariants as leg
-use Rattle.workflow_runs.proofs.HoldersFade.{holds_before_leg, leg_passes, passes}
-use Rattle.workflow_runs.proofs.OneEach.{Comes, groups_stay, newcomer_besides}
-use Rattle.workflow_runs.proofs.OneEachRules.{set_itself, set_waits}
+use Rattle.workflow_runs.proofs.HoldersFade.{leg_passes, passes}
+use Rattle.workflow_runs.proofs.OneEach.{groups_stay, newcomer_besides}
+use Rattle.workflow_runs.proofs.OneEachRules.{newcomer_comes, set_itself}
 use Rattle.workflow_runs.proofs.RuleKeeps.{newcomer_waits}
 use Rattle.workflow_runs.proofs.SoundRuns.{runs_that_fit, sound_runs}
 
@@ -57,22 +54,4 @@ module _ (runs : List RunState) (p : LegPlace) (new : is_new_at runs p ≡ true)
       let next = with_leg_in leg.Waiting p runs in
       let fit = runs_that_fit runs sound in
       let stay = (newcomer_waits runs p there.state fit there.is there.new).stay in
-      let comes : Comes runs next (Holder.a_leg p) = record {
-        waited = set_waits runs p there.state there.is (leg_in_phase leg.Waiting);
-        held = holds_before_leg (leg_in_phase leg.Waiting) p runs (λ v e. absurd (false≢true e));
-      } in
-      newcomer_besides runs next (Holder.a_leg p) (groups_stay runs next fit stay) comes each
-
--- ---- what becomes of it
-
-pub ends_in_own_group : (runs : List RunState) (p : LegPlace) → is_in_group_of_run runs p ≡ true
-    → with_leg_in (leg.Ended outcome.Cancelled) p runs ≡ (newcomer_rule runs p).runs
-ends_in_own_group runs p e =
-    ap (λ b. (if b then without_moves (with_leg_in (leg.Ended outcome.Cancelled) p runs)
-    else arrived (Holder.a_leg p) (with_leg_in leg.Waiting p runs)).runs) (sym e)
-
-pub arrives_elsewhere : (runs : List RunState) (p : LegPlace) → is_in_group_of_run runs p ≡ false
-    → (arrived (Holder.a_leg p) (with_leg_in leg.Waiting p runs)).runs ≡ (newcomer_rule runs p).runs
-arrives_elsewhere runs p e =
-    ap (λ b. (if b then without_moves (with_leg_in (leg.Ended outcome.Cancelled) p runs)
-    else arrived (Holder.a_leg p) (with_leg_in leg.Waiting p runs)).runs) (sym e)
+      newcomer_besides runs next (Holder.a_leg p) (groups_stay runs next fit stay) (newcomer_comes runs p there.state there.is) each

@@ -14,6 +14,7 @@ use Rattle.wf_value.specs.Words.{result_word}
 use Rattle.wf_value.specs.declared.outcome.JobResult.{JobResult}
 use Rattle.wf_value.specs.declared.scalar.Scalar.{Scalar}
 use Rattle.wf_value.specs.declared.scalar.Scalar.TheVariants.{Null, Truth, Whole, Text}
+use Rattle.wf_value.proofs.OptionOr.{or_none}
 use Rattle.wf_expr.specs.Bound.{HasResults, Results, no_results, result_value}
 use Rattle.wf_expr.specs.ContextValue.{Values}
 use Rattle.wf_expr.specs.FlagValue.{sets_flag}
@@ -33,7 +34,6 @@ use Rattle.workflow_runs.specs.LegContext.{LegFacts, context_of, under}
 use Rattle.workflow_runs.specs.RunState.{RunState}
 use Rattle.workflow_runs.specs.declared.groups.Asked.{Asked}
 use Rattle.workflow_runs.proofs.BoundSays.{as_long, as_short}
-use Rattle.workflow_runs.proofs.Optional.{or_none}
 
 -- ---- flags
 
@@ -223,14 +223,3 @@ legs_say repository values job asked kept is same each l =
     subst (λ (o : Option Concurrency). SaysSo repository (values l) (option_and_then (λ _. o) (slice_get job.legs l)) (slice_get kept l))
     (sym is)
     (asked_where repository (values l) asked job.legs kept l same (each l) (slice_get job.legs l) refl (slice_get kept l) refl)
-
-nothing_asked : {X : Type 0} (o : Option PlannedLeg) → option_and_then (λ _. let none : Option X = None in none) o ≡ None
-nothing_asked None = refl
-nothing_asked (Some leg) = refl
-
-pub no_leg_says : (repository : List ℕ) (values : ℕ → Results → Values) (job : PlannedJob) → job.concurrency ≡ None → (l : ℕ)
-    → SaysSo repository (values l) (asked_of_leg job l) None
-no_leg_says repository values job none l =
-    let nothing : asked_of_leg job l ≡ None =
-    ap (λ (o : Option Concurrency). option_and_then (λ _. o) (slice_get job.legs l)) none ∙ nothing_asked (slice_get job.legs l) in
-    subst (λ (o : Option Concurrency). SaysSo repository (values l) o None) (sym nothing) tt

@@ -165,9 +165,6 @@ one_or_none : (alike : Bool) (n : ℕ) → cond alike (n + 1) n ≡ n + (0 + con
 one_or_none true n = refl
 one_or_none false n = omega arith
 
-pub none_counted : (counts : BTreeMap Workflow ℕ) → ((event : Admitted) → count_of counts event ≡ 0) → AreCounted [] counts
-none_counted counts none = none
-
 pub one_counted : (events : List Admitted) (new_one : Admitted) (old new : BTreeMap Workflow ℕ) → AreCounted events old
     → ((event : Admitted) → count_of new event ≡ cond (same_workflow event new_one) (count_of old event + 1) (count_of old event))
     → AreCounted (events ++ new_one ∷ []) new

@@ -1,12 +1,11 @@
 -- The changes of a run's cells, as contracts see them.
 use Rattle.std.specs.Prelude.{◌≡◌, ℕ, zero, suc, ◌<◌, ◌≤◌, List, [], ◌∷◌, ◌++◌, length, map, filter_map, Bool, true, false}
-use Rattle.std.specs.Prelude.{slice_get, slice_set, take, Option, Some, None, Result, Ok, refl}
+use Rattle.std.specs.Prelude.{slice_get, slice_set, take, Option, Some, None, refl}
 use Rattle.std.specs.List.{cons_option}
 use Rattle.std.specs.Option.{option_map_or}
 use Rattle.std.proofs.Common.{arith, ap, subst, sym, ◌∙◌, get_or}
 use Rattle.std.proofs.lemmas.List.{length-map, length-set, take_at}
 use Rattle.std.proofs.lemmas.Option.{gets, slice_get-map}
-use Rattle.wf_value.specs.declared.refusal.Refusal.{Refusal}
 use Rattle.run_plan.specs.declared.planned.PlannedJob.{PlannedJob}
 use Rattle.workflow_runs.specs.Cells.{JobCells, cells_of, in_state, states, rooms, legs_planned, blocked_cells, result_of}
 use Rattle.workflow_runs.specs.FirstOf.{changed_at}
@@ -17,10 +16,6 @@ use Rattle.workflow_runs.specs.Stops.{stopped, with_stopped_legs}
 use Rattle.workflow_runs.specs.RunState.{LegState}
 use Rattle.workflow_runs.specs.JobResults.{results_of}
 use Rattle.workflow_runs.specs.declared.phases.JobPhase.{JobPhase}
-
--- what a call gave
-pub given : {X : Type 0} (x y : X) → ◌≡◌ {A = Result X Refusal} (Ok x) (Ok y) → x ≡ y
-given x y h = cc
 
 -- ---- a change at one place
 

@@ -222,12 +222,6 @@ pub finds_the_same : (es : List Admitted) (old new : Places) → ((d : List ℕ)
     → FindsFirst es new
 finds_the_same es old new same finds d r first = same d ∙ finds d r first
 
-pub finds_none : (places : Places) → FindsFirst [] places
-finds_none places d r first = absurd (none_is_kept_there first.there)
-  where
-    none_is_kept_there : delivery_at [] r ≡ Some d → ⊥
-    none_is_kept_there e = cc
-
 -- ---- a run that is added
 
 module _ (runs : List RunState) (old new : Places) (event : Admitted) (found : Option ℕ)

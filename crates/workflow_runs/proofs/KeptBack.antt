@@ -5,10 +5,10 @@ use Rattle.std.specs.Option.{option_map_or}
 use Rattle.std.proofs.Common.{ap, sym, ◌∙◌}
 use Rattle.std.proofs.lemmas.Bool.{and_from, and_parts, both_ways, not-false}
 use Rattle.std.proofs.lemmas.Option.{same_Some}
-use Rattle.group_name.specs.Group.{Group}
+use Rattle.group_name.specs.Group.{Group, same_group}
 use Rattle.workflow_runs.specs.FirstOf.{changed_at}
 use Rattle.workflow_runs.specs.GroupOf.{group_at}
-use Rattle.workflow_runs.specs.Groups.{all_holders, holds, is_in, is_running_in, is_taken, leg_holds, may_start, same_group}
+use Rattle.workflow_runs.specs.Groups.{all_holders, holds, is_in, is_running_in, is_taken, leg_holds, may_start}
 use Rattle.workflow_runs.specs.Moves.{Holder}
 use Rattle.workflow_runs.specs.Places.{LegPlace, job_at, leg_at, run_at, with_job, with_leg, with_run}
 use Rattle.workflow_runs.specs.StateWords.{is_live}

@@ -172,13 +172,6 @@ facts_stay runs next p same settled kept =
     (λ k r e. result_of_job next p.run k ∙ kept k r (sym (result_of_job runs p.run k) ∙ e))
     ∙ sym (facts_are runs p)
 
--- and so does its context
-pub context_stays : (runs next : List RunState) (p : LegPlace) → SameUpTo p.run (events next) (events runs)
-    → needs_have_settled runs p.run p.job ≡ true → KeepsResults runs next p.run
-    → context_at next p ≡ context_at runs p
-unfolding context_at
-context_stays runs next p same settled kept = ap (λ o. option_map_or context_of o nothing) (facts_stay runs next p same settled kept)
-
 passes_stay : (runs next : List RunState) (p : LegPlace) → SameUpTo p.run (events next) (events runs)
     → needs_have_settled runs p.run p.job ≡ true → KeepsResults runs next p.run
     → passes_over next p ≡ passes_over runs p

@@ -7,6 +7,7 @@ pub mod Changed
 pub mod Counting
 pub mod Digits
 pub mod DirectNeeds
+pub mod EachRule
 pub mod Doors
 pub mod Firsts
 pub mod Found

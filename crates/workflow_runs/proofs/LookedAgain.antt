@@ -8,6 +8,7 @@ use Rattle.std.proofs.Common.{arith, ap, sym, ◌∙◌, inl, inr, subst}
 use Rattle.std.proofs.lemmas.Bool.{and_from, and_parts, cases_eq, cases_lt, eqb-false, or_parts}
 use Rattle.std.proofs.lemmas.List.{get_or_past}
 use Rattle.wf_value.specs.declared.outcome.JobResult.{JobResult}
+use Rattle.wf_value.proofs.OptionOr.{or_nothing}
 use Rattle.needs_graph.specs.Ancestors.{dependents_of, needs_at}
 use Rattle.workflow_runs.specs.FirstOf.{changed_at, first_some, placed}
 use Rattle.workflow_runs.specs.JobResults.{needs_in, results_so_far, settled_result}
@@ -32,7 +33,7 @@ use Rattle.workflow_runs.proofs.Firsts.{first_at}
 use Rattle.workflow_runs.proofs.Found.{all_weaken, placed_get}
 use Rattle.workflow_runs.proofs.KeptBack.{KeepsBack}
 use Rattle.workflow_runs.proofs.NeedsSettled.{result_among}
-use Rattle.workflow_runs.proofs.Optional.{from_and_then, if_none, if_some, or_nothing}
+use Rattle.workflow_runs.proofs.Optional.{from_and_then, if_none, if_some}
 use Rattle.workflow_runs.proofs.QuietRules.{IsAt, quiet_at_job, quiet_in_run, quiet_keeps_back}
 use Rattle.workflow_runs.proofs.RunFits.{RunsFit, job_in_run, leg_in_job}
 use Rattle.workflow_runs.proofs.Walks.{first_place_by_run}
@@ -184,9 +185,6 @@ before_first j k (Some d) lt = (omega (arith, lt), omega (arith, lt))
 -- ---- in the run of the place
 
 module _ (x : RunState) (j : ℕ) (change : JobState → JobState) where
-  changed : RunState
-  changed = record x { jobs = changed_at j change x.jobs }
-
   same_results : SameBut j (results_so_far (changed_at j change x.jobs)) (results_so_far x.jobs)
   same_results i apart =
       result_among (changed_at j change x.jobs) i
@@ -363,7 +361,7 @@ module _ (runs : List RunState) (m : Moved) (p : Place) (fit : RunsFit runs) (fi
   after_whole : (r : ℕ) → p ≡ Whole r → NoneBefore (first_in_run runs) runs r → RestBefore m.runs (look_near m.runs p)
   after_whole r whole before =
       let keeps = quiet_keeps_back runs m p fit first is quiet in
-      let made = quiet_in_run runs m r (sym (ap (rule_at runs) whole) ∙ is) in
+      let made = quiet_in_run runs m p r fit whole quiet is in
       let others : (k : ℕ) → k < r → run_at m.runs k ≡ run_at runs k =
       λ k lt. ap (λ xs. slice_get xs k) (sym made.is) ∙ at_another r made.change runs k (λ e. absurd (omega (arith, e, lt))) in
       let again : look_near m.runs p ≡ record { run = r; job = 0 } = ap (look_near m.runs) whole in

@@ -1,6 +1,6 @@
 -- Each settling rule lowers the count of phases before it.
-use Rattle.std.specs.Prelude.{◌≡◌, ℕ, zero, suc, ◌+◌, ◌*◌, ◌<◌, ◌&&◌, List, [], ◌∷◌, length, sum_by, Bool, true, false, Some}
-use Rattle.std.specs.Prelude.{option_and_then, slice_get, if◌then◌else◌, refl}
+use Rattle.std.specs.Prelude.{◌≡◌, ℕ, zero, suc, ◌+◌, ◌*◌, ◌<◌, List, [], ◌∷◌, length, sum_by, Bool, true, false, Some}
+use Rattle.std.specs.Prelude.{option_and_then, slice_get, if◌then◌else◌}
 use Rattle.std.specs.List.{enumerate_from, list_all}
 use Rattle.std.specs.Option.{option_map_or}
 use Rattle.std.proofs.Common.{arith, ap, subst, sym, ◌∙◌, lit<}
@@ -13,28 +13,24 @@ use Rattle.run_plan.specs.PlanOf.{plan_of}
 use Rattle.run_plan.specs.declared.planned.PlannedJob.{PlannedJob}
 use Rattle.workflow_runs.specs.FirstOf.{changed_at}
 use Rattle.workflow_runs.specs.Places.{LegPlace, run_at, job_at, leg_at, with_run, with_job}
-use Rattle.workflow_runs.specs.Arrivals.{arrived, is_in_group_of_run, started}
-use Rattle.workflow_runs.specs.Groups.{may_start}
-use Rattle.workflow_runs.specs.Moves.{Holder, Moved, without_moves}
-use Rattle.workflow_runs.specs.Rules.{rule_at, opening_rule, leg_rule, leg_rule_in, closing_rule, whole_rule, whole_rule_in, newcomer_rule}
-use Rattle.workflow_runs.specs.Rules.{decided, may_run, result_at, with_leg_in}
-use Rattle.workflow_runs.specs.StateWords.{has_ended, is_blocked, is_open, is_settled, leg_in_phase, new_leg, opened, run_in_phase}
+use Rattle.workflow_runs.specs.Moves.{Holder, Moved}
+use Rattle.workflow_runs.specs.Rules.{decided, may_run, result_at, rule_at, with_leg_in}
+use Rattle.workflow_runs.specs.StateWords.{has_ended, is_blocked, is_done, is_open, leg_in_phase, new_leg, opened, run_in_phase}
 use Rattle.workflow_runs.specs.StateWords.{settled_as}
 use Rattle.workflow_runs.specs.Settling.{first_place, first_rule, leg_phases_left, leg_left, job_phases_left, job_left, legs_in_plan}
 use Rattle.workflow_runs.specs.Settling.{run_phases_left, run_left, left}
 use Rattle.workflow_runs.specs.RunState.{LegState, JobState, RunState}
-use Rattle.workflow_runs.specs.Words.{needs_have_settled, is_stopping, planned_legs}
+use Rattle.workflow_runs.specs.Words.{is_stopping, planned_legs}
 use Rattle.workflow_runs.specs.declared.phases.LegPhase.{LegPhase}
 use Rattle.workflow_runs.specs.declared.phases.LegPhase.TheVariants as leg
 use Rattle.workflow_runs.specs.declared.phases.JobPhase.TheVariants as job
 use Rattle.workflow_runs.specs.declared.phases.RunPhase.{RunPhase}
 use Rattle.workflow_runs.specs.declared.phases.RunPhase.TheVariants as run
 use Rattle.workflow_runs.specs.declared.place.Place.{Place}
-use Rattle.workflow_runs.specs.declared.place.Place.TheVariants.{Opening, AtLeg, Closing, Whole}
+use Rattle.workflow_runs.proofs.EachRule.{EachRule, by_rule}
 use Rattle.workflow_runs.proofs.JobKeeps.{JobIn, job_in, leg_in, with_job_of, with_leg_of}
 use Rattle.workflow_runs.proofs.JobPhases.{is_blocked_blocked, is_open_open}
-use Rattle.workflow_runs.proofs.Optional.{from_and_then, if_some}
-use Rattle.workflow_runs.proofs.RuleKeeps.{run_ended}
+use Rattle.workflow_runs.proofs.Optional.{from_and_then}
 use Rattle.workflow_runs.proofs.StopsLower.{arrival_lowers}
 
 -- ---- sums over a list that is changed at one place
@@ -128,33 +124,6 @@ leg_goes_lower runs p z to was lower =
 left_by : (phase is : LegPhase) (to : ℕ) → phase ≡ is → to < leg_phases_left is → to < leg_phases_left phase
 left_by phase is to e less = subst (λ (v : LegPhase). to < leg_phases_left v) (sym e) less
 
-newcomer_lowers : (runs : List RunState) (p : LegPlace) (z : LegState) → leg_at runs p ≡ Some z → z.phase ≡ leg.New
-    → left (newcomer_rule runs p).runs < left runs
-newcomer_lowers runs p z was is =
-    elim (is_in_group_of_run runs p) as
-    (λ b. left (if b then without_moves (with_leg_in (leg.Ended outcome.Cancelled) p runs)
-    else arrived (Holder.a_leg p) (with_leg_in leg.Waiting p runs)).runs < left runs) [
-      | true ↦ leg_goes_lower runs p z (leg.Ended outcome.Cancelled) was (left_by z.phase leg.New 0 is (lit< tt))
-      | false ↦
-          let waits = leg_goes_lower runs p z leg.Waiting was (left_by z.phase leg.New 4 is (lit< tt)) in
-          let rest = arrival_lowers (Holder.a_leg p) (with_leg_in leg.Waiting p runs) in
-          omega (arith, waits, rest)
-    ]
-
-leg_rule_lowers : (runs : List RunState) (m : Moved) (p : LegPlace) (z : LegState) (phase : LegPhase) → leg_at runs p ≡ Some z
-    → z.phase ≡ phase → leg_rule_in phase runs p ≡ Some m → left m.runs < left runs
-leg_rule_lowers runs m p z leg.New was is h =
-    let same : newcomer_rule runs p ≡ m = cc in
-    subst (λ (v : Moved). left v.runs < left runs) same (newcomer_lowers runs p z was is)
-leg_rule_lowers runs m p z leg.Waiting was is h =
-    let taken = if_some (may_start runs (Holder.a_leg p)) (started (Holder.a_leg p) (with_leg_in leg.Ready p runs)) m h in
-    subst (λ (v : Moved). left v.runs < left runs) taken.1
-    (leg_goes_lower runs p z leg.Ready was (left_by z.phase leg.Waiting 3 is (lit< tt)))
-leg_rule_lowers runs m p z leg.Ready was is h = cc
-leg_rule_lowers runs m p z leg.Running was is h = cc
-leg_rule_lowers runs m p z leg.Stopping was is h = cc
-leg_rule_lowers runs m p z (leg.Ended r) was is h = cc
-
 decided_lowered : (may : Bool) (planned : ℕ) (stopping : Bool) (y : JobState) → y.phase ≡ job.Blocked
     → job_left planned ((if may then opened planned else settled_as (if stopping then result.Cancelled else result.Skipped)) y)
     < job_left planned y
@@ -165,23 +134,20 @@ decided_lowered false planned stopping y blocked =
     let before : job_phases_left planned y.phase ≡ 2 + 5 * planned = ap (job_phases_left planned) blocked in
     omega (arith, before)
 
-opening_rule_lowers : (runs : List RunState) (m : Moved) (r j : ℕ) (y : JobState) → job_at runs r j ≡ Some y
-    → opening_rule runs r j y ≡ Some m → left m.runs < left runs
-opening_rule_lowers runs m r j y was h =
-    let taken = if_some (is_blocked y.phase && needs_have_settled runs r j) (without_moves (with_job r j (decided runs r j) runs)) m h in
-    let blocked = is_blocked_blocked y.phase (and_parts (is_blocked y.phase) (needs_have_settled runs r j) taken.0).0 in
-    let less = decided_lowered (may_run runs r j) (planned_legs runs r j) (is_stopping runs r) y blocked in
-    subst (λ (v : Moved). left v.runs < left runs) taken.1 (job_lowers_all runs r j (decided runs r j) y (job_in runs r j y was) less)
+opening_lowers : (runs : List RunState) (r j : ℕ) (y : JobState) → job_at runs r j ≡ Some y → is_blocked y.phase ≡ true
+    → left (with_job r j (decided runs r j) runs) < left runs
+opening_lowers runs r j y was blocked =
+    job_lowers_all runs r j (decided runs r j) y (job_in runs r j y was)
+    (decided_lowered (may_run runs r j) (planned_legs runs r j) (is_stopping runs r) y (is_blocked_blocked y.phase blocked))
 
-closing_rule_lowers : (runs : List RunState) (m : Moved) (r j : ℕ) (y : JobState) → job_at runs r j ≡ Some y
-    → closing_rule runs r j y ≡ Some m → left m.runs < left runs
-closing_rule_lowers runs m r j y was h =
+closing_lowers : (runs : List RunState) (r j : ℕ) (y : JobState) → job_at runs r j ≡ Some y → is_done y ≡ true
+    → left (with_job r j (settled_as (result_at runs r j y)) runs) < left runs
+closing_lowers runs r j y was done =
     let close = settled_as (result_at runs r j y) in
-    let taken = if_some (is_open y.phase && list_all has_ended y.legs) (without_moves (with_job r j close runs)) m h in
-    let is_open = is_open_open y.phase (and_parts (is_open y.phase) (list_all has_ended y.legs) taken.0).0 in
+    let is_open = is_open_open y.phase (and_parts (is_open y.phase) (list_all has_ended y.legs) done).0 in
     let before : job_phases_left (planned_legs runs r j) y.phase ≡ 1 = ap (job_phases_left (planned_legs runs r j)) is_open in
     let less : job_left (planned_legs runs r j) (close y) < job_left (planned_legs runs r j) y = omega (arith, before) in
-    subst (λ (v : Moved). left v.runs < left runs) taken.1 (job_lowers_all runs r j close y (job_in runs r j y was) less)
+    job_lowers_all runs r j close y (job_in runs r j y was) less
 
 run_goes_lower : (runs : List RunState) (r : ℕ) (x : RunState) (to : RunPhase) → run_at runs r ≡ Some x
     → run_phases_left to < run_phases_left x.phase → left (with_run r (run_in_phase to) runs) < left runs
@@ -189,31 +155,25 @@ run_goes_lower runs r x to was lower =
     let less : run_left (run_in_phase to x) < run_left x = omega (arith, lower) in
     run_lowers runs r (run_in_phase to) x was less
 
-whole_rule_lowers : (runs : List RunState) (m : Moved) (r : ℕ) (x : RunState) (phase : RunPhase) → run_at runs r ≡ Some x
-    → x.phase ≡ phase → whole_rule_in phase runs r x ≡ Some m → left m.runs < left runs
-whole_rule_lowers runs m r x run.Waiting was is h =
-    let taken = if_some (may_start runs (Holder.a_run r)) (started (Holder.a_run r) (with_run r (run_in_phase run.Live) runs)) m h in
-    subst (λ (v : Moved). left v.runs < left runs) taken.1
-    (run_goes_lower runs r x run.Live was (subst (λ (v : RunPhase). 1 < run_phases_left v) (sym is) (lit< tt)))
-whole_rule_lowers runs m r x run.Live was is h =
-    let taken = if_some (list_all is_settled x.jobs) (run_ended runs r x) m h in
-    subst (λ (v : Moved). left v.runs < left runs) taken.1
-    (run_goes_lower runs r x run.Ended was (subst (λ (v : RunPhase). 0 < run_phases_left v) (sym is) (lit< tt)))
-whole_rule_lowers runs m r x run.Ended was is h = cc
+run_left_by : (phase is : RunPhase) (to : ℕ) → phase ≡ is → to < run_phases_left is → to < run_phases_left phase
+run_left_by phase is to e less = subst (λ (v : RunPhase). to < run_phases_left v) (sym e) less
 
-pub rule_lowers : (runs : List RunState) (m : Moved) (place : Place) → rule_at runs place ≡ Some m → left m.runs < left runs
-rule_lowers runs m (Opening r j) h =
-    let made = from_and_then (opening_rule runs r j) (job_at runs r j) m h in
-    opening_rule_lowers runs m r j made.value made.is made.gives
-rule_lowers runs m (AtLeg p) h =
-    let made = from_and_then (leg_rule runs p) (leg_at runs p) m h in
-    leg_rule_lowers runs m p made.value made.value.phase made.is refl made.gives
-rule_lowers runs m (Closing r j) h =
-    let made = from_and_then (closing_rule runs r j) (job_at runs r j) m h in
-    closing_rule_lowers runs m r j made.value made.is made.gives
-rule_lowers runs m (Whole r) h =
-    let made = from_and_then (whole_rule runs r) (run_at runs r) m h in
-    whole_rule_lowers runs m r made.value made.value.phase made.is refl made.gives
+each_lowers : (runs : List RunState) → EachRule runs (λ place m. left m.runs < left runs)
+each_lowers runs = record {
+  job_opens = (λ r j y was blocked settled. opening_lowers runs r j y was blocked);
+  leg_is_cancelled = (λ p z was is. leg_goes_lower runs p z (leg.Ended outcome.Cancelled) was (left_by z.phase leg.New 0 is (lit< tt)));
+  leg_arrives = (λ p z was is.
+      let waits = leg_goes_lower runs p z leg.Waiting was (left_by z.phase leg.New 4 is (lit< tt)) in
+      let rest = arrival_lowers (Holder.a_leg p) (with_leg_in leg.Waiting p runs) in
+      omega (arith, waits, rest));
+  leg_starts = (λ p z was is may. leg_goes_lower runs p z leg.Ready was (left_by z.phase leg.Waiting 3 is (lit< tt)));
+  job_settles = (λ r j y was done. closing_lowers runs r j y was done);
+  run_starts = (λ r x was is may. run_goes_lower runs r x run.Live was (run_left_by x.phase run.Waiting 1 is (lit< tt)));
+  run_ends = (λ r x was is all. run_goes_lower runs r x run.Ended was (run_left_by x.phase run.Live 0 is (lit< tt)));
+}
+
+rule_lowers : (runs : List RunState) (m : Moved) (place : Place) → rule_at runs place ≡ Some m → left m.runs < left runs
+rule_lowers runs m place h = by_rule runs (λ at made. left made.runs < left runs) (each_lowers runs) m place h
 
 pub first_rule_lowers : (runs : List RunState) (m : Moved) → first_rule runs ≡ Some m → left m.runs < left runs
 first_rule_lowers runs m h =

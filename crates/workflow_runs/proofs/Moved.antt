@@ -1,27 +1,17 @@
 -- A change of a leg that was read, and what the rules of a job make of the runs.
 use Rattle.std.specs.Prelude.{◌≡◌, ℕ, zero, suc, List, [], ◌∷◌, Bool, true, false, Option, Some, None, IfSome, is_some}
 use Rattle.std.specs.Prelude.{option_map, option_and_then, slice_get, if◌then◌else◌, refl}
-use Rattle.std.specs.List.{list_all}
 use Rattle.std.proofs.Common.{ap, subst, sym, ◌∙◌}
 use Rattle.std.proofs.lemmas.Option.{same_Some}
-use Rattle.needs_graph.specs.Results.{conclusion_of}
 use Rattle.workflow_runs.specs.FirstOf.{changed_at}
-use Rattle.workflow_runs.specs.Arrivals.{started}
-use Rattle.workflow_runs.specs.Groups.{may_start}
-use Rattle.workflow_runs.specs.JobResults.{results_of}
-use Rattle.workflow_runs.specs.Places.{LegPlace, job_at, leg_at, run_at, with_job, with_leg, with_run}
-use Rattle.workflow_runs.specs.Moves.{Holder, Move, Moved, without_moves}
-use Rattle.workflow_runs.specs.Rules.{is_done, is_settled, settled_as, result_at, closing_rule, leg_rule, leg_rule_in, newcomer_rule}
+use Rattle.workflow_runs.specs.Places.{LegPlace, job_at, leg_at, with_job, with_leg}
+use Rattle.workflow_runs.specs.Moves.{Moved, without_moves}
+use Rattle.workflow_runs.specs.Rules.{is_done, settled_as, result_at, closing_rule}
 use Rattle.workflow_runs.specs.Rules.{places}
-use Rattle.workflow_runs.specs.Rules.{rule_at, run_in_phase, whole_rule, whole_rule_in, with_leg_in}
+use Rattle.workflow_runs.specs.Rules.{rule_at}
 use Rattle.workflow_runs.specs.Settling.{applies, first_place, first_rule}
 use Rattle.workflow_runs.specs.RunState.{LegState, JobState, RunState}
-use Rattle.workflow_runs.specs.declared.phases.LegPhase.{LegPhase}
-use Rattle.workflow_runs.specs.declared.phases.LegPhase.TheVariants as leg
-use Rattle.workflow_runs.specs.declared.phases.RunPhase.{RunPhase}
-use Rattle.workflow_runs.specs.declared.phases.RunPhase.TheVariants as run
 use Rattle.workflow_runs.specs.declared.place.Place.{Place}
-use Rattle.workflow_runs.proofs.Optional.{from_map}
 use Rattle.workflow_runs.proofs.Found.{find_passes}
 
 -- two changes that do the same where they are made
@@ -91,57 +81,6 @@ pub job_closed : (runs new : List RunState) (r j : ℕ) (x : JobState) → job_a
 job_closed runs new r j x at so =
     subst (λ o. IfSome (option_and_then (closing_rule runs r j) o) (λ next. new ≡ next.runs)) (sym at)
     (closes runs new r j x (is_done x) so)
-
--- ---- the rule of a leg
-
-leg_of_phase : (runs : List RunState) (p : LegPlace) (phase : LegPhase)
-    → Some phase ≡ option_map (λ (l : LegState). l.phase) (leg_at runs p)
-    → option_and_then (leg_rule runs p) (leg_at runs p) ≡ leg_rule_in phase runs p
-leg_of_phase runs p phase is =
-    let from = from_map (λ (l : LegState). l.phase) (leg_at runs p) phase (sym is) in
-    ap (option_and_then (leg_rule runs p)) from.is ∙ ap (λ v. leg_rule_in v runs p) from.gives
-
-pub new_leg_moved : (runs new : List RunState) (p : LegPlace) → Some leg.New ≡ option_map (λ (l : LegState). l.phase) (leg_at runs p)
-    → new ≡ (newcomer_rule runs p).runs → IfSome (option_and_then (leg_rule runs p) (leg_at runs p)) (λ next. new ≡ next.runs)
-new_leg_moved runs new p is so = subst (λ o. IfSome o (λ (next : Moved). new ≡ next.runs)) (sym (leg_of_phase runs p leg.New is)) so
-
-if_may : (may : Bool) (m : Moved) (new : List RunState) → new ≡ m.runs → IfSome (if may then Some m else None) (λ next. new ≡ next.runs)
-if_may true m new so = so
-if_may false m new so = tt
-
-pub waiting_leg_moved : (runs new : List RunState) (p : LegPlace)
-    → Some leg.Waiting ≡ option_map (λ (l : LegState). l.phase) (leg_at runs p)
-    → new ≡ with_leg_in leg.Ready p runs → IfSome (option_and_then (leg_rule runs p) (leg_at runs p)) (λ next. new ≡ next.runs)
-waiting_leg_moved runs new p is so =
-    subst (λ o. IfSome o (λ (next : Moved). new ≡ next.runs)) (sym (leg_of_phase runs p leg.Waiting is))
-    (if_may (may_start runs (Holder.a_leg p)) (started (Holder.a_leg p) (with_leg_in leg.Ready p runs)) new so)
-
--- ---- the rule of a run
-
-run_of_phase : (runs : List RunState) (r : ℕ) (x : RunState) (phase : RunPhase) → run_at runs r ≡ Some x → x.phase ≡ phase
-    → option_and_then (whole_rule runs r) (run_at runs r) ≡ whole_rule_in phase runs r x
-run_of_phase runs r x phase at is = ap (option_and_then (whole_rule runs r)) at ∙ ap (λ v. whole_rule_in v runs r x) is
-
-pub waiting_run_moved : (runs new : List RunState) (r : ℕ) (x : RunState) → run_at runs r ≡ Some x → x.phase ≡ run.Waiting
-    → new ≡ with_run r (run_in_phase run.Live) runs → IfSome (option_and_then (whole_rule runs r) (run_at runs r)) (λ next. new ≡ next.runs)
-waiting_run_moved runs new r x at is so =
-    subst (λ o. IfSome o (λ (next : Moved). new ≡ next.runs)) (sym (run_of_phase runs r x run.Waiting at is))
-    (if_may (may_start runs (Holder.a_run r)) (started (Holder.a_run r) (with_run r (run_in_phase run.Live) runs)) new so)
-
-pub live_run_moved : (runs new : List RunState) (r : ℕ) (x : RunState) → run_at runs r ≡ Some x → x.phase ≡ run.Live
-    → new ≡ with_run r (run_in_phase run.Ended) runs
-    → IfSome (option_and_then (whole_rule runs r) (run_at runs r)) (λ next. new ≡ next.runs)
-live_run_moved runs new r x at is so =
-    subst (λ o. IfSome o (λ (next : Moved). new ≡ next.runs)) (sym (run_of_phase runs r x run.Live at is))
-    (if_may (list_all is_settled x.jobs) (record {
-      runs = with_run r (run_in_phase run.Ended) runs;
-      moves = Move.end_with (conclusion_of (results_of x.jobs)) (Holder.a_run r) ∷ [];
-    }) new so)
-
-pub ended_run_moved : (runs new : List RunState) (r : ℕ) (x : RunState) → run_at runs r ≡ Some x → x.phase ≡ run.Ended
-    → IfSome (option_and_then (whole_rule runs r) (run_at runs r)) (λ next. new ≡ next.runs)
-ended_run_moved runs new r x at is =
-    subst (λ o. IfSome o (λ (next : Moved). new ≡ next.runs)) (sym (run_of_phase runs r x run.Ended at is)) tt
 
 -- ---- the rule at the first place
 

@@ -1,6 +1,6 @@
 -- Whether a job's needs have settled and whether its condition holds, by its run; and that needs stay settled, since
 -- a settled job keeps its result.
-use Rattle.std.specs.Prelude.{◌≡◌, ℕ, zero, suc, ◌<◌, List, [], ◌∷◌, map, length, Bool, true, false, is_some, Option, Some, None}
+use Rattle.std.specs.Prelude.{◌≡◌, ℕ, zero, suc, ◌<◌, List, [], ◌∷◌, map, length, Bool, true, is_some, Option, Some, None}
 use Rattle.std.specs.Prelude.{option_map, option_and_then, slice_get, refl}
 use Rattle.std.specs.List.{slice_index_or}
 use Rattle.std.specs.Option.{option_map_or}
@@ -8,16 +8,13 @@ use Rattle.std.proofs.Common.{ap, sym, ◌∙◌, get_or}
 use Rattle.std.proofs.lemmas.Bool.{and_from, and_parts}
 use Rattle.std.proofs.lemmas.Option.{slice_get-get_or}
 use Rattle.wf_value.specs.declared.condition.Condition.{Condition}
-use Rattle.wf_value.specs.declared.condition.Condition.TheVariants as condition
 use Rattle.wf_value.specs.declared.outcome.JobResult.{JobResult}
 use Rattle.needs_graph.specs.Ancestors.{needs_at}
 use Rattle.needs_graph.specs.Conditions.{condition_value, ancestor_results as results_of_ancestors}
 use Rattle.run_plan.specs.Admitted.{Admitted}
 use Rattle.run_plan.specs.PlanOf.{plan_of, plan_graph}
-use Rattle.run_plan.specs.declared.planned.PlannedJob.{PlannedJob}
 use Rattle.workflow_runs.specs.Cells.{JobCells, result_of, states}
 use Rattle.workflow_runs.specs.Places.{run_at}
-use Rattle.workflow_runs.specs.Rules.{may_run}
 use Rattle.workflow_runs.specs.RunState.{JobState, RunState}
 use Rattle.workflow_runs.specs.WithinRun.{condition_in, may_run_in, needs_settled_in}
 use Rattle.workflow_runs.specs.Words.{all_have_results, job_results, needs_graph_at, needs_have_settled, needs_in, results_so_far}
@@ -29,17 +26,6 @@ pub needs_by_run : (runs : List RunState) (r j : ℕ) (run : RunState) → run_a
     → needs_have_settled runs r j ≡ needs_settled_in run j
 needs_by_run runs r j run at =
     ap (λ o. all_have_results (option_map_or (λ x. results_so_far x.jobs) o []) (needs_at (option_map_or needs_in o []) j)) at
-
-abbrev may_run_where : ℕ → Option RunState → Bool
-may_run_where j o =
-    condition_value
-    (option_map_or (λ (planned : PlannedJob). planned.condition)
-    (option_and_then (λ (x : RunState). slice_get (plan_of x.admitted.body) j) o) condition.Never)
-    (results_of_ancestors (option_map_or needs_in o []) (option_map_or (λ x. results_so_far x.jobs) o []) j)
-    (option_map_or (λ (x : RunState). x.stopping) o false)
-
-pub may_run_by_run : (runs : List RunState) (r j : ℕ) (run : RunState) → run_at runs r ≡ Some run → may_run runs r j ≡ may_run_in run j
-may_run_by_run runs r j run at = ap (may_run_where j) at
 
 -- the results of jobs, with their rooms
 results_of_cells : (cells : List JobCells) → map result_of cells ≡ results_so_far (states cells)
@@ -56,10 +42,6 @@ decided_in run j asked graph cells stopping is_asked is_graph is_jobs is_stoppin
     ∙ ap (λ rs. condition_value (condition_in run j) (results_of_ancestors (needs_in run) rs j) stopping)
     (results_of_cells cells ∙ ap results_so_far is_jobs)
     ∙ ap (λ s. condition_value (condition_in run j) (results_of_ancestors (needs_in run) (results_so_far run.jobs) j) s) is_stopping
-
--- where there is no run, none of its jobs runs
-pub may_run_nowhere : (runs : List RunState) (r j : ℕ) → run_at runs r ≡ None → may_run runs r j ≡ false
-may_run_nowhere runs r j at = ap (may_run_where j) at
 
 -- ---- the results so far, by the jobs
 

@@ -60,9 +60,6 @@ each_mapped P f xs each k y at =
 pub each_unmapped : {X Y : Type 0} (P : ℕ → Y → Type 0) (f : X → Y) (xs : List X) → OfEach P (map f xs) → OfEach (λ k x. P k (f x)) xs
 each_unmapped P f xs each k x at = each k (f x) (slice_get-map f xs k ∙ ap (option_map f) at)
 
-pub like : {P Q : Type 0} (b : Bool) → (P → Q) → (Q → P) → Decides b P → Decides b Q
-like b f g d = ((λ e. f (d.0 e)), (λ q. d.1 (g q)))
-
 -- ---- tests on all elements of a list
 
 pub all_pass : {X : Type 0} (p : X → Bool) (xs : List X) → OfEach (λ k x. p x ≡ true) xs → list_all p xs ≡ true

@@ -2,16 +2,15 @@
 use Rattle.std.specs.Prelude.{◌≡◌, ℕ, List, [], ◌∷◌, ◌||◌, ◌⊎◌, map, not, Bool, true, false, Option, Some, None, refl}
 use Rattle.std.specs.List.{AllByRecursion, list_any}
 use Rattle.std.specs.Option.{option_map_or}
-use Rattle.std.proofs.Common.{ap, ap₂, inl, inr, sym, ◌∙◌}
+use Rattle.std.proofs.Common.{ap, inl, inr, sym, ◌∙◌}
 use Rattle.std.proofs.lemmas.Bool.{and_from, and_parts, not-true, true≢false}
-pub use Rattle.std.proofs.lemmas.Bool.{and_from as both}
-use Rattle.std.proofs.lemmas.Slice.Eq.{bytes_eq-Decides}
-use Rattle.group_name.specs.Group.{Group}
+use Rattle.group_name.specs.Group.{Group, same_group}
+use Rattle.group_name.proofs.SameGroups.{same_is_one}
 use Rattle.workflow_runs.specs.FirstOf.{placed}
 use Rattle.workflow_runs.specs.GroupOf.{group_at}
 use Rattle.workflow_runs.specs.Groups.{HasOneBeside, HasOneEach, all_holders, holds, is_in, is_pending_in, is_running_in, is_taken}
 use Rattle.workflow_runs.specs.Groups.{may_start}
-use Rattle.workflow_runs.specs.Groups.{same_group, waits}
+use Rattle.workflow_runs.specs.Groups.{waits}
 use Rattle.workflow_runs.specs.Moves.{Holder}
 use Rattle.workflow_runs.specs.Places.{LegPlace, leg_at, leg_places, run_at}
 use Rattle.workflow_runs.specs.RunState.{LegState, RunState}
@@ -22,12 +21,6 @@ use Rattle.workflow_runs.proofs.RunFits.{RunsFit}
 use Rattle.workflow_runs.proofs.Settles.{StayFit}
 
 -- ---- groups are the same where the test says so
-
-pub same_is_one : (g k : Group) → same_group g k ≡ true → g ≡ k
-same_is_one g k same =
-    let parts = and_parts _ _ same in
-    ap₂ (λ r f. record { repository = r; folded = f }) ((bytes_eq-Decides g.repository k.repository).0 parts.0)
-    ((bytes_eq-Decides g.folded k.folded).0 parts.1)
 
 in_some : (g : Group) (o : Option Group) → option_map_or (same_group g) o false ≡ true → o ≡ Some g
 in_some g None e = cc

@@ -1,39 +1,34 @@
 -- Each settling rule keeps that a group has at most one pending and at most one running holder, and so does settling.
-use Rattle.std.specs.Prelude.{◌≡◌, ◌⊎◌, ℕ, zero, suc, List, ◌&&◌, replicate, Bool, true, false, Some, slice_get}
+use Rattle.std.specs.Prelude.{◌≡◌, ◌⊎◌, ℕ, zero, suc, List, replicate, Bool, true, false, Some, slice_get}
 use Rattle.std.specs.Prelude.{if◌then◌else◌, refl}
-use Rattle.std.specs.List.{list_all}
-use Rattle.std.proofs.Common.{ap, inl, inr, sym, ◌∙◌, subst}
+use Rattle.std.proofs.Common.{ap, inl, inr, sym, ◌∙◌}
 use Rattle.std.proofs.lemmas.Bool.{cases_eq, false≢true}
 use Rattle.wf_value.specs.declared.outcome.JobResult.TheVariants as result
 use Rattle.wf_value.specs.declared.outcome.Outcome.TheVariants as outcome
-use Rattle.workflow_runs.specs.Arrivals.{arrived, is_in_group_of_run, started}
+use Rattle.workflow_runs.specs.Arrivals.{arrived}
 use Rattle.workflow_runs.specs.Groups.{HasOneEach, holds, leg_holds, leg_waits, may_start, run_waits, waits}
-use Rattle.workflow_runs.specs.Moves.{Holder, Moved, without_moves}
-use Rattle.workflow_runs.specs.Places.{LegPlace, job_at, leg_at, run_at, with_job, with_leg, with_run}
-use Rattle.workflow_runs.specs.Rules.{closing_rule, decided, leg_rule, leg_rule_in, may_run, newcomer_rule, opening_rule, result_at}
-use Rattle.workflow_runs.specs.Rules.{rule_at}
-use Rattle.workflow_runs.specs.Rules.{whole_rule, whole_rule_in, with_leg_in}
+use Rattle.workflow_runs.specs.Moves.{Holder, Moved}
+use Rattle.workflow_runs.specs.Places.{LegPlace, leg_at, run_at, with_job, with_leg, with_run}
+use Rattle.workflow_runs.specs.Rules.{decided, may_run, result_at, rule_at, with_leg_in}
 use Rattle.workflow_runs.specs.Settling.{first_rule, settled}
-use Rattle.workflow_runs.specs.StateWords.{is_blocked, is_done, is_live, is_settled, leg_in_phase, new_leg, opened, run_in_phase}
+use Rattle.workflow_runs.specs.StateWords.{is_live, leg_in_phase, new_leg, opened, run_in_phase}
 use Rattle.workflow_runs.specs.StateWords.{settled_as}
 use Rattle.workflow_runs.specs.RunState.{LegState, RunState}
-use Rattle.workflow_runs.specs.Words.{is_stopping, needs_have_settled, planned_legs}
+use Rattle.workflow_runs.specs.Words.{is_stopping, planned_legs}
 use Rattle.workflow_runs.specs.declared.phases.LegPhase.{LegPhase}
 use Rattle.workflow_runs.specs.declared.phases.LegPhase.TheVariants as leg
-use Rattle.workflow_runs.specs.declared.phases.RunPhase.{RunPhase}
 use Rattle.workflow_runs.specs.declared.phases.RunPhase.TheVariants as run
 use Rattle.workflow_runs.specs.declared.place.Place.{Place}
-use Rattle.workflow_runs.specs.declared.place.Place.TheVariants.{Opening, AtLeg, Closing, Whole}
 use Rattle.workflow_runs.proofs.ArrivalKeeps.{arrival_one_each}
 use Rattle.workflow_runs.proofs.Changed.{at_another}
+use Rattle.workflow_runs.proofs.EachRule.{EachRule, by_rule}
 use Rattle.workflow_runs.proofs.HoldersFade.{JobFades, holds_before_leg, job_fades, job_passes, leg_before, leg_fades, leg_passes}
 use Rattle.workflow_runs.proofs.HoldersFade.{passed_changed, passes, run_fades, run_held_still, run_waited_still, waits_before_leg}
 use Rattle.workflow_runs.proofs.JobKeeps.{leg_elsewhere, leg_in, leg_now}
 use Rattle.workflow_runs.proofs.LeaseReads.{place_or_another}
 use Rattle.workflow_runs.proofs.LivePlaces.{LivePlace}
 use Rattle.workflow_runs.proofs.OneEach.{Comes, Fades, Starts, fading_keeps, groups_stay, newcomer_besides, start_keeps}
-use Rattle.workflow_runs.proofs.Optional.{each_passes, from_and_then, if_some}
-use Rattle.workflow_runs.proofs.RuleKeeps.{leg_goes, new_ends, newcomer_waits, phase_settles, rule_settles, run_ended, waiting_starts}
+use Rattle.workflow_runs.proofs.RuleKeeps.{each_settles, leg_goes, new_ends, newcomer_waits, phase_settles, waiting_starts}
 use Rattle.workflow_runs.proofs.RunFits.{RunsFit, leases_fit}
 use Rattle.workflow_runs.proofs.Settles.{Settles}
 use Rattle.workflow_runs.proofs.SettlingKeeps.{first_rule_keeps, settling_keeps}
@@ -74,7 +69,7 @@ module _ (runs : List RunState) (p : LegPlace) (z : LegState) (was : leg_at runs
         | inr other ↦ inr (ap (passes (leg_passes test)) (sym (leg_elsewhere runs p z f (leg_in runs p z was) q other)) ∙ e)
       ]
 
-  pub set_waits : (h : Holder) → waits (with_leg p f runs) h ≡ true → (h ≡ Holder.a_leg p) ⊎ (waits runs h ≡ true)
+  set_waits : (h : Holder) → waits (with_leg p f runs) h ≡ true → (h ≡ Holder.a_leg p) ⊎ (waits runs h ≡ true)
   set_waits (Holder.a_run s) e = inr (run_waited_still f p runs s e)
   set_waits (Holder.a_leg q) e = set_passes leg_waits q e
 
@@ -87,29 +82,33 @@ module _ (runs : List RunState) (p : LegPlace) (z : LegState) (was : leg_at runs
 
 -- ---- a new leg
 
-newcomer_one_each : (runs : List RunState) (p : LegPlace) (z : LegState) → RunsFit runs → leg_at runs p ≡ Some z → z.phase ≡ leg.New
-    → HasOneEach runs → HasOneEach (newcomer_rule runs p).runs
-newcomer_one_each runs p z fit was is each =
-    elim (is_in_group_of_run runs p) as
-    (λ b. HasOneEach (if b then without_moves (with_leg_in (leg.Ended outcome.Cancelled) p runs)
-    else arrived (Holder.a_leg p) (with_leg_in leg.Waiting p runs)).runs) [
-      | true ↦
-          fading_keeps runs (with_leg_in (leg.Ended outcome.Cancelled) p runs)
-          (groups_stay runs (with_leg_in (leg.Ended outcome.Cancelled) p runs) fit
-          (leg_goes runs p z (leg.Ended outcome.Cancelled) fit was (new_ends z.phase z.lease is)).stay)
-          (leg_fades (leg_in_phase (leg.Ended outcome.Cancelled)) p runs (λ v e. absurd (false≢true e))
-          (λ v e. absurd (false≢true e))) each
-      | false ↦
-          let next = with_leg_in leg.Waiting p runs in
-          let stay = (newcomer_waits runs p z fit was is).stay in
-          let comes : Comes runs next (Holder.a_leg p) = record {
-            waited = set_waits runs p z was (leg_in_phase leg.Waiting);
-            held = holds_before_leg (leg_in_phase leg.Waiting) p runs (λ v e. absurd (false≢true e));
-          } in
-          arrival_one_each next stay.fit (Holder.a_leg p)
-          (ap (passes (leg_passes leg_waits)) (set_itself runs p z was (leg_in_phase leg.Waiting)))
-          (newcomer_besides runs next (Holder.a_leg p) (groups_stay runs next fit stay) comes each)
-    ]
+-- runs of which nobody waits or holds who did not before
+fades_one_each : (runs next : List RunState) → RunsFit runs → Settles runs next → Fades runs next → HasOneEach runs → HasOneEach next
+fades_one_each runs next fit settles fades each = fading_keeps runs next (groups_stay runs next fit settles.stay) fades each
+
+own_cancelled_one_each : (runs : List RunState) (p : LegPlace) (z : LegState) → RunsFit runs → leg_at runs p ≡ Some z → z.phase ≡ leg.New
+    → HasOneEach runs → HasOneEach (with_leg_in (leg.Ended outcome.Cancelled) p runs)
+own_cancelled_one_each runs p z fit was is each =
+    fades_one_each runs (with_leg_in (leg.Ended outcome.Cancelled) p runs) fit
+    (leg_goes runs p z (leg.Ended outcome.Cancelled) fit was (new_ends z.phase z.lease is))
+    (leg_fades (leg_in_phase (leg.Ended outcome.Cancelled)) p runs (λ v e. absurd (false≢true e)) (λ v e. absurd (false≢true e))) each
+
+-- one that waits from then on comes: nobody else waits or holds who did not before
+pub newcomer_comes : (runs : List RunState) (p : LegPlace) (z : LegState) → leg_at runs p ≡ Some z
+    → Comes runs (with_leg_in leg.Waiting p runs) (Holder.a_leg p)
+newcomer_comes runs p z was = record {
+  waited = set_waits runs p z was (leg_in_phase leg.Waiting);
+  held = holds_before_leg (leg_in_phase leg.Waiting) p runs (λ v e. absurd (false≢true e));
+}
+
+arrived_one_each : (runs : List RunState) (p : LegPlace) (z : LegState) → RunsFit runs → leg_at runs p ≡ Some z → z.phase ≡ leg.New
+    → HasOneEach runs → HasOneEach (arrived (Holder.a_leg p) (with_leg_in leg.Waiting p runs)).runs
+arrived_one_each runs p z fit was is each =
+    let next = with_leg_in leg.Waiting p runs in
+    let stay = (newcomer_waits runs p z fit was is).stay in
+    arrival_one_each next stay.fit (Holder.a_leg p)
+    (ap (passes (leg_passes leg_waits)) (set_itself runs p z was (leg_in_phase leg.Waiting)))
+    (newcomer_besides runs next (Holder.a_leg p) (groups_stay runs next fit stay) (newcomer_comes runs p z was) each)
 
 -- ---- a leg starts
 
@@ -123,19 +122,6 @@ starting_one_each runs p z fit was is may each =
     start_keeps runs (with_leg_in leg.Ready p runs) (Holder.a_leg p)
     (groups_stay runs (with_leg_in leg.Ready p runs) fit
     (leg_goes runs p z leg.Ready fit was (waiting_starts z.phase z.lease is (leases_fit runs fit p z was))).stay) starts may (z, was) each
-
-leg_rule_one_each : (runs : List RunState) (m : Moved) (p : LegPlace) (z : LegState) (phase : LegPhase) → RunsFit runs
-    → leg_at runs p ≡ Some z → z.phase ≡ phase → leg_rule_in phase runs p ≡ Some m → HasOneEach runs → HasOneEach m.runs
-leg_rule_one_each runs m p z leg.New fit was is h each =
-    let same : newcomer_rule runs p ≡ m = cc in
-    subst (λ (v : Moved). HasOneEach v.runs) same (newcomer_one_each runs p z fit was is each)
-leg_rule_one_each runs m p z leg.Waiting fit was is h each =
-    let taken = if_some (may_start runs (Holder.a_leg p)) (started (Holder.a_leg p) (with_leg_in leg.Ready p runs)) m h in
-    subst (λ (v : Moved). HasOneEach v.runs) taken.1 (starting_one_each runs p z fit was is taken.0 each)
-leg_rule_one_each runs m p z leg.Ready fit was is h each = cc
-leg_rule_one_each runs m p z leg.Running fit was is h each = cc
-leg_rule_one_each runs m p z leg.Stopping fit was is h each = cc
-leg_rule_one_each runs m p z (leg.Ended r) fit was is h each = cc
 
 -- ---- a run goes on
 
@@ -165,48 +151,39 @@ ended_fades r runs =
       leg_held = (λ j l x e. e);
     })
 
-whole_rule_one_each : (runs : List RunState) (m : Moved) (r : ℕ) (x : RunState) (phase : RunPhase) → RunsFit runs → run_at runs r ≡ Some x
-    → whole_rule_in phase runs r x ≡ Some m → HasOneEach runs → HasOneEach m.runs
-whole_rule_one_each runs m r x run.Waiting fit was h each =
+run_starts_one_each : (runs : List RunState) (r : ℕ) (x : RunState) → RunsFit runs → run_at runs r ≡ Some x
+    → may_start runs (Holder.a_run r) ≡ true → HasOneEach runs → HasOneEach (with_run r (run_in_phase run.Live) runs)
+run_starts_one_each runs r x fit was may each =
     let next = with_run r (run_in_phase run.Live) runs in
-    let taken = if_some (may_start runs (Holder.a_run r)) (started (Holder.a_run r) next) m h in
-    subst (λ (v : Moved). HasOneEach v.runs) taken.1
-    (start_keeps runs next (Holder.a_run r) (groups_stay runs next fit (phase_settles runs r x run.Live fit was tt).stay)
-    (record { waited = live_waits runs r; held = live_holds runs r }) taken.0 (x, was) each)
-whole_rule_one_each runs m r x run.Live fit was h each =
-    let taken = if_some (list_all is_settled x.jobs) (run_ended runs r x) m h in
-    subst (λ (v : Moved). HasOneEach v.runs) taken.1
-    (fading_keeps runs (with_run r (run_in_phase run.Ended) runs)
-    (groups_stay runs (with_run r (run_in_phase run.Ended) runs) fit
-    (phase_settles runs r x run.Ended fit was (λ j y at. each_passes is_settled x.jobs j y taken.0 at)).stay) (ended_fades r runs) each)
-whole_rule_one_each runs m r x run.Ended fit was h each = cc
+    start_keeps runs next (Holder.a_run r) (groups_stay runs next fit (phase_settles runs r x run.Live fit was tt).stay)
+    (record { waited = live_waits runs r; held = live_holds runs r }) may (x, was) each
 
 -- ---- at each place
 
+each_one_each : (runs : List RunState) → RunsFit runs
+    → EachRule runs (λ place m. LivePlace runs place → HasOneEach runs → HasOneEach m.runs)
+each_one_each runs fit =
+    let settles = each_settles runs fit in record {
+      job_opens = (λ r j y was blocked settled live each.
+          fades_one_each runs (with_job r j (decided runs r j) runs) fit (settles.job_opens r j y was blocked settled live)
+          (decided_fades runs r j) each);
+      leg_is_cancelled = (λ p z was is live each. own_cancelled_one_each runs p z fit was is each);
+      leg_arrives = (λ p z was is live each. arrived_one_each runs p z fit was is each);
+      leg_starts = (λ p z was is may live each. starting_one_each runs p z fit was is may each);
+      job_settles = (λ r j y was done live each.
+          let close = settled_as (result_at runs r j y) in
+          fades_one_each runs (with_job r j close runs) fit (settles.job_settles r j y was done live)
+          (job_fades close r j runs (record { waited = (λ l v e. e); held = (λ l v e. e) })) each);
+      run_starts = (λ r x was is may live each. run_starts_one_each runs r x fit was may each);
+      run_ends = (λ r x was is all live each.
+          fades_one_each runs (with_run r (run_in_phase run.Ended) runs) fit (settles.run_ends r x was is all live)
+          (ended_fades r runs) each);
+    }
+
 pub rule_one_each : (runs : List RunState) (m : Moved) (place : Place) → RunsFit runs → LivePlace runs place → rule_at runs place ≡ Some m
     → HasOneEach runs → HasOneEach m.runs
-rule_one_each runs m (Opening r j) fit live h each =
-    let made = from_and_then (opening_rule runs r j) (job_at runs r j) m h in
-    let next = with_job r j (decided runs r j) runs in
-    let taken = if_some (is_blocked made.value.phase && needs_have_settled runs r j) (without_moves next) m made.gives in
-    let settles = subst (λ (v : Moved). Settles runs v.runs) (sym taken.1) (rule_settles runs m (Opening r j) fit live h) in
-    subst (λ (v : Moved). HasOneEach v.runs) taken.1
-    (fading_keeps runs next (groups_stay runs next fit settles.stay) (decided_fades runs r j) each)
-rule_one_each runs m (AtLeg p) fit live h each =
-    let made = from_and_then (leg_rule runs p) (leg_at runs p) m h in
-    leg_rule_one_each runs m p made.value made.value.phase fit made.is refl made.gives each
-rule_one_each runs m (Closing r j) fit live h each =
-    let made = from_and_then (closing_rule runs r j) (job_at runs r j) m h in
-    let close = settled_as (result_at runs r j made.value) in
-    let next = with_job r j close runs in
-    let taken = if_some (is_done made.value) (without_moves next) m made.gives in
-    let settles = subst (λ (v : Moved). Settles runs v.runs) (sym taken.1) (rule_settles runs m (Closing r j) fit live h) in
-    subst (λ (v : Moved). HasOneEach v.runs) taken.1
-    (fading_keeps runs next (groups_stay runs next fit settles.stay)
-    (job_fades close r j runs (record { waited = (λ l y e. e); held = (λ l y e. e) })) each)
-rule_one_each runs m (Whole r) fit live h each =
-    let made = from_and_then (whole_rule runs r) (run_at runs r) m h in
-    whole_rule_one_each runs m r made.value made.value.phase fit made.is made.gives each
+rule_one_each runs m place fit live h each =
+    by_rule runs (λ at made. LivePlace runs at → HasOneEach runs → HasOneEach made.runs) (each_one_each runs fit) m place h live each
 
 -- ---- settling
 

@@ -4,7 +4,6 @@ use Rattle.std.specs.Prelude.{is_some, slice_get, if◌then◌else◌, refl}
 use Rattle.std.specs.List.{list_all}
 use Rattle.std.proofs.Common.{ap, sym, ◌∙◌}
 use Rattle.std.proofs.lemmas.Bool.{and_parts}
-use Rattle.std.specs.Option.{option_or}
 
 -- the value from which an answer was made
 pub record From {X Y : Type 0} (f : X → Option Y) (o : Option X) (y : Y) : Type 0 where
@@ -38,15 +37,6 @@ if_some false x y h = cc
 pub if_none : {Y : Type 0} (b : Bool) (x : Y) → (if b then Some x else None) ≡ None → b ≡ false
 if_none true x h = cc
 if_none false x h = refl
-
--- what is taken of the first where there is one, and of the second where there is none
-pub or_none : {X : Type 0} (o : Option X) → option_or o None ≡ o
-or_none None = refl
-or_none (Some x) = refl
-
-pub or_nothing : {X : Type 0} (a b : Option X) → option_or a b ≡ None → (a ≡ None) × (b ≡ None)
-or_nothing None b e = (refl, e)
-or_nothing (Some x) b e = cc
 
 pub some_of : {X : Type 0} (o : Option X) → is_some o ≡ true → (x : X) × (o ≡ Some x)
 some_of None some = cc

@@ -1,15 +1,10 @@
 -- What a look at a place of a borrowed list finds, said of the list itself.
-use Rattle.std.specs.Prelude.{◌≡◌, ◌<◌, ◌≤◌, ℕ, List, Some, None, length, slice_get, get_or, refl}
+use Rattle.std.specs.Prelude.{◌≡◌, ◌<◌, ℕ, List, Some, length, slice_get, get_or, refl}
 use Rattle.std.proofs.Common.{ap, sym, ◌∙◌}
-use Rattle.std.proofs.lemmas.Option.{slice_get_past, slice_get_read}
+use Rattle.std.proofs.lemmas.Option.{slice_get_read}
 
 pub read_there : {X : Type 0} (items seen : List X) (place at : ℕ) (x : X) → at ≡ place → seen ≡ items → at < length seen
     → x ≡ get_or seen at x
     → slice_get items place ≡ Some x
 read_there items seen place at x is same within found =
     ap (λ i. slice_get items i) (sym is) ∙ ap (λ xs. slice_get xs at) (sym same) ∙ slice_get_read seen (length seen) at x refl within found
-
-pub nothing_there : {X : Type 0} (items seen : List X) (place at : ℕ) → at ≡ place → seen ≡ items → length seen ≤ at
-    → slice_get items place ≡ None
-nothing_there items seen place at is same past =
-    ap (λ i. slice_get items i) (sym is) ∙ ap (λ xs. slice_get xs at) (sym same) ∙ slice_get_past seen at past

@@ -86,9 +86,5 @@ no_place runs h =
           (sym (ap (option_and_then (rule_at runs)) is) ∙ h))
     ] refl
 
--- and at a place where no rule applies there is none
-pub no_rule : (runs : List RunState) → first_place runs ≡ None → first_rule runs ≡ None
-no_rule runs h = ap (option_and_then (rule_at runs)) h
-
 pub settled_has_no_place : (runs : List RunState) → first_place (settled runs) ≡ None
 settled_has_no_place runs = no_place (settled runs) (settled_rests runs)

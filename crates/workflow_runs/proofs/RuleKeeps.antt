@@ -1,5 +1,5 @@
 -- The rule at each place keeps what the runs keep by themselves, and their leases.
-use Rattle.std.specs.Prelude.{◌≡◌, ℕ, zero, suc, List, [], ◌∷◌, ◌&&◌, replicate, Bool, true, false, Option, Some, None, option_and_then}
+use Rattle.std.specs.Prelude.{◌≡◌, ℕ, zero, suc, List, [], replicate, Bool, true, false, Option, Some, None, option_and_then}
 use Rattle.std.specs.Prelude.{slice_get, is_some, if◌then◌else◌, refl}
 use Rattle.std.specs.List.{list_all}
 use Rattle.std.proofs.Common.{ap, sym, ◌∙◌, subst, inl, inr}
@@ -8,16 +8,12 @@ use Rattle.std.proofs.Math.ListN.{length-replicate}
 use Rattle.wf_value.specs.declared.outcome.JobResult.{JobResult}
 use Rattle.wf_value.specs.declared.outcome.JobResult.TheVariants as result
 use Rattle.wf_value.specs.declared.outcome.Outcome.TheVariants as outcome
-use Rattle.needs_graph.specs.Results.{conclusion_of}
 use Rattle.workflow_runs.specs.FirstOf.{changed_at}
 use Rattle.workflow_runs.specs.Places.{LegPlace, run_at, job_at, leg_at, with_run, with_job}
-use Rattle.workflow_runs.specs.Arrivals.{arrived, is_in_group_of_run, started}
-use Rattle.workflow_runs.specs.Groups.{may_start}
-use Rattle.workflow_runs.specs.JobResults.{results_of}
-use Rattle.workflow_runs.specs.Moves.{Holder, Move, Moved, without_moves}
-use Rattle.workflow_runs.specs.Rules.{rule_at, opening_rule, leg_rule, leg_rule_in, closing_rule, whole_rule, whole_rule_in, newcomer_rule}
-use Rattle.workflow_runs.specs.Rules.{decided, may_run, result_at, with_leg_in}
-use Rattle.workflow_runs.specs.StateWords.{has_ended, is_blocked, is_open, is_settled, leg_in_phase, new_leg, opened, outcome_of}
+use Rattle.workflow_runs.specs.Arrivals.{arrived}
+use Rattle.workflow_runs.specs.Moves.{Holder, Moved}
+use Rattle.workflow_runs.specs.Rules.{decided, may_run, result_at, rule_at, with_leg_in}
+use Rattle.workflow_runs.specs.StateWords.{has_ended, is_done, is_open, is_settled, leg_in_phase, new_leg, opened, outcome_of}
 use Rattle.workflow_runs.specs.StateWords.{run_in_phase}
 use Rattle.workflow_runs.specs.StateWords.{settled_as}
 use Rattle.workflow_runs.specs.SoundRuns.{PhaseFits, MayLackLegs, LeaseFits}
@@ -27,16 +23,18 @@ use Rattle.workflow_runs.specs.Words.{needs_have_settled, is_stopping, planned_l
 use Rattle.workflow_runs.specs.declared.phases.LegPhase.{LegPhase}
 use Rattle.workflow_runs.specs.declared.phases.LegPhase.TheVariants as leg
 use Rattle.workflow_runs.specs.declared.phases.JobPhase.{JobPhase}
+use Rattle.workflow_runs.specs.declared.phases.JobPhase.TheVariants as job
 use Rattle.workflow_runs.specs.declared.place.Place.{Place}
-use Rattle.workflow_runs.specs.declared.place.Place.TheVariants.{Opening, AtLeg, Closing, Whole}
+use Rattle.workflow_runs.specs.declared.place.Place.TheVariants.{Opening}
 use Rattle.workflow_runs.specs.declared.phases.RunPhase.{RunPhase}
 use Rattle.workflow_runs.specs.declared.phases.RunPhase.TheVariants as run
+use Rattle.workflow_runs.proofs.EachRule.{EachRule, by_rule}
 use Rattle.workflow_runs.proofs.HoldersKeep.{arrival_settles}
 use Rattle.workflow_runs.proofs.JobKeeps.{job_in, leg_in, live_fits, open_is_live, job_keeps, leg_settles}
 use Rattle.workflow_runs.proofs.JobPhases.{all_legs, is_blocked_blocked, is_open_open, no_legs}
 use Rattle.workflow_runs.proofs.LegReads.{work_of}
 use Rattle.workflow_runs.proofs.LivePlaces.{LivePlace}
-use Rattle.workflow_runs.proofs.Optional.{from_and_then, if_some, each_passes}
+use Rattle.workflow_runs.proofs.Optional.{each_passes}
 use Rattle.workflow_runs.proofs.RunFits.{JobFits, RunsFit, leases_fit}
 use Rattle.workflow_runs.proofs.Settles.{Settles, one_settles, settles_on}
 
@@ -82,38 +80,6 @@ pub newcomer_waits : (runs : List RunState) (p : LegPlace) (z : LegState) → Ru
     → Settles runs (with_leg_in leg.Waiting p runs)
 newcomer_waits runs p z fit was is = leg_goes runs p z leg.Waiting fit was (new_waits z.phase z.lease is (leases_fit runs fit p z was))
 
-newcomer_settles : (runs : List RunState) (p : LegPlace) (z : LegState) → RunsFit runs → leg_at runs p ≡ Some z → z.phase ≡ leg.New
-    → Settles runs (newcomer_rule runs p).runs
-newcomer_settles runs p z fit was is =
-    elim (is_in_group_of_run runs p) as
-    (λ b. Settles runs (if b then without_moves (with_leg_in (leg.Ended outcome.Cancelled) p runs)
-    else arrived (Holder.a_leg p) (with_leg_in leg.Waiting p runs)).runs) [
-      | true ↦ leg_goes runs p z (leg.Ended outcome.Cancelled) fit was (new_ends z.phase z.lease is)
-      | false ↦
-          let waiting = with_leg_in leg.Waiting p runs in
-          let first = newcomer_waits runs p z fit was is in
-          settles_on runs waiting (arrived (Holder.a_leg p) waiting).runs first
-          (arrival_settles (Holder.a_leg p) waiting first.stay.fit)
-    ]
-
-leg_rule_settles_in : (runs : List RunState) (m : Moved) (p : LegPlace) (z : LegState) (phase : LegPhase) → RunsFit runs
-    → leg_at runs p ≡ Some z → z.phase ≡ phase → leg_rule_in phase runs p ≡ Some m → Settles runs m.runs
-leg_rule_settles_in runs m p z leg.New fit was is h =
-    let same : newcomer_rule runs p ≡ m = cc in
-    subst (λ (v : Moved). Settles runs v.runs) same (newcomer_settles runs p z fit was is)
-leg_rule_settles_in runs m p z leg.Waiting fit was is h =
-    let taken = if_some (may_start runs (Holder.a_leg p)) (started (Holder.a_leg p) (with_leg_in leg.Ready p runs)) m h in
-    subst (λ (v : Moved). Settles runs v.runs) taken.1
-    (leg_goes runs p z leg.Ready fit was (waiting_starts z.phase z.lease is (leases_fit runs fit p z was)))
-leg_rule_settles_in runs m p z leg.Ready fit was is h = cc
-leg_rule_settles_in runs m p z leg.Running fit was is h = cc
-leg_rule_settles_in runs m p z leg.Stopping fit was is h = cc
-leg_rule_settles_in runs m p z (leg.Ended r) fit was is h = cc
-
-leg_rule_settles : (runs : List RunState) (m : Moved) (p : LegPlace) (z : LegState) → RunsFit runs → leg_at runs p ≡ Some z
-    → leg_rule runs p z ≡ Some m → Settles runs m.runs
-leg_rule_settles runs m p z fit was h = leg_rule_settles_in runs m p z z.phase fit was refl h
-
 -- ---- a job opens
 
 each_of_replicate : {X : Type 0} (n : ℕ) (x : X) (k : ℕ) (y : X) → slice_get (replicate n x) k ≡ Some y → x ≡ y
@@ -158,38 +124,33 @@ no_result : (phase : JobPhase) (a : JobResult) (o : Option JobResult) → settle
     → o ≡ Some a
 no_result phase a o none some = cc
 
-opening_rule_settles : (runs : List RunState) (m : Moved) (r j : ℕ) (y : JobState) → RunsFit runs → LivePlace runs (Opening r j)
-    → job_at runs r j ≡ Some y → opening_rule runs r j y ≡ Some m → Settles runs m.runs
-opening_rule_settles runs m r j y fit live was h =
-    let taken = if_some (is_blocked y.phase && needs_have_settled runs r j) (without_moves (with_job r j (decided runs r j) runs)) m h in
-    let both = and_parts (is_blocked y.phase) (needs_have_settled runs r j) taken.0 in
-    let blocked = is_blocked_blocked y.phase both.0 in
+opening_settles : (runs : List RunState) (r j : ℕ) (y : JobState) → RunsFit runs → LivePlace runs (Opening r j) → job_at runs r j ≡ Some y
+    → y.phase ≡ job.Blocked → needs_have_settled runs r j ≡ true → Settles runs (with_job r j (decided runs r j) runs)
+opening_settles runs r j y fit live was blocked settled =
     let at = job_in runs r j y was in
     let x = at.run in
     let run_fits = fit r x at.run_is in
     let same_run : live.0 ≡ x = let two : Some live.0 ≡ Some x = sym live.1 ∙ at.run_is in cc in
     let is_live : x.phase ≡ run.Live = subst (λ (v : RunState). v.phase ≡ run.Live) same_run live.2 in
     let none = no_legs (planned_legs runs r j) (result_at runs r j y) y.phase y.legs (run_fits.jobs_fit j y at.job_is).legs_fit blocked in
-    subst (λ (v : Moved). Settles runs v.runs) taken.1
-    (one_settles runs fit r x (λ (v : RunState). record v { jobs = changed_at j (decided runs r j) v.jobs }) at.run_is
+    one_settles runs fit r x (λ (v : RunState). record v { jobs = changed_at j (decided runs r j) v.jobs }) at.run_is
     (job_keeps runs r x run_fits j y (decided runs r j) at.job_is
     (live_fits x.phase x.stopping (changed_at j (decided runs r j) x.jobs) is_live)
     (made_fits (may_run runs r j) (planned_legs runs r j) (is_stopping runs r) y (result_at runs r j (decided runs r j y)) none)
     (record {
       keeps_result = (λ a e. no_result y.phase a (settled_result (decided runs r j y).phase) (ap settled_result blocked) e);
-      needs_first = (λ some. both.1);
+      needs_first = (λ some. settled);
     })
     (made_reads (λ (z : LegState). z.lease) refl (may_run runs r j) (planned_legs runs r j) (is_stopping runs r) y none)
-    (made_reads work_of refl (may_run runs r j) (planned_legs runs r j) (is_stopping runs r) y none)))
+    (made_reads work_of refl (may_run runs r j) (planned_legs runs r j) (is_stopping runs r) y none))
 
 -- ---- a job settles
 
-closing_rule_settles : (runs : List RunState) (m : Moved) (r j : ℕ) (y : JobState) → RunsFit runs → job_at runs r j ≡ Some y
-    → closing_rule runs r j y ≡ Some m → Settles runs m.runs
-closing_rule_settles runs m r j y fit was h =
+closing_settles : (runs : List RunState) (r j : ℕ) (y : JobState) → RunsFit runs → job_at runs r j ≡ Some y → is_done y ≡ true
+    → Settles runs (with_job r j (settled_as (result_at runs r j y)) runs)
+closing_settles runs r j y fit was is =
     let close = settled_as (result_at runs r j y) in
-    let taken = if_some (is_open y.phase && list_all has_ended y.legs) (without_moves (with_job r j close runs)) m h in
-    let done = and_parts (is_open y.phase) (list_all has_ended y.legs) taken.0 in
+    let done = and_parts (is_open y.phase) (list_all has_ended y.legs) is in
     let at = job_in runs r j y was in
     let x = at.run in
     let run_fits = fit r x at.run_is in
@@ -197,14 +158,13 @@ closing_rule_settles runs m r j y fit was h =
     let is_open = is_open_open y.phase done.0 in
     let planned = all_legs (planned_legs runs r j) (result_at runs r j y) y.phase y.legs fits.legs_fit is_open in
     let live = open_is_live x.phase x.stopping x.jobs j y run_fits.phase_fits at.job_is is_open in
-    subst (λ (v : Moved). Settles runs v.runs) taken.1
-    (one_settles runs fit r x (λ (v : RunState). record v { jobs = changed_at j close v.jobs }) at.run_is
+    one_settles runs fit r x (λ (v : RunState). record v { jobs = changed_at j close v.jobs }) at.run_is
     (job_keeps runs r x run_fits j y close at.job_is (live_fits x.phase x.stopping (changed_at j close x.jobs) live)
     (record { legs_fit = inr (planned, done.1, refl); leases_fit = fits.leases_fit })
     (record {
       keeps_result = (λ a e. no_result y.phase a (settled_result (close y).phase) (ap settled_result is_open) e);
       needs_first = (λ some. run_fits.needs_first j y at.job_is some);
-    }) (λ l. refl) (λ l. refl)))
+    }) (λ l. refl) (λ l. refl))
 
 -- ---- a run goes on
 
@@ -228,37 +188,24 @@ phase_settles runs r x to fit was phase_fits =
       same_works = (λ j l. refl);
     })
 
--- what a live run with all jobs settled is made
-abbrev pub run_ended : List RunState → ℕ → RunState → Moved
-run_ended runs r x = record {
-  runs = with_run r (run_in_phase run.Ended) runs;
-  moves = Move.end_with (conclusion_of (results_of x.jobs)) (Holder.a_run r) ∷ [];
-}
-
-whole_rule_settles_in : (runs : List RunState) (m : Moved) (r : ℕ) (x : RunState) (phase : RunPhase) → RunsFit runs
-    → run_at runs r ≡ Some x → whole_rule_in phase runs r x ≡ Some m → Settles runs m.runs
-whole_rule_settles_in runs m r x run.Waiting fit was h =
-    let taken = if_some (may_start runs (Holder.a_run r)) (started (Holder.a_run r) (with_run r (run_in_phase run.Live) runs)) m h in
-    subst (λ (v : Moved). Settles runs v.runs) taken.1 (phase_settles runs r x run.Live fit was tt)
-whole_rule_settles_in runs m r x run.Live fit was h =
-    let taken = if_some (list_all is_settled x.jobs) (run_ended runs r x) m h in
-    subst (λ (v : Moved). Settles runs v.runs) taken.1
-    (phase_settles runs r x run.Ended fit was (λ j y at. each_passes is_settled x.jobs j y taken.0 at))
-whole_rule_settles_in runs m r x run.Ended fit was h = cc
-
 -- ---- at each place
+
+pub each_settles : (runs : List RunState) → RunsFit runs → EachRule runs (λ place m. LivePlace runs place → Settles runs m.runs)
+each_settles runs fit = record {
+  job_opens = (λ r j y was blocked settled live. opening_settles runs r j y fit live was (is_blocked_blocked y.phase blocked) settled);
+  leg_is_cancelled = (λ p z was is live. leg_goes runs p z (leg.Ended outcome.Cancelled) fit was (new_ends z.phase z.lease is));
+  leg_arrives = (λ p z was is live.
+      let waiting = with_leg_in leg.Waiting p runs in
+      let first = newcomer_waits runs p z fit was is in
+      settles_on runs waiting (arrived (Holder.a_leg p) waiting).runs first (arrival_settles (Holder.a_leg p) waiting first.stay.fit));
+  leg_starts = (λ p z was is may live.
+      leg_goes runs p z leg.Ready fit was (waiting_starts z.phase z.lease is (leases_fit runs fit p z was)));
+  job_settles = (λ r j y was done live. closing_settles runs r j y fit was done);
+  run_starts = (λ r x was is may live. phase_settles runs r x run.Live fit was tt);
+  run_ends = (λ r x was is all live. phase_settles runs r x run.Ended fit was (λ j y at. each_passes is_settled x.jobs j y all at));
+}
 
 pub rule_settles : (runs : List RunState) (m : Moved) (place : Place) → RunsFit runs → LivePlace runs place → rule_at runs place ≡ Some m
     → Settles runs m.runs
-rule_settles runs m (Opening r j) fit live h =
-    let made = from_and_then (opening_rule runs r j) (job_at runs r j) m h in
-    opening_rule_settles runs m r j made.value fit live made.is made.gives
-rule_settles runs m (AtLeg p) fit live h =
-    let made = from_and_then (leg_rule runs p) (leg_at runs p) m h in
-    leg_rule_settles runs m p made.value fit made.is made.gives
-rule_settles runs m (Closing r j) fit live h =
-    let made = from_and_then (closing_rule runs r j) (job_at runs r j) m h in
-    closing_rule_settles runs m r j made.value fit made.is made.gives
-rule_settles runs m (Whole r) fit live h =
-    let made = from_and_then (whole_rule runs r) (run_at runs r) m h in
-    whole_rule_settles_in runs m r made.value made.value.phase fit made.is made.gives
+rule_settles runs m place fit live h =
+    by_rule runs (λ at made. LivePlace runs at → Settles runs made.runs) (each_settles runs fit) m place h live

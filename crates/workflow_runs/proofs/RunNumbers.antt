@@ -9,11 +9,11 @@ use Rattle.std.proofs.lemmas.List.Sums.{sum_by-append}
 use Rattle.std.proofs.lemmas.Slice.Eq.{bytes_eq-Decides}
 use Rattle.wf_value.specs.Gives.{Gives}
 use Rattle.wf_value.specs.declared.refusal.Refusal.{Refusal}
+use Rattle.wf_value.proofs.PassedOn.{same_Ok}
 use Rattle.wf_reader.specs.Event.{event_of}
 use Rattle.run_plan.specs.Admitted.{Admitted}
 use Rattle.workflow_runs.specs.RunNumber.{events, same_workflow, run_number, numbers_after, AreNumbered}
 use Rattle.workflow_runs.specs.RunState.{RunState}
-use Rattle.workflow_runs.proofs.Doors.{given}
 
 -- ---- counting
 
@@ -65,7 +65,7 @@ pub added : {X : Type 0} (runs : List RunState) (run : RunState) (numbers : List
     → Gives (λ _. new_runs) result (Ok (runs ++ run ∷ [])) → OnOk result (new_numbers ≡ numbers ++ (n + 1) ∷ [])
     → OnErr result (new_runs ≡ runs) → OnErr result (new_numbers ≡ numbers) → AreNumbered new_runs new_numbers
 added runs run numbers n new_runs new_numbers (Ok x) room are is run_added number_added same_runs same_numbers =
-    subst (λ (rs : List RunState). AreNumbered rs new_numbers) (given (runs ++ run ∷ []) new_runs run_added)
+    subst (λ (rs : List RunState). AreNumbered rs new_numbers) (same_Ok (runs ++ run ∷ []) new_runs run_added)
     (subst (AreNumbered (runs ++ run ∷ [])) (sym number_added) (one_more runs run numbers n room are is))
 added runs run numbers n new_runs new_numbers (Err e) room are is run_added number_added same_runs same_numbers =
     subst (λ (rs : List RunState). AreNumbered rs new_numbers) (sym same_runs) (subst (AreNumbered runs) (sym same_numbers) are)

@@ -3,8 +3,7 @@
 use Rattle.std.specs.Prelude.{◌≡◌, List, ◌++◌, map, filter, find, Bool, true, false, ◌&&◌, ◌||◌, not, Option}
 use Rattle.std.specs.List.{list_any}
 use Rattle.std.specs.Option.{option_map_or}
-use Rattle.std.specs.Str.{bytes_eq}
-use Rattle.group_name.specs.Group.{Group}
+use Rattle.group_name.specs.Group.{Group, same_group}
 use Rattle.workflow_runs.specs.FirstOf.{placed}
 use Rattle.workflow_runs.specs.Fitting.{is_stopping_leg}
 use Rattle.workflow_runs.specs.GroupState.{GroupState}
@@ -55,9 +54,6 @@ is_told_to_stop runs (Holder.a_run r) = option_map_or (λ x. x.stopping) (run_at
 is_told_to_stop runs (Holder.a_leg p) = option_map_or (λ x. is_stopping_leg x.phase) (leg_at runs p) false
 
 -- ---- the holders of a group: those runs and legs that have arrived in it and not ended
-
-abbrev pub same_group : Group → Group → Bool
-same_group g h = bytes_eq g.repository h.repository && bytes_eq g.folded h.folded
 
 abbrev pub is_in : List RunState → Group → Holder → Bool
 is_in runs g h = option_map_or (same_group g) (group_at runs h) false

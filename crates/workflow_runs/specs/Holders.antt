@@ -15,10 +15,6 @@ abbrev pub holder_in_words : Holder → HolderOfGroup
 holder_in_words (Run r) = HolderOfGroup.a_run r
 holder_in_words (Leg p) = HolderOfGroup.a_leg p
 
-abbrev pub holder_in_code : HolderOfGroup → Holder
-holder_in_code (HolderOfGroup.a_run r) = Run r
-holder_in_code (HolderOfGroup.a_leg p) = Leg p
-
 -- the place of its run
 abbrev pub run_of : HolderOfGroup → ℕ
 run_of (HolderOfGroup.a_run r) = r

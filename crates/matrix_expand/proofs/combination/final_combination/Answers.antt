@@ -1,6 +1,6 @@
 use Rattle.matrix_expand.proofs.Firsts.{names_ascend-final}
-use Rattle.matrix_expand.proofs.Merging.{same_Ok}
 use Rattle.matrix_expand.proofs.combination.final_combination.Goals as goal
+use Rattle.wf_value.proofs.PassedOn.{same_Ok}
 
 pub firsts-requires : goal.firsts-requires
 firsts-requires c =

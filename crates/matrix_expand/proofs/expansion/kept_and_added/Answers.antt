@@ -4,8 +4,8 @@ use Rattle.std.proofs.lemmas.List.{length-map}
 use Rattle.matrix_expand.specs.Entries.{SortsEntries}
 use Rattle.matrix_expand.specs.Numbered.{pattern_of}
 use Rattle.matrix_expand.proofs.Legs.{added_are, all_are, legs_counted, legs_miscounted}
-use Rattle.matrix_expand.proofs.Merging.{same_Ok}
 use Rattle.matrix_expand.proofs.expansion.kept_and_added.Goals as goal
+use Rattle.wf_value.proofs.PassedOn.{same_Ok}
 
 pub returns-then-not-is_leg_count : goal.returns-then-not-is_leg_count
 returns-then-not-is_leg_count c =

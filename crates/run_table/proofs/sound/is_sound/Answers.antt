@@ -1,7 +1,8 @@
 use Rattle.std.proofs.Common.{◌≡◌, ◌≤◌, arith, false, true, None, Some, rules}
+use Rattle.std.proofs.lemmas.Bool.Decides.{Decides-like}
 use Rattle.workflow_runs.specs.Settling.{first_place}
 use Rattle.run_table.proofs.GroupsOfTable.{found_each, found_none_of_each}
-use Rattle.workflow_runs.proofs.OneAfterAnother.{like, no, not_so}
+use Rattle.workflow_runs.proofs.OneAfterAnother.{no, not_so}
 use Rattle.run_table.proofs.SoundOneByOne.{each_run, each_runner, to_sound}
 use Rattle.run_table.proofs.sound.is_sound.Goals as goal
 
@@ -45,7 +46,7 @@ returns-clause-sound c =
     let each_of_runners = c.are_runners_sound.ensures.0 (search rules) in
     let still : c.in_ok-do_runs_rest.field-0 ≡ true = search rules in
     let rests : first_place runs ≡ None = c.in_ok-do_runs_rest.ensures.rest.0 still in
-    like c.do_deliveries_differ.result
+    Decides-like c.do_deliveries_differ.result
     (λ differ. to_sound leases runs runners c.requires.legs c.requires.held each each_of_runners c.requires.planned c.requires.rise
     c.requires.kept
     last one rests differ)

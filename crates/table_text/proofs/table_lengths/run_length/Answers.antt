@@ -5,11 +5,11 @@ use Rattle.std.proofs.lemmas.List.{length-map}
 use Rattle.run_plan.specs.PlanOf.{faults_of}
 use Rattle.run_plan.specs.declared.command.Command.TheVariants as asked
 use Rattle.workflow_runs.specs.Cells.{JobCells, states}
+use Rattle.workflow_runs.proofs.Found.{each_of_map}
 use Rattle.table_text.specs.Lengths.{fields_length}
 use Rattle.table_text.specs.TableLengths.{job_length}
 use Rattle.table_text.specs.Writing.{JobHasBytes}
 use Rattle.run_plan.proofs.FewJobs.{few_jobs}
-use Rattle.table_text.proofs.TableKnown.{all_behind}
 use Rattle.table_text.proofs.TableLengthLaws.{sum_seen}
 use Rattle.table_text.proofs.table_lengths.run_length.Goals as goal
 
@@ -23,7 +23,7 @@ job_list_length-requires-clause-few c =
 
 pub job_list_length-requires-clause-each : goal.job_list_length-requires-clause-each
 job_list_length-requires-clause-each c =
-    all_behind JobHasBytes (λ (j : JobCells). j.state) c.jobs.result.now
+    each_of_map JobHasBytes (λ (j : JobCells). j.state) c.jobs.result.now
     (subst (AllByRecursion JobHasBytes) (sym c.jobs.ensures) c.requires.1)
 
 pub returns-clause-length : goal.returns-clause-length

@@ -9,9 +9,9 @@ use Rattle.workflow_runs.specs.KnownLabels.{kept_of, kept_of_leg}
 use Rattle.workflow_runs.specs.LegContext.{context_of}
 use Rattle.workflow_runs.specs.declared.wanted.Wanted.{Wanted}
 use Rattle.workflow_runs.proofs.Binding.{one_pushed}
-use Rattle.workflow_runs.proofs.Doors.{given}
 use Rattle.workflow_runs.proofs.KeptLabels.{kept_by_none}
 use Rattle.workflow_runs.proofs.wanted.bind_each.Goals as goal
+use Rattle.wf_value.proofs.PassedOn.{same_Ok}
 
 pub loop-leg-preserved : goal.loop-leg-preserved
 loop-leg-preserved c =
@@ -22,7 +22,7 @@ loop-leg-preserved c =
     let is_its : ℕ → Wanted → Type 0 = λ l kept. kept ≡ kept_of_leg told c.args.j job l in
     one_pushed is_its c.loop-leg.legs.items c.push.new.self.items c.in_ok-wanted.wanted c.loop-leg.leg c.in_ok-push.ensures.items
     c.loop-leg.invariant.0 c.loop-leg.invariant.1
-    (sym (given _ _ c.in_ok-wanted.ensures)
+    (sym (same_Ok _ _ c.in_ok-wanted.ensures)
     ∙ ap (λ (labels : List (List Piece)). kept_of context (need_of_job (plan_of needs.0.admitted.body) needs.1) labels) c.as_slice.ensures
     ∙ ap (λ (event : Admitted). kept_of context (need_of_job (plan_of event.body) needs.1) job.labels) c.leg_needs-needs.ensures.event
     ∙ ap (λ (place : ℕ). kept_of context (need_of_job (plan_of told.event.body) place) job.labels) c.leg_needs-needs.ensures.place

@@ -1,4 +1,4 @@
-use Rattle.std.proofs.Common.{rules, ◌≡◌, ◌∙◌, ℕ, List, Bool, None, get_or, map, not, sym, subst, ap}
+use Rattle.std.proofs.Common.{rules, ◌∙◌, ℕ, List, Bool, None, get_or, map, not, sym, subst, ap}
 use Rattle.std.specs.List.{list_any}
 use Rattle.needs_graph.specs.Ancestors.{IsGraph}
 use Rattle.needs_graph.specs.Conditions.{has_succeeded, ancestor_results}

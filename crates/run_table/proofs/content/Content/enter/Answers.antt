@@ -2,15 +2,15 @@ use Rattle.std.proofs.Common.{ap, sym}
 use Rattle.run_table.specs.TableState.{TableState}
 use Rattle.run_table.proofs.BeforeSettling.{Enters, entering_arrives, entering_settles, enters}
 use Rattle.run_table.proofs.EnteredRests.{entering_rests}
-use Rattle.workflow_runs.proofs.Doors.{given}
 use Rattle.run_table.proofs.content.Content.enter.Goals as goal
 use Rattle.run_table.proofs.content.Content.enter.Goals.{In_ok-add}
+use Rattle.wf_value.proofs.PassedOn.{same_Ok}
 
 -- the run stands behind those of the table
 entered : (c : In_ok-add) → Enters c.args.self.now c.args.prepared.now c.add.new.self c.len-place.result
 entered c =
     enters c.args.self.now c.args.prepared.now c.self.inside.runs c.add.new.self c.in_ok-run.run' c.len-place.result c.requires.sound
-    (ap (λ (t : TableState). t.runs) c.self.view_is) (sym (given _ _ c.in_ok-add.ensures.added)) (sym (given _ _ c.in_ok-run.ensures))
+    (ap (λ (t : TableState). t.runs) c.self.view_is) (sym (same_Ok _ _ c.in_ok-add.ensures.added)) (sym (same_Ok _ _ c.in_ok-run.ensures))
     c.len-place.ensures.len
 
 pub arrive-requires : goal.arrive-requires

@@ -5,11 +5,11 @@ use Rattle.workflow_runs.specs.Places.{with_leg}
 use Rattle.run_table.specs.Step.{lease_at}
 use Rattle.workflow_runs.specs.NewRun.{leased_leg}
 use Rattle.run_table.specs.TableState.{TableState}
-use Rattle.workflow_runs.proofs.Doors.{given}
 use Rattle.run_table.proofs.Leased.{leased_table}
 use Rattle.run_table.proofs.BeforeSettling.{leased_may_settle, so_settles}
 use Rattle.run_table.proofs.content.Content.lease.Goals as goal
 use Rattle.run_table.proofs.content.Content.lease.Goals.{After-set_leg}
+use Rattle.wf_value.proofs.PassedOn.{same_Ok}
 
 -- the leg has the new lease
 moved : (c : After-set_leg)
@@ -26,7 +26,7 @@ returns-clause-step c =
     (leased_table c.self.inside.last_lease c.self.inside.runs c.self.inside.runners c.args.self.now c.args.claim.now c.args.place
     c.new-lease.result c.get-self-inside.result told c.in_ok-runner.runner
     c.put.new.self c.set_leg.new.self c.settle.new.self c.self.view_is c.new-lease.ensures
-    c.get-self-inside.ensures.value refl (sym c.in_ok-runner.ensures.runner) (given _ _ c.in_ok-put.ensures.put)
+    c.get-self-inside.ensures.value refl (sym c.in_ok-runner.ensures.runner) (same_Ok _ _ c.in_ok-put.ensures.put)
     (moved (goal.at.returns-clause-step c).After-set_leg) c.settle.ensures
     ∙ ap (λ (l : Leased). (
       record { last_lease = c.get-self-inside.result; runs = c.settle.new.self; runners = c.put.new.self },

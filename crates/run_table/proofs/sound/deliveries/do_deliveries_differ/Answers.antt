@@ -1,7 +1,8 @@
 use Rattle.std.proofs.Common.{◌≡◌, List, arith, ap, false, true, get_or, length, subst, rules}
+use Rattle.std.proofs.lemmas.Bool.Decides.{Decides-like}
 use Rattle.workflow_runs.specs.RunState.{RunState}
 use Rattle.run_table.proofs.DeliveriesFound.{IsFoundAt, differ_found, found_differ}
-use Rattle.workflow_runs.proofs.OneAfterAnother.{like, none_yet, one_passed, passed, stopped_at}
+use Rattle.workflow_runs.proofs.OneAfterAnother.{none_yet, one_passed, passed, stopped_at}
 use Rattle.run_table.proofs.sound.deliveries.do_deliveries_differ.Goals as goal
 
 pub loop-r-init : goal.loop-r-init
@@ -13,7 +14,7 @@ returns-then-not-is_found c =
     let fails : c.is_found.result ≡ false = search rules in
     let at = subst (λ (xs : List RunState). c.index-all-r.result ≡ get_or xs c.loop-r.r c.index-all-r.result) c.as_slice-all.ensures.runs
     c.index-all-r.is in
-    like false (found_differ runs) (differ_found runs)
+    Decides-like false (found_differ runs) (differ_found runs)
     (stopped_at (IsFoundAt runs) runs c.loop-r.r c.index-all-r.result c.is_found.result
     (omega (arith, ap length c.as_slice-all.ensures.runs)) at
     c.is_found.ensures fails)
@@ -30,5 +31,5 @@ loop-r-preserved c =
 pub returns : goal.returns
 returns c =
     let runs = c.args.runs.now in
-    like true (found_differ runs) (differ_found runs)
+    Decides-like true (found_differ runs) (differ_found runs)
     (passed (IsFoundAt runs) runs c.loop-r.r c.loop-r.invariant (omega (arith, ap length c.as_slice-all.ensures.runs)))

@@ -1,8 +1,9 @@
 use Rattle.std.proofs.Common.{◌≡◌, ℕ, arith, false, true, rules}
+use Rattle.std.proofs.lemmas.Bool.Decides.{Decides-like}
 use Rattle.workflow_runs.specs.Cells.{JobCells}
 use Rattle.run_table.specs.OneByOne.{JobIsSound}
 use Rattle.workflow_runs.specs.RunState.{JobState}
-use Rattle.workflow_runs.proofs.OneAfterAnother.{each_mapped, each_unmapped, like, none_yet, one_passed, passed, stopped_at}
+use Rattle.workflow_runs.proofs.OneAfterAnother.{each_mapped, each_unmapped, none_yet, one_passed, passed, stopped_at}
 use Rattle.run_table.proofs.sound.jobs.are_jobs_sound.Goals as goal
 
 pub loop-j-init : goal.loop-j-init
@@ -12,7 +13,7 @@ pub returns-then-not-is_job_sound : goal.returns-then-not-is_job_sound
 returns-then-not-is_job_sound c =
     let sound = λ (k : ℕ) (x : JobState). JobIsSound c.args.leases.now c.args.runs.now c.args.r k x in
     let fails : c.is_job_sound.result ≡ false = search rules in
-    like false (each_mapped sound (λ (x : JobCells). x.state) c.args.jobs.now)
+    Decides-like false (each_mapped sound (λ (x : JobCells). x.state) c.args.jobs.now)
     (each_unmapped sound (λ (x : JobCells). x.state) c.args.jobs.now)
     (stopped_at (λ (k : ℕ) (x : JobCells). sound k x.state) c.args.jobs.now c.loop-j.j c.index-jobs-j.result c.is_job_sound.result
     (omega arith) c.index-jobs-j.is c.is_job_sound.ensures fails)
@@ -25,6 +26,6 @@ loop-j-preserved c =
 pub returns : goal.returns
 returns c =
     let sound = λ (k : ℕ) (x : JobState). JobIsSound c.args.leases.now c.args.runs.now c.args.r k x in
-    like true (each_mapped sound (λ (x : JobCells). x.state) c.args.jobs.now)
+    Decides-like true (each_mapped sound (λ (x : JobCells). x.state) c.args.jobs.now)
     (each_unmapped sound (λ (x : JobCells). x.state) c.args.jobs.now)
     (passed (λ (k : ℕ) (x : JobCells). sound k x.state) c.args.jobs.now c.loop-j.j c.loop-j.invariant (omega arith))

@@ -2,15 +2,16 @@ use Rattle.std.proofs.Common.{sym, ◌∙◌, ap, subst}
 use Rattle.std.specs.List.{AllByRecursion, flat_map}
 use Rattle.std.proofs.lemmas.List.Folds.{flat_map-map}
 use Rattle.workflow_runs.specs.Cells.{JobCells}
+use Rattle.workflow_runs.proofs.Found.{each_of_map}
 use Rattle.table_text.specs.Commands.{admit}
 use Rattle.table_text.specs.Tables.{flag_byte, job, run_byte}
 use Rattle.table_text.specs.Writing.{JobHasBytes}
-use Rattle.table_text.proofs.TableKnown.{all_behind, all_seen, run_bytes, run_takes}
+use Rattle.table_text.proofs.TableKnown.{all_seen, run_bytes, run_takes}
 use Rattle.table_text.proofs.push_table.RunPush.push_to.Goals as goal
 
 pub push_list-requires : goal.push_list-requires
 push_list-requires c =
-    all_behind JobHasBytes (λ (j : JobCells). j.state) c.jobs.result.now
+    each_of_map JobHasBytes (λ (j : JobCells). j.state) c.jobs.result.now
     (subst (AllByRecursion JobHasBytes) (sym c.jobs.ensures) c.requires.1)
 
 pub returns-clause-takes : goal.returns-clause-takes

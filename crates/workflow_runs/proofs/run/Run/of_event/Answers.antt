@@ -3,19 +3,20 @@ use Rattle.std.specs.Prelude.{map, false}
 use Rattle.run_plan.specs.PlanOf.{plan_of}
 use Rattle.workflow_runs.specs.Cells.{blocked_cells, rooms, states, legs_planned}
 use Rattle.workflow_runs.specs.declared.phases.RunPhase.TheVariants as run
-use Rattle.workflow_runs.proofs.Doors.{given, blocked_rooms, blocked_states}
+use Rattle.workflow_runs.proofs.Doors.{blocked_rooms, blocked_states}
 use Rattle.workflow_runs.proofs.run.Run.of_event.Goals as goal
+use Rattle.wf_value.proofs.PassedOn.{same_Ok}
 
 pub invariant_of-result : goal.invariant_of-result
 invariant_of-result c =
-    let made = sym (given _ _ c.in_ok-jobs.ensures) ∙ ap (map blocked_cells) (c.as_slice.ensures ∙ c.plan.ensures) in
-    let copied = given _ _ c.in_ok-share.ensures in
+    let made = sym (same_Ok _ _ c.in_ok-jobs.ensures) ∙ ap (map blocked_cells) (c.as_slice.ensures ∙ c.plan.ensures) in
+    let copied = same_Ok _ _ c.in_ok-share.ensures in
     ap rooms made ∙ blocked_rooms (plan_of c.args.prepared.now.body) ∙ ap (λ a. legs_planned (plan_of a.body)) copied
 
 pub returns : goal.returns
 returns c =
-    let made = sym (given _ _ c.in_ok-jobs.ensures) ∙ ap (map blocked_cells) (c.as_slice.ensures ∙ c.plan.ensures) in
-    let copied = given _ _ c.in_ok-share.ensures in
+    let made = sym (same_Ok _ _ c.in_ok-jobs.ensures) ∙ ap (map blocked_cells) (c.as_slice.ensures ∙ c.plan.ensures) in
+    let copied = same_Ok _ _ c.in_ok-share.ensures in
     let jobs = sym (blocked_states (plan_of c.args.prepared.now.body)) ∙ ap states (sym made) in
     ap (λ js. Ok (record { admitted = c.args.prepared.now; phase = run.Waiting; stopping = false; jobs = js })) jobs
     ∙ ap (λ a. Ok (record { admitted = a; phase = run.Waiting; stopping = false; jobs = states c.in_ok-jobs.jobs.items })) copied

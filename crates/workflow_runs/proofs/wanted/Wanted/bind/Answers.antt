@@ -1,11 +1,11 @@
 use Rattle.std.specs.Prelude.{◌≡◌, ◌+◌, ◌++◌, ◌∷◌, [], Result, Ok, Some, None, map, take}
 use Rattle.std.proofs.Common.{ap, sym, ◌∙◌}
 use Rattle.wf_value.specs.declared.refusal.Refusal.{Refusal}
+use Rattle.wf_value.proofs.PassedOn.{same_Ok}
 use Rattle.wf_expr.specs.Bound.{bound_of}
 use Rattle.workflow_runs.specs.KnownLabels.{is_known, kept_of, known_text, text_without_results}
 use Rattle.workflow_runs.specs.declared.wanted.Wanted.{Wanted}
 use Rattle.workflow_runs.specs.declared.wanted.Wanted.TheVariants as wanted
-use Rattle.workflow_runs.proofs.Doors.{given}
 use Rattle.workflow_runs.proofs.KeptLabels.{all_known, all_kept, known_when_bound, none_kept, one_more_known, one_text_more}
 use Rattle.workflow_runs.proofs.Optional.{if_none, if_some}
 use Rattle.workflow_runs.proofs.wanted.Wanted.bind.Goals as goal
@@ -22,7 +22,7 @@ loop-label-preserved g c =
     let label = c.label-item.result in
     let text = c.in-Some.text in
     let is : c.in_ok-text.text ≡ Some text = cc in
-    let its : known_text (bound_of known need_of label) ≡ Some text = given _ _ c.in_ok-text.ensures ∙ is in
+    let its : known_text (bound_of known need_of label) ≡ Some text = same_Ok _ _ c.in_ok-text.ensures ∙ is in
     let so = if_some (is_known known need_of label) (text_without_results known need_of label) text
     (sym (known_when_bound known need_of label) ∙ its) in
     let texts : c.loop-label.texts.items ++ text ∷ [] ≡ map (text_without_results known need_of) (take (i + 1) labels) =
@@ -39,7 +39,7 @@ returns-in-None g c =
     let labels = c.args.labels.now in
     let label = c.label-item.result in
     let is : c.in_ok-text.text ≡ None = cc in
-    let its : known_text (bound_of known need_of label) ≡ None = given _ _ c.in_ok-text.ensures ∙ is in
+    let its : known_text (bound_of known need_of label) ≡ None = same_Ok _ _ c.in_ok-text.ensures ∙ is in
     let none = if_none (is_known known need_of label) (text_without_results known need_of label)
     (sym (known_when_bound known need_of label) ∙ its) in
     is_ok (kept_of known need_of labels) wanted.LookedUp

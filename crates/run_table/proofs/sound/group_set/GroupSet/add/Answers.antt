@@ -1,10 +1,9 @@
 use Rattle.std.proofs.Common.{◌≡◌, ◌||◌, List, false, ap, sym, ◌∙◌, rules}
 use Rattle.std.specs.BTreeMap.{is_at}
 use Rattle.std.specs.List.{list_any}
-use Rattle.group_name.specs.Group.{Group}
+use Rattle.group_name.specs.Group.{Group, same_group}
 use Rattle.group_name.specs.Order.{group_cmp}
 use Rattle.run_table.specs.GroupSets.{has_group}
-use Rattle.workflow_runs.specs.Groups.{same_group}
 use Rattle.run_table.proofs.GroupSetReads.{put_in}
 use Rattle.run_table.proofs.sound.group_set.GroupSet.add.Goals as goal
 

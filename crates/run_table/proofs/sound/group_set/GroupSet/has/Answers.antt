@@ -1,11 +1,11 @@
 use Rattle.std.proofs.Common.{List, ap, sym, ◌∙◌}
 use Rattle.std.specs.BTreeMap.{is_at}
 use Rattle.std.specs.List.{list_any}
-use Rattle.group_name.specs.Group.{Group}
+use Rattle.group_name.specs.Group.{Group, same_group}
 use Rattle.group_name.specs.Order.{group_cmp}
+use Rattle.group_name.proofs.SameGroups.{own_group}
 use Rattle.run_table.specs.GroupSets.{has_group}
-use Rattle.workflow_runs.specs.Groups.{same_group}
-use Rattle.run_table.proofs.GroupSetReads.{equal_for_maps, found_some, not_there, own_group}
+use Rattle.run_table.proofs.GroupSetReads.{equal_for_maps, found_some, not_there}
 use Rattle.run_table.proofs.sound.group_set.GroupSet.has.Goals as goal
 
 pub returns-in-Some-clause-has : goal.returns-in-Some-clause-has

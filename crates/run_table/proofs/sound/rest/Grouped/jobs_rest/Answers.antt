@@ -1,7 +1,8 @@
 use Rattle.std.proofs.Common.{◌≡◌, ℕ, arith, false, true, rules}
+use Rattle.std.proofs.lemmas.Bool.Decides.{Decides-like}
 use Rattle.workflow_runs.specs.Cells.{JobCells, states}
 use Rattle.workflow_runs.specs.WithinRun.{first_in_job}
-use Rattle.workflow_runs.proofs.OneAfterAnother.{each_mapped, each_unmapped, like, none_yet, one_passed, passed, stopped_at}
+use Rattle.workflow_runs.proofs.OneAfterAnother.{each_mapped, each_unmapped, none_yet, one_passed, passed, stopped_at}
 use Rattle.run_table.proofs.RestTested.{NoneAt, each_none, none_of_each}
 use Rattle.run_table.proofs.sound.rest.Grouped.jobs_rest.Goals as goal
 
@@ -14,7 +15,7 @@ returns-then-not-branch-clause-rest c =
     let asked = first_in_job c.args.self.now.runs.now c.args.r c.args.run.now in
     let jobs = c.args.jobs.now in
     let moves : c.in_ok-job_rests.field-0 ≡ false = search rules in
-    like false (λ each. none_of_each asked (states jobs) (each_mapped (NoneAt asked) (λ (x : JobCells). x.state) jobs each))
+    Decides-like false (λ each. none_of_each asked (states jobs) (each_mapped (NoneAt asked) (λ (x : JobCells). x.state) jobs each))
     (λ none. each_unmapped (NoneAt asked) (λ (x : JobCells). x.state) jobs (each_none asked (states jobs) none))
     (stopped_at (λ (k : ℕ) (x : JobCells). NoneAt asked k x.state) jobs c.loop-j.j c.index-jobs-j.result c.in_ok-job_rests.field-0
     (omega arith) c.index-jobs-j.is c.in_ok-job_rests.ensures.rests moves)
@@ -29,6 +30,6 @@ pub returns-clause-rest : goal.returns-clause-rest
 returns-clause-rest c =
     let asked = first_in_job c.args.self.now.runs.now c.args.r c.args.run.now in
     let jobs = c.args.jobs.now in
-    like true (λ each. none_of_each asked (states jobs) (each_mapped (NoneAt asked) (λ (x : JobCells). x.state) jobs each))
+    Decides-like true (λ each. none_of_each asked (states jobs) (each_mapped (NoneAt asked) (λ (x : JobCells). x.state) jobs each))
     (λ none. each_unmapped (NoneAt asked) (λ (x : JobCells). x.state) jobs (each_none asked (states jobs) none))
     (passed (λ (k : ℕ) (x : JobCells). NoneAt asked k x.state) jobs c.loop-j.j c.loop-j.invariant (omega arith))

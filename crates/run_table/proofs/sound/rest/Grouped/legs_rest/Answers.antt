@@ -1,5 +1,6 @@
 use Rattle.std.proofs.Common.{◌≡◌, arith, false, true, rules}
-use Rattle.workflow_runs.proofs.OneAfterAnother.{like, none_yet, one_passed, passed, stopped_at}
+use Rattle.std.proofs.lemmas.Bool.Decides.{Decides-like}
+use Rattle.workflow_runs.proofs.OneAfterAnother.{none_yet, one_passed, passed, stopped_at}
 use Rattle.run_table.proofs.RestTested.{NoneAt, each_none, leg_asked, leg_decided, none_of_each}
 use Rattle.run_table.proofs.sound.rest.Grouped.legs_rest.Goals as goal
 
@@ -12,7 +13,7 @@ returns-then-not-branch-clause-rest c =
     let legs = c.args.legs.now in
     let moves : c.in_ok-leg_rests.field-0 ≡ false = search rules in
     let rests = rw c.new-place.ensures at c.in_ok-leg_rests.ensures.rests in
-    like false (none_of_each asked legs) (each_none asked legs)
+    Decides-like false (none_of_each asked legs) (each_none asked legs)
     (stopped_at (NoneAt asked) legs c.loop-l.l c.index-legs-l.result c.in_ok-leg_rests.field-0 (omega arith) c.index-legs-l.is
     (leg_decided c.args.self.now.runs.now c.args.r c.args.j c.loop-l.l c.index-legs-l.result c.in_ok-leg_rests.field-0
     rests) moves)
@@ -30,4 +31,5 @@ pub returns-clause-rest : goal.returns-clause-rest
 returns-clause-rest c =
     let asked = leg_asked c.args.self.now.runs.now c.args.r c.args.j in
     let legs = c.args.legs.now in
-    like true (none_of_each asked legs) (each_none asked legs) (passed (NoneAt asked) legs c.loop-l.l c.loop-l.invariant (omega arith))
+    Decides-like true (none_of_each asked legs) (each_none asked legs)
+    (passed (NoneAt asked) legs c.loop-l.l c.loop-l.invariant (omega arith))

@@ -1,12 +1,14 @@
 -- A rule that is taken makes one of seven changes: what is so of each of them is so of what the rule at a place makes.
-use Rattle.std.specs.Prelude.{◌≡◌, ℕ, ◌&&◌, List, Bool, true, false, Some, if◌then◌else◌, refl}
+use Rattle.std.specs.Prelude.{◌≡◌, ℕ, ◌&&◌, List, [], ◌∷◌, Bool, true, false, Some, if◌then◌else◌, refl}
 use Rattle.std.specs.List.{list_all}
 use Rattle.std.proofs.Common.{subst}
 use Rattle.std.proofs.lemmas.Bool.{and_parts}
 use Rattle.wf_value.specs.declared.outcome.Outcome.TheVariants as outcome
+use Rattle.needs_graph.specs.Results.{conclusion_of}
 use Rattle.workflow_runs.specs.Arrivals.{arrived, is_in_group_of_run, started}
 use Rattle.workflow_runs.specs.Groups.{may_start}
-use Rattle.workflow_runs.specs.Moves.{Holder, Moved, without_moves}
+use Rattle.workflow_runs.specs.JobResults.{results_of}
+use Rattle.workflow_runs.specs.Moves.{Holder, Move, Moved, without_moves}
 use Rattle.workflow_runs.specs.Places.{LegPlace, job_at, leg_at, run_at, with_job, with_run}
 use Rattle.workflow_runs.specs.Rules.{closing_rule, decided, leg_rule, leg_rule_in, newcomer_rule, opening_rule, result_at, rule_at}
 use Rattle.workflow_runs.specs.Rules.{whole_rule, whole_rule_in, with_leg_in}
@@ -20,7 +22,13 @@ use Rattle.workflow_runs.specs.declared.phases.RunPhase.TheVariants as run
 use Rattle.workflow_runs.specs.declared.place.Place.{Place}
 use Rattle.workflow_runs.specs.declared.place.Place.TheVariants.{Opening, AtLeg, Closing, Whole}
 use Rattle.workflow_runs.proofs.Optional.{from_and_then, if_some}
-use Rattle.workflow_runs.proofs.RuleKeeps.{run_ended}
+
+-- what a live run with all jobs settled is made
+abbrev pub run_ended : List RunState → ℕ → RunState → Moved
+run_ended runs r x = record {
+  runs = with_run r (run_in_phase run.Ended) runs;
+  moves = Move.end_with (conclusion_of (results_of x.jobs)) (Holder.a_run r) ∷ [];
+}
 
 -- It is so of what each rule makes of these runs, where it applies.
 pub record EachRule (runs : List RunState) (P : Place → Moved → Type 0) : Type 0 where
