@@ -2,7 +2,7 @@ mod ImageLemmas
 mod LaidLemmas
 mod ReadLemmas
 mod RecordLemmas
-pub mod Walks
+mod Walks
 mod SyncLemmas
 mod WriteLemmas
 mod ZeroLemmas

@@ -15,7 +15,7 @@ module _ {F : Type 0} {g : Ghosts F} where
   faults_of disk = disk.faults
 
   abbrev pub made_of : FileDisk F g → ℕ
-  made_of disk = disk.tally.calls
+  made_of disk = disk.tally
 
   -- whether a write or a sync has failed
   abbrev pub failed_of : FileDisk F g → Bool

@@ -96,7 +96,7 @@ impl<F: SystemFile> Disk for FileDisk<F> {
 
     ghost size = { λ d. d.len };
 
-    ghost calls = { λ d. d.tally.calls };
+    ghost calls = { λ d. d.tally };
 
     ghost fault_count = { λ d. d.faults };
 

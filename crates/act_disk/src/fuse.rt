@@ -28,7 +28,7 @@ impl<D: Disk> Model for FuseDisk<D> {
 
     ghost Value = { Fused D };
 
-    ghost view = { λ f. record { disk = f.disk; failing = f.failing; refused = f.refused; made = f.tally.calls } };
+    ghost view = { λ f. record { disk = f.disk; failing = f.failing; refused = f.refused; made = f.tally } };
 
     ghost invariant = { λ f. D.Disk.fault_count f.disk + f.refused < 2 ^ 64 };
 }

@@ -33,7 +33,7 @@ impl Model for MemoryDisk {
 
     ghost Value = { Record };
 
-    ghost view = { λ m. record { first = m.first.items; calls = m.calls.items; faults = m.faults; made = m.tally.calls } };
+    ghost view = { λ m. record { first = m.first.items; calls = m.calls.items; faults = m.faults; made = m.tally } };
 
     ghost invariant = { λ m. m.bytes.items ≡ seen_after m.first.items (reverse m.calls.items) };
 }

@@ -1,31 +1,35 @@
-ghost use Rattle.std.specs.Prelude.{◌≡◌, ℕ, ◌+◌};
-ghost use Rattle.std.specs.Borrow.{ftrue};
+ghost use Rattle.std.specs.Prelude.{◌≡◌, ℕ, ◌+◌, length};
 
+use crate::call_log::CallLog;
 use std::marker::Model;
 
-/// A number of calls, of which clauses alone know. It takes no memory.
+/// A number of calls, of which clauses alone know: as many as a log has entries, whatever these are. It
+/// takes no memory.
 #[derive(Drop)]
 pub(crate) struct CallTally {
-    pub ghost calls: { ℕ },
+    log: CallLog,
 }
 
 impl Model for CallTally {
-    ghost also_owns = { λ _. ftrue };
-}
+    ghost Value = { ℕ };
 
-// It owns nothing.
-unsafe impl Send for CallTally {}
+    ghost view = { λ t. length t.log.calls };
+}
 
 impl CallTally {
     /// No call was made yet.
     pub(crate) fn new() -> Self
-        ensures { result.calls ≡ 0 }
+        ensures { result ≡ 0 }
     {
-        CallTally {}
+        CallTally {
+            log: CallLog::new(),
+        }
     }
 
     /// One call more.
     pub(crate) fn count(&mut self)
-        ensures { self.new.calls ≡ self.old.calls + 1 }
-    {}
+        ensures { self.new ≡ self.old + 1 }
+    {
+        self.log.synced(Ok(()));
+    }
 }

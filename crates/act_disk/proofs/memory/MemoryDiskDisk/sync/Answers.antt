@@ -12,14 +12,14 @@ returns-clause-time c =
       first = c.self.inside.first.items;
       calls = c.self.inside.calls.items;
       faults = c.self.inside.faults;
-      made = c.self.inside.tally.calls;
+      made = c.self.inside.tally;
     } in
     let new : Record =
     record {
       first = c.self.inside.first.items;
       calls = c.note-outcome.new.calls.items;
       faults = c.counted.new.faults;
-      made = c.count.new.self.calls;
+      made = c.count.new.self;
     } in
     subst (λ (m : Record). Elapses (length m.calls) (length new.calls) (MayHaveLeft m) (MayHaveLeft new) (MayLeave new)) c.self.view_is
     (elapses old new refl c.note-outcome.result Sync c.note-outcome.ensures.ok c.note-outcome.ensures.err)

@@ -10,7 +10,7 @@ old c = record {
   first = c.self.inside.first.items;
   calls = c.self.inside.calls.items;
   faults = c.self.inside.faults;
-  made = c.self.inside.tally.calls;
+  made = c.self.inside.tally;
 }
 
 abbrev new : goal.After-counted → Record
@@ -18,7 +18,7 @@ new c = record {
   first = c.self.inside.first.items;
   calls = c.write_noted-outcome.new.calls.items;
   faults = c.counted.new.faults;
-  made = c.count.new.self.calls;
+  made = c.count.new.self;
 }
 
 pub returns-clause-written : goal.returns-clause-written
