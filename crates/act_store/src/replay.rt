@@ -14,7 +14,7 @@ use table_text::read_batch;
 use wf_value::Refusal;
 
 /// Carries out the commands of records, one behind the other. `None` where a body spells no batch.
-#[tactic(auto, using(crate::proofs::Replaying::none_so_far, crate::proofs::Replaying::one_more, crate::proofs::Replaying::at_end, crate::proofs::Replaying::at_broken, gated_journal::proofs::Parting::shorter))]
+#[tactic(auto, using(crate::proofs::Replaying::none_so_far, crate::proofs::Replaying::one_more, gated_journal::proofs::Parting::shorter))]
 pub(crate) fn replay(alloc: Global, first: Table, records: &[u8]) -> Result<Option<Table>, Refusal>
     ensures replayed { IfOk result (λ last. IsReplayed records.now first last) }
     ensures refused { IfErr result (λ e. e ≡ no_memory) }
