@@ -40,7 +40,7 @@ pub enum Call {
 }
 
 /// What an image has of the writes since the last sync.
-#[derive(Clone, Copy, PartialEq, Eq)]
+#[derive(Clone, Copy)]
 pub enum Fill {
     /// Nothing.
     Old,

@@ -2,7 +2,7 @@ ghost use Rattle.std.specs.Prelude.{◌≡◌};
 ghost use Rattle.act_disk.specs.Fuse.{fails_now, after_call};
 
 /// Which of the calls to come are to fail, counted from 0.
-#[derive(Clone, Copy, PartialEq, Eq)]
+#[derive(Clone, Copy)]
 pub enum Failing {
     /// This one alone.
     Once(u64),

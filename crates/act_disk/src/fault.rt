@@ -5,7 +5,7 @@ use thiserror::Error;
 use wf_value::{Code, Refusal};
 
 /// A call of a disk failed, and the disk's count of faults is one higher.
-#[derive(Clone, Copy, Debug, PartialEq, Eq, Error)]
+#[derive(Clone, Copy, Debug, Error)]
 #[error("the disk failed")]
 pub struct DiskFault;
 

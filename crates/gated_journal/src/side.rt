@@ -3,7 +3,7 @@ ghost use Rattle.gated_journal.specs.Choice.{newer};
 ghost use Rattle.gated_journal.specs.TwoAreas.{start_of, other};
 
 /// One of a disk's two areas.
-#[derive(Clone, Copy, PartialEq, Eq)]
+#[derive(Clone, Copy)]
 pub enum Side {
     First,
     Second,
