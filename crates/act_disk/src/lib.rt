@@ -21,7 +21,7 @@ mod system_file;
 mod tally;
 mod zeros;
 
-pub use call::{Bytes, Call, Fill};
+pub use call::{Call, Fill};
 pub use disk::Disk;
 pub use failing::Failing;
 pub use fault::DiskFault;

@@ -6,13 +6,13 @@ ghost use Rattle.act_disk.specs.Laid.{laid};
 ghost use Rattle.act_disk.specs.Record.{Notes, fresh, bytes_of, MayLeave, MayHaveLeft};
 ghost use Rattle.wf_value.specs.Gives.{Gives};
 
-use crate::call::{Bytes, Call};
+use crate::call::Call;
 use crate::disk::Disk;
 use crate::fault::{DiskFault, counted};
 use crate::tally::CallTally;
 use std::alloc::{AllocError, Global};
 use std::marker::Model;
-use wf_value::Refusal;
+use wf_value::{Refusal, Sequence};
 
 /// A disk in memory, which keeps a record of its calls: of the writes and syncs that it did. A read is
 /// not in the record, and neither is a call that failed. A call fails where memory is refused to it,
@@ -136,7 +136,7 @@ fn write_noted(
     ensures same_file { OnErr result (file.new.items ≡ file.old.items) }
     ensures same_calls { OnErr result (calls.new.items ≡ calls.old.items) }
 {
-    let noted = Bytes::new(bytes.to_vec(alloc)?);
+    let noted = Sequence::new(bytes.to_vec(alloc)?);
     note(calls, Call::Write { at, bytes: noted })?;
     let outcome = lay(file, at, bytes);
     if outcome.is_err() {
