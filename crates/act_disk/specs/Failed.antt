@@ -7,6 +7,6 @@ use Rattle.wf_value.specs.declared.refusal.Refusal.TheVariants.{Numbered}
 abbrev pub device_failed : Refusal
 device_failed = Numbered DeviceFailed
 
--- the refusal where a file can't be opened
-abbrev pub cannot_open : Refusal
-cannot_open = Numbered StreamFailed
+-- the refusal of a stream that failed, and of a file that can't be opened
+abbrev pub stream_failed : Refusal
+stream_failed = Numbered StreamFailed

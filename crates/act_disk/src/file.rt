@@ -27,7 +27,7 @@ pub struct FileDisk<F: SystemFile> {
 
 impl<F: SystemFile> FileDisk<F> {
     ghost use Rattle.std.specs.Prelude.{◌≡◌, ◌∷◌, IsTrue, IfOk, IfErr};
-    ghost use Rattle.act_disk.specs.Failed.{cannot_open};
+    ghost use Rattle.act_disk.specs.Failed.{stream_failed};
     ghost use Rattle.std.specs.Prelude.{false};
     ghost use Rattle.act_disk.specs.FileDisk.{file_of, len_of, faults_of, failed_of};
     ghost use Rattle.act_disk.specs.SystemCalls.{Measured, is_sound};
@@ -38,7 +38,7 @@ impl<F: SystemFile> FileDisk<F> {
         ensures calls { IfOk result (λ disk. F.calls (file_of disk) ≡ Measured (len_of disk) ∷ F.calls file) }
         ensures faults { IfOk result (λ disk. faults_of disk ≡ 0) }
         ensures live { IfOk result (λ disk. failed_of disk ≡ false) }
-        ensures refused { IfErr result (λ refusal. refusal ≡ cannot_open) }
+        ensures refused { IfErr result (λ refusal. refusal ≡ stream_failed) }
     {
         let mut file = file;
         match measure(&mut file) {

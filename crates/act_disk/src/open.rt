@@ -1,6 +1,6 @@
 //! Opening a disk over a file of the system.
 ghost use Rattle.std.specs.Prelude.{◌≡◌, [], ◌∷◌, false, IfOk, IfErr};
-ghost use Rattle.act_disk.specs.Failed.{cannot_open};
+ghost use Rattle.act_disk.specs.Failed.{stream_failed};
 ghost use Rattle.act_disk.specs.FileDisk.{file_of, len_of, faults_of, failed_of};
 ghost use Rattle.act_disk.specs.HostFile.{calls_of};
 ghost use Rattle.act_disk.specs.SystemCalls.{Measured};
@@ -20,7 +20,7 @@ impl<S: Start> FileDisk<HostFile<S>> {
         ensures calls { IfOk result (λ disk. calls_of (file_of disk) ≡ Measured (len_of disk) ∷ []) }
         ensures faults { IfOk result (λ disk. faults_of disk ≡ 0) }
         ensures live { IfOk result (λ disk. failed_of disk ≡ false) }
-        ensures refused { IfErr result (λ refusal. refusal ≡ cannot_open) }
+        ensures refused { IfErr result (λ refusal. refusal ≡ stream_failed) }
     {
         let opened = OpenOptions::new().read(true).write(true).open(rt, path);
         FileDisk::opened(opened)
@@ -32,7 +32,7 @@ impl<S: Start> FileDisk<HostFile<S>> {
         ensures calls { IfOk result (λ disk. calls_of (file_of disk) ≡ Measured (len_of disk) ∷ []) }
         ensures faults { IfOk result (λ disk. faults_of disk ≡ 0) }
         ensures live { IfOk result (λ disk. failed_of disk ≡ false) }
-        ensures refused { IfErr result (λ refusal. refusal ≡ cannot_open) }
+        ensures refused { IfErr result (λ refusal. refusal ≡ stream_failed) }
     {
         let opened = OpenOptions::new()
             .read(true)
@@ -48,7 +48,7 @@ impl<S: Start> FileDisk<HostFile<S>> {
         ensures calls { IfOk result (λ disk. calls_of (file_of disk) ≡ Measured (len_of disk) ∷ []) }
         ensures faults { IfOk result (λ disk. faults_of disk ≡ 0) }
         ensures live { IfOk result (λ disk. failed_of disk ≡ false) }
-        ensures refused { IfErr result (λ refusal. refusal ≡ cannot_open) }
+        ensures refused { IfErr result (λ refusal. refusal ≡ stream_failed) }
     {
         match opened {
             Ok(file) => {

@@ -17,9 +17,10 @@ use Rattle.wf_value.specs.declared.combo.Combo.{Combo}
 use Rattle.run_plan.specs.PlanOf.{combinations_where, job_faults, legs_faults, legs_of, matrix_of, needs_faults, plan_faults, planned_job}
 use Rattle.run_plan.specs.PlanOf.{workflow_plan}
 use Rattle.wf_reader.proofs.Contents.{same_refusal}
+use Rattle.act_disk.specs.Failed.{stream_failed}
 use Rattle.acts_cli.specs.Check.{leg_line, leg_lines, job_lines, plan_lines, checked, Written, ChecksTo}
 use Rattle.acts_cli.specs.Input.{RefusesInput}
-use Rattle.acts_cli.specs.Play.{most_bytes, stream_failed}
+use Rattle.acts_cli.specs.Play.{most_bytes}
 use Rattle.acts_cli.specs.Writes.{Writes}
 
 -- ---- legs

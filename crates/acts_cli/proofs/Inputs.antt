@@ -8,8 +8,9 @@ use Rattle.wf_value.specs.Gives.{no_memory}
 use Rattle.wf_value.specs.declared.code.Code.TheVariants.{InputTooLong}
 use Rattle.wf_value.specs.declared.refusal.Refusal.{Refusal}
 use Rattle.wf_value.specs.declared.refusal.Refusal.TheVariants.{Numbered}
+use Rattle.act_disk.specs.Failed.{stream_failed}
 use Rattle.acts_cli.specs.Input.{RefusesInput}
-use Rattle.acts_cli.specs.Play.{most_bytes, stream_failed}
+use Rattle.acts_cli.specs.Play.{most_bytes}
 
 pub for_any : {X : Type 0} {P : X → Type 0} (o : Option X) → ((x : X) → P x) → IfSome o P
 for_any None f = tt

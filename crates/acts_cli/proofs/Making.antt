@@ -4,8 +4,8 @@ use Rattle.std.proofs.Common.{Result, Ok, Err, IfErr, sym, arith}
 use Rattle.std.specs.Prelude.{IsErrAnd}
 use Rattle.std.proofs.Math.Nat.{eq-zero-or-pos}
 use Rattle.wf_value.specs.declared.refusal.Refusal.{Refusal}
+use Rattle.act_disk.specs.Failed.{stream_failed}
 use Rattle.acts_cli.specs.Made.{Makes, made_line}
-use Rattle.acts_cli.specs.Play.{stream_failed}
 
 -- a disk on which a store was made was empty
 pub was_empty : {T E : Type 0} (size : ℕ) (r : Result T E) (x : T) (e : E) → ((size ≡ 0 → ⊥) → r ≡ Err e) → r ≡ Ok x → size ≡ 0

@@ -8,11 +8,11 @@ use Rattle.std.specs.Str.Lines.{lines}
 use Rattle.std.proofs.lemmas.List.Elements.{All-head, All-tail}
 use Rattle.wf_value.specs.Gives.{no_memory}
 use Rattle.wf_value.specs.declared.refusal.Refusal.{Refusal}
-use Rattle.act_disk.specs.Failed.{device_failed}
+use Rattle.act_disk.specs.Failed.{device_failed, stream_failed}
 use Rattle.acts_cli.specs.Answers.{has_bytes, script_lines, answer_of, after_line, answers_from, printed}
 use Rattle.acts_cli.specs.Input.{RefusesInput}
 use Rattle.acts_cli.specs.PlainStore.{PlainStore}
-use Rattle.acts_cli.specs.Play.{IsAnswer, Answers, PlaysFrom, Plays, memory_refused, device_refused, stream_failed, most_bytes, Ends}
+use Rattle.acts_cli.specs.Play.{IsAnswer, Answers, PlaysFrom, Plays, memory_refused, device_refused, most_bytes, Ends}
 
 -- ---- all lines
 

@@ -6,7 +6,7 @@ use Rattle.std.specs.Prelude.{IsErrAnd}
 use Rattle.std.proofs.KnownBytes.{Appends-nil, Appends-kept, Appends-trans}
 use Rattle.wf_value.specs.Gives.{no_memory}
 use Rattle.wf_value.specs.declared.refusal.Refusal.{Refusal}
-use Rattle.acts_cli.specs.Play.{stream_failed}
+use Rattle.act_disk.specs.Failed.{stream_failed}
 use Rattle.acts_cli.specs.Writes.{FrontWritten, Writes}
 
 -- one part more has been written whole

@@ -9,10 +9,11 @@ use Rattle.wf_value.specs.declared.refusal.Refusal.TheVariants.{Numbered}
 use Rattle.wf_value.specs.declared.combo.Combo.{Combo}
 use Rattle.wf_reader.specs.Faults.{unless_faulty}
 use Rattle.wf_reader.specs.Workflow.{workflow_faults, workflow_of}
+use Rattle.act_disk.specs.Failed.{stream_failed}
 use Rattle.run_plan.specs.PlanOf.{plan_faults, workflow_plan}
 use Rattle.run_plan.specs.ReplyText.{combo_text}
 use Rattle.run_plan.specs.declared.planned.PlannedJob.{PlannedJob}
-use Rattle.acts_cli.specs.Play.{most_bytes, stream_failed}
+use Rattle.acts_cli.specs.Play.{most_bytes}
 
 -- `JOB LEG COMBO` and a line feed
 abbrev pub leg_text : List ℕ → ℕ → List ℕ → List ℕ

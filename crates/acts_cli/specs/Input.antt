@@ -5,7 +5,8 @@ use Rattle.wf_value.specs.Gives.{no_memory}
 use Rattle.wf_value.specs.declared.code.Code.TheVariants.{InputTooLong}
 use Rattle.wf_value.specs.declared.refusal.Refusal.{Refusal}
 use Rattle.wf_value.specs.declared.refusal.Refusal.TheVariants.{Numbered}
-use Rattle.acts_cli.specs.Play.{most_bytes, stream_failed}
+use Rattle.act_disk.specs.Failed.{stream_failed}
+use Rattle.acts_cli.specs.Play.{most_bytes}
 
 -- all of it, where it is not too long
 abbrev pub IsReadAs : List ℕ → List ℕ → Type 0

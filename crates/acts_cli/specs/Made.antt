@@ -1,9 +1,8 @@
 -- What `acts init` prints (own), and how it ends.
 use Rattle.std.specs.Prelude.{◌≡◌, ◌⊎◌, ℕ, List, [], ◌∷◌, ◌++◌, codes, Result, Ok, Err}
 use Rattle.wf_value.specs.declared.refusal.Refusal.{Refusal}
-use Rattle.act_disk.specs.Failed.{device_failed}
+use Rattle.act_disk.specs.Failed.{device_failed, stream_failed}
 use Rattle.act_store.specs.Plain.{disk_not_empty}
-use Rattle.acts_cli.specs.Play.{stream_failed}
 
 -- `made` and a line feed
 abbrev pub made_line : List ℕ

@@ -3,10 +3,10 @@ use Rattle.std.specs.Prelude.{◌≡◌, ◌≢◌, ◌⊎◌, ℕ, ◌≤◌, �
 use Rattle.std.specs.List.{All}
 use Rattle.wf_value.specs.Gives.{no_memory}
 use Rattle.wf_value.specs.RefusalText.{refusal_text}
-use Rattle.wf_value.specs.declared.code.Code.TheVariants.{StreamFailed, InputTooLong}
+use Rattle.wf_value.specs.declared.code.Code.TheVariants.{InputTooLong}
 use Rattle.wf_value.specs.declared.refusal.Refusal.{Refusal}
 use Rattle.wf_value.specs.declared.refusal.Refusal.TheVariants.{Numbered}
-use Rattle.act_disk.specs.Failed.{device_failed}
+use Rattle.act_disk.specs.Failed.{device_failed, stream_failed}
 use Rattle.act_store.specs.Plain.{broken}
 use Rattle.acts_cli.specs.Answers.{script_lines, is_commit, answer_of, after_line, printed, output_from}
 use Rattle.acts_cli.specs.PlainStore.{PlainStore, start}
@@ -14,9 +14,6 @@ use Rattle.acts_cli.specs.PlainStore.{PlainStore, start}
 -- the longest input that is read
 abbrev pub most_bytes : ℕ
 most_bytes = 1048576
-
-abbrev pub stream_failed : Refusal
-stream_failed = Numbered StreamFailed
 
 -- `refused 50`
 abbrev pub memory_refused : List ℕ

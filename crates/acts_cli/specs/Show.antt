@@ -4,12 +4,12 @@ use Rattle.std.specs.List.{range_with_len}
 use Rattle.std.specs.Option.{option_map_or}
 use Rattle.wf_value.specs.Gives.{no_memory}
 use Rattle.wf_value.specs.declared.refusal.Refusal.{Refusal}
+use Rattle.act_disk.specs.Failed.{stream_failed}
 use Rattle.run_table.specs.Step.{seen}
 use Rattle.run_table.specs.TableState.{TableState}
 use Rattle.run_table.specs.ViewText.{Seen, seen_text}
 use Rattle.act_store.specs.Images.{HasNoArea, HasNoTable, StandsFor}
 use Rattle.act_store.specs.Plain.{RefusesOpening, no_area, no_table}
-use Rattle.acts_cli.specs.Play.{stream_failed}
 
 -- what `look` shows of a run, and a line feed
 abbrev pub view_line : Seen → List ℕ

@@ -3,7 +3,7 @@ use Rattle.std.specs.Prelude.{◌≡◌, ◌⊎◌, List, ℕ, ◌++◌, Option,
 use Rattle.std.specs.Io.KnownBytes.{Appends}
 use Rattle.wf_value.specs.Gives.{no_memory}
 use Rattle.wf_value.specs.declared.refusal.Refusal.{Refusal}
-use Rattle.acts_cli.specs.Play.{stream_failed}
+use Rattle.act_disk.specs.Failed.{stream_failed}
 
 -- a front of some lines is written behind what stood there
 abbrev pub FrontWritten : Option (List ℕ) → Option (List ℕ) → List ℕ → Type 0

@@ -1,8 +1,8 @@
 ghost use Rattle.std.specs.Prelude.{◌≡◌, ◌≤◌, ◌<◌, ◌⊎◌, take, length, vec_len, IfOk, IfErr, IfSome, OnErr};
 ghost use Rattle.std.specs.Io.KnownBytes.{Consumes, IsAtEnd, Keeps};
 ghost use Rattle.wf_value.specs.Gives.{no_memory};
+ghost use Rattle.act_disk.specs.Failed.{stream_failed};
 ghost use Rattle.acts_cli.specs.Input.{IsReadAs, ReadsAtMost, RefusesInput};
-ghost use Rattle.acts_cli.specs.Play.{stream_failed};
 
 use std::alloc::Global;
 use std::io::{ErrorKind, Read};

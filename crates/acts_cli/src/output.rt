@@ -1,6 +1,6 @@
 ghost use Rattle.std.specs.Prelude.{◌≡◌, ◌≤◌, ℕ, take, length, IfOk, IfErr, OnOk, OnErr};
 ghost use Rattle.std.specs.Io.KnownBytes.{Appends, Keeps};
-ghost use Rattle.acts_cli.specs.Play.{stream_failed};
+ghost use Rattle.act_disk.specs.Failed.{stream_failed};
 
 use std::io::{ErrorKind, Write};
 use wf_value::{Code, Refusal};

@@ -1,10 +1,10 @@
 ghost use Rattle.std.specs.Prelude.{◌≡◌, ◌⊎◌, ◌++◌, ◌∷◌, [], ℕ, List, take, IfErr, IfOk, IfSome, OnOk};
 ghost use Rattle.std.specs.Io.KnownBytes.{Appends};
 ghost use Rattle.wf_value.specs.Gives.{no_memory};
-ghost use Rattle.act_disk.specs.Failed.{device_failed};
+ghost use Rattle.act_disk.specs.Failed.{device_failed, stream_failed};
 ghost use Rattle.acts_cli.specs.Input.{ReadsAtMost};
 ghost use Rattle.acts_cli.specs.PlainStore.{start, without_disk};
-ghost use Rattle.acts_cli.specs.Play.{stream_failed, IsAnswer, PlaysFrom, Ends};
+ghost use Rattle.acts_cli.specs.Play.{IsAnswer, PlaysFrom, Ends};
 
 use crate::answer::{answer_line, answer_to};
 use crate::input::read_input;
