@@ -1,9 +1,7 @@
 -- The fields of a line of a script, parted by one space.
-use Rattle.std.specs.Prelude.{ℕ, ◌+◌, ◌==◌, Bool, List, take, drop, Option, option_map, option_and_then}
+use Rattle.std.specs.Prelude.{ℕ, ◌+◌, List, take, drop, Option, option_map, option_and_then}
 use Rattle.std.specs.List.{position}
-
-abbrev pub is_space : ℕ → Bool
-is_space b = b == 32
+use Rattle.wf_reader.specs.Condition.{is_space}
 
 -- what stands before the first space, and all that follows it
 abbrev pub at_space : List ℕ → Option (List ℕ × List ℕ)

@@ -1,5 +1,6 @@
 ghost use Rattle.std.specs.Prelude.{◌≡◌, position, option_map};
-ghost use Rattle.acts_cli.specs.Fields.{is_space, at_space, three_fields};
+ghost use Rattle.wf_reader.specs.Condition.{is_space};
+ghost use Rattle.acts_cli.specs.Fields.{at_space, three_fields};
 
 fn place_of_space(text: &[u8]) -> Option<usize>
     ensures { result ≡ position is_space text.now }
