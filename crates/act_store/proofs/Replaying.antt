@@ -1,10 +1,10 @@
 -- Records carried out one behind the other.
-use Rattle.std.proofs.Common.{◌≡◌, ℕ, ◌<◌, ◌≤◌, ◌^◌, List, [], ◌∷◌, ◌++◌, length, map, refl, sym, ◌∙◌, ap, subst, append_assoc}
+use Rattle.std.proofs.Common.{◌≡◌, ℕ, ◌<◌, ◌≤◌, List, [], ◌∷◌, ◌++◌, length, map, refl, sym, ◌∙◌, ap, subst, append_assoc}
 use Rattle.std.specs.Prelude.{Some, None}
 use Rattle.std.specs.List.{AllByRecursion}
 use Rattle.gated_journal.specs.Layout.{framed, record_bytes}
 use Rattle.gated_journal.specs.Scanned.{OpensWith, Parts}
-use Rattle.gated_journal.proofs.OneReading.{same_frames}
+use Rattle.gated_journal.proofs.OneReading.{AreShort, same_frames}
 use Rattle.gated_journal.proofs.Parting.{all_parted, parts_more}
 use Rattle.run_plan.specs.declared.command.Command.{Command}
 use Rattle.run_table.specs.Histories.{after}
@@ -19,9 +19,6 @@ use Rattle.act_store.specs.Replayed.{IsCarried, IsReplayed}
 use Rattle.run_table.proofs.LeasesStay.{after_both}
 use Rattle.act_store.proofs.Meanings.{spell_more}
 use Rattle.act_store.proofs.WholeTexts.{none_longer, none_whole, whole}
-
-abbrev AreShort : List (List ℕ) → Type 0
-AreShort bodies = AllByRecursion (λ body. length body < 2 ^ 32) bodies
 
 -- ---- one body
 

@@ -30,7 +30,7 @@ same_frames a b x y fits_a fits_b same =
     let number = same_number_4 (length a) (length b) (a ++ x) (b ++ y) fits_a fits_b apart in
     same_parts a b x y number.0 number.1
 
-abbrev AreShort : List (List ℕ) → Type 0
+abbrev pub AreShort : List (List ℕ) → Type 0
 AreShort bodies = AllByRecursion (λ body. length body < 2 ^ 32) bodies
 
 same_bodies : (one two : List (List ℕ)) (r s : List ℕ) → AreShort one → AreShort two → IsClosed r → IsClosed s
