@@ -11,7 +11,7 @@ use Rattle.needs_graph.specs.Conditions.{results_at}
 use Rattle.workflow_runs.specs.Words.{all_have_results}
 use Rattle.workflow_runs.proofs.LegFacts.{result_kept}
 
-abbrev has_result : List (Option JobResult) → ℕ → Bool
+abbrev pub has_result : List (Option JobResult) → ℕ → Bool
 has_result results j = is_some (slice_index_or results j None)
 
 -- each job that has a result has its needs settled

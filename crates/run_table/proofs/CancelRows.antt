@@ -17,6 +17,8 @@ use Rattle.workflow_runs.specs.declared.phases.LegPhase.TheVariants as leg
 use Rattle.workflow_runs.specs.declared.phases.JobPhase.TheVariants as job
 use Rattle.workflow_runs.specs.declared.phases.RunPhase.{RunPhase}
 use Rattle.workflow_runs.specs.declared.phases.RunPhase.TheVariants as run
+use Rattle.run_table.proofs.StepRows.{open_job}
+use Rattle.run_table.proofs.ViewRows.{claimed, unclaimed}
 
 abbrev run_of : RunPhase → Bool → List JobState → RunState
 run_of phase stopping jobs =
@@ -27,17 +29,8 @@ run_of phase stopping jobs =
       jobs = jobs;
     }
 
-abbrev open_job : List LegState → JobState
-open_job legs = record { phase = job.Open; legs = legs }
-
 abbrev cancelled_job : JobState
 cancelled_job = record { phase = job.Settled result.Cancelled; legs = [] }
-
-abbrev unclaimed : LegPhase → LegState
-unclaimed phase = record { phase = phase; lease = None }
-
-abbrev claimed : LegPhase → LegState
-claimed phase = record { phase = phase; lease = Some 1 }
 
 -- a waiting run ends, all its jobs cancelled, and its flag is not set
 waiting_run_ends : stopped_run (run_of run.Waiting false (blocked_job ∷ blocked_job ∷ []))

@@ -12,6 +12,7 @@ use Rattle.run_table.specs.Histories.{replies}
 use Rattle.workflow_runs.specs.Moves.{Holder, Move}
 use Rattle.run_table.specs.Step.{empty}
 use Rattle.run_table.proofs.GroupRows.{run1, run2, run3}
+use Rattle.run_table.proofs.GroupTableRows.{group}
 use Rattle.run_table.proofs.OnTables.{on_tables}
 
 -- a workflow of the one repository
@@ -52,10 +53,6 @@ pending_run_is_replaced : answers three_deploys
     ∷ codes "run 3 3 queued - go:open(ready)" ∷ []
 unfolding on_tables
 pending_run_is_replaced = refl
-
--- a group of the repository
-abbrev group : List ℕ → Group
-group name = record { repository = codes "o/r"; folded = name }
 
 moves_of_three_deploys : group_moves (group (codes "deploy")) empty three_deploys
     ≡ Move.arrive run1 ∷ Move.start run1 ∷ Move.arrive run2 ∷ Move.arrive run3 ∷ Move.end_with Cancelled run2 ∷ Move.end_with Success run1

@@ -11,12 +11,10 @@ use Rattle.workflow_runs.specs.declared.phases.JobPhase.TheVariants as job
 use Rattle.workflow_runs.specs.declared.phases.RunPhase.{RunPhase}
 use Rattle.workflow_runs.specs.declared.phases.RunPhase.TheVariants as run
 use Rattle.run_table.proofs.OnTables.{on_tables}
+use Rattle.run_table.proofs.StepRows.{run_with}
 
-abbrev run_of : List ℕ → RunPhase → List JobState → RunState
-run_of body phase jobs =
-    record { admitted = record { delivery = codes "d1"; event = codes "push"; body = body }; phase = phase; stopping = false; jobs = jobs }
-
-abbrev group : List ℕ → Group
+-- a group of the repository
+abbrev pub group : List ℕ → Group
 group name = record { repository = codes "o/r"; folded = name }
 
 -- a workflow of the group
@@ -25,7 +23,7 @@ in_group = codes "{\"repo\":\"o/r\",\"path\":\"p\",\"workflow\":{\"concurrency\"
 
 -- an ended run, a live one and a waiting one
 abbrev three_runs : List RunState
-three_runs = run_of in_group run.Ended [] ∷ run_of in_group run.Live [] ∷ run_of in_group run.Waiting [] ∷ []
+three_runs = run_with in_group run.Ended [] ∷ run_with in_group run.Live [] ∷ run_with in_group run.Waiting [] ∷ []
 
 run_in_progress : running_in three_runs (group (codes "g")) ≡ Holder.a_run 1 ∷ []
 unfolding on_tables
@@ -53,7 +51,7 @@ with_job_in_group =
 
 -- a leg that has ended, one that has been told to stop, a waiting one and a new one
 abbrev four_legs : List RunState
-four_legs = run_of with_job_in_group run.Live (record {
+four_legs = run_with with_job_in_group run.Live (record {
   phase = job.Open;
   legs =
       record { phase = leg.Ended outcome.Success; lease = Some 1 } ∷ record { phase = leg.Stopping; lease = Some 2 }

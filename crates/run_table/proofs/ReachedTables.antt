@@ -38,7 +38,7 @@ use Rattle.run_table.proofs.ClaimKeeps.{fitting_leg, had_changes, leasing_keeps,
 use Rattle.run_table.proofs.Entered.{entered_keeps, entered_settles}
 use Rattle.workflow_runs.proofs.Found.{before_the_end}
 use Rattle.run_table.proofs.Kept.{IsKept, kept_from_sound, kept_settles, told_the_same}
-use Rattle.workflow_runs.proofs.JobKeeps.{leg_in}
+use Rattle.workflow_runs.proofs.JobKeeps.{leg_in, with_job_of, with_leg_of}
 use Rattle.workflow_runs.proofs.LeaseReads.{place_or_another}
 use Rattle.workflow_runs.proofs.LegReads.{had_at, had_in, had_in_job, had_from_leg}
 use Rattle.run_table.proofs.ReportKeeps.{loss_keeps, report_keeps}
@@ -71,22 +71,16 @@ mapped_by_change h f same (suc i) (x ∷ xs) (suc k) = mapped_by_change h f same
 
 -- ---- no end and no stop changes a lease or an event
 
-abbrev in_job : ℕ → (LegState → LegState) → JobState → JobState
-in_job l f job = record job { legs = changed_at l f job.legs }
-
-abbrev in_run : ℕ → (JobState → JobState) → RunState → RunState
-in_run j f run = record run { jobs = changed_at j f run.jobs }
-
 job_keeps_leases : (r j : ℕ) (f : JobState → JobState) (q : LegPlace) → ((y : JobState) → had_in_job (f y) q.leg ≡ had_in_job y q.leg)
     → (runs : List RunState) → had_at (with_job r j f runs) q ≡ had_at runs q
 job_keeps_leases r j f q same runs =
-    kept_by_change (λ (x : RunState). had_in x q.job q.leg) (in_run j f)
+    kept_by_change (λ (x : RunState). had_in x q.job q.leg) (with_job_of j f)
     (λ x. kept_by_change (λ (y : JobState). had_in_job y q.leg) f same j x.jobs q.job) r runs q.run
 
 end_keeps_leases : (p : LegPlace) (o : Outcome) (q : LegPlace) (runs : List RunState)
     → had_at (with_leg p (leg_in_phase (leg.Ended o)) runs) q ≡ had_at runs q
 end_keeps_leases p o q runs =
-    job_keeps_leases p.run p.job (in_job p.leg (leg_in_phase (leg.Ended o))) q
+    job_keeps_leases p.run p.job (with_leg_of p.leg (leg_in_phase (leg.Ended o))) q
     (λ y. kept_by_change (λ (z : LegState). z.lease) (leg_in_phase (leg.Ended o)) (λ z. refl) p.leg y.legs q.leg) runs
 
 stop_keeps_leases : (r j : ℕ) (q : LegPlace) (runs : List RunState) → had_at (with_job r j with_stopped_legs runs) q ≡ had_at runs q
@@ -106,11 +100,11 @@ after_end_keeps_events : (p : LegPlace) (o : Outcome) (r : ℕ) (runs : List Run
     → admitted_at (after_end p o runs) r ≡ admitted_at runs r
 after_end_keeps_events p o r runs =
     let ended = with_leg p (leg_in_phase (leg.Ended o)) runs in
-    let one = mapped_by_change (λ (x : RunState). x.admitted) (in_run p.job (in_job p.leg (leg_in_phase (leg.Ended o)))) (λ x. refl)
+    let one = mapped_by_change (λ (x : RunState). x.admitted) (with_job_of p.job (with_leg_of p.leg (leg_in_phase (leg.Ended o)))) (λ x. refl)
     p.run runs r in
     elim (stops_others runs p o) as
     (λ b. admitted_at (if b then with_job p.run p.job with_stopped_legs ended else ended) r ≡ admitted_at runs r) [
-      | true ↦ mapped_by_change (λ (x : RunState). x.admitted) (in_run p.job with_stopped_legs) (λ x. refl) p.run ended r ∙ one
+      | true ↦ mapped_by_change (λ (x : RunState). x.admitted) (with_job_of p.job with_stopped_legs) (λ x. refl) p.run ended r ∙ one
       | false ↦ one
     ]
 
@@ -197,7 +191,7 @@ leasing_reads t claim p s none fit =
       runners =
           with_runner t.runners (claiming_runner claim (Some lease) (given.Lease told));
     }) (reply.Lease told) (leasing_keeps t claim p (kept_from_sound t s) none fit)
-    (λ i a e. mapped_by_change (λ (x : RunState). x.admitted) (in_run p.job (in_job p.leg (λ _. leased_leg lease))) (λ x. refl)
+    (λ i a e. mapped_by_change (λ (x : RunState). x.admitted) (with_job_of p.job (with_leg_of p.leg (λ _. leased_leg lease))) (λ x. refl)
     p.run t.runs i ∙ e)
     (λ q n e. elim (place_or_another q p) [
       | inl same ↦

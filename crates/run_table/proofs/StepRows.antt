@@ -39,14 +39,14 @@ use Rattle.workflow_runs.specs.declared.place.Place.TheVariants.{Opening, Whole}
 use Rattle.run_table.proofs.OnTables.{on_tables}
 
 -- a run of the event with this body
-abbrev run_with : List ℕ → RunPhase → List JobState → RunState
+abbrev pub run_with : List ℕ → RunPhase → List JobState → RunState
 run_with body phase jobs =
     record { admitted = record { delivery = codes "d1"; event = codes "push"; body = body }; phase = phase; stopping = false; jobs = jobs }
 
 abbrev run_of : RunPhase → List JobState → RunState
 run_of phase jobs = run_with [] phase jobs
 
-abbrev open_job : List LegState → JobState
+abbrev pub open_job : List LegState → JobState
 open_job legs = record { phase = job.Open; legs = legs }
 
 -- a live run of one open job with these legs

@@ -23,6 +23,7 @@ use Rattle.workflow_runs.specs.declared.phases.JobPhase.{JobPhase}
 use Rattle.workflow_runs.specs.declared.phases.RunPhase.{RunPhase}
 use Rattle.workflow_runs.specs.declared.phases.RunPhase.TheVariants as run
 use Rattle.workflow_runs.proofs.Changed.{at_changed, holds_of_each}
+use Rattle.run_table.proofs.AncestorsSettled.{has_result}
 use Rattle.run_table.proofs.Decided.{JobDecided, Decided, decided_stays}
 use Rattle.workflow_runs.proofs.JobKeeps.{job_in}
 use Rattle.workflow_runs.proofs.NeedsSettled.{needs_by_run}
@@ -31,9 +32,6 @@ use Rattle.workflow_runs.proofs.RunFits.{RunsFit, job_in_run}
 use Rattle.workflow_runs.proofs.StopKeeps.{get_placed, stopped_run_settles}
 
 -- ---- the needs of a plan are jobs of it
-
-abbrev has_result : List (Option JobResult) → ℕ → Bool
-has_result results k = is_some (slice_index_or results k None)
 
 places_have : {X : Type 0} (test : X → Bool) (results : List (Option JobResult)) (xs : List X) (a : ℕ)
     → ((k : ℕ) → k < length xs → has_result results (a + k) ≡ true)

@@ -35,10 +35,10 @@ planned id = record {
 abbrev job : JobPhase → List LegState → JobState
 job s legs = record { phase = s; legs = legs }
 
-abbrev unclaimed : LegPhase → LegState
+abbrev pub unclaimed : LegPhase → LegState
 unclaimed p = record { phase = p; lease = None }
 
-abbrev claimed : LegPhase → LegState
+abbrev pub claimed : LegPhase → LegState
 claimed p = record { phase = p; lease = Some 1 }
 
 abbrev build : List PlannedJob

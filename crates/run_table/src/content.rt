@@ -247,8 +247,7 @@ impl Content {
         let (runner, told, copy) = told_twice(alloc, claim, &self.runs, place, lease)?;
         self.runners.put(runner)?;
         self.last_lease = lease.get();
-        self.runs
-            .set_leg(place.run, place.job, place.leg, Leg::leased(lease));
+        self.runs.set_leg(place, Leg::leased(lease));
         self.runs.settle();
         Ok((Reply::Lease(told), Reply::Lease(copy)))
     }

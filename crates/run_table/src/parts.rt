@@ -1,6 +1,11 @@
 //! A table in parts, as it is stored: what follows from the rest, as a run's number, a leg's labels and what a kept lease says
 //! beside its number, is not in them.
 
+ghost use Rattle.std.specs.Cmp.Lexicographic.{slice_cmp};
+ghost use Rattle.std.specs.Ordering.{is_lt, nat_cmp};
+ghost use Rattle.std.specs.Prelude.{◌≡◌};
+ghost use Rattle.wf_value.specs.Names.{rises_by};
+
 use run_plan::{Claim, Done, Number, RunnerName};
 use std::marker::Model;
 use wf_value::Sequence;
@@ -49,4 +54,17 @@ impl Model for Parts {
     ghost Value = { StoredTable };
 
     ghost view = { λ t. record { last_lease = t.last_lease; runs = t.runs; runners = t.runners } };
+}
+
+fn is_below(runner: &RunnerParts, next: &RunnerParts) -> bool
+    ensures { result ≡ is_lt (slice_cmp nat_cmp runner.now.name next.now.name) }
+{
+    runner.name.as_str() < next.name.as_str()
+}
+
+/// Whether each name is below the next one, by bytes.
+pub fn do_names_rise(runners: &[RunnerParts]) -> bool
+    ensures { result ≡ rises_by (λ r. r.name) runners.now }
+{
+    runners.is_sorted_by(|runner, next| is_below(runner, next))
 }

@@ -103,9 +103,7 @@ impl Table {
     {
         self.content.runners()
     }
-}
 
-impl Table {
     /// The table that is stored as these parts, or `None` where they are those of no table. It takes the parts' size in memory; the
     /// error is 50 alone.
     pub fn of(alloc: Global, parts: &Parts) -> Result<Option<Self>, Refusal>

@@ -1,8 +1,5 @@
 //! The runners of a table at the front of bytes.
 
-ghost use Rattle.std.specs.Prelude.{◌≡◌};
-ghost use Rattle.std.specs.Cmp.Lexicographic.{slice_cmp};
-ghost use Rattle.std.specs.Ordering.{is_lt, nat_cmp};
 ghost use Rattle.table_text.specs.Reading.{Finds, kept};
 ghost use Rattle.table_text.specs.ReadingTables.{claim_with, kept_at, last_at, last_with, report_with, runner_at, runners_at};
 ghost use Rattle.table_text.specs.Tables.{names_rise};
@@ -14,7 +11,7 @@ use crate::kept::{Kept, kept_of};
 use crate::list_at::{ReadAt, list_at};
 use crate::not_read::NotRead;
 use run_plan::{Claim, Command, Done, Number, RunnerForm};
-use run_table::{LastParts, RunnerParts};
+use run_table::{LastParts, RunnerParts, do_names_rise};
 use std::alloc::Global;
 
 /// A claim with what is kept of its reply.
@@ -94,24 +91,11 @@ impl ReadAt for RunnerParts {
     }
 }
 
-fn is_below(runner: &RunnerParts, next: &RunnerParts) -> bool
-    ensures { result ≡ is_lt (slice_cmp nat_cmp runner.now.name next.now.name) }
-{
-    runner.name.as_str() < next.name.as_str()
-}
-
-/// Whether each name is below the next one, by bytes.
-fn names_rise(runners: &[RunnerParts]) -> bool
-    ensures { result ≡ names_rise runners.now }
-{
-    runners.is_sorted_by(|runner, next| is_below(runner, next))
-}
-
 /// The runners, where they stand in the order of their names.
 fn rising(runners: Vec<RunnerParts>) -> Result<Vec<RunnerParts>, NotRead>
     ensures { Finds (λ r. r.items) result (kept names_rise runners.items) }
 {
-    if names_rise(&runners) {
+    if do_names_rise(&runners) {
         return Ok(runners);
     }
     Err(NotRead::NoSpelling)

@@ -1,5 +1,5 @@
 -- The group of a run or of a leg, from what is told of it.
-use Rattle.std.specs.Prelude.{◌≡◌, ℕ, ◌+◌, ◌≤◌, List, length, nat_lt, false, Option, Some, None, Result, Ok, option_map}
+use Rattle.std.specs.Prelude.{◌≡◌, ℕ, ◌+◌, ◌≤◌, List, length, nat_lt, false, Option, Some, None, option_map}
 use Rattle.std.specs.Prelude.{option_and_then, slice_get, refl}
 use Rattle.std.specs.Fmt.{decimal}
 use Rattle.std.specs.Option.{option_map_or}
@@ -8,7 +8,6 @@ use Rattle.std.proofs.lemmas.Bool.{ltb-false}
 use Rattle.std.proofs.lemmas.Option.{same_Some, slice_get-map, slice_get_past}
 use Rattle.wf_reader.specs.Event.{event_of}
 use Rattle.wf_reader.specs.declared.concurrency.Concurrency.{Concurrency}
-use Rattle.wf_value.specs.declared.refusal.Refusal.{Refusal}
 use Rattle.run_plan.specs.Admitted.{Admitted}
 use Rattle.run_plan.specs.PlanOf.{plan_of}
 use Rattle.run_plan.specs.declared.planned.PlannedJob.{PlannedJob}
@@ -19,12 +18,6 @@ use Rattle.workflow_runs.specs.Places.{LegPlace, plan_at, run_at}
 use Rattle.workflow_runs.specs.RunNumber.{events, run_number}
 use Rattle.workflow_runs.specs.RunState.{RunState}
 use Rattle.workflow_runs.proofs.BoundSays.{job_untold, leg_facts_of, leg_told, leg_untold, run_told}
-
-abbrev gives : {X : Type 0} → X → Result X Refusal
-gives x = Ok x
-
-pub ok_same : {X : Type 0} (x y : X) → gives x ≡ gives y → x ≡ y
-ok_same x y e = cc
 
 -- ---- the name that is asked
 

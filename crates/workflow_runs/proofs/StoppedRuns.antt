@@ -46,11 +46,6 @@ upto_same f h same n (suc k) [] = refl
 upto_same f h same n (suc k) (x ∷ xs) =
     ap (λ y. y ∷ map h (upto f (n + 1) k xs)) (same n x) ∙ ap (λ ys. h x ∷ ys) (upto_same f h same (n + 1) k xs)
 
-pub length-upto : {X : Type 0} (f : ℕ × X → X) (n k : ℕ) (xs : List X) → length (upto f n k xs) ≡ length xs
-length-upto f n zero xs = refl
-length-upto f n (suc k) [] = refl
-length-upto f n (suc k) (x ∷ xs) = ap suc (length-upto f (n + 1) k xs)
-
 -- ---- the jobs of a run that is told to stop
 
 abbrev pub job_stopped : RunState → ℕ × JobState → JobState

@@ -60,24 +60,11 @@ impl Leg {
         }
     }
 
-    /// The leg, ended.
-    pub(crate) fn ended(&self, outcome: Outcome) -> Leg
-        ensures { result ≡ leg_in_phase (LegPhase.Ended outcome) self.now }
-    {
-        Leg {
-            phase: LegPhase::Ended(outcome),
-            lease: self.lease,
-        }
-    }
-
     /// The leg, stopped.
     pub(crate) fn stopped(&self) -> Leg
         ensures { result ≡ stopped self.now }
     {
-        Leg {
-            phase: self.phase.stopped(),
-            lease: self.lease,
-        }
+        self.in_phase(self.phase.stopped())
     }
 
     pub(crate) fn has_ended(&self) -> bool

@@ -1,20 +1,18 @@
 //! The runners of their parts.
 
 ghost use Rattle.std.specs.BTreeMap.{get};
-ghost use Rattle.std.specs.Cmp.Lexicographic.{slice_cmp};
-ghost use Rattle.std.specs.Ordering.{is_lt, nat_cmp};
+ghost use Rattle.std.specs.Ordering.{nat_cmp};
 ghost use Rattle.std.specs.Prelude.{◌≡◌, IfOk, List, MatchOption, true};
 ghost use Rattle.workflow_runs.specs.BoundGroups.{ErrsOnlyByMemory};
 ghost use Rattle.run_table.specs.ByLease.{FindsLegs};
 ghost use Rattle.run_table.specs.TableOf.{AreRunnersAs, IsLastAs, IsReplyAs, IsRunnerAs};
 ghost use Rattle.run_table.specs.TableState.{RunnerState};
 ghost use Rattle.run_table.specs.Turns.{names_rise};
-ghost use Rattle.wf_value.specs.Names.{rises_by};
 ghost use Rattle.run_plan.specs.declared.last_command.ClaimReply.{ClaimReply as Reply};
 ghost use Rattle.run_plan.specs.declared.last_command.LastCommand.{LastCommand as Last};
 
 use crate::content::lease_at;
-use crate::parts::{LastParts, RunnerParts};
+use crate::parts::{LastParts, RunnerParts, do_names_rise};
 use crate::runner::Runner;
 use crate::runners::Runners;
 use run_plan::{ClaimReply, LastCommand, Number};
@@ -127,17 +125,4 @@ impl<'a> Leased<'a> {
         }
         Ok(Some(runners))
     }
-}
-
-fn is_below(runner: &RunnerParts, next: &RunnerParts) -> bool
-    ensures { result ≡ is_lt (slice_cmp nat_cmp runner.now.name next.now.name) }
-{
-    runner.name.as_str() < next.name.as_str()
-}
-
-/// Whether each name is below the next one, by bytes.
-fn do_names_rise(runners: &[RunnerParts]) -> bool
-    ensures { result ≡ rises_by (λ r. r.name) runners.now }
-{
-    runners.is_sorted_by(|runner, next| is_below(runner, next))
 }

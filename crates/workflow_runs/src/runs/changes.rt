@@ -3,13 +3,13 @@
 
 ghost use Rattle.std.specs.Prelude.{◌≡◌};
 ghost use Rattle.workflow_runs.specs.Places.{with_job, with_leg, with_run};
-ghost use Rattle.workflow_runs.specs.Rules.{opened, run_in_phase, settled_as};
+ghost use Rattle.workflow_runs.specs.Rules.{opened, run_in_phase, settled_as, with_leg_in};
 ghost use Rattle.workflow_runs.specs.Stops.{stopped_run, with_stopped_legs};
-ghost use Rattle.workflow_runs.specs.WithinRun.{leg_place};
 ghost use Rattle.workflow_runs.specs.Words.{planned_legs};
 
 use crate::leg::Leg;
-use crate::phases::RunPhase;
+use crate::phases::{LegPhase, RunPhase};
+use crate::place::LegPlace;
 use crate::runs::Runs;
 use wf_value::JobResult;
 
@@ -63,12 +63,22 @@ impl Runs {
     }
 
     /// Puts the leg in the place of the one that is there, if one is.
-    pub fn set_leg(&mut self, r: usize, j: usize, l: usize, leg: Leg)
-        ensures { self.new ≡ with_leg (leg_place r j l) (λ _. leg) self.old }
+    pub fn set_leg(&mut self, place: LegPlace, leg: Leg)
+        ensures { self.new ≡ with_leg place (λ _. leg) self.old }
     {
-        if r < self.runs.len() {
-            let run = &mut self.runs[r];
-            run.set_leg(j, l, leg);
+        if place.run < self.runs.len() {
+            let run = &mut self.runs[place.run];
+            run.set_leg(place.job, place.leg, leg);
+        }
+    }
+
+    /// The leg changes to the phase, if there is one at the place.
+    pub(crate) fn set_leg_phase(&mut self, place: LegPlace, phase: LegPhase)
+        ensures { self.new ≡ with_leg_in phase place self.old }
+    {
+        if let Some(leg) = self.leg(place) {
+            let leg = leg.in_phase(phase);
+            self.set_leg(place, leg);
         }
     }
 }

@@ -10,7 +10,7 @@ ghost use Rattle.workflow_runs.specs.RunNumber.{same_workflow};
 use run_plan::Prepared;
 use std::alloc::Global;
 use std::collections::BTreeMap;
-use wf_value::Refusal;
+use wf_value::{Chars, Refusal};
 
 /// A workflow: its repository, and its path within it.
 pub type Workflow = (String, String);
@@ -111,7 +111,5 @@ pub(crate) fn workflow_of(alloc: Global, prepared: &Prepared) -> Result<Workflow
 pub(crate) fn text_of(alloc: Global, text: &str) -> Result<String, Refusal>
     ensures { Gives string_bytes result (Ok text.now) }
 {
-    let mut copy = String::with_capacity(alloc, text.len())?;
-    copy.push_str(text)?;
-    Ok(copy)
+    Ok(Chars::from_str(alloc, text)?.into_string())
 }

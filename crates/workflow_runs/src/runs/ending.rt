@@ -1,8 +1,6 @@
 //! The end of a leg.
 
 ghost use Rattle.std.specs.Prelude.{◌≡◌, ◌<◌, ◌^◌};
-ghost use Rattle.workflow_runs.specs.Places.{with_leg};
-ghost use Rattle.workflow_runs.specs.Rules.{leg_in_phase};
 ghost use Rattle.workflow_runs.specs.StopMoves.{with_ended};
 ghost use Rattle.workflow_runs.specs.Stops.{after_end, fails_fast, stops_others};
 
@@ -49,22 +47,9 @@ impl Runs {
         ensures { self.new ≡ after_end place outcome self.old }
     {
         let stops_others = self.stops_others(place, outcome);
-        self.end_leg(place, outcome);
+        self.set_leg_phase(place, LegPhase::Ended(outcome));
         if stops_others {
             self.stop_legs(place.run, place.job);
-        }
-    }
-
-    /// The leg ends, if there is one at the place.
-    pub(crate) fn end_leg(&mut self, place: LegPlace, outcome: Outcome)
-        ensures { self.new ≡ with_leg place (leg_in_phase (LegPhase.Ended outcome)) self.old }
-    {
-        match self.leg(place) {
-            Some(leg) => {
-                let leg = leg.ended(outcome);
-                self.set_leg(place.run, place.job, place.leg, leg);
-            }
-            None => {}
         }
     }
 }

@@ -269,7 +269,7 @@ impl Runs {
     {
         if let Some(leg) = self.leg(place) {
             let leg = leg.stopped();
-            self.set_leg(place.run, place.job, place.leg, leg);
+            self.set_leg(place, leg);
         }
     }
 }

@@ -10,7 +10,6 @@ ghost use Rattle.workflow_runs.specs.LookAgain.{RestBefore, at_job_again, frees,
 ghost use Rattle.workflow_runs.specs.Groups.{HasOneEach};
 ghost use Rattle.workflow_runs.specs.Places.{job_at, leg_at, run_at, with_job};
 ghost use Rattle.workflow_runs.specs.Rules.{closing_rule, decided, leg_end, leg_rule, may_run, newcomer_rule, rule_at, whole_rule};
-ghost use Rattle.workflow_runs.specs.Rules.{with_leg_in};
 ghost use Rattle.workflow_runs.specs.Settling.{first_rule, settled};
 ghost use Rattle.workflow_runs.specs.SoundRuns.{RunsAreSound};
 ghost use Rattle.workflow_runs.specs.StateWords.{outcome_of};
@@ -191,18 +190,6 @@ impl Runs {
         ensures { result ≡ option_map (λ leg. leg.phase) (leg_at self.now place) }
     {
         Some(self.leg(place)?.phase)
-    }
-
-    fn set_leg_phase(&mut self, place: LegPlace, phase: LegPhase)
-        ensures { self.new ≡ with_leg_in phase place self.old }
-    {
-        match self.leg(place) {
-            Some(leg) => {
-                let leg = leg.in_phase(phase);
-                self.set_leg(place.run, place.job, place.leg, leg);
-            }
-            None => {}
-        }
     }
 
     /// The leg arrives in its group and waits. One whose group is its own run's is cancelled instead.

@@ -16,7 +16,6 @@ moved : (c : After-set_leg)
     → c.set_leg.new.self ≡ with_leg c.args.place (λ _. leased_leg c.new-lease.result) c.self.inside.runs
 moved c =
     c.set_leg.ensures
-    ∙ ap (λ p. with_leg p (λ _. c.leased.result) c.self.inside.runs) c.place.view_is
     ∙ ap (λ x. with_leg c.args.place (λ _. x) c.self.inside.runs) c.leased.ensures
 
 pub returns-clause-step : goal.returns-clause-step

@@ -7,9 +7,8 @@ use Rattle.workflow_runs.proofs.runs.Runs.set_leg_phase.Goals as goal
 pub returns-in-Some : goal.returns-in-Some
 returns-in-Some c =
     c.set_leg.ensures
-    ∙ ap (λ p. with_leg p (λ _. c.in_phase-leg.result) c.args.self.now) c.place.view_is
     ∙ ap (λ x. with_leg c.args.place (λ _. x) c.args.self.now) c.in_phase-leg.ensures
     ∙ with_leg_read c.args.self.now c.args.place c.in-Some.leg.now (leg_in_phase c.args.phase) (sym c.in-Some.ensures)
 
-pub returns-in-None : goal.returns-in-None
-returns-in-None c = with_leg_none c.args.self.now c.args.place (leg_in_phase c.args.phase) (sym c.in-None.ensures)
+pub returns-in_default : goal.returns-in_default
+returns-in_default c = with_leg_none c.args.self.now c.args.place (leg_in_phase c.args.phase) (sym c.in_default.ensures)

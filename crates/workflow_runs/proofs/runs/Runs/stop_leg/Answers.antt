@@ -7,7 +7,6 @@ use Rattle.workflow_runs.proofs.runs.Runs.stop_leg.Goals as goal
 pub returns-in-Some : goal.returns-in-Some
 returns-in-Some c =
     c.set_leg.ensures
-    ∙ ap (λ p. with_leg p (λ _. c.stopped-leg.result) c.args.self.now) c.place.view_is
     ∙ ap (λ x. with_leg c.args.place (λ _. x) c.args.self.now) c.stopped-leg.ensures
     ∙ with_leg_read c.args.self.now c.args.place c.in-Some.leg.now stopped (sym c.in-Some.ensures)
 

@@ -1,7 +1,7 @@
 use Rattle.std.proofs.Common.{◌≡◌, ◌∙◌, Some, None, rules}
 use Rattle.run_table.specs.GroupSets.{group_as}
 use Rattle.workflow_runs.specs.Holders.{holder_in_words}
-use Rattle.workflow_runs.proofs.GroupKeys.{ok_same}
+use Rattle.wf_value.proofs.PassedOn.{same_Ok}
 use Rattle.run_table.proofs.GroupsGathered.{group_put, none_has}
 use Rattle.run_table.proofs.sound.groups.Gathering.put.Goals as goal
 
@@ -10,7 +10,7 @@ returns-in-Some-clause-put c =
     let group_of = group_as c.args.self.now.runs.now c.args.self.now.standing in
     let h = holder_in_words c.args.holder.now in
     let is : c.in_ok-group.field-0 ≡ Some c.in-Some.group = search rules in
-    let has : group_of h ≡ Some c.in-Some.group = ok_same (group_of h) c.in_ok-group.field-0 c.in_ok-group.ensures ∙ is in
+    let has : group_of h ≡ Some c.in-Some.group = same_Ok (group_of h) c.in_ok-group.field-0 c.in_ok-group.ensures ∙ is in
     group_put group_of h c.in-Some.group c.args.groups.now c.add.new.self c.add.result has c.add.ensures.new c.add.ensures.added
 
 pub returns-in-None-clause-put : goal.returns-in-None-clause-put
@@ -18,4 +18,4 @@ returns-in-None-clause-put c =
     let group_of = group_as c.args.self.now.runs.now c.args.self.now.standing in
     let h = holder_in_words c.args.holder.now in
     let is : c.in_ok-group.field-0 ≡ None = search rules in
-    none_has group_of h c.args.groups.now (ok_same (group_of h) c.in_ok-group.field-0 c.in_ok-group.ensures ∙ is)
+    none_has group_of h c.args.groups.now (same_Ok (group_of h) c.in_ok-group.field-0 c.in_ok-group.ensures ∙ is)

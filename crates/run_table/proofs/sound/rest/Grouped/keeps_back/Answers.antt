@@ -1,7 +1,7 @@
 use Rattle.std.proofs.Common.{◌≡◌, ◌∙◌, Some, None, rules}
 use Rattle.workflow_runs.specs.GroupOf.{group_at}
 use Rattle.workflow_runs.specs.Holders.{holder_in_words}
-use Rattle.workflow_runs.proofs.GroupKeys.{ok_same}
+use Rattle.wf_value.proofs.PassedOn.{same_Ok}
 use Rattle.run_table.proofs.RestTested.{kept_back, not_kept_back}
 use Rattle.run_table.proofs.sound.rest.Grouped.keeps_back.Goals as goal
 
@@ -12,11 +12,11 @@ returns-in-Some-clause-back c =
     let is : c.in_ok-group.field-0 ≡ Some c.in-Some.group = search rules in
     c.has.ensures.has
     ∙ kept_back s.runs.now s.taken.now h c.in-Some.group c.requires
-    (ok_same (group_at s.runs.now h) c.in_ok-group.field-0 c.in_ok-group.ensures ∙ is)
+    (same_Ok (group_at s.runs.now h) c.in_ok-group.field-0 c.in_ok-group.ensures ∙ is)
 
 pub returns-in-None-clause-back : goal.returns-in-None-clause-back
 returns-in-None-clause-back c =
     let s = c.args.self.now in
     let h = holder_in_words c.args.holder.now in
     let is : c.in_ok-group.field-0 ≡ None = search rules in
-    not_kept_back s.runs.now h (ok_same (group_at s.runs.now h) c.in_ok-group.field-0 c.in_ok-group.ensures ∙ is)
+    not_kept_back s.runs.now h (same_Ok (group_at s.runs.now h) c.in_ok-group.field-0 c.in_ok-group.ensures ∙ is)

@@ -2,7 +2,7 @@ use Rattle.std.proofs.Common.{rules}
 use Rattle.std.proofs.lemmas.Fn.{always_returns_same}
 use Rattle.wf_value.proofs.Rising.{below, rise_told}
 use Rattle.run_table.specs.Stored.{StoredRunner}
-use Rattle.table_text.proofs.runners_at.names_rise.Goals as goal
+use Rattle.run_table.proofs.parts.do_names_rise.Goals as goal
 
 pub returns : goal.returns
 returns c =
