@@ -144,9 +144,7 @@ impl Book {
             .iter()
             .any(|h| h.is_in(group) && h.is_of(holder))
     }
-}
 
-impl Book {
     /// A newcomer arrives in a group: it takes the place of the pending holder, and with cancel-in-progress
     /// the running one is told to stop. On an `Err`, which is 50, nobody has arrived.
     pub fn arrive(

@@ -16,6 +16,7 @@ mod planning;
 mod prepared;
 mod reply;
 mod small_text;
+mod utf8;
 
 pub use boxed_lease::BoxedLease;
 pub use checking::check_plan;

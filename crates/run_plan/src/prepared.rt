@@ -1,5 +1,5 @@
 ghost use Rattle.std.specs.Prelude.{◌≡◌, ◌<◌, ◌≤◌, [], Err, IfOk, Ok, false, length, option_copied};
-ghost use Rattle.std.specs.Str.{IsUtf8, is_utf8};
+ghost use Rattle.std.specs.Str.{is_utf8};
 ghost use Rattle.wf_value.specs.declared.code.Code.TheVariants.{NotJson, TooLong};
 ghost use Rattle.wf_value.specs.declared.refusal.Refusal.TheVariants.{Numbered};
 ghost use Rattle.wf_value.specs.Gives.{Gives};
@@ -11,6 +11,7 @@ ghost use Rattle.run_plan.specs.PlanOf.{faults_of, plan_of};
 use crate::planned::Plan;
 use crate::planning::plan_jobs;
 use crate::small_text::{DeliveryId, EventName};
+use crate::utf8::text_of;
 use std::alloc::Global;
 use std::marker::Model;
 use std::sync::Arc;
@@ -220,15 +221,4 @@ pub fn prepare(
     Ok(Prepared {
         admission: Arc::new(alloc, admission)?,
     })
-}
-
-/// The text of bytes that are known to be one.
-fn text_of(bytes: &[u8]) -> &str
-    requires { IsUtf8 bytes.now }
-    ensures { result.now ≡ bytes.now }
-{
-    match str::from_utf8(bytes) {
-        Ok(text) => text,
-        Err(_) => unreachable!(),
-    }
 }

@@ -1,10 +1,10 @@
 ghost use Rattle.std.specs.Prelude.{◌≡◌, false, IsTrue, Ok, None};
 ghost use Rattle.std.specs.List.{list_all};
-ghost use Rattle.std.specs.Str.{IsUtf8};
 ghost use Rattle.wf_value.specs.Gives.{Gives};
 ghost use Rattle.run_plan.specs.SmallText.{is_of_short_length, is_short, short_text_of};
 
 use crate::form::{DeliveryForm, EventForm, Form, LabelForm, RunnerForm};
+use crate::utf8::text_of;
 use std::alloc::Global;
 use std::marker::{Model, PhantomData};
 use wf_value::{Chars, Refusal, Same, TryCopy};
@@ -70,7 +70,7 @@ impl<F: Form> SmallText<F> {
         ensures { Gives (λ t. t) result (Ok text.now) }
     {
         Ok(SmallText {
-            text: text_of_utf8(alloc, text)?,
+            text: Chars::from_str(alloc, text_of(text))?,
             form: PhantomData,
         })
     }
@@ -108,15 +108,4 @@ fn are_allowed<F: Form>(text: &[u8]) -> bool
     ensures { result ≡ list_all F.allows text.now }
 {
     text.iter().all(|byte| F::allows(*byte))
-}
-
-/// A copy of bytes that are known to be UTF-8.
-fn text_of_utf8(alloc: Global, text: &[u8]) -> Result<Chars, Refusal>
-    requires { IsUtf8 text.now }
-    ensures { Gives (λ t. t) result (Ok text.now) }
-{
-    match str::from_utf8(text) {
-        Ok(text) => Chars::from_str(alloc, text),
-        Err(_) => unreachable!(),
-    }
 }

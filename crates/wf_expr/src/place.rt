@@ -1,5 +1,5 @@
 /// Where a template stands.
-#[derive(Clone, Copy, PartialEq, Eq)]
+#[derive(Clone, Copy)]
 pub enum Place {
     /// The `concurrency` of the workflow, which may use the contexts `github`, `inputs` and `vars`.
     Workflow,

@@ -2,13 +2,9 @@
 -- GitHub Docs, "Workflow syntax for GitHub Actions": jobs.<job_id>.if; "Evaluate expressions in workflows and actions": Status
 -- check functions. That spaces are U+0020 alone, and free nowhere else, is own.
 use Rattle.std.specs.Prelude.{◌≡◌, ◌⊎◌, ℕ, List, ◌++◌, codes, Some}
-use Rattle.std.specs.List.{AllByRecursion}
 use Rattle.wf_value.specs.declared.condition.Condition.{Condition}
+use Rattle.wf_expr.specs.Grammar.{AreSpaces}
 use Rattle.wf_reader.specs.Condition.{condition_of_word}
-
--- any number of U+0020
-abbrev pub AreSpaces : List ℕ → Type 0
-AreSpaces = AllByRecursion (λ b. b ≡ 32)
 
 -- a text with spaces around it
 pub record IsSpaced (text inner : List ℕ) : Type 0 where

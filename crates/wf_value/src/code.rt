@@ -2,7 +2,7 @@ ghost use Rattle.std.specs.Prelude.{◌≡◌};
 
 /// Why a call was refused, where the number says it all. Cycles of needs (14) and numbers out of turn
 /// (43) carry a value, and so are refusals of their own.
-#[derive(Clone, Copy, PartialEq, Eq)]
+#[derive(Clone, Copy)]
 pub enum Code {
     /// 10: the text is not JSON, or not UTF-8.
     NotJson,
