@@ -1,5 +1,5 @@
 -- What cancel, lost and fetch make of tables that are written out, by computation.
-use Rattle.std.specs.Prelude.{◌≡◌, List, [], ◌∷◌, Bool, Some, None, true, false, codes, refl}
+use Rattle.std.specs.Prelude.{◌≡◌, List, [], ◌∷◌, Bool, None, true, false, codes, refl}
 use Rattle.wf_value.specs.declared.code.Code.TheVariants.{LeaseNotHeld, NoRun, NoRunner, RunCompleted}
 use Rattle.wf_value.specs.declared.outcome.JobResult.TheVariants as result
 use Rattle.wf_value.specs.declared.outcome.Outcome.TheVariants as outcome
@@ -11,8 +11,7 @@ use Rattle.run_table.specs.Step.{step, empty, claiming_runner, refused}
 use Rattle.workflow_runs.specs.NewRun.{blocked_job}
 use Rattle.workflow_runs.specs.Stops.{outcome_of_loss, stopped_run, stopped_where}
 use Rattle.run_table.specs.TableState.{RunnerState, TableState}
-use Rattle.workflow_runs.specs.RunState.{LegState, JobState, RunState}
-use Rattle.workflow_runs.specs.declared.phases.LegPhase.{LegPhase}
+use Rattle.workflow_runs.specs.RunState.{JobState, RunState}
 use Rattle.workflow_runs.specs.declared.phases.LegPhase.TheVariants as leg
 use Rattle.workflow_runs.specs.declared.phases.JobPhase.TheVariants as job
 use Rattle.workflow_runs.specs.declared.phases.RunPhase.{RunPhase}

@@ -1,14 +1,13 @@
 -- The holders of a group in tables written out, by computation.
-use Rattle.std.specs.Prelude.{◌≡◌, ℕ, List, [], ◌∷◌, ◌++◌, codes, true, false, Some, None, refl}
+use Rattle.std.specs.Prelude.{◌≡◌, ℕ, List, [], ◌∷◌, ◌++◌, codes, true, Some, None, refl}
 use Rattle.wf_value.specs.declared.outcome.Outcome.TheVariants as outcome
 use Rattle.group_name.specs.Group.{Group}
 use Rattle.run_table.specs.GroupChanges.{base_moves}
 use Rattle.workflow_runs.specs.Groups.{group_state, holders_in, pending_in, running_in}
 use Rattle.workflow_runs.specs.Moves.{Holder, Move}
-use Rattle.workflow_runs.specs.RunState.{JobState, RunState}
+use Rattle.workflow_runs.specs.RunState.{RunState}
 use Rattle.workflow_runs.specs.declared.phases.LegPhase.TheVariants as leg
 use Rattle.workflow_runs.specs.declared.phases.JobPhase.TheVariants as job
-use Rattle.workflow_runs.specs.declared.phases.RunPhase.{RunPhase}
 use Rattle.workflow_runs.specs.declared.phases.RunPhase.TheVariants as run
 use Rattle.run_table.proofs.OnTables.{on_tables}
 use Rattle.run_table.proofs.StepRows.{run_with}

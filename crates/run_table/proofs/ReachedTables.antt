@@ -100,8 +100,8 @@ after_end_keeps_events : (p : LegPlace) (o : Outcome) (r : ℕ) (runs : List Run
     → admitted_at (after_end p o runs) r ≡ admitted_at runs r
 after_end_keeps_events p o r runs =
     let ended = with_leg p (leg_in_phase (leg.Ended o)) runs in
-    let one = mapped_by_change (λ (x : RunState). x.admitted) (with_job_of p.job (with_leg_of p.leg (leg_in_phase (leg.Ended o)))) (λ x. refl)
-    p.run runs r in
+    let change = with_job_of p.job (with_leg_of p.leg (leg_in_phase (leg.Ended o))) in
+    let one = mapped_by_change (λ (x : RunState). x.admitted) change (λ x. refl) p.run runs r in
     elim (stops_others runs p o) as
     (λ b. admitted_at (if b then with_job p.run p.job with_stopped_legs ended else ended) r ≡ admitted_at runs r) [
       | true ↦ mapped_by_change (λ (x : RunState). x.admitted) (with_job_of p.job with_stopped_legs) (λ x. refl) p.run ended r ∙ one

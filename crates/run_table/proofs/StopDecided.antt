@@ -1,6 +1,6 @@
 -- The stop of a run keeps what was decided of jobs: once all jobs of a run have settled, so have their needs.
-use Rattle.std.specs.Prelude.{◌≡◌, ℕ, zero, suc, ◌+◌, ◌<◌, ◌&&◌, List, [], ◌∷◌, map, filter, length, not, Bool, true, false, is_some}
-use Rattle.std.specs.Prelude.{Option, Some, None, option_map, slice_get, if◌then◌else◌, refl}
+use Rattle.std.specs.Prelude.{◌≡◌, ℕ, zero, suc, ◌+◌, ◌<◌, ◌&&◌, List, [], ◌∷◌, map, filter, length, not, Bool, true, false}
+use Rattle.std.specs.Prelude.{Option, Some, option_map, slice_get, if◌then◌else◌, refl}
 use Rattle.std.specs.List.{enumerate_from, slice_index_or}
 use Rattle.std.proofs.Common.{arith, ap, sym, ◌∙◌, subst}
 use Rattle.std.proofs.lemmas.List.{length-map}
