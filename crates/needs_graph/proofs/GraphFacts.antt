@@ -8,6 +8,7 @@ use Rattle.std.proofs.lemmas.List.FromFn.{length-enumerate_from, get_or-enumerat
 use Rattle.std.proofs.lemmas.List.FromFn.{get_or-map-range_with_len}
 use Rattle.wf_value.specs.declared.refusal.Refusal.{Refusal}
 use Rattle.wf_value.specs.declared.refusal.Refusal.TheVariants.{Cycle}
+use Rattle.wf_value.proofs.PassedOn.{same_Ok}
 use Rattle.needs_graph.specs.Ancestors.{HasWalk, is_ancestor, IsClosed, IsGraph}
 use Rattle.needs_graph.specs.Marks.{is_marked, marked, places, closed}
 use Rattle.needs_graph.specs.Needs.{is_listed, is_job, needs_of, own_ancestors, unless_cycle, unknown_need, graph_of}
@@ -15,6 +16,7 @@ use Rattle.needs_graph.specs.Rows.{needs_row, needs_rows, needs_rows_of, own_ids
 use Rattle.needs_graph.specs.JobNeeds.{JobNeeds}
 use Rattle.needs_graph.proofs.Closure.{bit, length-closed}
 use Rattle.needs_graph.proofs.Reach.{needs_by, IsSquare, needs_by-IsClosed, is_ancestor-is_closed, past_is_none, sets_reach, dependents-by}
+use Rattle.needs_graph.proofs.RowSteps.{blank}
 use Rattle.needs_graph.proofs.Walks.{walk_from_is_ancestor, is_ancestor-from_walk}
 
 -- ---- the rows say the needs
@@ -45,9 +47,6 @@ needs_of-by jobs = rows_say jobs jobs
 
 pub length-needs_rows : (jobs : List JobNeeds) → length (needs_rows jobs) ≡ length jobs
 length-needs_rows jobs = length-map jobs (λ job. needs_row jobs job.needs)
-
-blank : JobNeeds
-blank = record { id = []; needs = [] }
 
 pub needs_rows-IsSquare : (jobs : List JobNeeds) → IsSquare (needs_rows jobs)
 needs_rows-IsSquare jobs j below =
@@ -194,9 +193,6 @@ graph_is_graph jobs rows sets dependents h none are listed =
 abbrev gave : {X : Type 0} → X → Result X Refusal
 gave x = Ok x
 
-same_from_gave : {X : Type 0} (x y : X) → gave x ≡ gave y → x ≡ y
-same_from_gave x y e = cc
-
 pub length-reached : (jobs : List JobNeeds) (direct lent reached : List (List Bool)) → needs_rows_of jobs ≡ Ok direct
     → reached ≡ closed (length direct) direct → lent ≡ reached → length jobs ≡ length lent
 length-reached jobs direct lent reached made_so is same =
@@ -205,12 +201,12 @@ length-reached jobs direct lent reached made_so is same =
 pub ids_are : (jobs : List JobNeeds) (direct lent reached : List (List Bool)) (ids : List (List ℕ))
     → reached ≡ closed (length direct) direct → lent ≡ reached → gave (own_ids jobs lent) ≡ gave ids
     → own_ids jobs (closed (length direct) direct) ≡ ids
-ids_are jobs direct lent reached ids is same told = ap (own_ids jobs) (sym (same ∙ is)) ∙ same_from_gave _ _ told
+ids_are jobs direct lent reached ids is same told = ap (own_ids jobs) (sym (same ∙ is)) ∙ same_Ok _ _ told
 
 pub places_are : (lent rows : List (List Bool)) (told_places : List (List ℕ)) → lent ≡ rows → gave (map marked lent) ≡ gave told_places
     → map marked rows ≡ told_places
-places_are lent rows told_places same told = ap (map marked) (sym same) ∙ same_from_gave _ _ told
+places_are lent rows told_places same told = ap (map marked) (sym same) ∙ same_Ok _ _ told
 
 pub dependents_are : (lent rows : List (List Bool)) (told : List (List ℕ)) → lent ≡ rows → gave (dependents_by lent) ≡ gave told
     → dependents_by rows ≡ told
-dependents_are lent rows told same told_so = ap dependents_by (sym same) ∙ same_from_gave _ _ told_so
+dependents_are lent rows told same told_so = ap dependents_by (sym same) ∙ same_Ok _ _ told_so

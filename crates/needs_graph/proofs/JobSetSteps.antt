@@ -1,6 +1,6 @@
 -- One more job in a set of bits.
-use Rattle.std.proofs.Common.{◌≡◌, ◌≢◌, ℕ, zero, suc, ◌+◌, ◌*◌, ◌/◌, ◌%◌, ◌^◌, ◌<◌, List, Bool, true, false, nat_eq, length}
-use Rattle.std.proofs.Common.{get_or, set, take, replicate, sym, refl, ap, ◌∙◌, ⊎_elim, arith}
+use Rattle.std.proofs.Common.{◌≡◌, ◌≢◌, ℕ, ◌+◌, ◌*◌, ◌/◌, ◌%◌, ◌^◌, ◌<◌, List, Bool, true, false, nat_eq, length}
+use Rattle.std.proofs.Common.{get_or, set, take, sym, ap, ◌∙◌, ⊎_elim, arith}
 use Rattle.std.specs.Int.{bit_at, w64}
 use Rattle.std.specs.Int.Bits.{bit_or}
 use Rattle.std.proofs.lemmas.Bool.{cases_eq, cases_lt}
@@ -38,12 +38,6 @@ with_job_others words job below other apart =
     (λ other_word. ap (λ w. nat_eq (bit_at w (other % 64)) 1)
     (get_or-set_other words (job / 64) (other / 64) (with_bit word (job % 64)) 0 other_word))
     (cases_eq (other / 64) (job / 64))
-
--- no job is in words of zeros
-get_or-zeros : (n i : ℕ) → get_or (replicate n zero) i zero ≡ zero
-get_or-zeros zero i = refl
-get_or-zeros (suc n) zero = refl
-get_or-zeros (suc n) (suc i) = get_or-zeros n i
 
 -- ---- one more mark
 

@@ -19,7 +19,7 @@ pub row_none : (jobs : List JobNeeds) → replicate (length jobs) false ≡ need
 row_none [] = refl
 row_none (job ∷ jobs) = ap (λ l. false ∷ l) (row_none jobs)
 
-abbrev blank : JobNeeds
+abbrev pub blank : JobNeeds
 blank = record { id = []; needs = [] }
 
 bytes_same : (a b : List ℕ) → a ≡ b → bytes_eq a b ≡ true
