@@ -7,7 +7,7 @@ use Rattle.std.proofs.lemmas.List.Sums.{sum_by-cons}
 use Rattle.std.proofs.lemmas.Option.{none-some}
 use Rattle.run_plan.specs.declared.planned.PlannedJob.{PlannedJob}
 use Rattle.workflow_runs.specs.Parallel.{is_at_work, legs_at_work, most_at_work}
-use Rattle.workflow_runs.specs.Places.{job_at, leg_place}
+use Rattle.workflow_runs.specs.Places.{LegPlace, job_at, leg_place}
 use Rattle.run_table.specs.Sound.{ParallelIsBounded}
 use Rattle.workflow_runs.specs.SoundRuns.{LeaseFits}
 use Rattle.workflow_runs.specs.RunState.{LegState, JobState, RunState}

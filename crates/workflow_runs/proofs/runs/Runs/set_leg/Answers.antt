@@ -4,5 +4,5 @@ use Rattle.workflow_runs.proofs.runs.Runs.set_leg.Goals as goal
 
 pub invariant_of-self : goal.invariant_of-self
 invariant_of-self c =
-    still_kept _ _ _ _ c.args.place.run c.index_mut-run.result.now c.set_leg.new.self (search rules) c.index_mut-run.ensures.value
+    still_kept _ _ _ _ c.place.inside.run c.index_mut-run.result.now c.set_leg.new.self (search rules) c.index_mut-run.ensures.value
     (ap (λ x. x.admitted) c.set_leg.ensures) c.self.invariant
