@@ -1,16 +1,15 @@
 # The two commands of a new machine: `make first-run` and `make test`. Both need `rt` on the PATH.
 
 ACTS := crates/acts/out/acts
-OUT := crates/acts/out
+FIRST := crates/first_run
 
 .PHONY: first-run test build example bench gate sweep wrong-bodies
 
 # Plays the example by a trial run, and prints each line of the script with its answer.
 first-run:
-	@mkdir -p $(OUT)
-	@cd crates/acts && rt try -- play < ../../examples/first_run.script > out/first_run.answers 2> out/first_run.log \
-		|| { cat out/first_run.log >&2; exit 1; }
-	@sed 's/^/> /' examples/first_run.script | paste -d '\n' - $(OUT)/first_run.answers
+	@mkdir -p $(FIRST)/out
+	@cd $(FIRST) && rt try < stdin > out/answers 2> out/log || { cat out/log >&2; exit 1; }
+	@sed 's/^/> /' $(FIRST)/stdin | paste -d '\n' - $(FIRST)/out/answers
 	@echo 'This was a trial run, which proves nothing; `make build` makes the proved program.' >&2
 
 # Proves and builds `acts` and the crates below it.

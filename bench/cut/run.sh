@@ -5,8 +5,8 @@ set -eu
 . "$(dirname "$0")/../copy.sh"
 folder=${1:-$here/out}
 mkdir -p "$folder"
-copy_for cut_bench main.rt.txt act_disk act_store acts_cli run_plan wf_value anyhow
+copy_for cut_bench main.rt.txt act_disk act_store acts_ops run_plan wf_value anyhow
 # Lines are read as `acts` reads them.
-sed -i 's/^pub use check::/pub use line::command_of;\n&/' "$scratch/crates/acts_cli/src/lib.rt"
+sed -i 's/^pub use check::/pub use line::command_of;\n&/' "$scratch/crates/acts_ops/src/lib.rt"
 build cut_bench
 "$here/cut" "$built" "$folder" "${@:2}"

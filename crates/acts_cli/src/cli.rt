@@ -1,11 +1,8 @@
 ghost use Rattle.std.specs.Prelude.{◌≤◌};
 
-use crate::check::run_check;
 use crate::explain::{Explanation, explanation_of, numbers};
-use crate::init::run_init;
-use crate::play::run_script;
-use crate::show::run_show;
 use act_disk::{Empty, FileDisk, HostFile};
+use acts_ops::{run_check, run_init, run_script, run_show};
 use clap::builder::ValueParser;
 use clap::error::ErrorKind;
 use clap::{Arg, ArgMatches, Command, Error};

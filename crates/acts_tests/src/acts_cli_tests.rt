@@ -1,273 +1,355 @@
-//! The rows of the product, read and written through `run_script`.
+//! The command line, over a runtime of the tests.
 
-mod cancels;
-mod checks;
-mod command_line;
-mod conditions;
-mod groups;
-mod legs;
-mod needs;
-mod over_a_store;
-mod scripts;
-
+use crate::acts_ops_tests::{FIRST, FIRST_ANSWERS};
 use crate::given::spelled;
 use crate::holds::holds;
-use acts_cli::{MOST_BYTES, run_script};
-use std::alloc::Global;
+use acts_cli::run;
+use acts_ops::MOST_BYTES;
+use std::alloc::{Allocator, Global};
+use std::cell::RefCell;
+use std::env::FillError;
+use std::fmt::Display;
+use std::fs::{File, Files, Metadata, OpenOptions};
 use std::io;
-use std::io::{ErrorKind, Read, Write};
-use std::process::Abort;
-use wf_value::Refusal;
+use std::io::{BufRead, ErrorKind, Lines};
+use std::process::{Abort, ExitCode};
+use std::rt::Env;
 
-pub const FIRST: &str = concat!(
-    "admit d1 push {\"repo\":\"o/r\",\"path\":\"ci.json\",\"workflow\":{\"jobs\":{\"build\":{\"runs-on\":\"linux\"}}}}\n",
-    "claim r1 1 linux\n",
-    "done r1 2 1 success\n",
-    "look 1\n",
-);
-
-pub const FIRST_ANSWERS: &str = concat!(
-    "created 1\n",
-    "lease 1 1 build 0 {}\n",
-    "ok\n",
-    "run 1 1 completed success build:success(success)\n",
-);
-
-const SECOND: &str = concat!(
-    "claim r1 2 linux\n",
-    "claim r1 1 linux\n",
-    "admit d1 push [\n",
-    "admit d_1 push {}\n",
-    "admit d1 push {\"repo\":\"o/r\",\"path\":\"ci.json\",\"workflow\":{\"jobs\":{\"b\":{\"runs-on\":[\"linux\",\"x64\"]}}}}\n",
-    "claim r1 2 X64,linux\n",
-    "claim r1 3 linux\n",
-    "done r1 3 9 success\n",
-    "done r1 3 1 failure\n",
-    "look 1\n",
-);
-
-const SECOND_ANSWERS: &str = concat!(
-    "refused 43 0\n",
-    "nothing\n",
-    "refused 10\n",
-    "refused 75\n",
-    "created 1\n",
-    "lease 1 1 b 0 {}\n",
-    "refused 42\n",
-    "refused 44\n",
-    "ok\n",
-    "run 1 1 completed failure b:failure(failure)\n",
-);
-
-/// A label by an expression, and a failure that is passed over.
-const THIRD: &str = concat!(
-    "admit d1 push {\"repo\":\"o/r\",\"path\":\"ci.json\",\"workflow\":{\"jobs\":{\"j\":",
-    "{\"runs-on\":\"${{ vars.l || 'linux' }}\",\"continue-on-error\":true}}}}\n",
-    "claim r1 1 linux\n",
-    "done r1 2 1 failure\n",
-    "look 1\n",
-);
-
-const THIRD_ANSWERS: &str = concat!(
-    "created 1\n",
-    "lease 1 1 j 0 {}\n",
-    "ok\n",
-    "run 1 1 completed success j:success(failure)\n",
-);
-
-const BODY: &str =
-    "{\"repo\":\"o/r\",\"path\":\"ci.json\",\"workflow\":{\"jobs\":{\"build\":{\"runs-on\":\"linux\"}}}}";
-
-/// Scripts, and what each prints.
-const ROWS: &[(&str, &str)] = &[
-    (FIRST, FIRST_ANSWERS),
-    (SECOND, SECOND_ANSWERS),
-    (THIRD, THIRD_ANSWERS),
-    ("", ""),
-    ("\n\r\n\n", ""),
-    // One carriage return before a line feed is dropped, and no other.
-    ("look 1\r\nlook 1\r", "refused 40\nrefused 75\n"),
-    ("\r", "refused 75\n"),
-    // A line that is no line is refused before its body is read.
-    ("admit d_1 push [", "refused 75\n"),
-    // The body is all that follows the third space.
-    (
-        "admit d1 push\nadmit d1 push \nadmit d1 push  {}",
-        "refused 75\nrefused 10\nrefused 11\n",
-    ),
-    (
-        "look\nlook \nlook 0\nlook 01\nlook 1 \n look 1",
-        "refused 75\nrefused 75\nrefused 75\nrefused 75\nrefused 75\nrefused 75\n",
-    ),
-    (
-        "claim r1 1\nclaim r1 1 a b\ndone r1 1 1\ndone r1 1 1 skipped",
-        "refused 75\nrefused 75\nrefused 75\nrefused 75\n",
-    ),
-    (
-        "cancel 1\nlost r1\nfetch 1\nbegin",
-        "refused 40\nrefused 45\nrefused 40\nrefused 75\n",
-    ),
-];
-
-/// The number of the refusal with which a call ended, and 0 where it ended well.
-fn number_of(ended: Result<(), Refusal>) -> u64 {
-    match ended {
-        Ok(()) => 0,
-        Err(refusal) => refusal.number(),
-    }
-}
-
-/// Plays what a reader gives, and prints the answers to a writer.
-fn play<R: Read, W: Write>(alloc: Global, script: &mut R, printed: &mut W) -> Result<(), Refusal> {
-    run_script(alloc, script, printed)
-}
-
-/// Plays a script, and compares what it prints.
-fn expect_played(rt: &impl Abort, alloc: Global, script: &[u8], answers: &str) {
-    let mut reader = script;
-    let mut printed = Vec::new(alloc);
-    let number = number_of(play(alloc, &mut reader, &mut printed));
-    holds!(rt; number == 0);
-    holds!(rt; printed.as_slice() == answers.as_bytes(), answers);
-}
-
-#[test]
-fn plays_the_rows(rt: HostRuntime) {
-    for &(script, answers) in ROWS {
-        expect_played(&rt, rt.alloc(), script.as_bytes(), answers);
-    }
-}
-
-#[test]
-fn answers_bytes_that_are_no_utf8(rt: HostRuntime) {
-    let script = b"admit d1 push \xff\nclaim r\xff 1 linux\n\xff\xfe\nlook 1\n";
-    let answers = "refused 10\nrefused 75\nrefused 75\nrefused 40\n";
-    expect_played(&rt, rt.alloc(), script, answers);
-}
-
-/// The pieces of a script, each with how often it stands there, and what the script prints.
-fn expect_long_played(rt: &impl Abort, alloc: Global, pieces: &[(&str, usize)], answers: &str) {
-    let script = spelled(alloc, pieces).expect(rt, "a script");
-    expect_played(rt, alloc, script.as_bytes(), answers);
-}
-
-/// Spaces behind a body, and the answer.
-const SPACES: &[(usize, &str)] = &[
-    (65_536 - BODY.len(), "created 1\n"),
-    (65_537 - BODY.len(), "refused 24\n"),
-];
-
-#[test]
-fn bounds_a_body(rt: HostRuntime) {
-    for &(spaces, answer) in SPACES {
-        let pieces = [("admit d1 push ", 1), (BODY, 1), (" ", spaces)];
-        expect_long_played(&rt, rt.alloc(), &pieces, answer);
-    }
-}
-
-/// How many empty lines fill the first script up.
-const EMPTY_LINES: usize = MOST_BYTES - FIRST.len();
-
-#[test]
-fn bounds_a_script(rt: HostRuntime) {
-    let pieces = [(FIRST, 1), ("\n", EMPTY_LINES)];
-    expect_long_played(&rt, rt.alloc(), &pieces, FIRST_ANSWERS);
-}
-
-#[test]
-fn refuses_a_script_that_is_too_long(rt: HostRuntime) {
-    let pieces = [(FIRST, 1), ("\n", EMPTY_LINES + 9)];
-    let script = spelled(rt.alloc(), &pieces).expect(&rt, "a script");
-    let mut reader = script.as_bytes();
-    let mut printed = Vec::new(rt.alloc());
-    let number = number_of(play(rt.alloc(), &mut reader, &mut printed));
-    holds!(rt; number == 76);
-    holds!(rt; printed.is_empty());
-    holds!(rt; reader.len() == 8, "no more than 1,048,577 bytes are read");
-}
-
-/// A reader that fails after a number of bytes.
+/// Where texts are printed, up to a number of bytes.
 #[derive(Drop)]
-struct FailingReader<'a> {
-    bytes: &'a [u8],
-    left: usize,
+struct Page {
+    text: RefCell<Vec<u8>>,
+    most: usize,
 }
 
-impl Read for FailingReader<'_> {
-    fn read(&mut self, buffer: &mut [u8]) -> io::Result<usize> {
-        if self.left == 0 {
-            return Err(io::Error::from(ErrorKind::BrokenPipe));
+impl Page {
+    fn new(alloc: Global, most: usize) -> Self {
+        Page {
+            text: RefCell::new(Vec::new(alloc)),
+            most,
         }
-        let room = buffer.len().min(self.left);
-        let count = self.bytes.read(&mut buffer[..room])?;
-        self.left -= count;
-        Ok(count)
     }
-}
 
-#[test]
-fn fails_with_its_reader(rt: HostRuntime) {
-    for left in 0..=FIRST.len() {
-        let mut reader = FailingReader {
-            bytes: FIRST.as_bytes(),
-            left,
+    fn print(&self, bytes: &[u8]) -> io::Result<()> {
+        let Ok(mut text) = self.text.try_borrow_mut() else {
+            return Err(io::Error::from(ErrorKind::Other));
         };
-        let mut printed = Vec::new(rt.alloc());
-        let number = number_of(play(rt.alloc(), &mut reader, &mut printed));
-        holds!(rt; number == 61 && printed.is_empty(), left);
-    }
-}
-
-/// A writer that fails after a number of bytes. One that holds bytes back, as a buffer before a full disk,
-/// takes them all and fails once it is flushed.
-#[derive(Drop)]
-struct FailingWriter {
-    bytes: Vec<u8>,
-    left: usize,
-    holds_back: bool,
-}
-
-impl Write for FailingWriter {
-    fn write(&mut self, bytes: &[u8]) -> io::Result<usize> {
-        if self.left == 0 {
-            return Err(io::Error::from(ErrorKind::BrokenPipe));
+        if text.len() >= self.most || bytes.len() > self.most - text.len() {
+            return Err(io::Error::from(ErrorKind::StorageFull));
         }
-        let room = bytes.len().min(self.left);
-        let count = self.bytes.write(&bytes[..room])?;
-        self.left -= count;
-        Ok(count)
-    }
-
-    fn flush(&mut self) -> io::Result<()> {
-        if self.holds_back {
-            return Err(io::Error::from(ErrorKind::BrokenPipe));
-        }
+        text.extend_from_slice(bytes)?;
         Ok(())
     }
+
+    /// Prints a value, and `end` behind it.
+    fn show<D: Display + Drop>(&self, alloc: Global, value: D, end: &str) -> io::Result<()> {
+        let text = format!(in alloc; "{value}{end}")?;
+        self.print(text.as_bytes())
+    }
+
+    fn into_text(self) -> Vec<u8> {
+        self.text.into_inner()
+    }
 }
 
-/// That playing the first script to the writer ends with 61, with this written.
-fn expect_61(rt: &impl Abort, alloc: Global, left: usize, holds_back: bool, written: &[u8]) {
-    let mut reader = FIRST.as_bytes();
-    let mut writer = FailingWriter {
-        bytes: Vec::new(alloc),
-        left,
-        holds_back,
-    };
-    let number = number_of(play(alloc, &mut reader, &mut writer));
-    holds!(rt; number == 61, left);
-    holds!(rt; writer.bytes.as_slice() == written, left);
+/// A process with these words and this standard input.
+#[derive(Drop)]
+struct Process<'a> {
+    alloc: Global,
+    words: &'a [&'a str],
+    input: &'a [u8],
+    out: Page,
+    err: Page,
 }
+
+impl<'a> Alloc for Process<'a> {
+    type A = Global;
+
+    fn alloc(&self) -> Global {
+        self.alloc
+    }
+}
+
+impl<'a> Env for Process<'a> {
+    fn arg(&self, i: usize, buf: &mut [u8]) -> Result<usize, FillError> {
+        let Some(word) = self.words.get(i) else {
+            return Err(FillError::NotPresent);
+        };
+        let bytes = word.as_bytes();
+        if bytes.len() > buf.len() {
+            return Err(FillError::TooLong);
+        }
+        buf[..bytes.len()].copy_from_slice(bytes);
+        Ok(bytes.len())
+    }
+
+    fn var(&self, _name: &str, _buf: &mut [u8]) -> Result<usize, FillError> {
+        Err(FillError::NotPresent)
+    }
+
+    fn var_at(&self, _i: usize, _buf: &mut [u8]) -> Result<usize, FillError> {
+        Err(FillError::NotPresent)
+    }
+}
+
+impl<'a> Input for Process<'a> {
+    type Reader = &'a [u8];
+
+    fn read_line<A: Allocator + Clone>(&self, buf: &mut String<A>) -> io::Result<usize> {
+        self.reader().read_line(buf)
+    }
+
+    fn lines<A: Allocator>(&self, alloc: A) -> Lines<&'a [u8], A> {
+        self.reader().lines(alloc)
+    }
+
+    fn reader(&self) -> &'a [u8] {
+        self.input
+    }
+}
+
+impl<'a> Print for Process<'a> {
+    fn print<D: Display + Drop>(&self, value: D) -> io::Result<()> {
+        self.out.show(self.alloc, value, "")
+    }
+
+    fn println<D: Display + Drop>(&self, value: D) -> io::Result<()> {
+        self.out.show(self.alloc, value, "\n")
+    }
+
+    fn write_all(&self, bytes: &[u8]) -> io::Result<()> {
+        self.out.print(bytes)
+    }
+}
+
+impl<'a> Eprint for Process<'a> {
+    fn eprint<D: Display + Drop>(&self, value: D) -> io::Result<()> {
+        self.err.show(self.alloc, value, "")
+    }
+
+    fn eprintln<D: Display + Drop>(&self, value: D) -> io::Result<()> {
+        self.err.show(self.alloc, value, "\n")
+    }
+}
+
+/// There is no file.
+fn none<T: Drop>() -> io::Result<T> {
+    Err(io::Error::from(ErrorKind::NotFound))
+}
+
+impl<'a> Files for Process<'a> {
+    type File = File;
+
+    type Dir = &'a [u8];
+
+    fn open_file(&self, _how: &OpenOptions, _path: &str) -> io::Result<File> {
+        none()
+    }
+
+    fn open_dir(&self, _path: &str) -> io::Result<&'a [u8]> {
+        none()
+    }
+
+    fn metadata(&self, _path: &str) -> io::Result<Metadata> {
+        none()
+    }
+
+    fn symlink_metadata(&self, _path: &str) -> io::Result<Metadata> {
+        none()
+    }
+
+    fn copy(&self, _from: &str, _to: &str) -> io::Result<u64> {
+        none()
+    }
+
+    fn rename(&self, _from: &str, _to: &str) -> io::Result<()> {
+        none()
+    }
+
+    fn remove_file(&self, _path: &str) -> io::Result<()> {
+        none()
+    }
+
+    fn create_dir(&self, _path: &str) -> io::Result<()> {
+        none()
+    }
+
+    fn remove_dir(&self, _path: &str) -> io::Result<()> {
+        none()
+    }
+
+    fn remove_dir_all<B: Allocator>(&self, _alloc: B, _path: &str) -> io::Result<()> {
+        none()
+    }
+}
+
+/// The status, and what is printed on standard output and on standard error, where `None` stands for any
+/// text but the empty one.
+type Ended<'a> = (u8, Option<&'a str>, Option<&'a str>);
+
+/// Runs `acts` with these words and this input, with room for so many bytes on standard output.
+fn expect(
+    rt: &impl Abort,
+    alloc: Global,
+    words: &[&str],
+    input: &str,
+    room: usize,
+    ended: Ended<'_>,
+) {
+    let process = Process {
+        alloc,
+        words,
+        input: input.as_bytes(),
+        out: Page::new(alloc, room),
+        err: Page::new(alloc, 10_000),
+    };
+    let (status, out, err) = ended;
+    holds!(rt; run(&process) == ExitCode::from(status), status);
+    let Process {
+        out: printed,
+        err: told,
+        ..
+    } = process;
+    holds!(rt; is_as_wanted(printed, out), status);
+    holds!(rt; is_as_wanted(told, err), status);
+}
+
+fn is_as_wanted(page: Page, want: Option<&str>) -> bool {
+    let text = page.into_text();
+    match want {
+        Some(want) => text.as_slice() == want.as_bytes(),
+        None => !text.is_empty(),
+    }
+}
+
+const PLAY: &[&str] = &["acts", "play"];
+
+const HELP: &[&str] = &["acts", "--help"];
+
+const CHECK: &[&str] = &["acts", "check"];
+
+/// A refusal's number is explained with an input that gets it.
+const EXPLAINED: &str = concat!(
+    "refused 15: a job has no \"runs-on\", or an empty list there.\n",
+    "What gets it: the workflow {\"jobs\":{\"a\":{}}}.\n",
+    "What helps: name one label at least, as \"runs-on\":\"linux\".\n",
+);
+
+/// Words, the room on standard output, and how that ends over the first script: with 0 where all is well
+/// and after a help text, and else with 1.
+const ROWS: &[(&[&str], usize, Ended<'static>)] = &[
+    (PLAY, 10_000, (0, Some(FIRST_ANSWERS), Some(""))),
+    (HELP, 10_000, (0, None, Some(""))),
+    (HELP, 0, FULL),
+    (
+        &["acts", "--version"],
+        10_000,
+        (0, Some("acts 0.1.0\n"), Some("")),
+    ),
+    (
+        &["acts", "explain", "15"],
+        10_000,
+        (0, Some(EXPLAINED), Some("")),
+    ),
+    (&["acts", "init", "store", "4096"], 10_000, FULL),
+    (&["acts", "init", "store", "1073741824"], 10_000, FULL),
+    (&["acts", "show", "store"], 10_000, FULL),
+];
+
+/// Words that are no command line of `acts`.
+const FAULTS: &[&[&str]] = &[
+    &["acts"],
+    &["acts", "serve"],
+    &["acts", "play", "script"],
+    &["acts", "check", "workflow"],
+    &["acts", "--verbose", "play"],
+    &["acts", "explain"],
+    &["acts", "explain", "17", "18"],
+    &["acts", "explain", "9"],
+    &["acts", "explain", "017"],
+    &["acts", "explain", "refused"],
+    &["acts", "init", "store", "4095"],
+    &["acts", "init", "store", "1073741825"],
+    &["acts", "init", "store"],
+    &["acts", "show"],
+];
+
+/// 1 after a refusal, which stands on standard error: of a page that is full, and of a file that can't be opened, as none can here.
+const FULL: Ended<'static> = (1, Some(""), Some("acts: refused 61\n"));
+
+/// 2 after a fault of the command line.
+const FAULT: Ended<'static> = (2, Some(""), None);
 
 #[test]
-fn fails_with_its_writer(rt: HostRuntime) {
-    for left in 0..FIRST_ANSWERS.len() {
-        let written = &FIRST_ANSWERS.as_bytes()[..left];
-        expect_61(&rt, rt.alloc(), left, false, written);
+fn ends_with_its_status(rt: HostRuntime) {
+    for &(words, room, ended) in ROWS {
+        expect(&rt, rt.alloc(), words, FIRST, room, ended);
     }
 }
 
 #[test]
-fn fails_with_the_flush_of_its_writer(rt: HostRuntime) {
-    expect_61(&rt, rt.alloc(), usize::MAX, true, FIRST_ANSWERS.as_bytes());
+fn ends_a_fault_of_the_words_with_2(rt: HostRuntime) {
+    for words in FAULTS {
+        expect(&rt, rt.alloc(), words, "look 1\n", 10_000, FAULT);
+    }
+}
+
+const MATRIX: &str =
+    "{\"jobs\":{\"b\":{\"runs-on\":\"linux\"},\"a\":{\"runs-on\":\"linux\",\"strategy\":{\"matrix\":{\"n\":[1,\"x\"]}}}}}";
+
+/// A workflow, the room on standard output, and how its check ends.
+const CHECKS: &[(&str, usize, Ended<'static>)] = &[
+    (
+        MATRIX,
+        10_000,
+        (
+            0,
+            Some("a 0 {\"n\":1}\na 1 {\"n\":\"x\"}\nb 0 {}\n"),
+            Some(""),
+        ),
+    ),
+    (MATRIX, 10, FULL),
+    ("[", 10_000, (1, Some(""), Some("acts: refused 10\n"))),
+    (
+        "{\"jobs\":{\"a\":{\"runs-on\":\"x\",\"strategy\":{\"matrix\":{}}}}}",
+        10_000,
+        (1, Some(""), Some("acts: refused 22\n")),
+    ),
+];
+
+#[test]
+fn ends_a_check_with_its_status(rt: HostRuntime) {
+    for &(workflow, room, ended) in CHECKS {
+        expect(&rt, rt.alloc(), CHECK, workflow, room, ended);
+    }
+}
+
+/// The numbers that can be met.
+const NUMBERS: &[&str] = &[
+    "10", "11", "12", "13", "14", "15", "16", "17", "18", "19", "20", "21", "22", "23", "24", "25",
+    "26", "40", "41", "42", "43", "44", "45", "46", "48", "50", "51", "52", "53", "54", "55", "61",
+    "75", "76",
+];
+
+#[test]
+fn explains_each_number_that_is_met(rt: HostRuntime) {
+    for &number in NUMBERS {
+        let words = ["acts", "explain", number];
+        expect(&rt, rt.alloc(), &words, FIRST, 10_000, (0, None, Some("")));
+        expect(&rt, rt.alloc(), &words, FIRST, 10, FULL);
+    }
+}
+
+#[test]
+fn ends_with_a_full_standard_output(rt: HostRuntime) {
+    for room in 0..FIRST_ANSWERS.len() {
+        expect(&rt, rt.alloc(), PLAY, FIRST, room, FULL);
+    }
+}
+
+#[test]
+fn ends_with_a_script_that_is_too_long(rt: HostRuntime) {
+    let long = spelled(rt.alloc(), &[("\n", MOST_BYTES + 1)]).expect(&rt, "a script");
+    let ended = (1, Some(""), Some("acts: refused 76\n"));
+    expect(&rt, rt.alloc(), PLAY, long.as_str(), 10_000, ended);
 }

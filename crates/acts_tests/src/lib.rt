@@ -8,6 +8,8 @@ mod act_store_tests;
 #[cfg(test)]
 mod acts_cli_tests;
 #[cfg(test)]
+mod acts_ops_tests;
+#[cfg(test)]
 mod commands;
 #[cfg(test)]
 mod gated_journal_tests;

@@ -1,0 +1,64 @@
+-- The definitions worked through on rows, by computation.
+use Rattle.std.proofs.Common.{◌≡◌, [], ◌∷◌, ◌++◌, codes, Ok, Err, None, refl}
+use Rattle.wf_value.specs.declared.code.Code.TheVariants.{NoRun}
+use Rattle.wf_value.specs.declared.refusal.Refusal.TheVariants.{Numbered, Turn}
+use Rattle.run_plan.specs.declared.command.Command.{Command}
+use Rattle.run_plan.specs.declared.command.Command.TheVariants as command
+use Rattle.run_plan.specs.declared.reply.Reply.TheVariants as reply
+use Rattle.act_store.specs.declared.step.Played.TheVariants as told
+use Rattle.acts_ops.specs.Line.{command_of, not_a_line}
+use Rattle.acts_ops.specs.Answers.{script_lines, answer_of, output_of}
+use Rattle.acts_ops.specs.PlainStore.{applied, covering, played_text, start}
+
+empty_script : output_of [] ≡ []
+empty_script = refl
+
+-- one carriage return before a line feed is dropped, and a line that is then empty is skipped
+cut : script_lines (codes "look 1" ++ (13 ∷ 10 ∷ 13 ∷ 10 ∷ codes "look 2")) ≡ codes "look 1" ∷ codes "look 2" ∷ []
+cut = refl
+
+-- the last line keeps its carriage return
+last : script_lines (codes "look 1" ++ (13 ∷ [])) ≡ (codes "look 1" ++ (13 ∷ [])) ∷ []
+last = refl
+
+look : command_of (codes "look 1") ≡ Ok (command.Look 1)
+look = refl
+
+claim : command_of (codes "claim r1 2 X64,linux")
+    ≡ Ok (command.Claim (record { runner = codes "r1"; number = 2; labels = codes "X64" ∷ codes "linux" ∷ [] }))
+claim = refl
+
+delivery : command_of (codes "admit d_1 push {}") ≡ Err not_a_line
+delivery = refl
+
+two_spaces : command_of (codes "admit d1 push") ≡ Err not_a_line
+two_spaces = refl
+
+asked_first : Command
+asked_first = command.Claim (record { runner = codes "r1"; number = 1; labels = codes "linux" ∷ [] })
+
+asked_second : Command
+asked_second = command.Claim (record { runner = codes "r1"; number = 2; labels = codes "linux" ∷ [] })
+
+-- what is told of a command that is entered first
+out_of_turn : (applied start asked_second None).1 ≡ told.Replied (reply.Refused (Turn 0))
+unfolding asked_second
+out_of_turn = refl
+
+nothing : (applied start asked_first None).1 ≡ told.Replied reply.Nothing
+unfolding asked_first
+nothing = refl
+
+no_run : (applied start (command.Look 1) None).1 ≡ told.Replied (reply.Refused (Numbered NoRun))
+no_run = refl
+
+-- a commit counts the entries, also those of refused commands, and each once
+none_covered : answer_of start (codes "commit") ≡ played_text (told.Count 0)
+none_covered = refl
+
+one_covered : (covering (applied start (command.Look 1) None).0).1 ≡ told.Count 1
+one_covered = refl
+
+-- and no other line is a commit
+commit_with_a_space : answer_of start (codes "commit ") ≡ played_text (told.Refused not_a_line)
+commit_with_a_space = refl

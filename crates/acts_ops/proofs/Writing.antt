@@ -1,0 +1,61 @@
+-- What a call has written, part by part.
+use Rattle.std.proofs.Common.{◌≡◌, ◌⊎◌, inl, inr, ℕ, List, [], ◌++◌, take, drop, take-append-drop, Option, Result, Ok, Err, IfErr, OnOk}
+use Rattle.std.proofs.Common.{refl, sym, ap, subst, ◌∙◌, append_assoc, append-nil}
+use Rattle.std.specs.Io.KnownBytes.{Appends, Keeps}
+use Rattle.std.specs.Prelude.{IsErrAnd}
+use Rattle.std.proofs.KnownBytes.{Appends-nil, Appends-kept, Appends-trans}
+use Rattle.wf_value.specs.Gives.{no_memory}
+use Rattle.wf_value.specs.declared.refusal.Refusal.{Refusal}
+use Rattle.act_disk.specs.Failed.{stream_failed}
+use Rattle.acts_ops.specs.Writes.{FrontWritten, Writes}
+
+-- one part more has been written whole
+pub past_part : (out part more all : List ℕ) → out ++ (part ++ more) ≡ all → (out ++ part) ++ more ≡ all
+past_part out part more all h = append_assoc out part more ∙ h
+
+-- a front of one part more
+within_part : (out front back part more all : List ℕ) → out ++ (part ++ more) ≡ all → front ++ back ≡ part
+    → (out ++ front) ++ (back ++ more) ≡ all
+within_part out front back part more all h joined =
+    append_assoc out front (back ++ more)
+    ∙ ap (λ x. out ++ x) (sym (append_assoc front back more) ∙ ap (λ x. x ++ more) joined)
+    ∙ h
+
+pub none_written : (old : Option (List ℕ)) (lines : List ℕ) → FrontWritten old old lines
+none_written old lines = ([], lines, Appends-nil old, refl)
+
+-- behind what has been written, a front of the next part
+pub more_written : (old mid new : Option (List ℕ)) (out part more all : List ℕ) → Appends old mid out → out ++ (part ++ more) ≡ all
+    → FrontWritten mid new part → FrontWritten old new all
+more_written old mid new out part more all so_far h front = (
+  out ++ front.0,
+  front.1 ++ more,
+  Appends-trans old mid new out front.0 so_far front.2,
+  within_part out front.0 front.1 part more all h front.3,
+)
+
+-- a call that ends early
+pub stopped : {U : Type 0} (old new : Option (List ℕ)) (lines : List ℕ) (r : Result U Refusal) (e : Refusal) → IsErrAnd r (λ f. f ≡ e)
+    → (e ≡ stream_failed) ⊎ (e ≡ no_memory) → FrontWritten old new lines → Writes old new lines r
+stopped old new lines (Ok u) e is why front = absurd is
+stopped old new lines (Err f) e is why front = (subst (λ x. (x ≡ stream_failed) ⊎ (x ≡ no_memory)) (sym is) why, front)
+
+-- a text that was written by one call
+pub whole_written : {U : Type 0} (old new : Option (List ℕ)) (bytes lines : List ℕ) (r : Result U Refusal) → bytes ≡ lines
+    → OnOk r (Appends old new bytes) → ((n : ℕ) × Appends old new (take n bytes)) → IfErr r (λ e. e ≡ stream_failed)
+    → Writes old new lines r
+whole_written old new bytes lines (Ok u) same all front why = subst (Appends old new) same all
+whole_written old new bytes lines (Err e) same all front why =
+    (inl why, (take front.0 bytes, drop front.0 bytes, front.1, take-append-drop front.0 bytes ∙ same))
+
+-- all is written, and the writer is flushed
+pub flushed : {U : Type 0} (old mid new : Option (List ℕ)) (lines : List ℕ) (r : Result U Refusal) → Appends old mid lines
+    → Keeps mid new → IfErr r (λ e. e ≡ stream_failed) → Writes old new lines r
+flushed old mid new lines (Ok u) all kept why = Appends-kept old mid new lines all kept
+flushed old mid new lines (Err e) all kept why = (inl why, (lines, [], Appends-kept old mid new lines all kept, append-nil lines))
+
+-- want of memory alone refuses what nothing else does
+pub memory_alone : {X : Type 0} (e : Refusal) (x : X) → (e ≡ no_memory) ⊎ (◌≡◌ {A = Result X Refusal} (Ok x) (Err e))
+    → (e ≡ stream_failed) ⊎ (e ≡ no_memory)
+memory_alone e x (inl memory) = inr memory
+memory_alone e x (inr refused) = absurd cc

@@ -1,0 +1,12 @@
+use Rattle.std.proofs.Common.{◌≡◌, ◌++◌, [], ℕ, List, drop, map}
+use Rattle.std.specs.Io.KnownBytes.{Appends}
+use Rattle.run_plan.specs.PlanOf.{legs_faults, planned_job}
+use Rattle.acts_ops.specs.Check.{plan_lines}
+use Rattle.acts_ops.proofs.check.write_jobs.Given as goal
+
+-- the lines so far, before those of the jobs that are left, none of which has a fault
+abbrev pub invariant-loop-job : goal.invariant-loop-job
+invariant-loop-job g l =
+    (out : List ℕ) × Appends (g.W.Write.contents l.initial.writer) (g.W.Write.contents l.writer) out
+    × (out ++ plan_lines (map planned_job (drop l.job-index l.jobs)) ≡ plan_lines (map planned_job l.jobs))
+    × (legs_faults (drop l.job-index l.jobs) ≡ [])

@@ -1,0 +1,13 @@
+use Rattle.std.proofs.Common.{ℕ, List, length}
+use Rattle.std.specs.Io.KnownBytes.{Appends}
+use Rattle.acts_ops.specs.PlainStore.{without_disk}
+use Rattle.acts_ops.proofs.Plays.{Leads}
+use Rattle.acts_ops.proofs.play.play.Given as goal
+
+abbrev pub invariant-loop-line : goal.invariant-loop-line
+invariant-loop-line g l =
+    (out : List ℕ) × Appends (g.W.Write.contents l.initial.writer) (g.W.Write.contents l.writer) out
+    × Leads (without_disk l.fn.store) l.script (without_disk l.store) l.rest out
+
+abbrev pub decreases-loop-line : goal.decreases-loop-line
+decreases-loop-line g l = length l.rest

@@ -1,0 +1,12 @@
+use Rattle.std.proofs.Common.{◌≡◌, ℕ, ◌<◌, ◌≤◌, ◌++◌, List, length}
+use Rattle.std.specs.Io.KnownBytes.{Appends}
+use Rattle.act_store.specs.Kept.{table_of}
+use Rattle.acts_ops.specs.Show.{shown}
+use Rattle.acts_ops.proofs.Showing.{lines_behind}
+use Rattle.acts_ops.proofs.show.write_views.Given as goal
+
+abbrev pub invariant-loop-place : goal.invariant-loop-place
+invariant-loop-place g l =
+    let t = table_of l.store in
+    (out : List ℕ) × Appends (g.W.Write.contents l.initial.writer) (g.W.Write.contents l.writer) out
+    × (out ++ lines_behind t l.place ≡ shown t) × (0 < l.place → length t.runs ≤ 100000)

@@ -1,0 +1,21 @@
+-- What reading an input whole gives, and why it may be refused (own).
+use Rattle.std.specs.Prelude.{◌≡◌, ◌⊎◌, ℕ, ◌≤◌, ◌<◌, List, length, Option}
+use Rattle.std.specs.Io.KnownBytes.{Consumes}
+use Rattle.wf_value.specs.Gives.{no_memory}
+use Rattle.wf_value.specs.declared.code.Code.TheVariants.{InputTooLong}
+use Rattle.wf_value.specs.declared.refusal.Refusal.{Refusal}
+use Rattle.wf_value.specs.declared.refusal.Refusal.TheVariants.{Numbered}
+use Rattle.act_disk.specs.Failed.{stream_failed}
+use Rattle.acts_ops.specs.Play.{most_bytes}
+
+-- all of it, where it is not too long
+abbrev pub IsReadAs : List ℕ → List ℕ → Type 0
+IsReadAs bytes input = (bytes ≡ input) × (length input ≤ most_bytes)
+
+-- it is too long, or the stream failed, or memory was wanting
+abbrev pub RefusesInput : Refusal → List ℕ → Type 0
+RefusesInput e input = ((e ≡ Numbered InputTooLong) × (most_bytes < length input)) ⊎ ((e ≡ stream_failed) ⊎ (e ≡ no_memory))
+
+-- so many bytes of a reader are read at most
+abbrev pub ReadsAtMost : ℕ → Option (List ℕ) → Option (List ℕ) → Type 0
+ReadsAtMost most old new = (read : List ℕ) × Consumes old new read × (length read ≤ most)

@@ -1,0 +1,68 @@
+ghost use Rattle.std.specs.Prelude.{◌≡◌, ◌≤◌, ◌<◌, ◌⊎◌, take, length, vec_len, IfOk, IfErr, IfSome, OnErr};
+ghost use Rattle.std.specs.Io.KnownBytes.{Consumes, IsAtEnd, Keeps};
+ghost use Rattle.wf_value.specs.Gives.{no_memory};
+ghost use Rattle.act_disk.specs.Failed.{stream_failed};
+ghost use Rattle.acts_ops.specs.Input.{IsReadAs, ReadsAtMost, RefusesInput};
+
+use std::alloc::Global;
+use std::io::{ErrorKind, Read};
+use wf_value::{Code, Refusal};
+
+/// The longest input that is read, in bytes.
+pub const MOST_BYTES: usize = 1_048_576;
+
+/// How many bytes are read at a time.
+const CHUNK: usize = 8192;
+
+/// One read, tried again where a signal interrupts it. A failed read is 61.
+fn read_some<R: Read>(reader: &mut R, buffer: &mut [u8]) -> Result<usize, Refusal>
+    ensures bound { IfOk result (λ n. n ≤ length buffer.new) }
+    ensures bytes { IfOk result (λ n. Consumes (R.remaining reader.old) (R.remaining reader.new) (take n buffer.new)) }
+    ensures end { IfOk result (λ n. n ≡ 0 → 0 < length buffer.old → IsAtEnd (R.remaining reader.new)) }
+    ensures kept { OnErr result (Keeps (R.remaining reader.old) (R.remaining reader.new)) }
+    ensures err { IfErr result (λ e. e ≡ stream_failed) }
+{
+    for _ in 0..u64::MAX {
+        match reader.read(buffer) {
+            Ok(count) => return Ok(count),
+            Err(e) if e.kind() == ErrorKind::Interrupted => {}
+            Err(_) => return Err(Refusal::Numbered(Code::StreamFailed)),
+        }
+    }
+    Err(Refusal::Numbered(Code::StreamFailed))
+}
+
+/// All bytes that a reader gives, up to a number of them. A failed read is 61, and want of memory 50.
+fn read_at_most<R: Read>(alloc: Global, reader: &mut R, most: usize) -> Result<Vec<u8>, Refusal>
+    ensures limit { ReadsAtMost most (R.remaining reader.old) (R.remaining reader.new) }
+    ensures bytes { IfOk result (λ v. Consumes (R.remaining reader.old) (R.remaining reader.new) v.items) }
+    ensures bound { IfOk result (λ v. vec_len v ≤ most) }
+    ensures end { IfOk result (λ v. vec_len v < most → IsAtEnd (R.remaining reader.new)) }
+    ensures err { IfErr result (λ e. (e ≡ stream_failed) ⊎ (e ≡ no_memory)) }
+{
+    let mut bytes = Vec::new(alloc);
+    let mut buffer = [0; CHUNK];
+    while bytes.len() < most {
+        let room = (most - bytes.len()).min(CHUNK);
+        let count = read_some(reader, &mut buffer[..room])?;
+        if count == 0 {
+            break;
+        }
+        bytes.extend_from_slice(&buffer[..count])?;
+    }
+    Ok(bytes)
+}
+
+/// A whole input. One over 1,048,576 bytes is refused 76, and no more than 1,048,577 bytes are read. A failed read is 61,
+/// and want of memory 50.
+pub fn read_input<R: Read>(alloc: Global, reader: &mut R) -> Result<Vec<u8>, Refusal>
+    ensures read { ReadsAtMost 1048577 (R.remaining reader.old) (R.remaining reader.new) }
+    ensures whole { IfOk result (λ v. IfSome (R.remaining reader.old) (IsReadAs v.items)) }
+    ensures refused { IfErr result (λ e. IfSome (R.remaining reader.old) (RefusesInput e)) }
+{
+    let input = read_at_most(alloc, reader, MOST_BYTES + 1)?;
+    if input.len() > MOST_BYTES {
+        return Err(Refusal::Numbered(Code::InputTooLong));
+    }
+    Ok(input)
+}

@@ -1,0 +1,22 @@
+//! What the commands of the program `acts` do, over the reader, the disk and the writer that they are given.
+//! `run_script` plays a script, and writes one answer for each line that is not empty. `run_check` reads a
+//! workflow, and writes a line for each leg. `run_init` makes a store on a disk, and `run_show` writes the
+//! view of each run of one.
+#![tactic(auto)]
+
+mod answer;
+mod check;
+mod fields;
+mod init;
+mod input;
+mod line;
+mod lines;
+mod output;
+mod play;
+mod show;
+
+pub use check::run_check;
+pub use init::run_init;
+pub use input::MOST_BYTES;
+pub use play::run_script;
+pub use show::run_show;

@@ -1,0 +1,109 @@
+ghost use Rattle.std.specs.Prelude.{◌≡◌, ◌⊎◌, ◌++◌, ◌∷◌, [], ℕ, List, take, IfErr, IfOk, IfSome, OnOk};
+ghost use Rattle.std.specs.Io.KnownBytes.{Appends};
+ghost use Rattle.wf_value.specs.Gives.{no_memory};
+ghost use Rattle.act_disk.specs.Failed.{device_failed, stream_failed};
+ghost use Rattle.acts_ops.specs.Input.{ReadsAtMost};
+ghost use Rattle.acts_ops.specs.PlainStore.{start, without_disk};
+ghost use Rattle.acts_ops.specs.Play.{IsAnswer, PlaysFrom, Ends};
+
+use crate::answer::{answer_line, answer_to};
+use crate::input::read_input;
+use crate::lines::first_line;
+use crate::output::{flush, write_whole};
+use act_disk::{Disk, MemoryDisk};
+use act_store::Store;
+use std::alloc::Global;
+use std::io::{Read, Write};
+use wf_value::Refusal;
+
+/// How long each of the two areas of a script's store is, in bytes.
+const AREA: u64 = 8_388_608;
+
+/// An empty store in memory.
+fn store_in_memory(alloc: Global) -> Result<Store<MemoryDisk>, Refusal>
+    ensures made { IfOk result (λ s. without_disk s ≡ start) }
+    ensures refused { IfErr result (λ e. e ≡ device_failed) }
+{
+    match Store::init(alloc, MemoryDisk::new(alloc), AREA) {
+        Ok(store) => Ok(store),
+        Err((_, refusal)) => Err(refusal),
+    }
+}
+
+fn play_line<D: Disk, W: Write>(
+    alloc: Global,
+    store: &mut Store<D>,
+    line: &[u8],
+    writer: &mut W,
+) -> Result<(), Refusal>
+    ensures all { OnOk result ((a : List ℕ) × IsAnswer (without_disk store.old) line.now a (without_disk store.new)
+        × Appends (W.contents writer.old) (W.contents writer.new) (a ++ 10 ∷ [])) }
+    ensures front { (a : List ℕ) × (n : ℕ) × IsAnswer (without_disk store.old) line.now a (without_disk store.new)
+        × Appends (W.contents writer.old) (W.contents writer.new) (take n (a ++ 10 ∷ [])) }
+    ensures err { IfErr result (λ e. (e ≡ stream_failed) ⊎ (e ≡ no_memory)) }
+{
+    let answer = answer_to(alloc, store, line);
+    let text = answer_line(alloc, &answer)?;
+    write_whole(writer, text.as_bytes())
+}
+
+/// Plays a script over a store.
+fn play<D: Disk, W: Write>(
+    alloc: Global,
+    store: &mut Store<D>,
+    script: &[u8],
+    writer: &mut W,
+) -> Result<(), Refusal>
+    ensures all { OnOk result ((out : List ℕ) × Appends (W.contents writer.old) (W.contents writer.new) out
+        × PlaysFrom (without_disk store.old) script.now out) }
+    ensures front { (out : List ℕ) × (rest : List ℕ) × Appends (W.contents writer.old) (W.contents writer.new) out
+        × PlaysFrom (without_disk store.old) script.now (out ++ rest) }
+    ensures err { IfErr result (λ e. (e ≡ stream_failed) ⊎ (e ≡ no_memory)) }
+{
+    let mut rest = script;
+    while let Some((line, after)) = first_line(rest) {
+        if !line.is_empty() {
+            play_line(alloc, store, line, writer)?;
+        }
+        rest = after;
+    }
+    Ok(())
+}
+
+/// Reads a script, and plays it over a store that is empty.
+fn play_input<D: Disk, R: Read, W: Write>(
+    alloc: Global,
+    store: &mut Store<D>,
+    reader: &mut R,
+    writer: &mut W,
+) -> Result<(), Refusal>
+    requires { without_disk store.old ≡ start }
+    ensures read { ReadsAtMost 1048577 (R.remaining reader.old) (R.remaining reader.new) }
+    ensures written { IfSome (R.remaining reader.old) (λ script. (out : List ℕ)
+        × Appends (W.contents writer.old) (W.contents writer.new) out × Ends script out result) }
+{
+    let script = read_input(alloc, reader)?;
+    match play(alloc, store, &script, writer) {
+        Ok(()) => flush(writer),
+        Err(refusal) => Err(refusal),
+    }
+}
+
+/// Plays a script over a store in memory, which begins empty: reads it, and writes one answer and a line feed
+/// for each line that is not empty. A script over 1,048,576 bytes is refused 76 with nothing written, and no
+/// more than 1,048,577 bytes are read. A failed read or write is 61. Where memory is refused for a line's
+/// command, the line is answered `refused 50` and the store is as it was; refused to the disk in memory it is
+/// answered 51 in a commit, after which each step is answered 52, and ends the call with 51, before anything is
+/// read, as the store is made; refused elsewhere it ends the call with 50.
+pub fn run_script<R: Read, W: Write>(
+    alloc: Global,
+    reader: &mut R,
+    writer: &mut W,
+) -> Result<(), Refusal>
+    ensures read { ReadsAtMost 1048577 (R.remaining reader.old) (R.remaining reader.new) }
+    ensures written { IfSome (R.remaining reader.old) (λ script. (out : List ℕ)
+        × Appends (W.contents writer.old) (W.contents writer.new) out × Ends script out result) }
+{
+    let mut store = store_in_memory(alloc)?;
+    play_input(alloc, &mut store, reader, writer)
+}

@@ -1,0 +1,17 @@
+//! The first run of a new machine: plays the script on standard input, as `acts play` does, without the command line's library,
+//! whose trial takes as long as half of the rest.
+#![tactic(auto)]
+
+use acts_ops::run_script;
+use std::io;
+use std::process::ExitCode;
+
+fn main(rt: HostRuntime) -> ExitCode {
+    match run_script(rt.alloc(), &mut rt.reader(), &mut io::writer(&rt)) {
+        Ok(()) => ExitCode::from(0),
+        Err(refusal) => {
+            let _ = rt.eprintln(format_args!("first_run: {refusal}"));
+            ExitCode::from(1)
+        }
+    }
+}
