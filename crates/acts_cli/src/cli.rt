@@ -8,7 +8,7 @@ use clap::error::ErrorKind;
 use clap::{Arg, ArgMatches, Command, Error};
 use std::alloc::{AllocError, Global};
 use std::fs::{File, Files};
-use std::io::BufWriter;
+use std::io::{BufWriter, Printer};
 use std::process::ExitCode;
 use std::rt::Env;
 use std::{env, io};
@@ -188,26 +188,23 @@ fn parse_by<'a>(command: &mut Command<'a>, words: &'a [String]) -> Result<Reques
 
 /// The words of the command line.
 fn words<R: Env + AllocGlobal>(rt: &R) -> Result<Vec<String>, Refusal> {
-    match env::args(rt) {
-        Ok(words) => Ok(words.collect(rt.alloc())?),
-        Err(_) => Err(Refusal::Numbered(Code::NoMemory)),
-    }
+    let words = env::args(rt).map_err(|_| Refusal::Numbered(Code::NoMemory))?;
+    Ok(words.collect(rt.alloc())?)
+}
+
+/// A writer to standard output that gathers what it is given.
+fn output<R: Print + AllocGlobal>(rt: &R) -> Result<BufWriter<Printer<'_, R>>, Refusal> {
+    BufWriter::new(rt.alloc(), io::writer(rt)).map_err(|_| Refusal::Numbered(Code::NoMemory))
 }
 
 /// Plays the script on standard input to standard output.
 fn play<R: Input + Print + AllocGlobal>(rt: &R) -> Result<(), Refusal> {
-    match BufWriter::new(rt.alloc(), io::writer(rt)) {
-        Ok(mut writer) => run_script(rt.alloc(), &mut rt.reader(), &mut writer),
-        Err(_) => Err(Refusal::Numbered(Code::NoMemory)),
-    }
+    run_script(rt.alloc(), &mut rt.reader(), &mut output(rt)?)
 }
 
 /// Checks the workflow on standard input, and prints its legs to standard output.
 fn check<R: Input + Print + AllocGlobal>(rt: &R) -> Result<(), Refusal> {
-    match BufWriter::new(rt.alloc(), io::writer(rt)) {
-        Ok(mut writer) => run_check(rt.alloc(), &mut rt.reader(), &mut writer),
-        Err(_) => Err(Refusal::Numbered(Code::NoMemory)),
-    }
+    run_check(rt.alloc(), &mut rt.reader(), &mut output(rt)?)
 }
 
 /// Makes a store in a file, which is made first where it is not there.
@@ -217,19 +214,13 @@ fn init<R: Print + Files<File = File> + AllocGlobal>(
     area: AreaLength,
 ) -> Result<(), Refusal> {
     let disk: RealDisk = FileDisk::create(rt, file)?;
-    match BufWriter::new(rt.alloc(), io::writer(rt)) {
-        Ok(mut writer) => run_init(rt.alloc(), disk, area.bytes, &mut writer),
-        Err(_) => Err(Refusal::Numbered(Code::NoMemory)),
-    }
+    run_init(rt.alloc(), disk, area.bytes, &mut output(rt)?)
 }
 
 /// Shows the runs of the store in a file.
 fn show<R: Print + Files<File = File> + AllocGlobal>(rt: &R, file: &str) -> Result<(), Refusal> {
     let disk: RealDisk = FileDisk::open(rt, file)?;
-    match BufWriter::new(rt.alloc(), io::writer(rt)) {
-        Ok(mut writer) => run_show(rt.alloc(), disk, &mut writer),
-        Err(_) => Err(Refusal::Numbered(Code::NoMemory)),
-    }
+    run_show(rt.alloc(), disk, &mut output(rt)?)
 }
 
 /// Prints the text of `clap`, and gives its status: 0 for a help text, and 2 for a fault.
@@ -237,17 +228,15 @@ fn tell<R: Print + Eprint>(rt: &R, error: &Error) -> Result<u8, Refusal> {
     if error.kind() == ErrorKind::OutOfMemory {
         return Err(Refusal::Numbered(Code::NoMemory));
     }
-    if error.print(rt).is_err() {
-        return Err(Refusal::Numbered(Code::StreamFailed));
-    }
+    error
+        .print(rt)
+        .map_err(|_| Refusal::Numbered(Code::StreamFailed))?;
     Ok(if error.use_stderr() { 2 } else { 0 })
 }
 
 fn print_line<R: Print>(rt: &R, explanation: &Explanation) -> Result<(), Refusal> {
-    match rt.println(explanation) {
-        Ok(()) => Ok(()),
-        Err(_) => Err(Refusal::Numbered(Code::StreamFailed)),
-    }
+    rt.println(explanation)
+        .map_err(|_| Refusal::Numbered(Code::StreamFailed))
 }
 
 fn obey<R: Input + Print + Eprint + Env + Files<File = File> + AllocGlobal>(
