@@ -1,4 +1,6 @@
-ghost use Rattle.std.specs.Prelude.{◌≡◌, ◌↔◌, ◌+◌, ◌<◌, ◌≤◌, ◌^◌, max, length, take, drop, is_err, OnOk, OnErr};
+ghost use Rattle.std.specs.Prelude.{◌≡◌, ◌↔◌, ◌+◌, ◌<◌, ◌≤◌, ◌^◌, ◌∷◌, IsTrue, false, max, length, take, drop, is_err, IfOk, IfErr};
+ghost use Rattle.std.specs.Prelude.{OnOk, OnErr};
+ghost use Rattle.act_disk.specs.Failed.{stream_failed};
 ghost use Rattle.act_disk.specs.FileCalls.{IsLong, IsSoundUntil, length_after};
 ghost use Rattle.act_disk.specs.Images.{Torn, IsWritten, Follows, LeavesAny, SameImages, Only, Elapses, CountsFault};
 
@@ -26,9 +28,6 @@ pub struct FileDisk<F: SystemFile> {
 }
 
 impl<F: SystemFile> FileDisk<F> {
-    ghost use Rattle.std.specs.Prelude.{◌≡◌, ◌∷◌, IsTrue, IfOk, IfErr};
-    ghost use Rattle.act_disk.specs.Failed.{stream_failed};
-    ghost use Rattle.std.specs.Prelude.{false};
     ghost use Rattle.act_disk.specs.FileDisk.{file_of, len_of, faults_of, failed_of};
     ghost use Rattle.act_disk.specs.SystemCalls.{Measured, is_sound};
 

@@ -1,5 +1,5 @@
 //! The system's own files. Each method makes one call of the system, and notes it with its answer.
-ghost use Rattle.std.specs.Prelude.{◌≡◌, ◌<◌, Ok, IfOk, is_ok};
+ghost use Rattle.std.specs.Prelude.{◌≡◌, ◌<◌, [], Ok, IfOk, is_ok};
 
 use crate::call_log::CallLog;
 use crate::start::Start;
@@ -20,7 +20,6 @@ pub struct HostFile<S: Start> {
 }
 
 impl<S: Start> HostFile<S> {
-    ghost use Rattle.std.specs.Prelude.{◌≡◌, []};
     ghost use Rattle.act_disk.specs.HostFile.{calls_of};
 
     /// A file that was just opened, of which this process asked nothing yet.

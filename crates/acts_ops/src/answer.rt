@@ -34,7 +34,7 @@ pub fn answer_to<D: Disk>(alloc: Global, store: &mut Store<D>, line: &[u8]) -> P
 }
 
 /// The text of an answer.
-fn text_of(alloc: Global, answer: &Played) -> Result<String, Refusal>
+fn answer_text(alloc: Global, answer: &Played) -> Result<String, Refusal>
     ensures { Gives (λ text. string_bytes text) result (Ok (played_text answer.now)) }
 {
     match answer {
@@ -48,7 +48,7 @@ fn text_of(alloc: Global, answer: &Played) -> Result<String, Refusal>
 pub fn answer_line(alloc: Global, answer: &Played) -> Result<String, Refusal>
     ensures { Gives (λ text. string_bytes text) result (Ok (played_text answer.now ++ 10 ∷ [])) }
 {
-    let mut text = text_of(alloc, answer)?;
+    let mut text = answer_text(alloc, answer)?;
     text.push_str("\n")?;
     Ok(text)
 }

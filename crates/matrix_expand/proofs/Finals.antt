@@ -192,9 +192,11 @@ added_is test name front (c ∷ cs) behind =
       | false ↦ or_none (last_value (filter test cs) name)
     ]
 
-pub map-map : {A B C : Type 0} (f : A → B) (g : B → C) (h : A → C) → ((x : A) → g (f x) ≡ h x) → (xs : List A) → map g (map f xs) ≡ map h xs
-map-map f g h e [] = refl
-map-map f g h e (x ∷ xs) = ap (λ y. y ∷ map g (map f xs)) (e x) ∙ ap (λ ys. h x ∷ ys) (map-map f g h e xs)
+-- two maps in turn are one, where that gives of each value what they give
+pub mapped_twice : {A B C : Type 0} (f : A → B) (g : B → C) (h : A → C) → ((x : A) → g (f x) ≡ h x) → (xs : List A)
+    → map g (map f xs) ≡ map h xs
+mapped_twice f g h e [] = refl
+mapped_twice f g h e (x ∷ xs) = ap (λ y. y ∷ map g (map f xs)) (e x) ∙ ap (λ ys. h x ∷ ys) (mapped_twice f g h e xs)
 
 -- the code's final combination of a number is that of its original
 pub final_is : (m : MatrixLists) (entries : List EntryValue) (number : ℕ) → names_rise (axes_of m.variables) ≡ true
@@ -213,7 +215,7 @@ final_is m entries number axes_rise sorts =
     let flag : get_or flags (length patterns) false ≡ true = get_or_at (map (pattern_agrees number) patterns) true [] false
     (length patterns) (length-map patterns (pattern_agrees number)) in
     let flags_are : flags ≡ map (agrees m original) m.include ++ true ∷ [] = ap (λ fs. fs ++ true ∷ [])
-    (map-map (pattern_of axes) (pattern_agrees number) (agrees m original) (λ object. sym (agrees_numbered m number object)) m.include)
+    (mapped_twice (pattern_of axes) (pattern_agrees number) (agrees m original) (λ object. sym (agrees_numbered m number object)) m.include)
     in
     same_from_find (final_from axes patterns entries number) (final_combination m original)
     (names_rise-firsts (flagged flags (merged entries own))

@@ -15,7 +15,7 @@ use Rattle.matrix_expand.specs.Numbered.{axes_of, axes_where, numbered_axes, ori
 use Rattle.matrix_expand.specs.Numbered.{kept_of, added_of, new_objects, kept_or_refusal}
 use Rattle.matrix_expand.specs.Values.{AxisValue, PatternValue, EntryValue}
 use Rattle.matrix_expand.proofs.Agreement.{kept_is, new_is}
-use Rattle.matrix_expand.proofs.Finals.{final_is, map-map}
+use Rattle.matrix_expand.proofs.Finals.{final_is, mapped_twice}
 use Rattle.wf_value.proofs.Rising.{name_cmp}
 use Rattle.wf_value.proofs.PassedOn.{same_Ok}
 
@@ -96,7 +96,7 @@ finals_where m zero entries numbers rise sorts none =
     ap (map (final_from [] (map (pattern_of []) m.include) entries)) (none refl)
     ∙ ap (λ ns. map (final_combination m) (map (original_at []) ns)) (sym (none refl))
 finals_where m (suc n) entries numbers rise sorts none =
-    sym (map-map (original_at (axes_of m.variables)) (final_combination m)
+    sym (mapped_twice (original_at (axes_of m.variables)) (final_combination m)
     (final_from (axes_of m.variables) (map (pattern_of (axes_of m.variables)) m.include) entries)
     (λ number. sym (final_is m entries number rise sorts)) numbers)
 

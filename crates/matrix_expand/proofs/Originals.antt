@@ -4,6 +4,7 @@ use Rattle.std.proofs.Common.{inl, inr, arith, length-append}
 use Rattle.std.specs.List.{flat_map, range_with_len}
 use Rattle.std.proofs.lemmas.List.{map-append, append_assoc, nil_from_length}
 use Rattle.std.proofs.lemmas.Nat.{div-mul-add}
+use Rattle.std.proofs.lemmas.Simd.{map-map}
 use Rattle.std.proofs.Math.Nat.{mul-add-div_right, mul-add-mod_self_right, mod-eq_of_lt}
 use Rattle.wf_value.specs.Matrix.{NamedValues}
 use Rattle.wf_value.specs.declared.scalar.Scalar.{Scalar}
@@ -63,7 +64,7 @@ with_value : (v : NamedValues) (vs : List NamedValues) (j : ℕ) → j < length 
     (range_with_len (j * choice_count vs) (choice_count vs))
 with_value v vs j l some all =
     ap (map (λ c. (v.0, get_or v.1 j Null) ∷ c)) all
-    ∙ map-map (original_at (axes_of vs)) (λ c. (v.0, get_or v.1 j Null) ∷ c) (range_with_len 0 (choice_count vs))
+    ∙ map-map (λ c. (v.0, get_or v.1 j Null) ∷ c) (original_at (axes_of vs)) (range_with_len 0 (choice_count vs))
     ∙ map_ranges (λ n. (v.0, get_or v.1 j Null) ∷ original_at (axes_of vs) n) (original_at (axes_of (v ∷ vs))) 0 (j * choice_count vs)
     (choice_count vs) (λ r below.
     let c = choice_count vs in
@@ -72,10 +73,6 @@ with_value v vs j l some all =
     ap (λ n. (v.0, get_or v.1 j Null) ∷ original_at (axes_of vs) n) start
     ∙ ap (λ o. (v.0, get_or v.1 j Null) ∷ o) (sym (periodic vs j r some))
     ∙ ap (λ i. (v.0, get_or v.1 i Null) ∷ original_at (axes_of vs) (j * c + r)) (sym place))
-  where
-    map-map : {A B C : Type 0} (f : A → B) (g : B → C) (xs : List A) → map g (map f xs) ≡ map (λ x. g (f x)) xs
-    map-map f g [] = refl
-    map-map f g (x ∷ xs) = ap (λ ys. g (f x) ∷ ys) (map-map f g xs)
 
 -- the value of the place behind a front
 get_or-behind : (front rest : List Scalar) (x : Scalar) → get_or (front ++ x ∷ rest) (length front) Null ≡ x

@@ -50,6 +50,7 @@ originals (v ∷ vs) = choices (v ∷ vs)
 abbrev pub removes : Combination → Combination → Bool
 removes object original = list_all (has_pair original) object
 
+-- the originals that no exclude object removes
 abbrev pub kept : MatrixLists → List Combination
 kept m = filter (λ original. not (list_any (λ object. removes object original) m.exclude)) (originals m.variables)
 

@@ -93,6 +93,7 @@ kept_parts replied.Nothing = (0, None)
 kept_parts (replied.Leased n) = (1, Some n)
 kept_parts replied.Done = (2, None)
 
+-- its spelling
 abbrev pub kept : Format Kept
 kept = parts kept_parts (pair byte lease)
 

@@ -1,5 +1,6 @@
 ghost use Rattle.std.specs.Prelude.{◌≡◌, Ok};
 ghost use Rattle.wf_value.specs.Gives.{Gives};
+ghost use Rattle.wf_value.specs.ScalarValue.{is_truthy};
 
 use std::alloc::Global;
 use wf_value::{Chars, Refusal, Scalar};
@@ -14,7 +15,6 @@ pub enum ScalarView<'a> {
 }
 
 impl<'a> ScalarView<'a> {
-    ghost use Rattle.wf_value.specs.ScalarValue.{is_truthy};
     ghost use Rattle.wf_expr.specs.ScalarView.{shown};
 
     pub fn of(scalar: &'a Scalar) -> ScalarView<'a>

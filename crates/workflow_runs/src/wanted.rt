@@ -76,7 +76,7 @@ fn known_text(alloc: Global, pieces: &[BoundPiece]) -> Result<Option<Chars>, Ref
     if !ask_nothing(pieces) {
         return Ok(None);
     }
-    let text = text_of(alloc, pieces)?;
+    let text = otherwise_text(alloc, pieces)?;
     if text.as_str().len() <= MOST_TEXT_BYTES {
         Ok(Some(text))
     } else {
@@ -97,7 +97,7 @@ fn ask_nothing(pieces: &[BoundPiece]) -> bool
 }
 
 /// What the pieces say where no need has a result.
-fn text_of(alloc: Global, pieces: &[BoundPiece]) -> Result<Chars, Refusal>
+fn otherwise_text(alloc: Global, pieces: &[BoundPiece]) -> Result<Chars, Refusal>
     ensures { Gives (λ t. t) result (Ok (flat_map (λ piece. piece.otherwise) pieces.now)) }
 {
     let mut text = String::new(alloc);

@@ -83,7 +83,7 @@ fn played<D: Disk>(
 }
 
 /// What a step was answered, printed as for the call by itself.
-fn text_of(alloc: Global, answer: &Played) -> Result<Chars, Refusal> {
+fn answer_text(alloc: Global, answer: &Played) -> Result<Chars, Refusal> {
     match answer {
         Played::Replied(reply) => reply.text(alloc),
         Played::Count(count) => covered_text(alloc, *count),
@@ -94,7 +94,7 @@ fn text_of(alloc: Global, answer: &Played) -> Result<Chars, Refusal> {
 fn expect_answers(rt: &impl Abort, alloc: Global, answers: &[Played], rows: &[Row]) {
     holds!(rt; answers.len() == rows.len());
     for (answer, row) in answers.iter().zip(rows) {
-        let text = text_of(alloc, answer).expect(rt, "a text");
+        let text = answer_text(alloc, answer).expect(rt, "a text");
         expect_text(rt, text.as_str(), row.1);
     }
 }

@@ -10,7 +10,7 @@ use crate::run_table_tests::tables::{GONE_ON, LEASED, LEASED_RUNS};
 use crate::run_table_tests::{BUILD, Row};
 use crate::table_text_tests::no_tables::OTHER_COUNTS;
 use crate::table_text_tests::tables::{ROWS, bytes_of};
-use crate::table_text_tests::whole_tables::text_of;
+use crate::table_text_tests::whole_tables::text_of_table;
 use act_disk::{Disk, MemoryDisk};
 use act_store::Store;
 use run_table::Table;
@@ -46,7 +46,7 @@ fn lease_all(alloc: Global, table: &mut Table) -> Result<(), Refusal> {
 fn leased_text(rt: &impl Abort, alloc: Global) -> Result<Vec<u8>, Refusal> {
     let mut table = Table::new(alloc);
     lease_all(alloc, &mut table)?;
-    text_of(rt, alloc, &table)
+    text_of_table(rt, alloc, &table)
 }
 
 /// That the printed view of a run is this.

@@ -10,7 +10,7 @@ use wf_reader::read_workflow;
 use wf_value::Refusal;
 
 /// The text of a template without expressions.
-fn text_of(template: &Template) -> &str {
+fn plain_text(template: &Template) -> &str {
     match template.pieces() {
         [Piece::Plain(text)] => text.as_str(),
         _ => "",
@@ -20,7 +20,7 @@ fn text_of(template: &Template) -> &str {
 fn expect_labels(rt: &impl Abort, found: &[Template], want: &[&str]) {
     holds!(rt; found.len() == want.len());
     for (label, text) in found.iter().zip(want) {
-        expect_text(rt, text_of(label), text);
+        expect_text(rt, plain_text(label), text);
     }
 }
 

@@ -19,7 +19,7 @@ fn table_of(rt: &impl Abort, alloc: Global, bytes: &[u8], left: usize) -> Result
 }
 
 /// The bytes of a table.
-pub fn text_of(rt: &impl Abort, alloc: Global, table: &Table) -> Result<Vec<u8>, Refusal> {
+pub fn text_of_table(rt: &impl Abort, alloc: Global, table: &Table) -> Result<Vec<u8>, Refusal> {
     holds!(rt; table.runners().len() <= 4_294_967_295);
     let mut text = Vec::new(alloc);
     write_table(&mut text, table)?;
@@ -38,7 +38,7 @@ fn expect_row(rt: &impl Abort, alloc: Global, row: &Row<'_>) -> Result<(), Refus
 fn written_again(rt: &impl Abort, alloc: Global, row: &Row<'_>) -> Result<Vec<u8>, Refusal> {
     let bytes = bytes_and_7(alloc, row)?;
     let table = table_of(rt, alloc, bytes.as_slice(), 1)?;
-    text_of(rt, alloc, &table)
+    text_of_table(rt, alloc, &table)
 }
 
 fn expect_empty(rt: &impl Abort, alloc: Global) -> Result<(), Refusal> {

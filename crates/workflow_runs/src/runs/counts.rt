@@ -92,8 +92,8 @@ fn copy_of(alloc: Global, workflow: &Workflow) -> Result<Workflow, Refusal>
     ensures err { ErrsOnlyByMemory result }
     ensures same { IfOk result (λ copy. texts_of copy ≡ texts_of workflow.now) }
 {
-    let repo = text_of(alloc, workflow.0.as_str())?;
-    let path = text_of(alloc, workflow.1.as_str())?;
+    let repo = string_of(alloc, workflow.0.as_str())?;
+    let path = string_of(alloc, workflow.1.as_str())?;
     Ok((repo, path))
 }
 
@@ -102,13 +102,13 @@ pub(crate) fn workflow_of(alloc: Global, prepared: &Prepared) -> Result<Workflow
     ensures err { ErrsOnlyByMemory result }
     ensures is { IfOk result (λ workflow. IsOf workflow prepared.now) }
 {
-    let repo = text_of(alloc, prepared.repo().as_str())?;
-    let path = text_of(alloc, prepared.path().as_str())?;
+    let repo = string_of(alloc, prepared.repo().as_str())?;
+    let path = string_of(alloc, prepared.path().as_str())?;
     Ok((repo, path))
 }
 
 /// A copy of a text.
-pub(crate) fn text_of(alloc: Global, text: &str) -> Result<String, Refusal>
+pub(crate) fn string_of(alloc: Global, text: &str) -> Result<String, Refusal>
     ensures { Gives string_bytes result (Ok text.now) }
 {
     Ok(Chars::from_str(alloc, text)?.into_string())

@@ -5,7 +5,7 @@ ghost use Rattle.std.specs.Prelude.{◌≡◌, ◌&&◌, ℕ, IfOk, List, None, 
 ghost use Rattle.std.specs.Str.{bytes_eq};
 ghost use Rattle.workflow_runs.specs.BoundGroups.{ErrsOnlyByMemory};
 
-use crate::runs::counts::text_of;
+use crate::runs::counts::string_of;
 use run_plan::DeliveryId;
 use std::alloc::Global;
 use std::collections::BTreeMap;
@@ -61,7 +61,7 @@ impl Places {
             ≡ (if bytes_eq delivery.now other then Some place else get_by_text self.old.places other)) }
         ensures same { OnErr result ((other : List ℕ) → get_by_text self.new.places other ≡ get_by_text self.old.places other) }
     {
-        let key = text_of(alloc, delivery.as_str())?;
+        let key = string_of(alloc, delivery.as_str())?;
         self.places.insert(key, place)?;
         Ok(())
     }

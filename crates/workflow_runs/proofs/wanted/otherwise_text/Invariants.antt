@@ -2,7 +2,7 @@ use Rattle.std.proofs.Common.{◌≡◌, take}
 use Rattle.std.specs.Prelude.{string_bytes}
 use Rattle.std.specs.List.{flat_map}
 use Rattle.wf_expr.specs.declared.bound.BoundPiece.{BoundPiece}
-use Rattle.workflow_runs.proofs.wanted.text_of.Given as goal
+use Rattle.workflow_runs.proofs.wanted.otherwise_text.Given as goal
 
 -- the pieces so far have been joined
 abbrev pub invariant-loop-piece : goal.invariant-loop-piece
