@@ -22,8 +22,8 @@ example: build
 	$(ACTS) play < examples/fan_out_fan_in.script | diff - examples/fan_out_fan_in.answers
 
 # The merge gate: every proof, but for what an earlier run on this machine has passed; the must-fail edits, the tests and the stored runs.
-# By itself `rt ci` keeps over 15 GB free for a crate as long as `acts_tests`, whose check takes up to 11, and so a processor waits. Here
-# each processor has a check, as far as there are 5 GB for it. CRATES="NAME .." tries these alone, with those below them.
+# By itself `rt ci` keeps memory free for a check by the length of its crate, more than it takes, and so a processor waits. Here each
+# processor has a check, as far as there are 5 GB for it. CRATES="NAME .." tries these alone, with those below them.
 LANES ?= $(shell awk -v most="$$(nproc)" '/^MemAvailable/ { held = int($$2 / 5000000); print held < 1 ? 1 : held < most ? held : most }' /proc/meminfo)
 
 test:
