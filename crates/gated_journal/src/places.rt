@@ -1,4 +1,4 @@
-/// Where the next record of the area that stands goes, and the next part of the other one.
+/// The offset in the standing area where its next record goes (`used`), and that in the other area where its next part goes (`at`).
 #[derive(Clone, Copy)]
 pub struct Places {
     pub used: u64,
