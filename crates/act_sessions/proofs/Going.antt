@@ -1,0 +1,1 @@
+-- A session from turn to turn, and its end.

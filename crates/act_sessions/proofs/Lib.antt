@@ -1,0 +1,5 @@
+-- Lemmas on sessions.
+mod Going
+mod Listing
+mod One
+mod Turning
