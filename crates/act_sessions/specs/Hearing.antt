@@ -7,10 +7,10 @@ use Rattle.act_sessions.specs.Rules.{Rules}
 
 -- of all the bytes, what is left in the buffer
 abbrev pub Hears : {F : Type 0} → Rules F → Option (List ℕ) → List ℕ → List ℕ → Result (Option (Request F)) Trouble → Type 0
-Hears p input all left (Ok (Some r)) = p.reads all r left
+Hears p input all left (Ok (Some r)) = p.reads all r left × (length left ≤ length all)
 Hears p input all left (Ok None) = p.waits left × (all ≡ left) × IsAtEnd input
-Hears p input all left (Err e) = length all ≤ p.limit
+Hears p input all left (Err e) = ⊤
 
 abbrev pub Awaits : {F : Type 0} → Rules F → Option (List ℕ) → Option (List ℕ) → List ℕ → List ℕ → Result (Option (Request F)) Trouble → Type 0
 Awaits p input input_new buffer left r =
-    (piece : List ℕ) × Consumes input input_new piece × Hears p input_new (buffer ++ piece) left r
+    (piece : List ℕ) × Consumes input input_new piece × (length (buffer ++ piece) ≤ p.limit) × Hears p input_new (buffer ++ piece) left r

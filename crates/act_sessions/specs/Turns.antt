@@ -1,5 +1,5 @@
 -- What one turn does, and how a session stands between turns.
-use Rattle.std.specs.Prelude.{◌≡◌, ◌⊎◌, ℕ, ◌+◌, ◌≤◌, ◌<◌, Bool, List, ◌++◌, length, take, Option, Some, None, Result, Ok, Err}
+use Rattle.std.specs.Prelude.{◌≡◌, ◌⊎◌, ℕ, ◌+◌, ◌≤◌, ◌<◌, Bool, true, false, List, ◌++◌, length, take, Option, Some, None, Result, Ok, Err}
 use Rattle.std.specs.Io.KnownBytes.{Consumes}
 use Rattle.act_sessions.specs.declared.request.Request.{Request}
 use Rattle.act_sessions.specs.declared.transcript.Ending.{Ending}
@@ -9,7 +9,7 @@ use Rattle.act_sessions.specs.declared.transcript.Transcript.{Transcript}
 use Rattle.act_sessions.specs.declared.trouble.Trouble.{Trouble}
 use Rattle.act_sessions.specs.declared.trouble.Trouble.TheVariants as trouble
 use Rattle.act_sessions.specs.Rules.{Rules, Turn, Reads, request_of, told_of, told_at, is_last, IsOpen, turn_text, texts}
-use Rattle.act_sessions.specs.Session.{Moment, Writes, Did, ArePassed, IsFront}
+use Rattle.act_sessions.specs.Session.{Moment, Writes, Did, ArePassed, IsDone, IsFront}
 use Rattle.act_sessions.specs.Told.{AreAsked}
 
 -- nothing was written
@@ -78,3 +78,9 @@ Stops p trouble.Broken turns out = IsFront p turns out
 abbrev pub HasPaused : {F : Type 0} → Rules F → Trouble → Option (List ℕ) → Option (List ℕ) → Moment → Moment → Type 0
 HasPaused {F} p e input input_new old new =
     (turns : List (Turn F)) × (rest : List ℕ) × (out : List ℕ) × Did p input input_new old new turns rest out × Stops p e turns out
+
+-- How one round ends, after which a session stands between two turns, or is over, or can't go on.
+abbrev pub EndsRound : {F : Type 0} → Rules F → Option (List ℕ) → Option (List ℕ) → Moment → Moment → List ℕ → ℕ → Result Bool Trouble → Type 0
+EndsRound p input input_new old new buffer n (Ok true) = IsDone p input input_new old new
+EndsRound p input input_new old new buffer n (Ok false) = Goes p input input_new old new buffer n
+EndsRound p input input_new old new buffer n (Err e) = HasPaused p e input input_new old new

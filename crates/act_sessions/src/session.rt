@@ -1,13 +1,12 @@
-ghost use Rattle.std.specs.Prelude.{◌≡◌, ◌≢◌, ◌<◌, ◌+◌, ◌==◌, ◌||◌, ◌++◌, ◌∷◌, [], List, IfOk, IfErr, OnErr, vec_len, vec_capacity};
-ghost use Rattle.wf_value.specs.Gives.{no_memory};
+ghost use Rattle.std.specs.Prelude.{Option, ◌≡◌, ◌≢◌, ◌<◌, ◌≤◌, ◌+◌, ◌==◌, ◌||◌, ◌++◌, ◌∷◌, [], ℕ, List, IfOk, IfErr, OnErr, vec_len, vec_capacity};
 ghost use Rattle.act_sessions.specs.Ends.{Ends};
-ghost use Rattle.act_sessions.specs.Session.{moment, start, IsCut, IsDone};
+ghost use Rattle.act_sessions.specs.Session.{moment, start, IsCut, IsDone, Moment};
 ghost use Rattle.act_sessions.specs.Told.{AreAsked, Told, told_by};
-ghost use Rattle.act_sessions.specs.Turns.{GivesUp, Says, TakesTurn};
+ghost use Rattle.act_sessions.specs.Turns.{EndsRound, GivesUp, Goes, Says, TakesTurn};
 
 use crate::answer::Answer;
 use crate::input::await_request;
-use crate::last::ends_session;
+use crate::last::ends_turn;
 use crate::output::respond;
 use crate::protocol::Protocol;
 use crate::request::{Demand, Request};
@@ -73,7 +72,7 @@ fn take_command<P: Protocol, W: Write, A: Answer>(
 {
     let copy = make_ready(alloc, transcript, &command)?;
     let answer = answerer.ask(command);
-    let last = is_last(closes || ends_session(&answer), count, P::most());
+    let last = is_last(ends_turn(closes, &answer), count, P::most());
     let text = P::answer_text(alloc, last, &answer);
     transcript.asked.push_reserved(Asked {
         command: copy,
@@ -148,6 +147,29 @@ fn give_up<P: Protocol, W: Write>(
     })
 }
 
+/// Waits for one request, and answers it; true where it is the last of the session, and at the end of the input.
+fn take_round<P: Protocol, R: Read, W: Write, A: Answer>(
+    alloc: Global,
+    reader: &mut R,
+    writer: &mut W,
+    answerer: &mut A,
+    buffer: &mut Vec<u8>,
+    transcript: &mut Transcript,
+    count: u64,
+) -> Result<bool, Trouble>
+    requires room { count < P.rules.most }
+    requires held { vec_len buffer.old ≤ P.rules.limit }
+    ensures { (input : Option (List ℕ)) (first : Moment)
+        → Goes P.rules input (R.remaining reader.old) first (moment (W.contents writer.old) (A.asked answerer.old) transcript.old) buffer.old.items count
+        → EndsRound P.rules input (R.remaining reader.new) first (moment (W.contents writer.new) (A.asked answerer.new) transcript.new)
+        buffer.new.items (count + 1) result }
+{
+    match await_request::<P, R>(alloc, reader, buffer)? {
+        Some(request) => take_turn::<P, W, A>(alloc, writer, answerer, transcript, request, count),
+        None => Ok(true),
+    }
+}
+
 /// Reads requests from a stream of bytes, in whatever pieces they come, asks their commands and writes the answers, until the session ends.
 /// Room to note a command and a copy of it are made before it is asked.
 pub fn run<P: Protocol, R: Read, W: Write, A: Answer>(
@@ -170,25 +192,20 @@ pub fn run<P: Protocol, R: Read, W: Write, A: Answer>(
 {
     let mut buffer = Vec::new(alloc);
     let mut transcript = Transcript::new(alloc);
-    let mut count = 0;
-    'rounds: loop {
-        match await_request::<P, R>(alloc, reader, &mut buffer) {
-            Ok(Some(request)) => {
-                match take_turn::<P, W, A>(
-                    alloc,
-                    writer,
-                    answerer,
-                    &mut transcript,
-                    request,
-                    count,
-                ) {
-                    Ok(true) => return Ok(transcript.ended(Ending::Done)),
-                    Ok(false) => count += 1,
-                    Err(trouble) => return give_up::<P, W>(writer, transcript, trouble),
-                }
-            }
-            Ok(None) => return Ok(transcript.ended(Ending::Done)),
+    'rounds: for count in 0..P::most() {
+        match take_round::<P, R, W, A>(
+            alloc,
+            reader,
+            writer,
+            answerer,
+            &mut buffer,
+            &mut transcript,
+            count,
+        ) {
+            Ok(true) => return Ok(transcript.ended(Ending::Done)),
+            Ok(false) => {}
             Err(trouble) => return give_up::<P, W>(writer, transcript, trouble),
         }
     }
+    unreachable!()
 }
