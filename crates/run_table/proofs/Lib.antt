@@ -46,6 +46,7 @@ pub mod OwnMoves
 pub mod OwnRun
 pub mod PlacedOne
 pub mod ReachedTables
+pub mod Remembered
 pub mod ReportKeeps
 pub mod RulesDecided
 pub mod RulesLaw

@@ -9,6 +9,7 @@ pub mod GroupLawTest
 pub mod GroupSets
 pub mod Histories
 pub mod OneByOne
+pub mod Remembered
 pub mod Skips
 pub mod Sound
 pub mod Step
