@@ -31,6 +31,7 @@ pub mod HistoryLaw
 pub mod HistoryWords
 pub mod HolderStatus
 pub mod HoldersOnce
+pub mod HoldersSaid
 pub mod JobsText
 pub mod JoinedLegs
 pub mod KeepsSound

@@ -4,6 +4,7 @@ pub mod Claims
 pub mod ExactlyOnce
 pub mod GroupChanges
 pub mod GroupHistories
+pub mod GroupHolders
 pub mod GroupLaw
 pub mod GroupLawTest
 pub mod GroupSets

@@ -10,6 +10,7 @@ ghost use Rattle.group_name.specs.Group.{Group};
 ghost use Rattle.run_table.specs.ExactlyOnce.{HasTurn, HaveNoLaterTurn, IsRefused};
 ghost use Rattle.run_table.specs.Remembered.{AreNoLaterTurns, IsNoLaterTurn, KnowsDelivery, LastCommandIs};
 ghost use Rattle.run_table.specs.GroupHistories.{IsOf, NeverBegan, all_moves, asks_for_cancelling};
+ghost use Rattle.run_table.specs.GroupHolders.{SayWhoHolds};
 ghost use Rattle.run_table.specs.GroupLaw.{KeepsLaw};
 ghost use Rattle.workflow_runs.specs.GroupWords.{has_arrived, has_ended, has_started, next_displaced, was_stopped};
 ghost use Rattle.workflow_runs.specs.Groups.{pending_in, running_in};
@@ -82,6 +83,12 @@ pub fn groups_have_one_holder_of_each_kind()
 /// behind those of the holders that the group has already.
 pub fn every_group_keeps_its_law()
     ensures { (t : TableState) (cs : List Command) (g : Group) → IsSound t → KeepsLaw (asks_for_cancelling g t cs) (all_moves g t cs) }
+{}
+
+/// The moves of each group say exactly who holds it: after any commands, from any table that keeps what tables keep, the holders that they say
+/// are running, pending and told to stop are those that filters over all runs and legs of the table give.
+pub fn the_moves_say_who_holds_each_group()
+    ensures { (t : TableState) (cs : List Command) (g : Group) → IsSound t → SayWhoHolds (after t cs).runs g (all_moves g t cs) }
 {}
 
 /// Between the start of a holder and its end no other holder of its group starts.
