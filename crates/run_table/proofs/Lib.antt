@@ -3,6 +3,7 @@ pub mod AncestorsSettled
 pub mod ArrivalLaw
 pub mod ArrivalTold
 pub mod AtWork
+mod BeatRows
 pub mod BeforeSettling
 mod CancelRows
 pub mod ChangesTold
