@@ -2,7 +2,7 @@
 use Rattle.std.proofs.Common.{◌≡◌, ◌⊎◌, ℕ, ◌+◌, ◌-◌, ◌^◌, Bool, List, [], ◌∷◌, ◌++◌, length, take, Result, Ok, Err, refl, sym, ap, subst, ◌∙◌, inl, inr, append-nil}
 use Rattle.std.specs.Prelude.{min}
 use Rattle.std.specs.Io.KnownBytes.{Appends}
-use Rattle.wf_value.specs.Gives.{Gives}
+use Rattle.wf_value.specs.Gives.{Gives, no_memory}
 use Rattle.wf_value.specs.declared.refusal.Refusal.{Refusal}
 use Rattle.run_plan.specs.declared.command.Command.{Command}
 use Rattle.act_sessions.specs.declared.request.Request.{Request}
@@ -12,6 +12,7 @@ use Rattle.act_sessions.specs.declared.trouble.Trouble.TheVariants.{Memory, Brok
 use Rattle.act_sessions.specs.Rules.{Rules, Turn, Answered, Refused, request_of, told_at, is_last, turn_text}
 use Rattle.act_sessions.specs.Session.{Moment, Writes}
 use Rattle.act_sessions.specs.Told.{AreAsked, Asks, Response, told_in}
+use Rattle.act_sessions.specs.Troubles.{trouble_of}
 use Rattle.act_sessions.specs.Turns.{WritesNone, AsksTurn, AsksNone, TakesTurn, Says}
 
 Writes_from : (old mid new : Moment) (a b : List ℕ) → Writes mid new a → mid.output ≡ old.output → mid.count ≡ old.count → a ≡ b → Writes old new b
@@ -48,6 +49,11 @@ turn_said p n t old mid new text last (Err Broken) says is e asks o c a li = (
 pub gives_ok : {X Y : Type 0} (view : X → Y) (r : Result X Refusal) (x : X) (y : Y) → Gives view r (Ok y) → r ≡ Ok x → view x ≡ y
 gives_ok view (Ok z) x y g e = cc
 gives_ok view (Err z) x y g e = absurd cc
+
+-- a text that was not made
+pub only_memory : {Y : Type 0} (e : Refusal) (y : Y) → (e ≡ no_memory) ⊎ (◌≡◌ {A = Result Y Refusal} (Ok y) (Err e)) → trouble_of e ≡ Memory
+only_memory e y (inl h) = ap trouble_of h
+only_memory e y (inr h) = absurd cc
 
 -- memory was wanting
 pub turn_starved : {F : Type 0} (p : Rules F) (n : ℕ) (q : Request F) (old new : Moment) (r : Result Bool Trouble) → (e : Trouble) × (r ≡ Err e) × (e ≡ Memory)

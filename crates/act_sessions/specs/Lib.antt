@@ -5,4 +5,5 @@ pub mod Last
 pub mod Rules
 pub mod Session
 pub mod Told
+pub mod Troubles
 pub mod Turns

@@ -1,6 +1,5 @@
-use byte_streams::StreamFailed;
 use std::alloc::AllocError;
-use wf_value::Refusal;
+use wf_value::{Code, Refusal};
 
 /// Why a session can't go on.
 #[derive(Clone, Copy)]
@@ -20,25 +19,17 @@ impl From<AllocError> for Trouble {
     }
 }
 
-/// Outside of an answer nothing is refused but memory.
+/// Outside of an answer nothing is refused but a stream that failed, 61, and memory.
 impl From<Refusal> for Trouble {
     ghost use Rattle.std.specs.Prelude.{◌≡◌};
-    ghost use Rattle.act_sessions.specs.declared.trouble.Trouble.TheVariants.{Memory};
+    ghost use Rattle.act_sessions.specs.Troubles.{trouble_of};
 
-    ghost from_gives = { λ _ e. e ≡ Memory };
+    ghost from_gives = { λ refusal e. e ≡ trouble_of refusal };
 
-    fn from(_e: Refusal) -> Trouble {
-        Trouble::Memory
-    }
-}
-
-impl From<StreamFailed> for Trouble {
-    ghost use Rattle.std.specs.Prelude.{◌≡◌};
-    ghost use Rattle.act_sessions.specs.declared.trouble.Trouble.TheVariants.{Broken};
-
-    ghost from_gives = { λ _ e. e ≡ Broken };
-
-    fn from(_e: StreamFailed) -> Trouble {
-        Trouble::Broken
+    fn from(refusal: Refusal) -> Trouble {
+        match refusal {
+            Refusal::Numbered(Code::StreamFailed) => Trouble::Broken,
+            _ => Trouble::Memory,
+        }
     }
 }

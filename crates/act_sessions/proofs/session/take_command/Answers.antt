@@ -4,7 +4,7 @@ use Rattle.act_sessions.specs.declared.request.Demand.TheVariants as demand
 use Rattle.act_sessions.specs.Rules.{Answered}
 use Rattle.act_sessions.specs.Session.{moment}
 use Rattle.act_sessions.specs.Told.{told_in}
-use Rattle.act_sessions.proofs.Turning.{turn_said, turn_starved, asked_one, gives_ok, listed_with}
+use Rattle.act_sessions.proofs.Turning.{turn_said, turn_starved, asked_one, gives_ok, listed_with, only_memory}
 use Rattle.act_sessions.proofs.session.take_command.Goals as goal
 
 pub returns-in_err-text : goal.returns-in_err-text
@@ -16,9 +16,11 @@ returns-in_err-text g c =
     let new = moment out (g.A.Answer.asked c.ask-answer.new.self) (record c.make_ready.new.transcript { asked = c.push_reserved.new.self }) in
     let turn = Answered c.args.command c.args.closes answer in
     let listed = listed_with c.args.transcript.now.asked.items c.make_ready.new.transcript.asked.items c.push_reserved.new.self.items c.in_ok-copy.copy c.args.command answer c.push_reserved.ensures.items c.in_ok-copy.ensures.asked c.in_ok-copy.ensures.copy.0 in
+    let is = err_from_is_err_and c.from_residual-in_err-text.result c.from_residual-in_err-text.ensures.1 in
+    let memory = is.2 ∙ only_memory c.in_err-text.field-0.0 _ c.in_err-text.ensures in
     turn_starved p c.args.count (record { demand = demand.Command c.args.command; closes = c.args.closes }) old new
     c.from_residual-in_err-text.result
-    (err_from_is_err_and c.from_residual-in_err-text.result c.from_residual-in_err-text.ensures.1) (refl, c.make_ready.ensures.written)
+    (is.0, is.1, memory) (refl, c.make_ready.ensures.written)
     (inr (turn, refl, asked_one p old new c.args.command c.args.closes answer c.ask-answer.ensures listed))
 
 pub returns : goal.returns
