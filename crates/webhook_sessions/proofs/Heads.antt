@@ -1,18 +1,17 @@
 -- What the code finds at the front of some bytes is a request of the definition.
-use Rattle.std.proofs.Common.{◌≡◌, ◌⊎◌, ℕ, ◌+◌, ◌<◌, ◌≤◌, Bool, true, false, List, [], ◌∷◌, ◌++◌, length, take, drop, map, refl, sym, ap, subst, ◌∙◌, inl, inr, append_assoc, length-take, length-drop, arith}
+use Rattle.std.proofs.Common.{◌≡◌, ◌⊎◌, ℕ, ◌<◌, ◌≤◌, Bool, true, false, List, [], ◌∷◌, ◌++◌, length, take, drop, map, refl, sym, ap, subst, ◌∙◌, inl, inr, append_assoc, length-take, length-drop, arith}
 use Rattle.std.specs.Prelude.{min, codes, cond, nat_le, Option, Some, None, Result, Ok, Err, ⊤}
 use Rattle.std.proofs.lemmas.Bool.Decides.{nat_tests}
 use Rattle.std.proofs.lemmas.List.{drop-drop, length-map}
 use lib.Seq.{drop-append-le}
 use Rattle.httparse.specs.declared.spans.HeaderSpan.{HeaderSpan}
 use Rattle.httparse.specs.declared.spans.RequestSpans.{RequestSpans}
-use Rattle.httparse.specs.Grammar.{RequestHead, ReadsRequest, HasNoRequest, print_request}
+use Rattle.httparse.specs.Grammar.{RequestHead, ReadsRequest, HasNoRequest}
 use Rattle.httparse.specs.Spans.{RequestOverflows, IsRequestAt, IsRequestWithin, span_bytes, header_bytes, name_and_value}
 use Rattle.httparse.proofs.GrammarLemmas.{ReadsRequest-append}
 use Rattle.http1.specs.Fields.{values_named}
 use Rattle.wf_value.specs.declared.refusal.Refusal.{Refusal}
 use Rattle.act_sessions.specs.declared.request.Found.{Found}
-use Rattle.act_sessions.specs.declared.request.Request.{Request}
 use Rattle.act_sessions.specs.Rules.{IsNext}
 use Rattle.webhook_sessions.specs.declared.fault.Fault.{Fault}
 use Rattle.webhook_sessions.specs.declared.fault.Fault.TheVariants.{BadHead}
@@ -21,7 +20,7 @@ use Rattle.webhook_sessions.specs.EventHeaders.{event_headers}
 use Rattle.webhook_sessions.specs.Found.{IsFound}
 use Rattle.webhook_sessions.specs.Heading.{Heading, heading_of}
 use Rattle.webhook_sessions.specs.Hooks.{BeginsWith, HookReads, hooks}
-use Rattle.webhook_sessions.specs.Length.{just, length_of, is_length, stated_by, stated_length, unless_coded}
+use Rattle.webhook_sessions.specs.Length.{just, is_length, stated_by, stated_length, unless_coded}
 
 -- ---- no head
 

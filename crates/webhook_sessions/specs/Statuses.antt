@@ -1,5 +1,5 @@
 -- The status of each answer: RFC 9110, section 15.
-use Rattle.std.specs.Prelude.{ℕ, ◌==◌, ◌||◌, Bool, List, codes, Option, Some, None, if◌then◌else◌}
+use Rattle.std.specs.Prelude.{ℕ, ◌==◌, ◌||◌, Bool, List, Option, Some, None, if◌then◌else◌}
 use Rattle.wf_value.specs.RefusalText.{refusal_number}
 use Rattle.wf_value.specs.declared.code.Code.TheVariants as code
 use Rattle.wf_value.specs.declared.refusal.Refusal.{Refusal}

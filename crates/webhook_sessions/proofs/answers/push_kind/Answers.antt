@@ -1,4 +1,4 @@
-use Rattle.std.proofs.Common.{◌++◌, ◌∷◌, [], ap, ◌∙◌, append_assoc}
+use Rattle.std.proofs.Common.{◌++◌, ap, ◌∙◌, append_assoc}
 use Rattle.std.specs.Prelude.{codes, string_bytes}
 use Rattle.webhook_sessions.proofs.answers.push_kind.Goals as goal
 

@@ -1,4 +1,4 @@
-use Rattle.std.proofs.Common.{◌≡◌, ◌≤◌, ◌∙◌, length, take, drop, sym, ap, take-append-drop, length-take, arith}
+use Rattle.std.proofs.Common.{◌≤◌, ◌∙◌, length, take, drop, sym, ap, take-append-drop, length-take, arith}
 use Rattle.std.proofs.lemmas.List.{take_rest}
 use Rattle.httparse.specs.Grammar.{HasNoRequest}
 use Rattle.httparse.specs.Spans.{IsRequestOf, IsRequestWithin}
