@@ -30,7 +30,7 @@ pub now_of : {D : Type 0} (moment : D → ℕ) (images_since : D → ℕ → Lis
     → EachSince moment images_since old new P → (c : List ℕ) → images new c → P c
 now_of moment images_since images old new P counts since c now = since.each c (counts (moment old) c since.later now)
 
-none_left : (left : Waits) → left.count ≡ 0 → left.spelled ≡ [] → left ≡ waits_of []
+pub none_left : (left : Waits) → left.count ≡ 0 → left.spelled ≡ [] → left ≡ waits_of []
 none_left left none no_bytes =
     ap (λ (n : ℕ). record { count = n; spelled = left.spelled }) none ∙ ap (λ (l : List ℕ). record { count = 0; spelled = l }) no_bytes
 

@@ -12,8 +12,8 @@ use Rattle.run_table.specs.Histories.{after}
 use Rattle.run_table.specs.TableState.{TableState}
 use Rattle.table_text.specs.Commands.{batch}
 use Rattle.act_store.specs.Entries.{table_after}
-use Rattle.act_store.specs.Images.{IsAreaLength, StandsFor}
-use Rattle.act_store.specs.Kept.{Kept, StandsForEither, covered_table, pending_commands, table_of}
+use Rattle.act_store.specs.Images.{IsAreaLength, StandsAt, StandsFor}
+use Rattle.act_store.specs.Kept.{Kept, StandForCovered, StandsForEither, covered_table, pending_commands, table_of}
 use Rattle.act_store.specs.Meaning.{MeansTable}
 use Rattle.act_store.specs.Plain.{committed, broken, used_after}
 use Rattle.act_store.specs.Promise.{IsSettled, IsStanding}
@@ -53,6 +53,21 @@ pub settled_stands : (len : ℕ) (side : Side) (gate : Gate) (generation used : 
     → IsAreaLength len → IsSettled len side gate generation used table images → (c : List ℕ) → images c → StandsFor table c
 settled_stands len side gate generation used table images size settled c now =
     stands_for len side gate settled.head settled.bodies table c size (settled.each c now) settled.means
+
+-- and it is the area of that generation
+pub settled_at_used : (len : ℕ) (side : Side) (gate : Gate) (generation used : ℕ) (table : TableState) (images : List ℕ → Type 0)
+    → IsAreaLength len → IsSettled len side gate generation used table images → (c : List ℕ) → images c → StandsAt generation used table c
+unfolding settled_stands stands_for
+settled_at_used len side gate generation used table images size settled c now = record {
+  stands = settled_stands len side gate generation used table images size settled c now;
+  generation_is = settled.generation_is;
+  used_is = settled.used_is;
+}
+
+pub stand_covered : {D : Type 0} (images : D → List ℕ → Type 0) (side : Side) (gate : Gate) (s : Kept D) → IsAreaLength s.area
+    → IsStanding images side gate s → StandForCovered images s
+stand_covered images side gate s size standing live =
+    settled_at_used s.area side gate s.generation s.used (covered_table s) (images s.disk) size (standing.settled live)
 
 -- a table that is the same one
 pub settled_at : (len : ℕ) (side : Side) (gate : Gate) (generation used : ℕ) (one two : TableState) (images : List ℕ → Type 0)
