@@ -160,8 +160,12 @@ module _ {D : Type 0} (honest : D → Type 0) (images : D → List ℕ → Type 
   means_all =
       subst (λ (t : TableState). MeansTable next others t) (table_split s.base f.b.place s.history.items)
       (means_with next first cs
-      (omega (arith, f.counted.most, length-map (drop f.b.place s.history.items) (λ (e : Entry). e.command),
-      length-drop f.b.place s.history.items)) f.spelled means_first)
+      (omega (
+        arith,
+        f.counted.most,
+        length-map (drop f.b.place s.history.items) (λ (e : Entry). e.command),
+        length-drop f.b.place s.history.items,
+      )) f.spelled means_first)
 
   module _ (is_honest : honest s.disk) where
     settled : IsSettled s.areas.len s.areas.side s.other s.generation s.used (covered_table (as_kept s)) (images s.disk)
@@ -235,8 +239,14 @@ module _ {D : Type 0} (honest : D → Type 0) (images : D → List ℕ → Type 
       bodies = others;
       each = turns (settled is_honest).head next (settled is_honest).bodies others is_honest (shut is_honest) (completes is_honest);
       used_is =
-          omega (arith, used_is, end, long_front, ap (λ (l : List ℕ). length l) f.snapshot.front_is,
-          length-append (head_bytes next) (record_bytes others));
+          omega (
+            arith,
+            used_is,
+            end,
+            long_front,
+            ap (λ (l : List ℕ). length l) f.snapshot.front_is,
+            length-append (head_bytes next) (record_bytes others),
+          );
       generation_is = refl;
       means = means_all;
     }

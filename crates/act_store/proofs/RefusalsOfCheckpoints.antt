@@ -7,8 +7,9 @@ use Rattle.act_store.specs.Checkpoints.{first_gate, gate_behind, has_no_room, is
 use Rattle.act_store.specs.Checkpoints.{refusal_of_last, refusal_of_slice, since, text_length}
 use Rattle.act_store.specs.Kept.{Checkpoint, Kept, table_of}
 use Rattle.act_store.specs.Plain.{area_full, checkpoint_turn, failed_earlier, refusal_of_turning}
-use Rattle.act_store.specs.StoreSeen.{as_checkpoint}
+use Rattle.act_store.specs.StoreSeen.{as_checkpoint, as_kept}
 use Rattle.act_store.specs.declared.begun.Begun.{Begun}
+use Rattle.act_store.specs.declared.store.Store.TheInside.{Inside}
 
 -- ---- begin
 
@@ -28,7 +29,7 @@ begin_of false false true full none = absurd (cc none)
 begin_of false false false true none = absurd (cc none)
 begin_of false false false false none = (refl, refl, refl, refl)
 
-pub may_begin : {D : Type 0} (s : Kept D) → refusal_of_begin s ≡ None → MayBegin s
+may_begin : {D : Type 0} (s : Kept D) → refusal_of_begin s ≡ None → MayBegin s
 may_begin s none =
     let so = begin_of s.failed (is_some s.begun) (nat_le 18446744073709551615 s.generation)
     (nat_lt s.area (first_gate (text_length (table_of s)) + 1)) none in
@@ -38,6 +39,10 @@ may_begin s none =
       newer = leb-false 18446744073709551615 s.generation so.2;
       room = ltb-false s.area (first_gate (text_length (table_of s)) + 1) so.3;
     }
+
+-- of the fields of a store with this view
+pub begins : {D : Type 0} (s : Inside D) (v : Kept D) → as_kept s ≡ v → refusal_of_begin v ≡ None → MayBegin (as_kept s)
+begins {D} s v view none = may_begin (as_kept s) (subst (λ (k : Kept D). refusal_of_begin k ≡ None) (sym view) none)
 
 pub no_room : (a b : ℕ) → a < b → false ≡ not (nat_lt a b)
 no_room a b less = elim (cases_Bool (nat_lt a b)) [
@@ -56,8 +61,11 @@ slice_of : (failed written : Bool)
 slice_of true written none = absurd (cc none)
 slice_of false written none = refl
 
-pub may_slice : {D : Type 0} (s : Kept D) → refusal_of_slice s ≡ None → s.failed ≡ false
+may_slice : {D : Type 0} (s : Kept D) → refusal_of_slice s ≡ None → s.failed ≡ false
 may_slice s none = slice_of s.failed (is_written s.begun) none
+
+pub slices : {D : Type 0} (s : Inside D) (v : Kept D) → as_kept s ≡ v → refusal_of_slice v ≡ None → s.failed ≡ false
+slices {D} s v view none = may_slice (as_kept s) (subst (λ (k : Kept D). refusal_of_slice k ≡ None) (sym view) none)
 
 -- ---- finish
 

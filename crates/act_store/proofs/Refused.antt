@@ -109,8 +109,13 @@ module _ {D : Type 0} where
         (λ other. same (finish_no_fault old e some) other.0 ∙ sym (ap (λ (b : Bool). if b then dropped old else old) other.1))
         (room_or_not old e some))
         (λ none. ⊎_elim
-        (λ memory. inr (inl (none, tt, memory, same (λ fault. let clash : no_memory ≡ device_failed = cc (memory, fault) in cc)
-        (λ room. let clash : no_memory ≡ area_full = cc (memory, room) in cc))))
+        (λ memory. inr (inl (
+          none,
+          tt,
+          memory,
+          same (λ fault. let clash : no_memory ≡ device_failed = cc (memory, fault) in cc)
+              (λ room. let clash : no_memory ≡ area_full = cc (memory, room) in cc),
+        )))
         (λ rest. ⊎_elim (λ fault. inr (inr (none, tt, fault, device (cc (is, fault))))) (λ some. absurd (cc (none, some))) rest) cause)
 
     -- a commit has no other cause than an earlier fault

@@ -15,7 +15,7 @@ use Rattle.act_store.specs.Entries.{table_after}
 use Rattle.act_store.specs.Images.{IsAreaLength, StandsAt, StandsFor}
 use Rattle.act_store.specs.Kept.{Kept, StandForCovered, StandsForEither, covered_table, pending_commands, table_of}
 use Rattle.act_store.specs.Meaning.{MeansTable}
-use Rattle.act_store.specs.Plain.{committed, broken, used_after}
+use Rattle.act_store.specs.Plain.{committed, used_after}
 use Rattle.act_store.specs.Promise.{IsSettled, IsStanding}
 use Rattle.act_store.specs.declared.entry.Entry.{Entry}
 use Rattle.act_store.proofs.Histories.{table_split}
@@ -122,10 +122,6 @@ module _ {D : Type 0} (images : D → List ℕ → Type 0) (side : Side) (gate :
         each = λ c now. inr (settled_stands s.area side gate s.generation (used_after s) (table_of s) (images disk) size settled c now);
         settled = λ _. here;
       }
-
-  -- after a device fault
-  pub standing_broken : (disk : D) → ((c : List ℕ) → images disk c → StandsForEither s c) → IsStanding images side gate (broken s disk)
-  standing_broken disk each = record { each = each; settled = λ impossible. absurd (cc impossible) }
 
   -- with an entry more
   pub standing_entered : (history : List Entry) (entry : Entry) → history ≡ s.history ++ entry ∷ [] → s.covered ≤ length s.history

@@ -145,10 +145,13 @@ module _ (base : TableState) (history : List Entry) (generation area : ℕ) (sid
   begun_grown later new before long beside =
       if_some o (IsBegun base history generation area side gate honest failed seen)
       (IsBegun base history generation area side gate later failed new)
-      (λ b so. (so.0, λ still live.
-      let put = so.1 (before still) live in
-      record {
-        closed = put.closed;
-        held = beside (before still) 1 (take b.put b.front.items) (omega (arith, long (before still) live))
-            (omega (arith, length-take-le b.put b.front.items so.0.put, so.0.put, so.0.fits)) put.held;
-      })) here
+      (λ b so. (
+        so.0,
+        λ still live.
+            let put = so.1 (before still) live in
+            record {
+              closed = put.closed;
+              held = beside (before still) 1 (take b.put b.front.items) (omega (arith, long (before still) live))
+                  (omega (arith, length-take-le b.put b.front.items so.0.put, so.0.put, so.0.fits)) put.held;
+            },
+      )) here

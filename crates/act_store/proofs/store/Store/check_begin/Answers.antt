@@ -1,15 +1,15 @@
 use Rattle.std.proofs.Common.{rules, arith, ◌≡◌, ◌≤◌, ◌+◌, length, true, refl, subst, sym}
-use Rattle.std.specs.Prelude.{None, Some, option_map}
+use Rattle.std.specs.Prelude.{Some, option_map}
 use Rattle.gated_journal.specs.TwoAreas.{other, start_of}
 use Rattle.gated_journal.specs.declared.gate.Gate.TheVariants.{Closed}
-use Rattle.act_store.specs.Checkpoints.{first_gate, refusal_of_begin, text_length}
-use Rattle.act_store.specs.Kept.{Kept, StandsForEither}
+use Rattle.act_store.specs.Checkpoints.{first_gate, text_length}
+use Rattle.act_store.specs.Kept.{StandsForEither}
 use Rattle.act_store.specs.Promise.{IsBegun}
 use Rattle.act_store.specs.StoreSeen.{as_checkpoint, as_kept}
 use Rattle.act_store.specs.declared.begun.Begun.{Begun}
 use Rattle.act_store.proofs.Checkpointing.{begin_moments, counted_with, few_runners, settled_again, standing_failed, standing_with}
 use Rattle.act_store.proofs.Committing.{now_of}
-use Rattle.act_store.proofs.RefusalsOfCheckpoints.{may_begin, none_begun}
+use Rattle.act_store.proofs.RefusalsOfCheckpoints.{begins, none_begun}
 use Rattle.act_store.proofs.Snapshots.{held_none, if_none, snapshot_taken}
 use Rattle.act_store.proofs.store.Store.check_begin.Goals as goal
 
@@ -17,9 +17,7 @@ pub front_of-requires : goal.front_of-requires
 front_of-requires g c =
     let s = c.self.inside in
     let k = as_kept s in
-    let none : refusal_of_begin c.args.self.now ≡ None = search rules in
-    few_runners k s.table s.waiting c.self.invariant.0
-    (may_begin k (subst (λ (v : Kept g.row.D.Denot). refusal_of_begin v ≡ None) (sym c.self.view_is) none))
+    few_runners k s.table s.waiting c.self.invariant.0 (begins s c.args.self.now c.self.view_is (search rules))
 
 pub invariant_of-self : goal.invariant_of-self
 invariant_of-self g c =
@@ -28,8 +26,7 @@ invariant_of-self g c =
     let k = as_kept s in
     let counted = c.self.invariant.0 in
     let d1 = c.close_other.new.disk in
-    let none : refusal_of_begin c.args.self.now ≡ None = search rules in
-    let may = may_begin k (subst (λ (v : Kept g.row.D.Denot). refusal_of_begin v ≡ None) (sym c.self.view_is) none) in
+    let may = begins s c.args.self.now c.self.view_is (search rules) in
     let since = begin_moments disk.honest disk.images s counted may.live c.self.invariant.2 d1 disk.moment disk.images_since
     c.close_other.ensures.any_moment k refl in (
       counted_with k s.table s.waiting counted d1 (option_map as_checkpoint s.begun) true,
@@ -49,8 +46,7 @@ invariant_of-self-in-Ok g c =
     let k = as_kept s in
     let counted = c.self.invariant.0 in
     let d1 = c.close_other.new.disk in
-    let none : refusal_of_begin c.args.self.now ≡ None = search rules in
-    let may = may_begin k (subst (λ (v : Kept g.row.D.Denot). refusal_of_begin v ≡ None) (sym c.self.view_is) none) in
+    let may = begins s c.args.self.now c.self.view_is (search rules) in
     let b : Begun = record { place = c.len.result; front = c.in_ok-front.front; put = 0 } in
     let place : c.len.result ≡ length s.history.items = search rules in
     let checkpoint = Some (as_checkpoint b) in (
@@ -77,8 +73,7 @@ pub returns-in-Err-clause-any_moment : goal.returns-in-Err-clause-any_moment
 returns-in-Err-clause-any_moment g c =
     let s = c.self.inside in
     let disk = g.D.Disk in
-    let none : refusal_of_begin c.args.self.now ≡ None = search rules in
-    let may = may_begin (as_kept s) (subst (λ (v : Kept g.row.D.Denot). refusal_of_begin v ≡ None) (sym c.self.view_is) none) in
+    let may = begins s c.args.self.now c.self.view_is (search rules) in
     begin_moments disk.honest disk.images s c.self.invariant.0 may.live c.self.invariant.2 c.close_other.new.disk disk.moment
     disk.images_since c.close_other.ensures.any_moment c.args.self.now c.self.view_is
 
@@ -86,7 +81,6 @@ pub returns-in-Ok-clause-any_moment : goal.returns-in-Ok-clause-any_moment
 returns-in-Ok-clause-any_moment g c =
     let s = c.self.inside in
     let disk = g.D.Disk in
-    let none : refusal_of_begin c.args.self.now ≡ None = search rules in
-    let may = may_begin (as_kept s) (subst (λ (v : Kept g.row.D.Denot). refusal_of_begin v ≡ None) (sym c.self.view_is) none) in
+    let may = begins s c.args.self.now c.self.view_is (search rules) in
     begin_moments disk.honest disk.images s c.self.invariant.0 may.live c.self.invariant.2 c.close_other.new.disk disk.moment
     disk.images_since c.close_other.ensures.any_moment c.args.self.now c.self.view_is

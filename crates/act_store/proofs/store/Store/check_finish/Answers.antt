@@ -36,10 +36,12 @@ invariant_of-self-in-Err g c =
     let counted = c.self.invariant.0 in
     let d1 = c.turn.new.disk in
     let checkpoint = option_map as_checkpoint s.begun in
+    let at = 1 + c.len.result in
+    let bytes = c.as_slice.result.now in
     let f = finishing disk.honest disk.images disk.seen s c.self.invariant.0 c.self.invariant.2 c.self.invariant.3 c.args.self.now
     c.self.view_is (search rules) c.in-Some-begun.begun (search rules) c.deref.result.now (search rules) c.len.result (search rules)
     c.as_slice.result.now c.in_ok-last.last.items c.as_slice.ensures.value c.in_ok-last.ensures.bytes c.in_ok-last.ensures.spelled in
-    let since = finish_moments disk.honest disk.images disk.seen s (1 + c.len.result) c.as_slice.result.now f d1 disk.moment disk.images_since c.turn.ensures.any_moment k refl in (
+    let since = finish_moments disk.honest disk.images disk.seen s at bytes f d1 disk.moment disk.images_since c.turn.ensures.any_moment k refl in (
       counted_with k s.table s.waiting counted d1 checkpoint true,
       (λ impossible. absurd (cc impossible)),
       (λ honest1. standing_failed k s.table s.waiting counted disk.images s.areas.side s.other d1 checkpoint
@@ -53,10 +55,12 @@ pub returns-in-Err-clause-any_moment : goal.returns-in-Err-clause-any_moment
 returns-in-Err-clause-any_moment g c =
     let s = c.self.inside in
     let disk = g.D.Disk in
+    let at = 1 + c.len.result in
+    let bytes = c.as_slice.result.now in
     let f = finishing disk.honest disk.images disk.seen s c.self.invariant.0 c.self.invariant.2 c.self.invariant.3 c.args.self.now
     c.self.view_is (search rules) c.in-Some-begun.begun (search rules) c.deref.result.now (search rules) c.len.result (search rules)
     c.as_slice.result.now c.in_ok-last.last.items c.as_slice.ensures.value c.in_ok-last.ensures.bytes c.in_ok-last.ensures.spelled in
-    finish_moments disk.honest disk.images disk.seen s (1 + c.len.result) c.as_slice.result.now f c.turn.new.disk disk.moment disk.images_since c.turn.ensures.any_moment
+    finish_moments disk.honest disk.images disk.seen s at bytes f c.turn.new.disk disk.moment disk.images_since c.turn.ensures.any_moment
     c.args.self.now c.self.view_is
 
 -- ---- once it was done
@@ -65,6 +69,8 @@ pub invariant_of-self-in-Ok : goal.invariant_of-self-in-Ok
 invariant_of-self-in-Ok g c =
     let s = c.self.inside in
     let disk = g.D.Disk in
+    let at = 1 + c.len.result in
+    let bytes = c.as_slice.result.now in
     let f = finishing disk.honest disk.images disk.seen s c.self.invariant.0 c.self.invariant.2 c.self.invariant.3 c.args.self.now
     c.self.view_is (search rules) c.in-Some-begun.begun (search rules) c.deref.result.now (search rules) c.len.result (search rules)
     c.as_slice.result.now c.in_ok-last.last.items c.as_slice.ensures.value c.in_ok-last.ensures.bytes c.in_ok-last.ensures.spelled in
@@ -72,16 +78,16 @@ invariant_of-self-in-Ok g c =
     let covered = c.len-self-inside.result in
     let used = 1 + c.len.result + c.len-in-Ok.result - 1 in
     let all : covered ≡ length s.history.items = search rules in
-    let here : used ≡ 1 + c.len.result + length c.as_slice.result.now - 1 = search (rules, arith) in
+    let here : used ≡ at + length bytes - 1 = search (rules, arith) in
     let left = c.keep.new.self in
     let nothing : left ≡ waits_of [] = none_left left c.keep.ensures.count c.keep.ensures.spelled in
     let turned : c.other.result ≡ other s.areas.side = c.other.ensures in (
-      counted_finished disk.honest disk.images disk.seen s (1 + c.len.result) c.as_slice.result.now f d1 covered used all here left nothing,
+      counted_finished disk.honest disk.images disk.seen s at bytes f d1 covered used all here left nothing,
       (λ _. search (rules, arith)),
       (λ honest1.
-          subst (λ (x : Side). IsStanding disk.images x Open (done disk.honest disk.images disk.seen s (1 + c.len.result) c.as_slice.result.now f d1 covered used)) (sym turned)
-          (standing_finished disk.honest disk.images disk.seen s (1 + c.len.result) c.as_slice.result.now f d1 covered used all here
-          (finish_settles disk.honest disk.images disk.seen s (1 + c.len.result) c.as_slice.result.now f d1 c.in-Ok.ensures.turned (c.turn.ensures.honest.0 honest1)))),
+          subst (λ (x : Side). IsStanding disk.images x Open (done disk.honest disk.images disk.seen s at bytes f d1 covered used)) (sym turned)
+          (standing_finished disk.honest disk.images disk.seen s at bytes f d1 covered used all here
+          (finish_settles disk.honest disk.images disk.seen s at bytes f d1 c.in-Ok.ensures.turned (c.turn.ensures.honest.0 honest1)))),
       _,
     )
 
@@ -89,21 +95,25 @@ pub returns-clause-any_moment : goal.returns-clause-any_moment
 returns-clause-any_moment g c =
     let s = c.self.inside in
     let disk = g.D.Disk in
+    let at = 1 + c.len.result in
+    let bytes = c.as_slice.result.now in
     let f = finishing disk.honest disk.images disk.seen s c.self.invariant.0 c.self.invariant.2 c.self.invariant.3 c.args.self.now
     c.self.view_is (search rules) c.in-Some-begun.begun (search rules) c.deref.result.now (search rules) c.len.result (search rules)
     c.as_slice.result.now c.in_ok-last.last.items c.as_slice.ensures.value c.in_ok-last.ensures.bytes c.in_ok-last.ensures.spelled in
-    finish_moments disk.honest disk.images disk.seen s (1 + c.len.result) c.as_slice.result.now f c.turn.new.disk disk.moment disk.images_since c.turn.ensures.any_moment
+    finish_moments disk.honest disk.images disk.seen s at bytes f c.turn.new.disk disk.moment disk.images_since c.turn.ensures.any_moment
     c.args.self.now c.self.view_is
 
 pub returns-clause-stands : goal.returns-clause-stands
 returns-clause-stands g c = λ honest1.
     let s = c.self.inside in
     let disk = g.D.Disk in
+    let at = 1 + c.len.result in
+    let bytes = c.as_slice.result.now in
     let f = finishing disk.honest disk.images disk.seen s c.self.invariant.0 c.self.invariant.2 c.self.invariant.3 c.args.self.now
     c.self.view_is (search rules) c.in-Some-begun.begun (search rules) c.deref.result.now (search rules) c.len.result (search rules)
     c.as_slice.result.now c.in_ok-last.last.items c.as_slice.ensures.value c.in_ok-last.ensures.bytes c.in_ok-last.ensures.spelled in
     let d1 = c.turn.new.disk in
     subst (λ (v : Kept g.row.D.Denot). (image : List ℕ) → disk.images d1 image → StandsFor (table_of v) image) c.self.view_is
-    (settled_stands s.areas.len (other s.areas.side) Open (s.generation + 1) (1 + c.len.result + length c.as_slice.result.now - 1) (table_of (as_kept s))
+    (settled_stands s.areas.len (other s.areas.side) Open (s.generation + 1) (at + length bytes - 1) (table_of (as_kept s))
     (disk.images d1) f.counted.size
-    (finish_settles disk.honest disk.images disk.seen s (1 + c.len.result) c.as_slice.result.now f d1 c.in-Ok.ensures.turned (c.turn.ensures.honest.0 honest1)))
+    (finish_settles disk.honest disk.images disk.seen s at bytes f d1 c.in-Ok.ensures.turned (c.turn.ensures.honest.0 honest1)))

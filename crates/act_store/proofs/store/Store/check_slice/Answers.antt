@@ -1,15 +1,14 @@
 use Rattle.std.proofs.Common.{rules, arith, ◌≡◌, ◌≤◌, ◌+◌, length, true, refl, subst, sym}
-use Rattle.std.specs.Prelude.{None, Some}
+use Rattle.std.specs.Prelude.{Some}
 use Rattle.gated_journal.specs.Whole.{StandsWhole}
 use Rattle.gated_journal.specs.declared.gate.Gate.TheVariants.{Closed}
-use Rattle.act_store.specs.Checkpoints.{refusal_of_slice}
-use Rattle.act_store.specs.Kept.{Kept, StandsForEither}
+use Rattle.act_store.specs.Kept.{StandsForEither}
 use Rattle.act_store.specs.Promise.{IsBegun, IsSnapshot}
 use Rattle.act_store.specs.StoreSeen.{as_checkpoint, as_kept}
 use Rattle.act_store.specs.declared.begun.Begun.{Begun}
 use Rattle.act_store.proofs.Checkpointing.{counted_with, slice_moments, slice_settles, standing_failed, standing_with}
 use Rattle.act_store.proofs.Committing.{now_of}
-use Rattle.act_store.proofs.RefusalsOfCheckpoints.{may_slice}
+use Rattle.act_store.proofs.RefusalsOfCheckpoints.{slices}
 use Rattle.act_store.proofs.Snapshots.{it_is, put_sliced, snapshot_sliced}
 use Rattle.act_store.proofs.store.Store.check_slice.Goals as goal
 
@@ -22,11 +21,9 @@ invariant_of-self-in-Err g c =
     let d1 = c.put_slice.new.disk in
     let b = c.in-Some-take.begun in
     let next = c.put_slice.new.begun in
-    let none : refusal_of_slice c.args.self.now ≡ None = search rules in
-    let live = may_slice k (subst (λ (v : Kept g.row.D.Denot). refusal_of_slice v ≡ None) (sym c.self.view_is) none) in
-    let some : s.begun ≡ Some b = search rules in
+    let live = slices s c.args.self.now c.self.view_is (search rules) in
     let so = it_is s.begun b (IsBegun s.base s.history.items s.generation s.areas.len s.areas.side s.other (disk.honest s.disk) s.failed
-    (disk.seen s.disk)) some c.self.invariant.3 in
+    (disk.seen s.disk)) (search rules) c.self.invariant.3 in
     let same : next ≡ b = search rules in
     let since =
     slice_moments disk.honest disk.images s counted live c.self.invariant.2 d1 disk.moment disk.images_since
@@ -51,11 +48,9 @@ invariant_of-self-in-Ok g c =
     let d1 = c.put_slice.new.disk in
     let b = c.in-Some-take.begun in
     let next = c.put_slice.new.begun in
-    let none : refusal_of_slice c.args.self.now ≡ None = search rules in
-    let live = may_slice k (subst (λ (v : Kept g.row.D.Denot). refusal_of_slice v ≡ None) (sym c.self.view_is) none) in
-    let some : s.begun ≡ Some b = search rules in
+    let live = slices s c.args.self.now c.self.view_is (search rules) in
     let so = it_is s.begun b (IsBegun s.base s.history.items s.generation s.areas.len s.areas.side s.other (disk.honest s.disk) s.failed
-    (disk.seen s.disk)) some c.self.invariant.3 in
+    (disk.seen s.disk)) (search rules) c.self.invariant.3 in
     let within : next.put ≤ length b.front.items = search (rules, arith) in (
       counted_with k s.table s.waiting counted d1 (Some (as_checkpoint next)) s.failed,
       (λ _. search (rules, arith)),
@@ -84,13 +79,10 @@ pub returns-in-Err-clause-any_moment : goal.returns-in-Err-clause-any_moment
 returns-in-Err-clause-any_moment g c =
     let s = c.self.inside in
     let disk = g.D.Disk in
-    let k = as_kept s in
     let b = c.in-Some-take.begun in
-    let none : refusal_of_slice c.args.self.now ≡ None = search rules in
-    let live = may_slice k (subst (λ (v : Kept g.row.D.Denot). refusal_of_slice v ≡ None) (sym c.self.view_is) none) in
-    let some : s.begun ≡ Some b = search rules in
+    let live = slices s c.args.self.now c.self.view_is (search rules) in
     let so = it_is s.begun b (IsBegun s.base s.history.items s.generation s.areas.len s.areas.side s.other (disk.honest s.disk) s.failed
-    (disk.seen s.disk)) some c.self.invariant.3 in
+    (disk.seen s.disk)) (search rules) c.self.invariant.3 in
     slice_moments disk.honest disk.images s c.self.invariant.0 live c.self.invariant.2 c.put_slice.new.disk disk.moment disk.images_since
     (λ honest. (so.1 honest live).closed) c.put_slice.ensures.any_moment c.args.self.now c.self.view_is
 
@@ -98,12 +90,9 @@ pub returns-in-Ok-clause-any_moment : goal.returns-in-Ok-clause-any_moment
 returns-in-Ok-clause-any_moment g c =
     let s = c.self.inside in
     let disk = g.D.Disk in
-    let k = as_kept s in
     let b = c.in-Some-take.begun in
-    let none : refusal_of_slice c.args.self.now ≡ None = search rules in
-    let live = may_slice k (subst (λ (v : Kept g.row.D.Denot). refusal_of_slice v ≡ None) (sym c.self.view_is) none) in
-    let some : s.begun ≡ Some b = search rules in
+    let live = slices s c.args.self.now c.self.view_is (search rules) in
     let so = it_is s.begun b (IsBegun s.base s.history.items s.generation s.areas.len s.areas.side s.other (disk.honest s.disk) s.failed
-    (disk.seen s.disk)) some c.self.invariant.3 in
+    (disk.seen s.disk)) (search rules) c.self.invariant.3 in
     slice_moments disk.honest disk.images s c.self.invariant.0 live c.self.invariant.2 c.put_slice.new.disk disk.moment disk.images_since
     (λ honest. (so.1 honest live).closed) c.put_slice.ensures.any_moment c.args.self.now c.self.view_is

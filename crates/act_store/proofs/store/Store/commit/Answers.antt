@@ -1,14 +1,15 @@
-use Rattle.std.proofs.Common.{rules, ◌≡◌, ℕ, List, ◌+◌, ◌<◌, ◌^◌, ◌∙◌, ◌-◌, length, false, refl, arith, ap, subst, sym}
+use Rattle.std.proofs.Common.{rules, ◌≡◌, ℕ, List, ◌+◌, ◌<◌, ◌^◌, ◌∙◌, ◌-◌, length, true, false, refl, arith, ap, subst, sym}
 use Rattle.act_store.specs.Images.{StandsFor}
 use Rattle.act_store.specs.Kept.{Kept, StandForCovered, StandsForEither, table_of}
 use Rattle.act_store.specs.Plain.{committed, used_after}
 use Rattle.act_store.specs.Promise.{IsCounted, IsSettled, IsStanding}
 use Rattle.act_store.specs.StoreSeen.{as_kept}
 use Rattle.act_store.specs.Waiting.{body_of}
-use Rattle.act_store.proofs.Committing.{now_of, none_waits, all_stands, counted_broken, counted_committed, commit_moments}
+use Rattle.act_store.proofs.Checkpointing.{counted_with, standing_failed}
+use Rattle.act_store.proofs.Committing.{now_of, none_waits, all_stands, counted_committed, commit_moments}
 use Rattle.act_store.proofs.Committing.{commit_settles, more, used_is, same_committed}
 use Rattle.act_store.proofs.Records.{length_record}
-use Rattle.act_store.proofs.Settling.{settled_stands, stand_covered, standing_broken, standing_fresh}
+use Rattle.act_store.proofs.Settling.{settled_stands, stand_covered, standing_fresh}
 use Rattle.act_store.proofs.Snapshots.{begun_broken, begun_grown}
 use Rattle.act_store.proofs.store.Store.commit.Given.{Over}
 use Rattle.act_store.proofs.store.Store.commit.Goals as goal
@@ -63,10 +64,10 @@ invariant_of-self g c =
     let since = commit_moments disk.honest disk.images s counted (search rules) (search (rules, arith)) c.self.invariant.2
     c.as_slice-bytes.result.now c.as_slice-bytes.ensures.bytes c.as_slice-bytes.ensures.short d1 disk.moment
     disk.images_since c.grow.ensures.any_moment k refl in (
-      counted_broken k s.table s.waiting counted d1,
+      counted_with k s.table s.waiting counted d1 k.begun true,
       (λ impossible. absurd (cc impossible)),
       λ honest1.
-          standing_broken disk.images s.areas.side s.other k counted.size d1
+          standing_failed k s.table s.waiting counted disk.images s.areas.side s.other d1 k.begun
           (now_of disk.moment disk.images_since disk.images s.disk d1 (StandsForEither k) (g.met.D.Disk.counts_now d1 honest1)
           (since (c.grow.ensures.honest.0 honest1))),
       begun_broken s.base s.history.items s.generation s.areas.len s.areas.side s.other (disk.honest s.disk) s.failed
