@@ -1,6 +1,6 @@
 ghost use Rattle.std.specs.Prelude.{◌≡◌, position, option_map};
 ghost use Rattle.wf_reader.specs.Condition.{is_space};
-ghost use Rattle.acts_ops.specs.Fields.{at_space, three_fields};
+ghost use Rattle.command_lines.specs.Fields.{at_space, three_fields};
 
 fn place_of_space(text: &[u8]) -> Option<usize>
     ensures { result ≡ position is_space text.now }

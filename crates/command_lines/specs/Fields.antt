@@ -1,4 +1,4 @@
--- The fields of a line of a script, parted by one space.
+-- The fields of a line, parted by one space.
 use Rattle.std.specs.Prelude.{ℕ, ◌+◌, List, take, drop, Option, option_map, option_and_then}
 use Rattle.std.specs.List.{position}
 use Rattle.wf_reader.specs.Condition.{is_space}
