@@ -9,11 +9,11 @@ use Rattle.std.proofs.lemmas.List.Quantifiers.{position-Some}
 use Rattle.std.proofs.lemmas.List.Sums.{fails_before_first}
 use Rattle.runner_sessions.specs.Line.{HasNoFeed}
 
-abbrev is_feed : ℕ → Bool
+abbrev pub is_feed : ℕ → Bool
 is_feed b = b == 10
 
 no_feed : (b : ℕ) → is_feed b ≡ false → b ≢ 10
-no_feed b no e = let yes = ap is_feed e in cc
+no_feed b absent e = let yes = ap is_feed e in cc
 
 -- the first one is at i
 pub record FirstAt (bytes : List ℕ) (i : ℕ) : Type 0 where

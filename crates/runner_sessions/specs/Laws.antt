@@ -1,12 +1,10 @@
 -- The lines of a session's bytes are one list, whatever follows them.
-use Rattle.std.specs.Prelude.{◌≡◌, ◌≢◌, ℕ, ◌+◌, ◌<◌, List, [], ◌∷◌, ◌++◌, length, take, drop, slice_index_or, refl}
-use Rattle.std.proofs.Common.{sym, ap, subst, ◌∙◌, inl, inr, append_assoc, length-append, arith}
+use Rattle.std.specs.Prelude.{◌≡◌, ℕ, ◌<◌, List, [], ◌∷◌, ◌++◌, length, take, drop, slice_index_or, refl}
+use Rattle.std.proofs.Common.{sym, ap, ◌∙◌, inl, inr, append_assoc, arith}
 use Rattle.std.proofs.lemmas.List.{get_or_append_left}
 use lib.Seq.{take-append_seam, drop-append_seam}
-use Rattle.wf_value.specs.declared.refusal.Refusal.{Refusal}
-use Rattle.act_sessions.specs.declared.request.Request.{Request}
 use Rattle.act_sessions.specs.Rules.{IsOne, IsSteady}
-use Rattle.runner_sessions.specs.Line.{HasNoFeed, LineReads, request_in, too_long, runner_rules}
+use Rattle.runner_sessions.specs.Line.{HasNoFeed, request_in, runner_rules}
 
 pub lines_steady : IsSteady runner_rules
 lines_steady bytes more rest r (line, none, inl (short, is, asks)) =
