@@ -2,3 +2,4 @@
 pub mod NamedValues
 pub mod Lengths
 pub mod Heads
+pub mod Targets

@@ -1,6 +1,6 @@
 -- The rules of a session of HTTP/1.1. A request is a head as httparse's grammar has it, RFC 9112, sections 2 to 5, of at most 8,192 bytes and
 -- 64 fields (own), and a body of as many bytes as its `Content-Length` says.
-use Rattle.std.specs.Prelude.{◌≡◌, ◌⊎◌, ℕ, ◌≤◌, ◌<◌, List, length, take, Some, None}
+use Rattle.std.specs.Prelude.{◌≡◌, ◌⊎◌, ℕ, ◌+◌, ◌≤◌, ◌<◌, List, length, take, Some, None}
 use Rattle.httparse.specs.Grammar.{RequestHead, ReadsRequest, HasNoRequest, MayBecomeRequest, print_request}
 use Rattle.httparse.specs.Spans.{RequestOverflows}
 use Rattle.act_sessions.specs.declared.request.Request.{Request}
@@ -10,6 +10,7 @@ use Rattle.webhook_sessions.specs.declared.fault.Fault.TheVariants.{BadHead}
 use Rattle.webhook_sessions.specs.Answers.{answer_text, fault_text, starved_text}
 use Rattle.webhook_sessions.specs.Asking.{request_after, unread}
 use Rattle.webhook_sessions.specs.Heading.{heading_of}
+use Rattle.webhook_sessions.specs.Length.{most_body}
 
 -- the longest head, in bytes, with the empty lines before it
 abbrev pub most_head : ℕ
@@ -40,7 +41,7 @@ HookWaits bytes =
     (HasNoRequest bytes × MayBecomeRequest bytes × (length bytes < most_head))
     ⊎ ((h : RequestHead) × (after : List ℕ) × BeginsWith bytes h after × (request_after (heading_of h) after ≡ None))
 
--- how many requests a session takes (own)
+-- a session takes at most 64 requests (own), and no more bytes wait than the longest head and the longest body
 abbrev pub hooks : Rules Fault
 hooks = record {
   reads = HookReads;
@@ -49,5 +50,5 @@ hooks = record {
   fault_text = fault_text;
   starved = Some starved_text;
   most = 64;
-  limit = 73728;
+  limit = most_head + most_body;
 }

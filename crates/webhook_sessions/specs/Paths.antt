@@ -1,5 +1,5 @@
 -- What the target of a request names (own). It has to match exactly: with a query it is another one.
-use Rattle.std.specs.Prelude.{ℕ, ◌-◌, List, take, drop, length, codes, Option, Some, None, option_map, if◌then◌else◌}
+use Rattle.std.specs.Prelude.{◌≡◌, ℕ, ◌-◌, List, ◌++◌, take, drop, length, codes, Option, Some, None, option_map, if◌then◌else◌}
 use Rattle.std.specs.Option.{option_map_or}
 use Rattle.std.specs.Str.{bytes_eq}
 use Rattle.run_plan.specs.SmallText.{found_if, number_of, runner_name_of}
@@ -31,6 +31,14 @@ abbrev pub path_of : List ℕ → Option Path
 path_of target =
     if bytes_eq target (codes "/events") then Some Events
     else option_map_or run_path (after_front (codes "/runs/") target) (option_map_or runner_path (after_front (codes "/runners/") target) None)
+
+-- the target that a path has
+abbrev pub IsTargetOf : Path → List ℕ → Type 0
+IsTargetOf Events target = target ≡ codes "/events"
+IsTargetOf (Run run) target = (text : List ℕ) × (number_of text ≡ Some run) × (target ≡ codes "/runs/" ++ text)
+IsTargetOf (Body run) target = (text : List ℕ) × (number_of text ≡ Some run) × (target ≡ codes "/runs/" ++ text ++ codes "/body")
+IsTargetOf (Cancel run) target = (text : List ℕ) × (number_of text ≡ Some run) × (target ≡ codes "/runs/" ++ text ++ codes "/cancel")
+IsTargetOf (Lost runner) target = (text : List ℕ) × (runner_name_of text ≡ Some runner) × (target ≡ codes "/runners/" ++ text ++ codes "/lost")
 
 -- the method that a path is asked by: RFC 9110, section 9
 abbrev pub method_of : Path → List ℕ

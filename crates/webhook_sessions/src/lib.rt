@@ -8,6 +8,7 @@ mod fault;
 mod fields;
 mod head;
 mod hook;
+pub mod laws;
 mod length;
 mod occurrence;
 mod path;
