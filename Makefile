@@ -3,7 +3,7 @@
 ACTS := crates/acts/out/acts
 FIRST := crates/first_run
 
-.PHONY: first-run test build example bench gate sweep wrong-bodies
+.PHONY: first-run test build example bench gate sweep wrong-bodies definitions
 
 # Plays the example by a trial run, and prints each line of the script with its answer. A trial interprets the program first, which ends
 # without an answer where this one reads; so that takes one step here in place of some seconds, and the compiled program answers as before.
@@ -40,6 +40,10 @@ sweep: build
 # The wrong bodies beyond those of the gate: of each crate, of CRATE, or the one of CRATE=NAME/EDIT.
 wrong-bodies:
 	sweeps/wrong_bodies/run $(CRATE)
+
+# The changed definitions that a law or a row has to refuse; of CRATE, or the one of CRATE=NAME/EDIT.
+definitions:
+	sweeps/definitions/run $(CRATE)
 
 # Processor minutes of the gate, by crate, in a fresh clone; of CRATES and those below alone, where they are named.
 gate:

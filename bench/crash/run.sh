@@ -12,7 +12,7 @@ for part in script crash; do cp "$here/$part.rt.txt" "$scratch/crates/crash_benc
 # Lines are read as `acts` reads them, and a store shows its table and its disk, which no contract speaks of: so nothing of theirs is proved.
 rm -rf "$scratch"/crates/*/proofs
 shown='    pub fn table(\&self) -> \&Table {\n        \&self.table\n    }\n\n    pub fn disk(\&self) -> \&D {\n        \&self.disk\n    }\n'
-sed -i 's/^pub use check::/pub use line::command_of;\n&/' "$scratch/crates/acts_ops/src/lib.rt"
+sed -i 's/^pub use check::/pub use answer::{Answer, answer_line, answer_to};\n&/' "$scratch/crates/acts_ops/src/lib.rt"
 sed -i "s/^impl<D: Disk> Store<D> {\$/&\n$shown/" "$scratch/crates/act_store/src/store.rt"
 
 cd "$scratch/crates/crash_bench"

@@ -1,5 +1,6 @@
 -- How a store begins: with an empty history, at the table that its disk stands for.
-use Rattle.std.proofs.Common.{◌≡◌, inl, ℕ, ◌<◌, List, [], ◌∷◌, take, false, refl, sym, ap, subst, arith}
+use Rattle.std.proofs.Common.{◌≡◌, inl, ℕ, ◌<◌, List, [], ◌∷◌, take, Bool, refl, sym, ap, subst, arith}
+use Rattle.std.specs.Prelude.{Option}
 use Rattle.std.proofs.lemmas.List.{take_all}
 use Rattle.gated_journal.specs.Layout.{Head, Fits}
 use Rattle.gated_journal.specs.TwoAreas.{behind_gate}
@@ -12,7 +13,7 @@ use Rattle.run_table.specs.Step.{empty}
 use Rattle.run_table.specs.TableState.{TableState}
 use Rattle.act_store.specs.Entries.{table_after}
 use Rattle.act_store.specs.Images.{IsAreaLength, StandsFor}
-use Rattle.act_store.specs.Kept.{Kept}
+use Rattle.act_store.specs.Kept.{Checkpoint, Kept}
 use Rattle.act_store.specs.Meaning.{MeansTable}
 use Rattle.act_store.specs.Promise.{IsCounted, IsSettled, IsStanding}
 use Rattle.act_store.specs.Waiting.{Waits, waits_of}
@@ -20,8 +21,8 @@ use Rattle.act_store.specs.declared.entry.Entry.{Entry}
 use Rattle.act_store.proofs.Settling.{settled_at, settled_stands}
 use Rattle.act_store.proofs.TextOfTable.{empty_spells, empty_text}
 
-abbrev pub begun : {D : Type 0} → D → ℕ → TableState → ℕ → ℕ → List Entry → Kept D
-begun disk area base used generation history = record {
+abbrev pub begun : {D : Type 0} → D → ℕ → TableState → ℕ → ℕ → Option Checkpoint → Bool → List Entry → Kept D
+begun disk area base used generation checkpoint failed history = record {
   disk = disk;
   area = area;
   base = base;
@@ -29,14 +30,16 @@ begun disk area base used generation history = record {
   covered = 0;
   used = used;
   generation = generation;
-  failed = false;
+  begun = checkpoint;
+  failed = failed;
 }
 
-module _ {D : Type 0} (disk : D) (area : ℕ) (base : TableState) (used generation : ℕ) (history : List Entry) (none : history ≡ []) where
+module _ {D : Type 0} (disk : D) (area : ℕ) (base : TableState) (used generation : ℕ) (checkpoint : Option Checkpoint) (failed : Bool)
+    (history : List Entry) (none : history ≡ []) where
   pub counted_begun : (table : TableState) → table ≡ base → (waiting : Waits) → waiting ≡ waits_of [] → IsAreaLength area → used < area
-      → IsCounted (begun disk area base used generation history) table waiting
+      → IsCounted (begun disk area base used generation checkpoint failed history) table waiting
   counted_begun table same waiting nothing size fits =
-      subst (λ (h : List Entry). IsCounted (begun disk area base used generation h) table waiting) (sym none) (record {
+      subst (λ (h : List Entry). IsCounted (begun disk area base used generation checkpoint failed h) table waiting) (sym none) (record {
         legal = refl;
         table_is = same;
         covers = omega arith;
@@ -50,9 +53,9 @@ module _ {D : Type 0} (disk : D) (area : ℕ) (base : TableState) (used generati
 
   pub standing_begun : (images : D → List ℕ → Type 0) (side : Side) (gate : Gate) → IsAreaLength area
       → IsSettled area side gate generation used base (images disk)
-      → IsStanding images side gate (begun disk area base used generation history)
+      → IsStanding images side gate (begun disk area base used generation checkpoint failed history)
   standing_begun images side gate size settled =
-      subst (λ (h : List Entry). IsStanding images side gate (begun disk area base used generation h)) (sym none)
+      subst (λ (h : List Entry). IsStanding images side gate (begun disk area base used generation checkpoint failed h)) (sym none)
       (let first : take 0 [] ≡ [] = take_all 0 [] (omega arith) in
       let here = settled_at area side gate generation used base (table_after base (take 0 [])) (images disk)
       (ap (λ (l : List Entry). table_after base l) (sym first)) settled in

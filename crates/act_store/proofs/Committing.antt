@@ -15,7 +15,7 @@ use Rattle.table_text.specs.Commands.{IsSpelled, batch}
 use Rattle.act_store.specs.Entries.{commands_of, table_after}
 use Rattle.act_store.specs.Images.{StandsFor}
 use Rattle.act_store.specs.Kept.{Kept, StandsForEither, covered_table, pending_commands, table_of}
-use Rattle.act_store.specs.Plain.{broken, committed, used_after}
+use Rattle.act_store.specs.Plain.{committed, used_after}
 use Rattle.act_store.specs.Promise.{IsCounted, IsSettled, IsStanding}
 use Rattle.act_store.specs.StoreSeen.{as_kept}
 use Rattle.act_store.specs.Waiting.{Waits, body_of, waits_of}
@@ -30,7 +30,7 @@ pub now_of : {D : Type 0} (moment : D → ℕ) (images_since : D → ℕ → Lis
     → EachSince moment images_since old new P → (c : List ℕ) → images new c → P c
 now_of moment images_since images old new P counts since c now = since.each c (counts (moment old) c since.later now)
 
-none_left : (left : Waits) → left.count ≡ 0 → left.spelled ≡ [] → left ≡ waits_of []
+pub none_left : (left : Waits) → left.count ≡ 0 → left.spelled ≡ [] → left ≡ waits_of []
 none_left left none no_bytes =
     ap (λ (n : ℕ). record { count = n; spelled = left.spelled }) none ∙ ap (λ (l : List ℕ). record { count = 0; spelled = l }) no_bytes
 
@@ -50,19 +50,6 @@ module _ {D : Type 0} (s : Kept D) (table : TableState) (waiting : Waits) (count
       let same : covered_table s ≡ table_of s =
       ap (λ (l : List Entry). table_after s.base l) (take_all s.covered s.history (omega (arith, all))) in
       ⊎_elim (λ covered. subst (λ (t : TableState). StandsFor t c) same covered) (λ here. here) either
-
-  pub counted_broken : (disk : D) → IsCounted (broken s disk) table waiting
-  counted_broken disk = record {
-    legal = counted.legal;
-    table_is = counted.table_is;
-    covers = counted.covers;
-    most = counted.most;
-    size = counted.size;
-    gate_fits = counted.gate_fits;
-    record_fits = counted.record_fits;
-    spelled = counted.spelled;
-    waiting_is = counted.waiting_is;
-  }
 
   module _ (some : 0 < waiting.count) where
     waits : body_of waiting ≡ batch.spelling (pending_commands s)

@@ -7,7 +7,7 @@ use Rattle.gated_journal.specs.TwoAreas.{area_on, Spells}
 use Rattle.gated_journal.specs.Whole.{IsChosen, StandsWhole}
 use Rattle.gated_journal.specs.declared.chosen.Chosen.{Chosen}
 use Rattle.gated_journal.specs.declared.side.Side.{Side}
-use Rattle.act_store.specs.Images.{HasNoArea, HasNoTable, IsAreaLength, StandsFor}
+use Rattle.act_store.specs.Images.{HasNoArea, HasNoTable, IsAreaLength, StandsAt, StandsFor}
 use Rattle.act_store.specs.Opened.{IsFound}
 use Rattle.act_store.specs.Promise.{IsSettled}
 use Rattle.act_store.specs.Spelled.{SpellsArea}
@@ -76,3 +76,8 @@ module _ (found : Found) (file : List ℕ) (is_found : IsFound found file) where
     spells = record { long = omega (arith, is_found.long); stands = is_found.stands; reads = spelled.reads };
     means = spelled.means;
   }
+
+  -- by the area that was found
+  pub found_at : IsAreaLength found.area → StandsAt found.spelled.generation found.spelled.used found.spelled.table file
+  unfolding found_stands
+  found_at size = record { stands = found_stands size; generation_is = spelled.generation_is; used_is = spelled.used_is }

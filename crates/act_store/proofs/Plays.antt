@@ -1,22 +1,21 @@
 -- What steps leave, one after another.
 use Rattle.std.proofs.Common.{◌≡◌, inr, ⊎_elim, ◌↔◌, ℕ, ◌+◌, ◌<◌, ◌≤◌, List, [], ◌∷◌, ◌++◌, length, take, refl, sym, ◌∙◌, ap, subst, arith}
-use Rattle.std.proofs.Common.{append_assoc, drop, get_or, length-append, take-append-drop, true, false, Bool}
-use Rattle.std.specs.Prelude.{◌⊎◌, Some, None, IfOk, OnErr, Result, Ok, Err, if◌then◌else◌, nat_le, nat_lt}
+use Rattle.std.proofs.Common.{append_assoc, drop, get_or, length-append, take-append-drop, Bool, true, false}
+use Rattle.std.specs.Prelude.{Option, Some, None, IfOk, IsSomeAnd, OnErr, Result, Ok, Err, option_map, if◌then◌else◌}
 use Rattle.std.proofs.Math.Nat.{eq-or-lt_of_le}
 use Rattle.std.proofs.lemmas.List.{append-nil, take_all, take-append-le, take_more}
-use Rattle.wf_value.specs.Gives.{no_memory}
 use Rattle.wf_value.specs.declared.refusal.Refusal.{Refusal}
-use Rattle.act_disk.specs.Failed.{device_failed}
 use Rattle.act_disk.specs.Images.{EachSince}
 use Rattle.act_disk.specs.Moments.{started, weakened, joined}
 use Rattle.run_plan.specs.declared.command.Command.{Command}
+use Rattle.run_plan.specs.declared.reply.Reply.{Reply}
 use Rattle.run_table.specs.TableState.{TableState}
+use Rattle.act_store.specs.Checkpoints.{dropped, finished, taken, with_slice}
 use Rattle.act_store.specs.Entries.{table_after}
 use Rattle.act_store.specs.Images.{StandsFor}
-use Rattle.act_store.specs.Kept.{Kept, StandsForEither, StandsForSome, pending_commands}
-use Rattle.act_store.specs.Plain.{area_full, broken, committed, entered, entry_of, failed_earlier, history_full, record_end}
-use Rattle.act_store.specs.Plain.{refusal_of_apply}
-use Rattle.act_store.specs.Steps.{Covers, Grows, PlayEnds, Plays, PlaysSome, Survives, Takes}
+use Rattle.act_store.specs.Kept.{Checkpoint, Kept, StandsForEither, StandsForSome}
+use Rattle.act_store.specs.Plain.{broken, committed, entered, entry_of}
+use Rattle.act_store.specs.Steps.{Counts, Covers, Grows, IsRefused, PlayEnds, Plays, PlaysSome, Replies, Survives, Takes, is_area_full, left_by}
 use Rattle.act_store.specs.declared.entry.Entry.{Entry}
 use Rattle.act_store.specs.declared.step.Played.{Played}
 use Rattle.act_store.specs.declared.step.Played.TheVariants as told
@@ -56,26 +55,9 @@ module _ {D : Type 0} (during : Kept D → Played → Kept D → Type 0) (old : 
   first_played (Err e) new i answers plays =
       record { first = take i steps; others = drop i steps; split = sym (take-append-drop i steps); answers = answers; plays = plays }
 
--- ---- why a command is refused
-
-by_tests : (failed full over : Bool) (e : Refusal)
-    → (if failed then Some failed_earlier else (if full then Some history_full else (if over then Some area_full else None))) ≡ Some e
-    → e ≡ device_failed → ⊥
-by_tests true full over e is device = cc
-by_tests false true over e is device = cc
-by_tests false false true e is device = cc
-by_tests false false false e is device = cc
-
 -- ---- what one step leaves of what there was
 
 module _ {D : Type 0} where
-  no_device : (s : Kept D) (command : Command) (e : Refusal) → (e ≡ no_memory) ⊎ (refusal_of_apply s command ≡ Some e)
-      → e ≡ device_failed → ⊥
-  no_device s command e cause device = ⊎_elim (λ memory. let clash : no_memory ≡ device_failed = sym memory ∙ device in cc)
-      (λ some. by_tests s.failed (nat_le 100000 (length s.history)) (nat_lt s.area (record_end s (pending_commands s ++ command ∷ [])))
-      e some device)
-      cause
-
   same_grows : (old new : Kept D) → old.covered ≤ length old.history → new ≡ old → Grows old new
   same_grows old new within same = subst (λ (k : Kept D). Grows old k) (sym same)
       (record { base = refl; more = []; history = sym (append-nil old.history); covers = omega arith; within = within })
@@ -99,18 +81,61 @@ module _ {D : Type 0} where
       })
 
   covers_grows : (old new : Kept D) (count : ℕ) → old.covered ≤ length old.history → Covers old count new → Grows old new
-  covers_grows old new count within covers = ⊎_elim (λ all. same_grows old new within (covers.none all))
+  covers_grows old new count within covers = ⊎_elim (λ all. same_grows old new within (covers.none (omega (arith, all))))
       (λ less. committed_grows old new new.disk within (covers.some less)) (eq-or-lt_of_le within)
+
+  -- another disk and another checkpoint change nothing of it
+  checkpoint_grows : (old new : Kept D) (disk : D) (checkpoint : Option Checkpoint) (failed : Bool) → old.covered ≤ length old.history
+      → new ≡ record old { disk = disk; begun = checkpoint; failed = failed } → Grows old new
+  checkpoint_grows old new disk checkpoint failed within same = subst (λ (k : Kept D). Grows old k) (sym same)
+      (record { base = refl; more = []; history = sym (append-nil old.history); covers = omega arith; within = within })
+
+  finished_grows : (old new : Kept D) (o : Option Checkpoint) → old.covered ≤ length old.history
+      → IsSomeAnd o (λ checkpoint. new ≡ finished old checkpoint new.disk) → Grows old new
+  finished_grows old new None within done = absurd done
+  finished_grows old new (Some checkpoint) within done = subst (λ (k : Kept D). Grows old k) (sym done)
+      (record { base = refl; more = []; history = sym (append-nil old.history); covers = within; within = omega arith })
+
+  left_grows : (old new : Kept D) (step : Step) (e : Refusal) → new ≡ left_by old step e → old.covered ≤ length old.history → Grows old new
+  left_grows old new (asked.Apply command) e left within = same_grows old new within left
+  left_grows old new asked.Commit e left within = same_grows old new within left
+  left_grows old new asked.Begin e left within = same_grows old new within left
+  left_grows old new asked.Slice e left within = same_grows old new within left
+  left_grows old new asked.Finish e left within = by_test (is_area_full e) left
+    where
+      by_test : (b : Bool) → new ≡ (if b then dropped old else old) → Grows old new
+      by_test true drops = checkpoint_grows old new old.disk None old.failed within drops
+      by_test false same = same_grows old new within same
+
+  refused_grows : (old new : Kept D) (step : Step) (e : Refusal) → IsRefused old step e new → old.covered ≤ length old.history
+      → Grows old new
+  refused_grows old new step e refused within =
+      ⊎_elim (λ cause. left_grows old new step e cause.1 within)
+      (λ rest. ⊎_elim (λ memory. same_grows old new within memory.3) (λ fault. broken_grows old new new.disk within fault.3) rest) refused
+
+  replied_grows : (old new : Kept D) (step : Step) (reply : Reply) → Replies old step reply new → old.covered ≤ length old.history
+      → Grows old new
+  replied_grows old new (asked.Apply command) reply replies within = entered_grows old new command within replies.0
+  replied_grows old new asked.Commit reply replies within = absurd replies
+  replied_grows old new asked.Begin reply replies within = absurd replies
+  replied_grows old new asked.Slice reply replies within = absurd replies
+  replied_grows old new asked.Finish reply replies within = absurd replies
+
+  counted_grows : (old new : Kept D) (step : Step) (count : ℕ) → Counts old step count new → old.covered ≤ length old.history
+      → Grows old new
+  counted_grows old new (asked.Apply command) count counts within = absurd counts
+  counted_grows old new asked.Commit count counts within = covers_grows old new count within counts
+  counted_grows old new asked.Begin count counts within =
+      checkpoint_grows old new new.disk (Some (taken old)) old.failed within counts.0
+  counted_grows old new asked.Slice count counts within =
+      checkpoint_grows old new new.disk (option_map with_slice old.begun) old.failed within counts.0
+  counted_grows old new asked.Finish count counts within = finished_grows old new old.begun within counts.0
 
   pub takes_grows : (old new : Kept D) (step : Step) (answer : Played) → Takes old step answer new → old.covered ≤ length old.history
       → Grows old new
-  takes_grows old new (asked.Apply command) (told.Replied reply) takes within = entered_grows old new command within takes.1
-  takes_grows old new (asked.Apply command) (told.Refused e) takes within = same_grows old new within takes.1
-  takes_grows old new (asked.Apply command) (told.Count count) takes within = absurd takes
-  takes_grows old new asked.Commit (told.Replied reply) takes within = absurd takes
-  takes_grows old new asked.Commit (told.Refused e) takes within =
-      ⊎_elim (λ earlier. same_grows old new within earlier.2) (λ now. broken_grows old new new.disk within now.2) takes
-  takes_grows old new asked.Commit (told.Count count) takes within = covers_grows old new count within takes
+  takes_grows old new step (told.Replied reply) takes within = replied_grows old new step reply takes.1 within
+  takes_grows old new step (told.Count count) takes within = counted_grows old new step count takes.1 within
+  takes_grows old new step (told.Refused e) takes within = refused_grows old new step e takes within
 
   grows_on : (old mid new : Kept D) → Grows old mid → Grows mid new → Grows old new
   grows_on old mid new first second = record {
@@ -219,20 +244,6 @@ module _ {D : Type 0} where
           from = omega (arith, some.from, first.covers);
           within = some.within;
           stands = some.stands;
-        })
-
-    -- ---- a command that is refused
-
-    pub refused_survives : (images : D → List ℕ → Type 0) (old new : Kept D) (command : Command) (e : Refusal) → new ≡ old
-        → (e ≡ no_memory) ⊎ (refusal_of_apply old command ≡ Some e)
-        → (honest old.disk → (c : List ℕ) → images old.disk c → StandsForEither old c)
-        → ((disk : D) → honest disk → (c : List ℕ) → images_since disk (moment disk) c → images disk c)
-        → during old (told.Refused e) new
-    refused_survives images old new command e same cause promise only =
-        subst (λ (k : Kept D). during old (told.Refused e) k) (sym same) (record {
-          any_moment = λ h. started moment images_since old.disk (StandsForEither old) (λ c left. promise h c (only old.disk h c left));
-          stays_honest = ((λ h. h), (λ h. h));
-          faults = inr (no_device old command e cause, refl);
         })
 
     -- ---- what a play leaves, whatever came of it

@@ -1,5 +1,7 @@
--- What an opening after a stop finds of an entry that was acknowledged.
-use Rattle.std.proofs.Common.{◌≡◌, ℕ, zero, suc, ◌-◌, ◌<◌, List, [], ◌∷◌, ◌++◌, length, take, sym, ◌∙◌, ap, subst, arith}
+-- What is found of an entry that was acknowledged, after any number of stops and openings.
+use Rattle.std.proofs.Common.{◌≡◌, ⊎_elim, ℕ, zero, suc, ◌+◌, ◌-◌, ◌<◌, ◌≤◌, List, [], ◌∷◌, ◌++◌, length, take, drop, sym, ◌∙◌, ap, subst, arith}
+use Rattle.std.proofs.Common.{append_assoc, append-nil, length-append}
+use Rattle.std.proofs.lemmas.List.{drop_at, length-map}
 use Rattle.run_plan.specs.Admitted.{Admitted}
 use Rattle.run_plan.specs.declared.command.Command.{Command}
 use Rattle.run_plan.specs.declared.command.Command.TheVariants as command
@@ -9,13 +11,15 @@ use Rattle.run_table.specs.ExactlyOnce.{HasTurn, HaveNoLaterTurn, IsRefused}
 use Rattle.run_table.specs.Histories.{after, replies}
 use Rattle.run_table.specs.Step.{step, stepped}
 use Rattle.run_table.specs.TableState.{TableState}
+use Rattle.run_table.proofs.LeasesStay.{after_both}
 use Rattle.act_store.specs.Entries.{IsLegal, commands_of, replies_of, table_after}
-use Rattle.act_store.specs.Reopened.{Reopens}
+use Rattle.act_store.specs.Images.{StandsFor}
+use Rattle.act_store.specs.Reopened.{EndsAt, FindsAgain, IsAcknowledged, LeadTo, Life, asked_in}
 use Rattle.act_store.specs.declared.entry.Entry.{Entry}
-use Rattle.act_store.proofs.Histories.{table-append}
+use Rattle.act_store.proofs.Histories.{commands-append}
 use Rattle.act_store.proofs.OneTable.{one_table}
 
--- ---- the reply of an entry, and the tables behind it
+-- ---- the reply of an entry
 
 legal_at : (base : TableState) (before behind : List Entry) (entry : Entry) → IsLegal base (before ++ entry ∷ behind)
     → entry.reply ≡ (stepped (table_after base before) entry.command).reply
@@ -24,6 +28,22 @@ legal_at base (e ∷ before) behind entry legal =
     let rest : replies_of (before ++ entry ∷ behind) ≡ replies (stepped base e.command).table (commands_of (before ++ entry ∷ behind)) =
     cc legal in
     legal_at (stepped base e.command).table before behind entry rest
+
+-- ---- what stands at the end of lives
+
+found_is : (left found : TableState) → FindsAgain left found → found ≡ left
+found_is left found again =
+    ⊎_elim (λ same. same) (λ stood. one_table stood.0 found left stood.2 stood.1) again
+
+stands_after : (life : Life) (lives : List Life) (table : TableState) (leads : LeadTo life lives table)
+    → table ≡ after life.base (asked_in life lives table leads)
+stands_after life [] table leads = found_is (table_after life.base (take leads.count life.history)) table leads.found
+stands_after life (next ∷ lives) table leads =
+    let first = commands_of (take leads.0.count life.history) in
+    let others = asked_in next lives table leads.1 in
+    stands_after next lives table leads.1
+    ∙ ap (λ (t : TableState). after t others) (found_is (after life.base first) next.base leads.0.found)
+    ∙ sym (after_both life.base first others)
 
 front_at : (before behind : List Entry) (entry : Entry) (count : ℕ) → length before < count
     → take count (before ++ entry ∷ behind) ≡ before ++ entry ∷ take (count - length before - 1) behind
@@ -35,65 +55,85 @@ front_at (e ∷ before) behind entry (suc count) less =
     ap (λ (l : List Entry). e ∷ l) (front_at before behind entry count (omega (arith, less)))
     ∙ ap (λ (n : ℕ). e ∷ before ++ entry ∷ take n behind) (sym same)
 
-fewer : (name : List ℕ) (number n : ℕ) (behind : List Entry) → HaveNoLaterTurn name number (commands_of behind)
-    → HaveNoLaterTurn name number (commands_of (take n behind))
-fewer name number zero behind all = tt
-fewer name number (suc n) [] all = tt
-fewer name number (suc n) (e ∷ behind) all = (all.0, fewer name number n behind all.1)
+module _ (life : Life) (before behind : List Entry) (entry : Entry) (acknowledged : IsAcknowledged life before entry behind) where
+  -- an acknowledged entry is among those that stand
+  kept : (count : ℕ) (more : List Command) → life.covered ≤ count
+      → commands_of (take count life.history) ++ more
+      ≡ commands_of before ++ entry.command ∷ (commands_of (take (count - length before - 1) behind) ++ more)
+  kept count more from =
+      ap (λ (l : List Entry). commands_of l ++ more)
+      (ap (λ (l : List Entry). take count l) acknowledged.stands_at
+      ∙ front_at before behind entry count (omega (arith, acknowledged.covered, from)))
+      ∙ ap (λ (l : List Command). l ++ more)
+      (commands-append before (entry ∷ take (count - length before - 1) behind))
+      ∙ append_assoc (commands_of before) (entry.command ∷ commands_of (take (count - length before - 1) behind)) more
 
--- ---- the laws of the table's steps
+  behind_it : (asked rest : List Command) → asked ≡ commands_of before ++ entry.command ∷ rest
+      → asked ≡ commands_of before ++ entry.command ∷ drop (length before + 1) asked
+  behind_it asked rest is =
+      let front = commands_of before ++ entry.command ∷ [] in
+      let parts : asked ≡ front ++ rest = is ∙ sym (append_assoc (commands_of before) (entry.command ∷ []) rest) in
+      let long : length front ≡ length before + 1 =
+      omega (arith, length-append (commands_of before) (entry.command ∷ []), length-map before (λ (e : Entry). e.command)) in
+      is ∙ ap (λ (l : List Command). commands_of before ++ entry.command ∷ l)
+      (sym (ap (λ (l : List Command). drop (length before + 1) l) parts ∙ drop_at front rest (length before + 1) long))
 
-abbrev pub DeliveryLaw : Type 0
-DeliveryLaw =
-    (t : TableState) (event again : Admitted) (run : ℕ) (later : List Command) → (stepped t (command.Admit event)).reply ≡ reply.Created run
-    → again.delivery ≡ event.delivery
-    → step (after (stepped t (command.Admit event)).table later) (command.Admit again)
-    ≡ (after (stepped t (command.Admit event)).table later, reply.Created run)
+  asked_parts : (lives : List Life) (table : TableState) (leads : LeadTo life lives table)
+      → asked_in life lives table leads
+      ≡ commands_of before ++ entry.command ∷ drop (length before + 1) (asked_in life lives table leads)
+  asked_parts [] table leads =
+      let asked = commands_of (take leads.count life.history) in
+      behind_it asked (commands_of (take (leads.count - length before - 1) behind) ++ [])
+      (sym (append-nil asked) ∙ kept leads.count [] leads.from)
+  asked_parts (next ∷ lives) table leads =
+      let others = asked_in next lives table leads.1 in
+      behind_it (commands_of (take leads.0.count life.history) ++ others)
+      (commands_of (take (leads.0.count - length before - 1) behind) ++ others) (kept leads.0.count others leads.0.from)
 
-abbrev pub ReplyLaw : Type 0
-ReplyLaw =
-    (t : TableState) (c : Command) (runner : List ℕ) (number : ℕ) (later : List Command) → HasTurn c runner number
-    → (IsRefused (stepped t c).reply → ⊥) → HaveNoLaterTurn runner number later
-    → step (after (stepped t c).table later) c ≡ (after (stepped t c).table later, (stepped t c).reply)
+  first_legal : (lives : List Life) (table : TableState) → LeadTo life lives table → IsLegal life.base life.history
+  first_legal [] table leads = leads.legal
+  first_legal (next ∷ lives) table leads = leads.0.legal
 
--- ---- what the table answers that was found
+  -- ---- the laws of the table's steps, of what was found
 
-module _ (base table : TableState) (history before behind : List Entry) (entry : Entry) (covered : ℕ)
-    (opens : Reopens base history covered before entry behind table) where
-  abbrev here : TableState
-  here = table_after base before
+  module _ (lives : List Life) (table : TableState) (leads : LeadTo life lives table) where
+    abbrev here : TableState
+    here = table_after life.base before
 
-  told : entry.reply ≡ (stepped here entry.command).reply
-  told = legal_at base before behind entry (subst (λ (l : List Entry). IsLegal base l) opens.stands_at opens.legal)
+    abbrev later : List Command
+    later = drop (length before + 1) (asked_in life lives table leads)
 
-  abbrev later : List Entry
-  later = take (opens.left.count - length before - 1) behind
+    told : entry.reply ≡ (stepped here entry.command).reply
+    told =
+        legal_at life.base before behind entry
+        (subst (λ (l : List Entry). IsLegal life.base l) acknowledged.stands_at (first_legal lives table leads))
 
-  -- the table that was found is one after the entry
-  found : table ≡ after (stepped here entry.command).table (commands_of later)
-  found =
-      one_table opens.image table (table_after base (take opens.left.count history)) opens.opened opens.left.stands
-      ∙ ap (λ (l : List Entry). table_after base (take opens.left.count l)) opens.stands_at
-      ∙ ap (λ (l : List Entry). table_after base l)
-      (front_at before behind entry opens.left.count (omega (arith, opens.acknowledged, opens.left.from)))
-      ∙ table-append base before (entry ∷ later)
+    found : table ≡ after (stepped here entry.command).table later
+    found =
+        stands_after life lives table leads ∙ ap (λ (l : List Command). after life.base l) (asked_parts lives table leads)
+        ∙ after_both life.base (commands_of before) (entry.command ∷ later)
 
-  -- an admission that is asked again, by the law of the table's steps
-  pub delivery_again : DeliveryLaw → (id : ℕ) (event again : Admitted) → entry.command ≡ command.Admit event
-      → entry.reply ≡ reply.Created id
-      → again.delivery ≡ event.delivery → step table (command.Admit again) ≡ (table, reply.Created id)
-  delivery_again law id event again asked created same =
-      let given : (stepped here (command.Admit event)).reply ≡ reply.Created id =
-      ap (λ (c : Command). (stepped here c).reply) (sym asked) ∙ sym told ∙ created in
-      let is : after (stepped here (command.Admit event)).table (commands_of later) ≡ table =
-      ap (λ (c : Command). after (stepped here c).table (commands_of later)) (sym asked) ∙ sym found in
-      subst (λ (x : TableState). step x (command.Admit again) ≡ (x, reply.Created id)) is
-      (law here event again id (commands_of later) given same)
+    -- an admission that is asked again
+    pub delivery_again : ((t : TableState) (event again : Admitted) (run : ℕ) (later : List Command)
+        → (stepped t (command.Admit event)).reply ≡ reply.Created run → again.delivery ≡ event.delivery
+        → step (after (stepped t (command.Admit event)).table later) (command.Admit again)
+        ≡ (after (stepped t (command.Admit event)).table later, reply.Created run))
+        → (id : ℕ) (event again : Admitted) → entry.command ≡ command.Admit event → entry.reply ≡ reply.Created id
+        → again.delivery ≡ event.delivery → step table (command.Admit again) ≡ (table, reply.Created id)
+    delivery_again law id event again asked created same =
+        let given : (stepped here (command.Admit event)).reply ≡ reply.Created id =
+        ap (λ (c : Command). (stepped here c).reply) (sym asked) ∙ sym told ∙ created in
+        let is : after (stepped here (command.Admit event)).table later ≡ table =
+        ap (λ (c : Command). after (stepped here c).table later) (sym asked) ∙ sym found in
+        subst (λ (x : TableState). step x (command.Admit again) ≡ (x, reply.Created id)) is (law here event again id later given same)
 
-  pub reply_again : ReplyLaw → (name : List ℕ) (number : ℕ) → HasTurn entry.command name number → (IsRefused entry.reply → ⊥)
-      → HaveNoLaterTurn name number (commands_of behind) → step table entry.command ≡ (table, entry.reply)
-  reply_again law name number turn taken no_later =
-      let again = law here entry.command name number (commands_of later) turn (λ refused. taken (refused.0, told ∙ refused.1))
-      (fewer name number (opens.left.count - length before - 1) behind no_later) in
-      subst (λ (x : TableState). step x entry.command ≡ (x, (stepped here entry.command).reply)) (sym found) again
-      ∙ ap (λ (r : Reply). (table, r)) (sym told)
+    -- a runner's command
+    pub reply_again : ((t : TableState) (c : Command) (runner : List ℕ) (number : ℕ) (later : List Command) → HasTurn c runner number
+        → (IsRefused (stepped t c).reply → ⊥) → HaveNoLaterTurn runner number later
+        → step (after (stepped t c).table later) c ≡ (after (stepped t c).table later, (stepped t c).reply))
+        → (name : List ℕ) (number : ℕ) → HasTurn entry.command name number → (IsRefused entry.reply → ⊥)
+        → HaveNoLaterTurn name number later → step table entry.command ≡ (table, entry.reply)
+    reply_again law name number turn taken no_later =
+        let again = law here entry.command name number later turn (λ refused. taken (refused.0, told ∙ refused.1)) no_later in
+        subst (λ (x : TableState). step x entry.command ≡ (x, (stepped here entry.command).reply)) (sym found) again
+        ∙ ap (λ (r : Reply). (table, r)) (sym told)

@@ -12,10 +12,10 @@ use Rattle.run_table.specs.Histories.{after}
 use Rattle.run_table.specs.TableState.{TableState}
 use Rattle.table_text.specs.Commands.{batch}
 use Rattle.act_store.specs.Entries.{table_after}
-use Rattle.act_store.specs.Images.{IsAreaLength, StandsFor}
-use Rattle.act_store.specs.Kept.{Kept, StandsForEither, covered_table, pending_commands, table_of}
+use Rattle.act_store.specs.Images.{IsAreaLength, StandsAt, StandsFor}
+use Rattle.act_store.specs.Kept.{Kept, StandForCovered, StandsForEither, covered_table, pending_commands, table_of}
 use Rattle.act_store.specs.Meaning.{MeansTable}
-use Rattle.act_store.specs.Plain.{committed, broken, used_after}
+use Rattle.act_store.specs.Plain.{committed, used_after}
 use Rattle.act_store.specs.Promise.{IsSettled, IsStanding}
 use Rattle.act_store.specs.declared.entry.Entry.{Entry}
 use Rattle.act_store.proofs.Histories.{table_split}
@@ -53,6 +53,21 @@ pub settled_stands : (len : ℕ) (side : Side) (gate : Gate) (generation used : 
     → IsAreaLength len → IsSettled len side gate generation used table images → (c : List ℕ) → images c → StandsFor table c
 settled_stands len side gate generation used table images size settled c now =
     stands_for len side gate settled.head settled.bodies table c size (settled.each c now) settled.means
+
+-- and it is the area of that generation
+pub settled_at_used : (len : ℕ) (side : Side) (gate : Gate) (generation used : ℕ) (table : TableState) (images : List ℕ → Type 0)
+    → IsAreaLength len → IsSettled len side gate generation used table images → (c : List ℕ) → images c → StandsAt generation used table c
+unfolding settled_stands stands_for
+settled_at_used len side gate generation used table images size settled c now = record {
+  stands = settled_stands len side gate generation used table images size settled c now;
+  generation_is = settled.generation_is;
+  used_is = settled.used_is;
+}
+
+pub stand_covered : {D : Type 0} (images : D → List ℕ → Type 0) (side : Side) (gate : Gate) (s : Kept D) → IsAreaLength s.area
+    → IsStanding images side gate s → StandForCovered images s
+stand_covered images side gate s size standing live =
+    settled_at_used s.area side gate s.generation s.used (covered_table s) (images s.disk) size (standing.settled live)
 
 -- a table that is the same one
 pub settled_at : (len : ℕ) (side : Side) (gate : Gate) (generation used : ℕ) (one two : TableState) (images : List ℕ → Type 0)
@@ -107,10 +122,6 @@ module _ {D : Type 0} (images : D → List ℕ → Type 0) (side : Side) (gate :
         each = λ c now. inr (settled_stands s.area side gate s.generation (used_after s) (table_of s) (images disk) size settled c now);
         settled = λ _. here;
       }
-
-  -- after a device fault
-  pub standing_broken : (disk : D) → ((c : List ℕ) → images disk c → StandsForEither s c) → IsStanding images side gate (broken s disk)
-  standing_broken disk each = record { each = each; settled = λ impossible. absurd (cc impossible) }
 
   -- with an entry more
   pub standing_entered : (history : List Entry) (entry : Entry) → history ≡ s.history ++ entry ∷ [] → s.covered ≤ length s.history

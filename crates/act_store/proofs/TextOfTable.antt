@@ -1,6 +1,7 @@
 -- Which texts spell a table, from what is read of them.
 use Rattle.std.proofs.Common.{◌≡◌, ℕ, ◌<◌, ◌≤◌, List, [], ◌∷◌, length, refl, arith}
 use Rattle.std.specs.Prelude.{None}
+use Rattle.run_table.specs.Sound.{IsSound}
 use Rattle.run_table.specs.Step.{empty}
 use Rattle.run_table.specs.Stored.{stored_table}
 use Rattle.run_table.specs.TableState.{TableState}
@@ -29,6 +30,11 @@ longer_text text rest found opens some other spells = none_longer whole_table wh
 pub no_text : (text : List ℕ) → StandsAtFront whole_table text None → (other : TableState) → SpellsTable other text → ⊥
 unfolding SpellsTable
 no_text text none other spells = none_whole whole_table text none other spells
+
+-- the spelling of a sound table that has one
+pub table_spells : (t : TableState) → IsSound t → table.Takes (stored_table t) → SpellsTable t (whole_table.spelling t)
+unfolding SpellsTable
+table_spells t sound takes = ((sound, takes), refl)
 
 -- ---- the empty table
 

@@ -1,7 +1,9 @@
+pub mod Checkpoints
 pub mod Entries
 pub mod GroupsOfHistory
 pub mod Images
 pub mod Kept
+pub mod LastPart
 pub mod Meaning
 pub mod Opened
 pub mod Plain

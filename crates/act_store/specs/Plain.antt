@@ -1,7 +1,7 @@
 -- The plain store: when each call is refused, what it answers, and what is kept then. It is told with memory and a device that answer;
 -- where they do not, the calls' contracts say what is left. Own: there is no public source.
-use Rattle.std.specs.Prelude.{◌≡◌, ◌⊎◌, ℕ, ◌+◌, List, [], ◌∷◌, ◌++◌, length, nat_le, nat_lt, if◌then◌else◌, true, false, Option, Some, None}
-use Rattle.wf_value.specs.declared.code.Code.TheVariants.{AreaFull, DiskNotEmpty, FailedEarlier, HistoryFull, NoArea, NoTable}
+use Rattle.std.specs.Prelude.{◌≡◌, ◌⊎◌, ℕ, ◌+◌, List, [], ◌∷◌, ◌++◌, length, is_some, ◌||◌, nat_le, nat_lt, if◌then◌else◌, true, false, Option, Some, None}
+use Rattle.wf_value.specs.declared.code.Code.TheVariants.{AreaFull, CheckpointTurn, DiskNotEmpty, FailedEarlier, HistoryFull, NoArea, NoTable}
 use Rattle.wf_value.specs.declared.refusal.Refusal.{Refusal}
 use Rattle.wf_value.specs.declared.refusal.Refusal.TheVariants.{Numbered}
 use Rattle.wf_value.specs.Gives.{no_memory}
@@ -22,6 +22,10 @@ history_full = Numbered HistoryFull
 
 abbrev pub area_full : Refusal
 area_full = Numbered AreaFull
+
+-- a call of a checkpoint, or a turn over, that is out of its turn
+abbrev pub checkpoint_turn : Refusal
+checkpoint_turn = Numbered CheckpointTurn
 
 -- how long the batch of these commands is
 abbrev pub batch_length : List Command → ℕ
@@ -54,6 +58,9 @@ receipt_of s command = record { reply = (stepped (table_of s) command).reply; pl
 
 -- ---- commit
 
+abbrev pub refusal_of_commit : {D : Type 0} → Kept D → Option Refusal
+refusal_of_commit s = if s.failed then Some failed_earlier else None
+
 -- where the next record goes once the pending entries stand in one
 abbrev pub used_after : {D : Type 0} → Kept D → ℕ
 used_after s = s.used + 5 + batch_length (pending_commands s)
@@ -65,6 +72,18 @@ committed s disk = record s { disk = disk; covered = length s.history; used = us
 -- the device failed
 abbrev pub broken : {D : Type 0} → Kept D → D → Kept D
 broken s disk = record s { disk = disk; failed = true }
+
+-- ---- turn_over
+
+-- it is out of its turn while a checkpoint is begun, or an entry is not covered
+abbrev pub refusal_of_turning : {D : Type 0} → Kept D → Option Refusal
+refusal_of_turning s =
+    if s.failed then Some failed_earlier
+    else (if is_some s.begun || nat_lt s.covered (length s.history) then Some checkpoint_turn else None)
+
+-- the history begins anew, at the present table
+abbrev pub turned_over : {D : Type 0} → Kept D → Kept D
+turned_over s = record s { base = table_of s; history = []; covered = 0 }
 
 -- ---- init
 
@@ -81,6 +100,7 @@ fresh disk area = record {
   covered = 0;
   used = 30;
   generation = 1;
+  begun = None;
   failed = false;
 }
 

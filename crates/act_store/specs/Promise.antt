@@ -1,18 +1,24 @@
 -- What a store keeps, whatever its calls were: the promise of the images of its disk.
-use Rattle.std.specs.Prelude.{◌≡◌, ℕ, ◌<◌, ◌≤◌, List, length, false}
+use Rattle.std.specs.Prelude.{◌≡◌, ℕ, ◌<◌, ◌≤◌, ◌+◌, ◌^◌, List, length, take, Bool, false}
 use Rattle.std.specs.List.{AllByRecursion}
-use Rattle.gated_journal.specs.Layout.{Head, opened}
+use Rattle.act_disk.specs.Images.{Holds}
+use Rattle.gated_journal.specs.Layout.{Head, head_bytes, opened}
+use Rattle.gated_journal.specs.TwoAreas.{other, start_of}
 use Rattle.gated_journal.specs.Whole.{StandsWhole}
 use Rattle.gated_journal.specs.declared.gate.Gate.{Gate}
+use Rattle.gated_journal.specs.declared.gate.Gate.TheVariants.{Closed}
 use Rattle.gated_journal.specs.declared.side.Side.{Side}
 use Rattle.run_table.specs.TableState.{TableState}
 use Rattle.table_text.specs.Commands.{IsSpelled}
-use Rattle.act_store.specs.Entries.{IsLegal}
+use Rattle.act_store.specs.Entries.{IsLegal, table_after}
 use Rattle.act_store.specs.Images.{IsAreaLength}
 use Rattle.act_store.specs.Kept.{Kept, StandsForEither, covered_table, pending_commands, table_of}
 use Rattle.act_store.specs.Meaning.{MeansTable}
 use Rattle.act_store.specs.Plain.{record_end}
+use Rattle.act_store.specs.TableText.{SpellsTable}
 use Rattle.act_store.specs.Waiting.{Waits, waits_of}
+use Rattle.act_store.specs.declared.begun.Begun.{Begun}
+use Rattle.act_store.specs.declared.entry.Entry.{Entry}
 
 -- All images read as the same head and bodies, which stand for this table, up to the gate in use.
 pub record IsSettled (len : ℕ) (side : Side) (gate : Gate) (generation used : ℕ) (table : TableState)
@@ -41,3 +47,24 @@ pub record IsCounted {D : Type 0} (s : Kept D) (table : TableState) (waiting : W
   pub record_fits : s.covered < length s.history → record_end s (pending_commands s) ≤ s.area
   pub spelled : AllByRecursion IsSpelled (pending_commands s)
   pub waiting_is : waiting ≡ waits_of (pending_commands s)
+
+-- What is kept in memory of a checkpoint that was begun: the head of an area of the next generation, with the text of the table that the
+-- first entries lead to. It fits the area, with a gate before it and one behind.
+pub record IsSnapshot (base : TableState) (history : List Entry) (generation area : ℕ) (b : Begun) : Type 0 where
+  pub text : List ℕ
+  pub spells : SpellsTable (table_after base (take b.place history)) text
+  pub front_is : b.front.items ≡ head_bytes (record { version = 1; generation = generation + 1; text = text })
+  pub place : b.place ≤ length history
+  pub put : b.put ≤ length b.front.items
+  pub newer : generation + 1 < 2 ^ 64
+  pub fits : 2 + length b.front.items ≤ area
+
+-- And of it on the disk: the gate of the other area is closed, and what was put stands behind it, where a read finds it.
+pub record IsPut (area : ℕ) (side : Side) (gate : Gate) (seen : List ℕ) (b : Begun) : Type 0 where
+  pub closed : gate ≡ Closed
+  pub held : Holds seen (start_of area (other side) + 1) (take b.put b.front.items)
+
+-- Both, of a checkpoint of a store on a disk that is honest, or is not. Of one that has failed nothing is known on the disk.
+abbrev pub IsBegun : TableState → List Entry → ℕ → ℕ → Side → Gate → Type 0 → Bool → List ℕ → Begun → Type 0
+IsBegun base history generation area side gate honest failed seen b =
+    IsSnapshot base history generation area b × (honest → failed ≡ false → IsPut area side gate seen b)

@@ -1,13 +1,18 @@
 -- A list of steps of a store, one after another, and what each is answered.
-use Rattle.std.specs.Prelude.{◌≡◌, ◌⊎◌, ◌↔◌, ℕ, ◌<◌, ◌≤◌, List, [], ◌∷◌, ◌++◌, length, true, false, Some, None}
+use Rattle.std.specs.Prelude.{◌≡◌, ◌⊎◌, ◌↔◌, ℕ, ◌+◌, ◌<◌, ◌≤◌, List, [], ◌∷◌, ◌++◌, length, true, false, Bool, if◌then◌else◌, Option, Some, None, ⊤}
 use Rattle.std.specs.Prelude.{Result, IfErr, IfOk, IsOk, OnErr}
 use Rattle.wf_value.specs.Gives.{no_memory}
+use Rattle.wf_value.specs.declared.code.Code.TheVariants.{AreaFull}
 use Rattle.wf_value.specs.declared.refusal.Refusal.{Refusal}
+use Rattle.wf_value.specs.declared.refusal.Refusal.TheVariants.{Numbered}
 use Rattle.act_disk.specs.Failed.{device_failed}
 use Rattle.act_disk.specs.Images.{EachSince}
+use Rattle.run_plan.specs.declared.reply.Reply.{Reply}
 use Rattle.run_table.specs.Step.{stepped}
+use Rattle.act_store.specs.Checkpoints.{IsFinished, begun_at, dropped, left_of, sliced, text_length}
+use Rattle.act_store.specs.Checkpoints.{refusal_of_begin, refusal_of_finish, refusal_of_slice}
 use Rattle.act_store.specs.Kept.{Kept, StandsForEither, table_of}
-use Rattle.act_store.specs.Plain.{broken, committed, entered, failed_earlier, refusal_of_apply}
+use Rattle.act_store.specs.Plain.{broken, committed, entered, refusal_of_apply, refusal_of_commit}
 use Rattle.act_store.specs.Told.{IsCause}
 use Rattle.act_store.specs.declared.entry.Entry.{Entry}
 use Rattle.act_store.specs.declared.step.Step.{Step}
@@ -15,24 +20,80 @@ use Rattle.act_store.specs.declared.step.Step.TheVariants as asked
 use Rattle.act_store.specs.declared.step.Played.{Played}
 use Rattle.act_store.specs.declared.step.Played.TheVariants as told
 
+-- ---- a step that is refused
+
+-- the cause that there is, memory or not
+abbrev pub refusal_of : {D : Type 0} → Kept D → Step → Option Refusal
+refusal_of s (asked.Apply command) = refusal_of_apply s command
+refusal_of s asked.Commit = refusal_of_commit s
+refusal_of s asked.Begin = refusal_of_begin s
+refusal_of s asked.Slice = refusal_of_slice s
+refusal_of s asked.Finish = refusal_of_finish s
+
+abbrev pub is_area_full : Refusal → Bool
+is_area_full (Numbered AreaFull) = true
+is_area_full _ = false
+
+-- What a step leaves that is refused so: all as it was, but that a finish for whose record there is no room drops its checkpoint.
+abbrev pub left_by : {D : Type 0} → Kept D → Step → Refusal → Kept D
+left_by s (asked.Apply command) e = s
+left_by s asked.Commit e = s
+left_by s asked.Begin e = s
+left_by s asked.Slice e = s
+left_by s asked.Finish e = if is_area_full e then dropped s else s
+
+abbrev pub MayTakeMemory : Step → Type 0
+MayTakeMemory (asked.Apply command) = ⊤
+MayTakeMemory asked.Commit = ⊥
+MayTakeMemory asked.Begin = ⊤
+MayTakeMemory asked.Slice = ⊥
+MayTakeMemory asked.Finish = ⊤
+
+abbrev pub MayCallDevice : {D : Type 0} → Kept D → Step → Type 0
+MayCallDevice s (asked.Apply command) = ⊥
+MayCallDevice s asked.Commit = s.covered < length s.history
+MayCallDevice s asked.Begin = ⊤
+MayCallDevice s asked.Slice = ⊤
+MayCallDevice s asked.Finish = ⊤
+
+-- It was refused for its cause. Or, where there is none, memory was wanting, and all is as it was; or the device failed, and the store with
+-- it.
+abbrev pub IsRefused : {D : Type 0} → Kept D → Step → Refusal → Kept D → Type 0
+IsRefused old step e new =
+    ((refusal_of old step ≡ Some e) × (new ≡ left_by old step e))
+    ⊎ ((refusal_of old step ≡ None) × MayTakeMemory step × (e ≡ no_memory) × (new ≡ old))
+    ⊎ ((refusal_of old step ≡ None) × MayCallDevice old step × (e ≡ device_failed) × (new ≡ broken old new.disk))
+
+-- ---- a step that is taken
+
 -- a commit that was done: all entries are covered, and this many there are
 pub record Covers {D : Type 0} (old : Kept D) (count : ℕ) (new : Kept D) : Type 0 where
   pub live : old.failed ≡ false
   pub count_is : count ≡ length old.history
-  pub none : old.covered ≡ length old.history → new ≡ old
+  pub none : length old.history ≤ old.covered → new ≡ old
   pub some : old.covered < length old.history → new ≡ committed old new.disk
 
--- One step leads from one store to another, with this answer. Commands are applied for seat 0.
+-- a command is applied, for seat 0
+abbrev pub Replies : {D : Type 0} → Kept D → Step → Reply → Kept D → Type 0
+Replies old (asked.Apply command) reply new = (new ≡ entered old 0 command) × (reply ≡ (stepped (table_of old) command).reply)
+Replies old asked.Commit reply new = ⊥
+Replies old asked.Begin reply new = ⊥
+Replies old asked.Slice reply new = ⊥
+Replies old asked.Finish reply new = ⊥
+
+-- how many entries are covered, or how many bytes are left to write
+abbrev pub Counts : {D : Type 0} → Kept D → Step → ℕ → Kept D → Type 0
+Counts old (asked.Apply command) count new = ⊥
+Counts old asked.Commit count new = Covers old count new
+Counts old asked.Begin count new = (new ≡ begun_at old new.disk) × (count ≡ 17 + text_length (table_of old))
+Counts old asked.Slice count new = (new ≡ sliced old new.disk) × (count ≡ left_of new.begun)
+Counts old asked.Finish count new = IsFinished old new × (count ≡ length old.history)
+
+-- One step leads from one store to another, with this answer.
 abbrev pub Takes : {D : Type 0} → Kept D → Step → Played → Kept D → Type 0
-Takes old (asked.Apply command) (told.Replied reply) new =
-    (refusal_of_apply old command ≡ None) × (new ≡ entered old 0 command) × (reply ≡ (stepped (table_of old) command).reply)
-Takes old (asked.Apply command) (told.Refused e) new =
-    ((e ≡ no_memory) ⊎ (refusal_of_apply old command ≡ Some e)) × (new ≡ old)
-Takes old (asked.Apply command) (told.Count count) new = ⊥
-Takes old asked.Commit (told.Count count) new = Covers old count new
-Takes old asked.Commit (told.Refused e) new =
-    ((old.failed ≡ true) × (e ≡ failed_earlier) × (new ≡ old)) ⊎ ((old.failed ≡ false) × (e ≡ device_failed) × (new ≡ broken old new.disk))
-Takes old asked.Commit (told.Replied reply) new = ⊥
+Takes old step (told.Replied reply) new = (refusal_of old step ≡ None) × Replies old step reply new
+Takes old step (told.Count count) new = (refusal_of old step ≡ None) × Counts old step count new
+Takes old step (told.Refused e) new = IsRefused old step e new
 
 -- 51 is told exactly where the device failed in the step
 abbrev pub TellsStep : Played → ℕ → ℕ → Type 0

@@ -1,6 +1,16 @@
 -- What the fields of a store show of it.
-use Rattle.act_store.specs.Kept.{Kept}
+use Rattle.std.specs.Prelude.{◌-◌, length, option_map}
+use Rattle.act_store.specs.Kept.{Checkpoint, Kept}
+use Rattle.act_store.specs.declared.begun.Begun.{Begun}
 use Rattle.act_store.specs.declared.store.Store.TheInside.{Inside}
+
+-- the bytes in front of the text are a version, a generation and a length
+abbrev pub as_checkpoint : Begun → Checkpoint
+as_checkpoint b = record {
+  place = b.place;
+  text = length b.front.items - 17;
+  left = length b.front.items - b.put;
+}
 
 abbrev pub as_kept : {D : Type 0} → Inside D → Kept D
 as_kept s = record {
@@ -11,5 +21,6 @@ as_kept s = record {
   covered = s.covered;
   used = s.used;
   generation = s.generation;
+  begun = option_map as_checkpoint s.begun;
   failed = s.failed;
 }

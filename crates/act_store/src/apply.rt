@@ -1,8 +1,11 @@
 ghost use Rattle.std.specs.Prelude.{◌≡◌, ◌⊎◌, ◌+◌, ◌<◌, ◌^◌, [], ◌∷◌, ◌++◌, length, Err, IfErr, IfOk, IfSome, OnErr, OnOk, Some};
 ghost use Rattle.std.specs.Prelude.{vec_capacity, vec_len};
 ghost use Rattle.wf_value.specs.Gives.{no_memory};
+ghost use Rattle.act_disk.specs.Failed.{device_failed};
+ghost use Rattle.act_disk.specs.Images.{EachSince};
 ghost use Rattle.run_table.specs.Step.{stepped};
 ghost use Rattle.table_text.specs.Commands.{IsSpelled, command_bytes};
+ghost use Rattle.act_store.specs.Kept.{StandsForEither};
 ghost use Rattle.act_store.specs.Plain.{entered, receipt_of, refusal_of_apply};
 ghost use Rattle.act_store.specs.Waiting.{with_command};
 
@@ -29,10 +32,13 @@ impl<D: Disk> Store<D> {
     /// with 47 where the record of all entries that are not covered would not fit the area with this one. Else only memory can be
     /// wanting, which is 50. A refused command is not entered, and the store is as it was.
     pub fn apply(&mut self, alloc: Global, seat: u64, command: Command) -> Result<Receipt, Refusal>
+        ensures any_moment { D.honest self.old.disk
+            → EachSince D.moment D.images_since self.old.disk self.new.disk (StandsForEither self.old) }
         ensures entered { IfOk result (λ receipt. (self.new ≡ entered self.old seat command) × (receipt ≡ receipt_of self.old command)) }
         ensures refused { IfSome (refusal_of_apply self.old command) (λ refusal. result ≡ Err refusal) }
         ensures cause { IfErr result (λ e. (e ≡ no_memory) ⊎ (refusal_of_apply self.old command ≡ Some e)) }
         ensures unchanged { OnErr result (self.new ≡ self.old) }
+        ensures no_fault { IfErr result (λ e. e ≡ device_failed → ⊥) }
     {
         if let Some(refusal) = self.refusal_of(&command) {
             return Err(refusal);

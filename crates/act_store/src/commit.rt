@@ -2,7 +2,7 @@ ghost use Rattle.std.specs.Prelude.{◌≡◌, ◌↔◌, ◌+◌, ◌<◌, ◌�
 ghost use Rattle.act_disk.specs.Failed.{device_failed};
 ghost use Rattle.act_disk.specs.Images.{EachSince, CountsFault};
 ghost use Rattle.act_store.specs.Images.{StandsFor};
-ghost use Rattle.act_store.specs.Kept.{StandsForEither, table_of};
+ghost use Rattle.act_store.specs.Kept.{StandForCovered, StandsForEither, table_of};
 ghost use Rattle.act_store.specs.Plain.{broken, committed, failed_earlier};
 
 use crate::store::Store;
@@ -19,12 +19,15 @@ impl<D: Disk> Store<D> {
         ensures any_moment { D.honest self.old.disk
             → EachSince D.moment D.images_since self.old.disk self.new.disk (StandsForEither self.old) }
         ensures stands { OnOk result (D.honest self.new.disk → (c : List ℕ) → D.images self.new.disk c → StandsFor (table_of self.old) c) }
+        ensures exact { D.honest self.new.disk → StandForCovered D.images self.new }
         ensures covered { IfOk result (λ count. (count ≡ length self.old.history) × (self.new.covered ≡ count)) }
         ensures failed { self.old.failed ≡ true → (result ≡ Err failed_earlier) × (self.new ≡ self.old) }
         ensures none { self.old.failed ≡ false → self.old.covered ≡ length self.old.history → IsOk result × (self.new ≡ self.old) }
+        ensures all { OnOk result (length self.old.history ≤ self.old.covered → self.new ≡ self.old) }
         ensures some { OnOk result (self.old.covered < length self.old.history → self.new ≡ committed self.old self.new.disk) }
         ensures broken { OnErr result (self.old.failed ≡ false → self.new ≡ broken self.old self.new.disk) }
         ensures faults { self.old.failed ≡ false → CountsFault result (D.fault_count self.old.disk) (D.fault_count self.new.disk) }
+        ensures pending { OnErr result (self.old.failed ≡ false → self.old.covered < length self.old.history) }
         ensures refused { IfErr result (λ e. self.old.failed ≡ false → e ≡ device_failed) }
         ensures calls { D.calls self.new.disk ≤ D.calls self.old.disk + 4 }
         ensures honest { D.honest self.new.disk ↔ D.honest self.old.disk }

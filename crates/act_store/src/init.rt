@@ -58,6 +58,7 @@ impl<D: Disk> Store<D> {
                 used: USED,
                 generation: 1,
                 waiting: Waiting::new(),
+                begun: None,
                 failed: false,
             }),
         }

@@ -1,15 +1,14 @@
 //! Laws of what images stand for.
 
-ghost use Rattle.std.specs.Prelude.{◌≡◌, ℕ, List};
+ghost use Rattle.std.specs.Prelude.{◌≡◌, ◌+◌, ℕ, List, length, drop};
 ghost use Rattle.run_plan.specs.Admitted.{Admitted};
 ghost use Rattle.run_plan.specs.declared.command.Command.TheVariants as command;
 ghost use Rattle.run_plan.specs.declared.reply.Reply.TheVariants as reply;
 ghost use Rattle.run_table.specs.ExactlyOnce.{HasTurn, HaveNoLaterTurn, IsRefused};
 ghost use Rattle.run_table.specs.Step.{step};
 ghost use Rattle.run_table.specs.TableState.{TableState};
-ghost use Rattle.act_store.specs.Entries.{commands_of};
 ghost use Rattle.act_store.specs.Images.{StandsFor};
-ghost use Rattle.act_store.specs.Reopened.{Reopens};
+ghost use Rattle.act_store.specs.Reopened.{IsAcknowledged, LeadTo, Life, asked_in};
 ghost use Rattle.act_store.specs.declared.entry.Entry.{Entry};
 
 /// An image stands for one table at most.
@@ -17,23 +16,25 @@ pub fn an_image_stands_for_one_table()
     ensures { (image : List ℕ) (one two : TableState) → StandsFor one image → StandsFor two image → one ≡ two }
 {}
 
-/// After a stop and an opening, an event whose delivery was answered with a run, by an entry that was acknowledged, is answered with
-/// the same run again, whatever its body is. The table stays.
+/// However often a stop comes and the disk is opened again, or the store turns over, and whatever is asked in between: an event whose
+/// delivery was answered with a run, by an entry that was acknowledged, is answered with the same run again, whatever its body is. The
+/// table stays.
 pub fn a_delivery_makes_one_run()
-    ensures { (base table : TableState) (history before behind : List Entry) (entry : Entry) (covered run : ℕ) (event again : Admitted)
-        → Reopens base history covered before entry behind table
+    ensures { (life : Life) (lives : List Life) (table : TableState) (before behind : List Entry) (entry : Entry) (run : ℕ)
+        (event again : Admitted) → LeadTo life lives table → IsAcknowledged life before entry behind
         → entry.command ≡ command.Admit event → entry.reply ≡ reply.Created run → again.delivery ≡ event.delivery
         → step table (command.Admit again) ≡ (table, reply.Created run) }
 {
     run_table::laws::a_delivery_makes_one_run();
 }
 
-/// After a stop and an opening, a runner that asks again what an acknowledged entry carried out gets the reply of that entry again, as
-/// long as the history has no later number of that runner. The table stays.
+/// In the same way, a runner that asks again what an acknowledged entry carried out gets the reply of that entry again, as long as no
+/// later number of that runner stands behind it. The table stays.
 pub fn a_kept_reply_is_given_again()
-    ensures { (base table : TableState) (history before behind : List Entry) (entry : Entry) (covered number : ℕ) (runner : List ℕ)
-        → Reopens base history covered before entry behind table
-        → HasTurn entry.command runner number → (IsRefused entry.reply → ⊥) → HaveNoLaterTurn runner number (commands_of behind)
+    ensures { (life : Life) (lives : List Life) (table : TableState) (before behind : List Entry) (entry : Entry) (number : ℕ)
+        (runner : List ℕ) → (leads : LeadTo life lives table) → IsAcknowledged life before entry behind
+        → HasTurn entry.command runner number → (IsRefused entry.reply → ⊥)
+        → HaveNoLaterTurn runner number (drop (length before + 1) (asked_in life lives table leads))
         → step table entry.command ≡ (table, entry.reply) }
 {
     run_table::laws::a_kept_reply_is_given_again();

@@ -3,10 +3,15 @@
 #![tactic(auto)]
 
 mod apply;
+mod begun;
+mod check_begin;
+mod check_finish;
+mod check_slice;
 mod commit;
 mod entry;
 mod found;
 mod init;
+mod last_part;
 pub mod laws;
 mod open;
 mod playing;
@@ -15,6 +20,7 @@ mod replay;
 mod spelled;
 mod step;
 mod store;
+mod turn_over;
 mod waiting;
 
 pub use entry::Entry;

@@ -1,6 +1,6 @@
-ghost use Rattle.std.specs.Prelude.{◌≡◌, ◌<◌, ◌+◌, ℕ, List, [], IfErr, IfOk, false};
+ghost use Rattle.std.specs.Prelude.{◌≡◌, ◌<◌, ◌+◌, ℕ, List, [], IfErr, IfOk, None, false};
 ghost use Rattle.act_disk.specs.Images.{EachSince};
-ghost use Rattle.act_store.specs.Images.{HasNoArea, HasNoTable, StandsFor};
+ghost use Rattle.act_store.specs.Images.{HasNoArea, HasNoTable, StandsAt, StandsFor};
 ghost use Rattle.act_store.specs.Plain.{RefusesOpening, TellsNoArea, no_area, no_table};
 ghost use Rattle.act_store.specs.Told.{IsCause};
 
@@ -23,6 +23,9 @@ impl<D: Disk> Store<D> {
         ensures base { IfOk result (λ s. D.honest s.disk → StandsFor s.base (D.seen disk)) }
         ensures stands { IfOk result (λ s. D.honest s.disk → (c : List ℕ) → D.images s.disk c → StandsFor s.base c) }
         ensures begun { IfOk result (λ s. (s.history ≡ []) × (s.covered ≡ 0) × (s.failed ≡ false)) }
+        ensures none_begun { IfOk result (λ s. s.begun ≡ None) }
+        // The generation, and where the next record goes, are those of the area that stands.
+        ensures place { IfOk result (λ s. D.honest s.disk → StandsAt s.generation s.used s.base (D.seen disk)) }
         ensures size { IfOk result (λ s. D.size disk ≡ s.area + s.area) }
         ensures no_area { IfErr result (λ e. e.1 ≡ no_area → D.honest e.0 → HasNoArea (D.seen disk)) }
         ensures no_table { IfErr result (λ e. e.1 ≡ no_table → D.honest e.0 → HasNoTable (D.seen disk)) }
@@ -58,6 +61,7 @@ impl<D: Disk> Store<D> {
             used: found.spelled.used,
             generation: found.spelled.generation,
             waiting: Waiting::new(),
+            begun: None,
             failed: false,
         })
     }

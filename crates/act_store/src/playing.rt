@@ -3,7 +3,7 @@ ghost use Rattle.wf_value.specs.Gives.{no_memory};
 ghost use Rattle.act_disk.specs.Images.{EachSince};
 ghost use Rattle.act_store.specs.Entries.{IsLegal};
 ghost use Rattle.act_store.specs.GroupsOfHistory.{KeepsGroups};
-ghost use Rattle.act_store.specs.Kept.{StandsForSome};
+ghost use Rattle.act_store.specs.Kept.{StandForCovered, StandsForSome};
 ghost use Rattle.act_store.specs.Steps.{Grows, PlayEnds, Survives, Takes};
 ghost use Rattle.act_store.specs.declared.step.Step.TheVariants as asked;
 
@@ -20,7 +20,7 @@ use wf_value::{Refusal, TryCopy};
 ///
 /// Whatever the steps are, and whatever the device does: a stop at any moment leaves an image that stands for the table after some of
 /// the first entries of the history, with all that were covered when the play began, and one at the end with all that are covered
-/// then. The history is one thread's, reply by reply, and in it every concurrency group has at most one run or leg in progress and at
+/// then, and as long as the device has not failed with no others. The history is one thread's, reply by reply, and in it every concurrency group has at most one run or leg in progress and at
 /// most one pending, and keeps its law. Only memory can be wanting, for the answers or for a copy of a command; the
 /// store then stands after some of the first steps.
 pub fn play<D: Disk>(
@@ -34,6 +34,7 @@ pub fn play<D: Disk>(
         (StandsForSome store.new.base store.new.history store.old.covered) }
     ensures stands { D.honest store.new.disk → (c : List ℕ) → D.images store.new.disk c
         → StandsForSome store.new.base store.new.history store.new.covered c }
+    ensures exact { D.honest store.new.disk → StandForCovered D.images store.new }
     ensures legal { IsLegal store.new.base store.new.history }
     ensures groups { KeepsGroups store.new.base store.new.history }
     ensures grows { Grows store.old store.new }
@@ -76,6 +77,9 @@ fn take_step<D: Disk>(alloc: Global, store: &mut Store<D>, step: &Step) -> Resul
             Ok(take(alloc, store, Step::Apply(copy)))
         }
         Step::Commit => Ok(take(alloc, store, Step::Commit)),
+        Step::Begin => Ok(take(alloc, store, Step::Begin)),
+        Step::Slice => Ok(take(alloc, store, Step::Slice)),
+        Step::Finish => Ok(take(alloc, store, Step::Finish)),
     }
 }
 
@@ -90,6 +94,9 @@ pub fn take<D: Disk>(alloc: Global, store: &mut Store<D>, step: Step) -> Played
     match step {
         Step::Apply(command) => take_apply(alloc, store, command),
         Step::Commit => take_commit(store),
+        Step::Begin => take_begin(alloc, store),
+        Step::Slice => take_slice(store),
+        Step::Finish => take_finish(alloc, store),
     }
 }
 
@@ -98,7 +105,6 @@ fn take_apply<D: Disk>(alloc: Global, store: &mut Store<D>, command: Command) ->
     ensures takes { Takes store.old (asked.Apply command) result store.new }
     ensures survives { Survives D.honest D.moment D.fault_count D.images_since store.old result store.new }
 {
-    let _covered = store.covered();
     match store.apply(alloc, 0, command) {
         Ok(Receipt { reply, .. }) => Played::Replied(reply),
         Err(refusal) => Played::Refused(refusal),
@@ -111,6 +117,39 @@ fn take_commit<D: Disk>(store: &mut Store<D>) -> Played
     ensures survives { Survives D.honest D.moment D.fault_count D.images_since store.old result store.new }
 {
     match store.commit() {
+        Ok(count) => Played::Count(count),
+        Err(refusal) => Played::Refused(refusal),
+    }
+}
+
+/// Begins a checkpoint.
+fn take_begin<D: Disk>(alloc: Global, store: &mut Store<D>) -> Played
+    ensures takes { Takes store.old asked.Begin result store.new }
+    ensures survives { Survives D.honest D.moment D.fault_count D.images_since store.old result store.new }
+{
+    match store.check_begin(alloc) {
+        Ok(left) => Played::Count(left),
+        Err(refusal) => Played::Refused(refusal),
+    }
+}
+
+/// Writes a slice of it.
+fn take_slice<D: Disk>(store: &mut Store<D>) -> Played
+    ensures takes { Takes store.old asked.Slice result store.new }
+    ensures survives { Survives D.honest D.moment D.fault_count D.images_since store.old result store.new }
+{
+    match store.check_slice() {
+        Ok(left) => Played::Count(left),
+        Err(refusal) => Played::Refused(refusal),
+    }
+}
+
+/// Finishes it.
+fn take_finish<D: Disk>(alloc: Global, store: &mut Store<D>) -> Played
+    ensures takes { Takes store.old asked.Finish result store.new }
+    ensures survives { Survives D.honest D.moment D.fault_count D.images_since store.old result store.new }
+{
+    match store.check_finish(alloc) {
         Ok(count) => Played::Count(count),
         Err(refusal) => Played::Refused(refusal),
     }

@@ -11,7 +11,7 @@ use table_text::read_table;
 use wf_value::Refusal;
 
 /// The version of an area's layout.
-const VERSION: u8 = 1;
+pub(crate) const VERSION: u8 = 1;
 
 /// What an area spells: the generation of its head, the offset of its first closed gate, and its table.
 #[derive(Drop)]

@@ -1,10 +1,11 @@
 ghost use Rattle.std.specs.Prelude.{◌≡◌, ◌≤◌, ◌==◌, ◌-◌, List, ℕ, if◌then◌else◌, length, slice_get, option_copied, None};
 ghost use Rattle.act_store.specs.Entries.{IsLegal};
 ghost use Rattle.act_store.specs.GroupsOfHistory.{KeepsGroups};
-ghost use Rattle.act_store.specs.Kept.{StandsForEither, table_of};
+ghost use Rattle.act_store.specs.Kept.{StandForCovered, StandsForEither, table_of};
 ghost use Rattle.run_table.specs.Sound.{IsSound};
 ghost use Rattle.run_table.specs.Step.{seen};
 
+use crate::begun::Begun;
 use crate::entry::Entry;
 use crate::waiting::Waiting;
 use act_disk::Disk;
@@ -13,6 +14,9 @@ use run_plan::Number;
 use run_table::laws::{every_group_keeps_its_law, groups_have_one_holder_of_each_kind};
 use run_table::{RunView, Table};
 use std::marker::Model;
+
+/// What a record has beside its commands and their count: its gate, its length in four bytes, and the next gate.
+const FRAME: u64 = 6;
 
 /// A table with its history in memory, and a disk that stands for it, whenever the machine stops.
 ///
@@ -23,7 +27,7 @@ use std::marker::Model;
 pub struct Store<D: Disk> {
     pub(crate) disk: D,
     pub(crate) areas: Standing,
-    /// The gate of the area that does not stand.
+    /// Whether the gate of the other area, which does not stand, is open.
     pub(crate) other: Gate,
     /// The table at the history's begin.
     pub(crate) base: Table,
@@ -36,23 +40,27 @@ pub struct Store<D: Disk> {
     pub(crate) generation: u64,
     /// The commands of the entries that are not covered.
     pub(crate) waiting: Waiting,
+    /// The checkpoint that was begun, if one is.
+    pub(crate) begun: Option<Begun>,
     pub(crate) failed: bool,
 }
 
 impl<D: Disk> Model for Store<D> {
-    ghost use Rattle.std.specs.Prelude.{◌≡◌, ◌-◌, ◌^◌, ◌<◌, false};
+    ghost use Rattle.std.specs.Prelude.{◌≡◌, ◌-◌, ◌^◌, ◌<◌, IfSome, false};
     ghost use Rattle.act_store.specs.Kept.{Kept};
 
     ghost Value = { Kept D };
 
-    ghost use Rattle.act_store.specs.Promise.{IsCounted, IsStanding};
+    ghost use Rattle.act_store.specs.Promise.{IsBegun, IsCounted, IsStanding};
     ghost use Rattle.act_store.specs.StoreSeen.{as_kept};
 
     ghost view = { as_kept };
 
     ghost invariant = { λ s. IsCounted {D = D} (as_kept s) s.table s.waiting
         × (s.failed ≡ false → D.Disk.fault_count s.disk < 2 ^ 64 - 1)
-        × (D.Disk.honest s.disk → IsStanding D.Disk.images s.areas.side s.other (as_kept s)) };
+        × (D.Disk.honest s.disk → IsStanding D.Disk.images s.areas.side s.other (as_kept s))
+        × IfSome s.begun (IsBegun s.base s.history.items s.generation s.areas.len s.areas.side s.other
+        (D.Disk.honest s.disk) s.failed (D.Disk.seen s.disk)) };
 }
 
 impl<D: Disk> Store<D> {
@@ -63,12 +71,13 @@ impl<D: Disk> Store<D> {
         self.history.len() as u64
     }
 
-    /// How many of the first entries are covered. What a store keeps stands beside it.
+    /// How many of the first entries are covered. The clauses say what every store keeps.
     pub fn covered(&self) -> u64
         ensures value { result ≡ self.now.covered }
         ensures within { self.now.covered ≤ length self.now.history }
         ensures legal { IsLegal self.now.base self.now.history }
         ensures groups { KeepsGroups self.now.base self.now.history }
+        ensures exact { D.honest self.now.disk → StandForCovered D.images self.now }
         ensures promise { D.honest self.now.disk → (c : List ℕ) → D.images self.now.disk c → StandsForEither self.now c }
     {
         every_group_keeps_its_law();
@@ -85,6 +94,20 @@ impl<D: Disk> Store<D> {
             return None;
         }
         self.history.get(place as usize - 1)
+    }
+
+    /// How long an area of the disk is, in bytes.
+    pub fn area(&self) -> u64
+        ensures { result ≡ self.now.area }
+    {
+        self.areas.len
+    }
+
+    /// How many bytes the next record's commands and their count may have, so that it fits the area.
+    pub fn room(&self) -> u64
+        ensures { result ≡ self.now.area - self.now.used - 6 }
+    {
+        (self.areas.len - self.used).saturating_sub(FRAME)
     }
 
     /// What is seen of the run of an id in the present table, or `None` where there is no such run.

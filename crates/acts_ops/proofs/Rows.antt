@@ -6,7 +6,8 @@ use Rattle.run_plan.specs.declared.command.Command.{Command}
 use Rattle.run_plan.specs.declared.command.Command.TheVariants as command
 use Rattle.run_plan.specs.declared.reply.Reply.TheVariants as reply
 use Rattle.act_store.specs.declared.step.Played.TheVariants as told
-use Rattle.acts_ops.specs.Line.{command_of, not_a_line}
+use Rattle.command_lines.specs.Commands.{not_a_line}
+use Rattle.acts_ops.specs.Line.{command_of}
 use Rattle.acts_ops.specs.Answers.{script_lines, answer_of, output_of}
 use Rattle.acts_ops.specs.PlainStore.{applied, covering, played_text, start}
 

@@ -1,6 +1,5 @@
 pub mod Answers
 pub mod Check
-pub mod Fields
 pub mod Input
 pub mod Line
 pub mod Made

@@ -7,7 +7,7 @@ ghost use Rattle.acts_ops.specs.Input.{ReadsAtMost};
 ghost use Rattle.acts_ops.specs.Writes.{Writes};
 
 use crate::input::read_input;
-use crate::output::{flush, write_whole};
+use byte_streams::{flush, write_whole};
 use run_plan::{JobLegs, check_plan, text_of_combo};
 use std::alloc::{AllocError, Global};
 use std::io::{Read, Write};

@@ -6,9 +6,9 @@ ghost use Rattle.run_table.specs.Step.{empty};
 ghost use Rattle.act_store.specs.Images.{StandsFor};
 ghost use Rattle.acts_ops.specs.Made.{Makes};
 
-use crate::output::{flush, write_whole};
 use act_disk::Disk;
 use act_store::Store;
+use byte_streams::{flush, write_whole};
 use std::alloc::Global;
 use std::io::Write;
 use wf_value::Refusal;

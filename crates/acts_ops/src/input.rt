@@ -1,11 +1,12 @@
-ghost use Rattle.std.specs.Prelude.{◌≡◌, ◌≤◌, ◌<◌, ◌⊎◌, take, length, vec_len, IfOk, IfErr, IfSome, OnErr};
-ghost use Rattle.std.specs.Io.KnownBytes.{Consumes, IsAtEnd, Keeps};
+ghost use Rattle.std.specs.Prelude.{◌≡◌, ◌≤◌, ◌<◌, ◌⊎◌, vec_len, IfOk, IfErr, IfSome};
+ghost use Rattle.std.specs.Io.KnownBytes.{Consumes, IsAtEnd};
 ghost use Rattle.wf_value.specs.Gives.{no_memory};
 ghost use Rattle.act_disk.specs.Failed.{stream_failed};
 ghost use Rattle.acts_ops.specs.Input.{IsReadAs, ReadsAtMost, RefusesInput};
 
+use byte_streams::read_some;
 use std::alloc::Global;
-use std::io::{ErrorKind, Read};
+use std::io::Read;
 use wf_value::{Code, Refusal};
 
 /// The longest input that is read, in bytes.
@@ -13,24 +14,6 @@ pub const MOST_BYTES: usize = 1_048_576;
 
 /// How many bytes are read at a time.
 const CHUNK: usize = 8192;
-
-/// One read, tried again where a signal interrupts it. A failed read is 61.
-fn read_some<R: Read>(reader: &mut R, buffer: &mut [u8]) -> Result<usize, Refusal>
-    ensures bound { IfOk result (λ n. n ≤ length buffer.new) }
-    ensures bytes { IfOk result (λ n. Consumes (R.remaining reader.old) (R.remaining reader.new) (take n buffer.new)) }
-    ensures end { IfOk result (λ n. n ≡ 0 → 0 < length buffer.old → IsAtEnd (R.remaining reader.new)) }
-    ensures kept { OnErr result (Keeps (R.remaining reader.old) (R.remaining reader.new)) }
-    ensures err { IfErr result (λ e. e ≡ stream_failed) }
-{
-    for _ in 0..u64::MAX {
-        match reader.read(buffer) {
-            Ok(count) => return Ok(count),
-            Err(e) if e.kind() == ErrorKind::Interrupted => {}
-            Err(_) => return Err(Refusal::Numbered(Code::StreamFailed)),
-        }
-    }
-    Err(Refusal::Numbered(Code::StreamFailed))
-}
 
 /// All bytes that a reader gives, up to a number of them. A failed read is 61, and want of memory 50.
 fn read_at_most<R: Read>(alloc: Global, reader: &mut R, most: usize) -> Result<Vec<u8>, Refusal>

@@ -6,12 +6,10 @@
 
 mod answer;
 mod check;
-mod fields;
 mod init;
 mod input;
 mod line;
 mod lines;
-mod output;
 mod play;
 mod show;
 

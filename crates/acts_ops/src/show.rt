@@ -7,9 +7,9 @@ ghost use Rattle.act_store.specs.Kept.{table_of};
 ghost use Rattle.acts_ops.specs.Show.{Shows, shown, view_line};
 ghost use Rattle.acts_ops.specs.Writes.{Writes};
 
-use crate::output::{flush, write_whole};
 use act_disk::Disk;
 use act_store::Store;
+use byte_streams::{flush, write_whole};
 use run_plan::Number;
 use run_table::RunView;
 use std::alloc::Global;
@@ -52,7 +52,7 @@ fn write_views<D: Disk, W: Write>(
     Ok(())
 }
 
-/// The same, and sends on what the writer holds back.
+/// Writes the view of each run of a store, and flushes the writer.
 fn show_store<D: Disk, W: Write>(
     alloc: Global,
     store: &Store<D>,

@@ -18,5 +18,4 @@ mod Recording
 mod Scanning
 mod Scans
 mod TwoAreas
-mod Ways
 mod Whole

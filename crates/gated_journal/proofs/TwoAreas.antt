@@ -157,7 +157,7 @@ module _ (len : ℕ) (side : Side) (head : Head) (bodies : List (List ℕ)) (d c
     some : 0 < length (area_on len (other side) d)
     some = not_empty gate (area_on len (other side) d) stands.other_gate
 
-    one : 0 + 1 ≤ len
+    pub one : 0 + 1 ≤ len
     one = omega (arith, some, length-part (start_of len (other side)) len d (within len (other side) d long_before))
 
     placed : Torn (start_of len (other side) + 0) 1 d c

@@ -1,20 +1,41 @@
--- A disk of two areas and no more, while one of them grows.
+-- A disk of two areas and no more, through each write of one of them.
 use Rattle.std.proofs.Common.{◌≡◌, inl, inr, ⊎_elim, ℕ, ◌+◌, ◌<◌, ◌≤◌, ◌^◌}
-use Rattle.std.proofs.Common.{List, [], ◌∷◌, ◌++◌, length, sym, ◌∙◌, subst, arith}
-use Rattle.act_disk.specs.Images.{Holds, From, Only, EachSince}
+use Rattle.std.proofs.Common.{List, [], ◌∷◌, ◌++◌, length, refl, sym, ◌∙◌, subst, arith}
+use Rattle.act_disk.specs.Images.{Torn, Holds, From, Only, EachSince}
+use Rattle.act_disk.specs.Kept.{range_kept}
 use Rattle.act_disk.specs.Moments.{weakened}
 use Rattle.gated_journal.specs.Appends.{record_of, Appends, IsWhole}
-use Rattle.gated_journal.specs.Layout.{Head, opened}
-use Rattle.gated_journal.specs.TwoAreas.{start_of}
-use Rattle.gated_journal.specs.Whole.{StandsWhole, WholeOrGrew}
+use Rattle.gated_journal.specs.Layout.{Head, opened, WouldRead}
+use Rattle.gated_journal.specs.OnDisk.{ReadsAt}
+use Rattle.gated_journal.specs.TwoAreas.{start_of, other, area_on, Stands}
+use Rattle.gated_journal.specs.Whole.{StandsWhole, WholeOrGrew, WholeEither, WholeOrTurned}
 use Rattle.gated_journal.specs.declared.gate.Gate.{Gate}
+use Rattle.gated_journal.specs.declared.gate.Gate.TheVariants.{Open, Closed}
 use Rattle.gated_journal.specs.declared.side.Side.{Side}
-use Rattle.gated_journal.proofs.Moves.{whole_grew}
-use Rattle.gated_journal.proofs.TwoAreas.{within, append_keeps}
+use Rattle.gated_journal.proofs.Areas.{has_grown}
+use Rattle.gated_journal.proofs.TwoAreas.{within, apart_between, append_keeps, append_grew, one}
+use Rattle.gated_journal.proofs.TwoAreas.{put_keeps, close_keeps, close_kept, open_turns, open_turned}
+
+torn_long : (at n : ℕ) (d c : List ℕ) → Torn at n d c → at + n ≤ length d → length c ≡ length d
+torn_long at n d c torn below = omega (arith, torn.no_shorter, torn.no_longer, below)
+
+-- ---- the area that stands grows
 
 appends_long : (gate : ℕ) (bytes d c : List ℕ) → Appends gate bytes d c → gate + (length bytes + 1) ≤ length d → length c ≡ length d
 appends_long gate bytes d c (inl torn) below = omega (arith, torn.no_shorter, torn.no_longer, below)
 appends_long gate bytes d c (inr whole) below = omega (arith, whole.torn.no_shorter, whole.torn.no_longer, below)
+
+-- what was put into the other area stands there after an append
+pub whole_beside : (len : ℕ) (side : Side) (start at from : ℕ) (bytes put old new : List ℕ) → start ≡ start_of len side
+    → len + len ≤ length old
+    → from + length put ≤ len → at + (length bytes + 1) ≤ len → IsWhole (start + at) bytes old new
+    → Holds old (start_of len (other side) + from) put → Holds new (start_of len (other side) + from) put
+whole_beside len side start at from bytes put old new begins long below inside whole held =
+    let torn = subst (λ (k : ℕ). Torn (k + at) (length bytes + 1) old new) begins whole.torn in
+    range_kept (start_of len side + at) (length bytes + 1) old new torn (start_of len (other side) + from) (length put)
+    (omega (arith, within len (other side) old long, below))
+    (⊎_elim (λ after. inr (omega (arith, after))) (λ before. inl (omega (arith, before, below)))
+    (apart_between len side from (length put) at (length bytes + 1) below inside)) ∙ held
 
 module _ (len : ℕ) (side : Side) (head : Head) (bodies : List (List ℕ)) (gate : Gate) (start at : ℕ) (bytes body : List ℕ)
     (begins : start ≡ start_of len side) (place : at ≡ length (opened head bodies)) (is : bytes ≡ record_of body)
@@ -40,12 +61,77 @@ module _ (len : ℕ) (side : Side) (head : Head) (bodies : List (List ℕ)) (gat
       since (λ c from. whole_keeps from.0 c (each from.0 from.1) from.2)
 
   -- and once it was done
+  grew : (old new : List ℕ) → Stands len side gate old head bodies → IsWhole (start + at) bytes old new
+      → Holds new (start + at) (0xA5 ∷ []) → Stands len side gate new head (bodies ++ body ∷ [])
+  grew old new stands whole holds =
+      let lies = within len side old stands.spells.long in
+      let here : IsWhole (start_of len side + at) bytes old new = subst (λ (k : ℕ). IsWhole (k + at) bytes old new) begins whole in
+      let there : Holds new (start_of len side + at) (0xA5 ∷ []) = subst (λ (k : ℕ). Holds new (k + at) (0xA5 ∷ [])) begins holds in
+      let reads : ReadsAt (start_of len side) len new head (bodies ++ body ∷ []) =
+      has_grown (start_of len side) len at bytes (λ c. c ≡ old) head bodies body inside
+      (record {
+        each = λ c same. subst (λ (l : List ℕ). ReadsAt (start_of len side) len l head bodies) (sym same)
+            (record { within = lies; reads = stands.spells.reads });
+        gate = sym place;
+        framed = is;
+        short = short;
+      })
+      old new refl here there in
+      append_grew len side head bodies old new gate at (length bytes + 1) (bodies ++ body ∷ []) stands inside here.torn reads.reads
+
   pub grow_done : (images_new : List ℕ → Type 0) (old new : List ℕ) → StandsWhole len side gate old head bodies
       → Only new images_new → IsWhole (start + at) bytes old new → Holds new (start + at) (0xA5 ∷ [])
       → (c : List ℕ) → images_new c → StandsWhole len side gate c head (bodies ++ body ∷ [])
   grow_done images_new old new stands only whole holds c now =
       subst (λ (l : List ℕ). StandsWhole len side gate l head (bodies ++ body ∷ [])) (sym ((only c).0 now)) (record {
-        stands =
-            whole_grew len side head bodies gate start at bytes body old new begins stands.stands place is short inside whole holds;
+        stands = grew old new stands.stands whole holds;
         whole = appends_long (start + at) bytes old new (inr whole) (below_end old stands) ∙ stands.whole;
       })
+
+-- ---- the other area is made
+
+module _ (len : ℕ) (side : Side) (head : Head) (bodies : List (List ℕ)) (d c : List ℕ) where
+  -- a part of it
+  pub put_whole : (at n : ℕ) → StandsWhole len side Closed d head bodies → 0 < at → at + n ≤ len
+      → Torn (start_of len (other side) + at) n d c → StandsWhole len side Closed c head bodies
+  put_whole at n stands behind inside torn = record {
+    stands = put_keeps len side head bodies d c at n stands.stands behind inside torn;
+    whole = torn_long (start_of len (other side) + at) n d c torn
+        (omega (arith, within len (other side) d stands.stands.spells.long, inside)) ∙ stands.whole;
+  }
+
+  -- its gate
+  gate_long : (gate : Gate) → StandsWhole len side gate d head bodies → Torn (start_of len (other side)) 1 d c → length c ≡ len + len
+  gate_long gate stands torn =
+      torn_long (start_of len (other side)) 1 d c torn
+      (omega (arith, within len (other side) d stands.stands.spells.long, one len side head bodies d c gate stands.stands torn))
+      ∙ stands.whole
+
+  pub close_whole : StandsWhole len side Open d head bodies → Torn (start_of len (other side)) 1 d c
+      → WholeEither len side head bodies c
+  close_whole stands torn =
+      let long = gate_long Open stands torn in
+      ⊎_elim (λ still. inl (record { stands = still; whole = long })) (λ closed. inr (record { stands = closed; whole = long }))
+      (close_keeps len side head bodies d c stands.stands torn)
+
+  pub closed_whole : StandsWhole len side Open d head bodies → Torn (start_of len (other side)) 1 d c
+      → Holds c (start_of len (other side)) (0 ∷ []) → StandsWhole len side Closed c head bodies
+  closed_whole stands torn holds = record {
+    stands = close_kept len side head bodies d c stands.stands torn holds;
+    whole = gate_long Open stands torn;
+  }
+
+  module _ (next : Head) (others : List (List ℕ)) (stands : StandsWhole len side Closed d head bodies)
+      (would : WouldRead (area_on len (other side) d) next others) (newer : head.generation < next.generation)
+      (torn : Torn (start_of len (other side)) 1 d c) where
+    pub open_whole : WholeOrTurned len side head bodies next others c
+    open_whole =
+        let long = gate_long Closed stands torn in
+        ⊎_elim (λ still. inl (record { stands = still; whole = long })) (λ turned. inr (record { stands = turned; whole = long }))
+        (open_turns len side head bodies d c next others stands.stands would newer torn)
+
+    pub opened_whole : Holds c (start_of len (other side)) (0xA5 ∷ []) → StandsWhole len (other side) Open c next others
+    opened_whole holds = record {
+      stands = open_turned len side head bodies d c next others stands.stands would newer torn holds;
+      whole = gate_long Closed stands torn;
+    }

@@ -7,6 +7,5 @@ pub mod Reading
 pub mod Scanned
 pub mod ScannedHead
 pub mod Spelled
-pub mod Turning
 pub mod TwoAreas
 pub mod Whole

@@ -1,5 +1,5 @@
 -- A disk of two areas, one behind the other, and how it reads: as the one that stands does.
-use Rattle.std.specs.Prelude.{◌≡◌, ◌⊎◌, ℕ, ◌+◌, ◌≤◌, ◌<◌, List, [], ◌∷◌, ◌++◌, length, Option, Some}
+use Rattle.std.specs.Prelude.{◌≡◌, ℕ, ◌+◌, ◌≤◌, ◌<◌, List, [], ◌∷◌, ◌++◌, length, Option, Some}
 use Rattle.act_disk.specs.Images.{Holds}
 use Rattle.gated_journal.specs.Choice.{part, chosen}
 use Rattle.gated_journal.specs.Layout.{Head, head_bytes, record_bytes, IsClosed, Fits, Reads}
@@ -56,17 +56,3 @@ pub record Completes (len : ℕ) (side : Side) (seen : List ℕ) (at : ℕ) (byt
   pub whole : front ++ bytes ≡ behind_gate next others
   pub fits : Fits next others
   pub newer : head.generation < next.generation
-
--- what the image stands for at each moment of an append: the bodies before it, or these and the new one
-abbrev pub StandsOrGrew : ℕ → Side → Gate → Head → List (List ℕ) → List ℕ → List ℕ → Type 0
-StandsOrGrew len side gate head bodies body disk =
-    Stands len side gate disk head bodies ⊎ Stands len side gate disk head (bodies ++ body ∷ [])
-
--- and at each moment of a close of the other gate
-abbrev pub StandsEither : ℕ → Side → Head → List (List ℕ) → List ℕ → Type 0
-StandsEither len side head bodies disk = Stands len side Open disk head bodies ⊎ Stands len side Closed disk head bodies
-
--- and of its opening: what the one area holds, or what the other does
-abbrev pub StandsOrTurned : ℕ → Side → Head → List (List ℕ) → Head → List (List ℕ) → List ℕ → Type 0
-StandsOrTurned len side head bodies next others disk =
-    Stands len side Closed disk head bodies ⊎ Stands len (other side) Open disk next others

@@ -19,6 +19,15 @@ abbrev pub WholeOrGrew : ℕ → Side → Gate → Head → List (List ℕ) → 
 WholeOrGrew len side gate head bodies body disk =
     StandsWhole len side gate disk head bodies ⊎ StandsWhole len side gate disk head (bodies ++ body ∷ [])
 
+-- while the gate of the other area is closed
+abbrev pub WholeEither : ℕ → Side → Head → List (List ℕ) → List ℕ → Type 0
+WholeEither len side head bodies disk = StandsWhole len side Open disk head bodies ⊎ StandsWhole len side Closed disk head bodies
+
+-- and while it is opened: what the one area holds, or what the other does
+abbrev pub WholeOrTurned : ℕ → Side → Head → List (List ℕ) → Head → List (List ℕ) → List ℕ → Type 0
+WholeOrTurned len side head bodies next others disk =
+    StandsWhole len side Closed disk head bodies ⊎ StandsWhole len (other side) Open disk next others
+
 -- The one that stands was found, with the gate of the other one, or that none stands.
 abbrev pub IsChosen : ℕ → Option Chosen → List ℕ → Type 0
 IsChosen len None disk = standing len disk ≡ None

@@ -22,5 +22,5 @@ pub(crate) fn append_behind<D: Disk>(disk: &mut D, gate: u64, bytes: &[u8]) -> R
     write_synced(disk, gate, &[OPEN])
 }
 
-/// The byte of an open gate.
-pub(crate) const OPEN: u8 = 0xA5;
+/// The byte of an open gate. Any other one is closed.
+pub const OPEN: u8 = 0xA5;

@@ -1,7 +1,8 @@
 ghost use Rattle.std.specs.Prelude.{◌≡◌, ◌↔◌, ◌+◌, ◌<◌, ◌≤◌, ◌^◌, ℕ, List, [], ◌∷◌, ◌++◌, length, OnOk};
-ghost use Rattle.act_disk.specs.Images.{EachSince, CountsFault};
+ghost use Rattle.act_disk.specs.Images.{Holds, EachSince, CountsFault};
 ghost use Rattle.gated_journal.specs.Appends.{record_of};
 ghost use Rattle.gated_journal.specs.Layout.{Head, opened};
+ghost use Rattle.gated_journal.specs.TwoAreas.{start_of, other};
 ghost use Rattle.gated_journal.specs.Whole.{StandsWhole, WholeOrGrew};
 
 use crate::append::append_behind;
@@ -24,6 +25,11 @@ impl Standing {
             → ((c : List ℕ) → D.images disk.old c → StandsWhole self.now.len self.now.side gate c head bodies)
             → at ≡ length (opened head bodies) → bytes.now ≡ record_of body → length body < 2 ^ 32
             → (c : List ℕ) → D.images disk.new c → StandsWhole self.now.len self.now.side gate c head (bodies ++ body ∷ [])) }
+        // What was put into the other area stands there.
+        ensures beside { OnOk result ((from : ℕ) (put : List ℕ) → D.honest disk.old
+            → self.now.len + self.now.len ≤ length (D.seen disk.old) → from + length put ≤ self.now.len
+            → Holds (D.seen disk.old) (start_of self.now.len (other self.now.side) + from) put
+            → Holds (D.seen disk.new) (start_of self.now.len (other self.now.side) + from) put) }
         ensures calls { D.calls disk.new ≤ D.calls disk.old + 4 }
         ensures faults { CountsFault result (D.fault_count disk.old) (D.fault_count disk.new) }
         ensures honest { D.honest disk.new ↔ D.honest disk.old }

@@ -3,14 +3,12 @@
 
 mod append;
 mod area;
-mod area_call;
 mod chosen;
 mod gate;
 mod grow;
 mod head;
 pub mod laws;
 mod made;
-mod places;
 mod read;
 mod record;
 pub mod record_laws;
@@ -18,10 +16,9 @@ mod records;
 mod scanned;
 mod side;
 mod standing;
-mod turning;
 
+pub use append::OPEN;
 pub use area::Area;
-pub use area_call::AreaCall;
 pub use chosen::{Chosen, choose};
 pub use gate::Gate;
 pub use head::AreaHead;

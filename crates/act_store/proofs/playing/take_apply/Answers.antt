@@ -1,8 +1,9 @@
-use Rattle.act_store.proofs.Plays.{refused_survives}
+use Rattle.std.proofs.Common.{refl}
+use Rattle.std.specs.Prelude.{Err}
+use Rattle.act_store.proofs.Refused.{apply_refused}
 use Rattle.act_store.proofs.playing.take_apply.Goals as goal
 
-pub returns-in-Err-clause-survives : goal.returns-in-Err-clause-survives
-returns-in-Err-clause-survives g c =
-    let disk = g.D.Disk in
-    refused_survives disk.honest disk.moment disk.fault_count disk.images_since disk.images c.args.store.now c.apply.new.self c.args.command
-    c.in-Err.refusal c.in-Err.ensures.unchanged c.in-Err.ensures.cause c.covered-covered.ensures.promise g.met.D.Disk.only_now
+pub returns-in-Err-clause-takes : goal.returns-in-Err-clause-takes
+returns-in-Err-clause-takes g c =
+    apply_refused c.args.store.now c.apply.new.self c.apply.result c.in-Err.refusal c.in-Err.is c.args.command c.apply.ensures.refused
+    c.in-Err.ensures.cause c.in-Err.ensures.unchanged

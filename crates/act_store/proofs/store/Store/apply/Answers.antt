@@ -2,13 +2,16 @@ use Rattle.std.proofs.Common.{rules, ◌≡◌, ◌++◌, [], ◌∷◌, refl, s
 use Rattle.std.specs.Prelude.{None}
 use Rattle.run_table.specs.Step.{stepped}
 use Rattle.run_table.specs.TableState.{TableState}
-use Rattle.act_store.specs.Kept.{Kept}
+use Rattle.act_disk.specs.Images.{EachSince}
+use Rattle.act_disk.specs.Moments.{started}
+use Rattle.act_store.specs.Kept.{Kept, StandsForEither}
 use Rattle.act_store.specs.Plain.{refusal_of_apply}
 use Rattle.act_store.specs.Promise.{IsCounted}
 use Rattle.act_store.specs.StoreSeen.{as_kept}
 use Rattle.act_store.specs.declared.entry.Entry.{Entry}
 use Rattle.act_store.proofs.Entering.{IsAdmitted, counted_entered, few_wait, is_admitted, record_is_short}
 use Rattle.act_store.proofs.Settling.{standing_entered}
+use Rattle.act_store.proofs.Snapshots.{begun_entered}
 use Rattle.act_store.proofs.store.Store.apply.Goals as goal
 
 pub enter-requires : goal.enter-requires
@@ -44,4 +47,15 @@ invariant_of-self-2 g c =
       c.self.invariant.1,
       λ honest. standing_entered g.D.Disk.images s.areas.side s.other k counted.size history entry is counted.covers admitted.live
           (c.self.invariant.2 honest),
+      begun_entered s.base s.history.items s.generation s.areas.len s.areas.side s.other (g.D.Disk.honest s.disk) s.failed
+          (g.D.Disk.seen s.disk) s.begun c.self.invariant.3 history entry is,
     )
+
+pub returns-in-Some-clause-any_moment : goal.returns-in-Some-clause-any_moment
+returns-in-Some-clause-any_moment g c =
+    let s = c.self.inside in
+    let disk = g.D.Disk in
+    subst (λ (v : Kept g.row.D.Denot). disk.honest v.disk → EachSince disk.moment disk.images_since v.disk v.disk (StandsForEither v))
+    c.self.view_is
+    (λ honest. started disk.moment disk.images_since s.disk (StandsForEither (as_kept s))
+    (λ i left. (c.self.invariant.2 honest).each i (g.met.D.Disk.only_now s.disk honest i left)))

@@ -1,14 +1,16 @@
-use Rattle.std.proofs.Common.{rules, ◌≡◌, ℕ, List, ◌+◌, ◌<◌, ◌^◌, ◌∙◌, ◌-◌, length, false, refl, arith, ap, subst, sym}
+use Rattle.std.proofs.Common.{rules, ◌≡◌, ℕ, List, ◌+◌, ◌<◌, ◌^◌, ◌∙◌, ◌-◌, length, true, false, refl, arith, ap, subst, sym}
 use Rattle.act_store.specs.Images.{StandsFor}
-use Rattle.act_store.specs.Kept.{Kept, StandsForEither, table_of}
+use Rattle.act_store.specs.Kept.{Kept, StandForCovered, StandsForEither, table_of}
 use Rattle.act_store.specs.Plain.{committed, used_after}
 use Rattle.act_store.specs.Promise.{IsCounted, IsSettled, IsStanding}
 use Rattle.act_store.specs.StoreSeen.{as_kept}
 use Rattle.act_store.specs.Waiting.{body_of}
-use Rattle.act_store.proofs.Committing.{now_of, none_waits, all_stands, counted_broken, counted_committed, commit_moments}
+use Rattle.act_store.proofs.Checkpointing.{counted_with, standing_failed}
+use Rattle.act_store.proofs.Committing.{now_of, none_waits, all_stands, counted_committed, commit_moments}
 use Rattle.act_store.proofs.Committing.{commit_settles, more, used_is, same_committed}
 use Rattle.act_store.proofs.Records.{length_record}
-use Rattle.act_store.proofs.Settling.{settled_stands, standing_broken, standing_fresh}
+use Rattle.act_store.proofs.Settling.{settled_stands, stand_covered, standing_fresh}
+use Rattle.act_store.proofs.Snapshots.{begun_broken, begun_grown}
 use Rattle.act_store.proofs.store.Store.commit.Given.{Over}
 use Rattle.act_store.proofs.store.Store.commit.Goals as goal
 
@@ -62,12 +64,14 @@ invariant_of-self g c =
     let since = commit_moments disk.honest disk.images s counted (search rules) (search (rules, arith)) c.self.invariant.2
     c.as_slice-bytes.result.now c.as_slice-bytes.ensures.bytes c.as_slice-bytes.ensures.short d1 disk.moment
     disk.images_since c.grow.ensures.any_moment k refl in (
-      counted_broken k s.table s.waiting counted d1,
+      counted_with k s.table s.waiting counted d1 k.begun true,
       (λ impossible. absurd (cc impossible)),
       λ honest1.
-          standing_broken disk.images s.areas.side s.other k counted.size d1
+          standing_failed k s.table s.waiting counted disk.images s.areas.side s.other d1 k.begun
           (now_of disk.moment disk.images_since disk.images s.disk d1 (StandsForEither k) (g.met.D.Disk.counts_now d1 honest1)
           (since (c.grow.ensures.honest.0 honest1))),
+      begun_broken s.base s.history.items s.generation s.areas.len s.areas.side s.other (disk.honest s.disk) s.failed
+          (disk.seen s.disk) s.begun c.self.invariant.3 (disk.honest d1) (disk.seen d1),
     )
 
 -- the counts are those after a commit
@@ -104,12 +108,23 @@ invariant_of-self-in-Ok g c =
     let k = as_kept s in
     let counted = c.self.invariant.0 in
     let d1 = c.grow.new.disk in
-    subst (λ (v : Kept g.row.D.Denot). IsCounted v s.table c.keep.new.self × (v.failed ≡ false → disk.fault_count v.disk < 2 ^ 64 - 1)
+    let before = c.grow.ensures.honest.0 in
+    let three = subst (λ (v : Kept g.row.D.Denot). IsCounted v s.table c.keep.new.self
+    × (v.failed ≡ false → disk.fault_count v.disk < 2 ^ 64 - 1)
     × (disk.honest v.disk → IsStanding disk.images s.areas.side s.other v))
     (is_committed g c) (
       counted_committed k s.table s.waiting counted (search (rules, arith)) d1 c.keep.new.self c.keep.ensures.count c.keep.ensures.spelled,
       (λ _. search (rules, arith)),
       λ honest1. standing_fresh disk.images s.areas.side s.other k counted.size d1 (settled g c honest1),
+    ) in (
+      three.0,
+      three.1,
+      three.2,
+      begun_grown s.base s.history.items s.generation s.areas.len s.areas.side s.other (disk.honest s.disk) s.failed
+          (disk.seen s.disk) s.begun c.self.invariant.3 (disk.honest d1) (disk.seen d1) before
+          (λ honest live. (((c.self.invariant.2 honest).settled live).each (disk.seen s.disk)
+          (g.met.D.Disk.seen_is_image s.disk honest)).whole)
+          (λ honest from put. c.in-Ok.ensures.beside from put honest),
     )
 
 pub returns-in-Ok-clause-stands : goal.returns-in-Ok-clause-stands
@@ -131,3 +146,20 @@ returns-in-Ok-clause-some g c =
     } ≡ committed v c.grow.new.disk)
     c.self.view_is
     (λ _. sym (is_committed g c))
+
+pub returns-then-is_empty-clause-exact : goal.returns-then-is_empty-clause-exact
+returns-then-is_empty-clause-exact g c =
+    let s = c.self.inside in
+    let disk = g.D.Disk in
+    subst (λ (v : Kept g.row.D.Denot). disk.honest v.disk → StandForCovered disk.images v) c.self.view_is
+    (λ honest. stand_covered disk.images s.areas.side s.other (as_kept s) c.self.invariant.0.size (c.self.invariant.2 honest))
+
+pub returns-in-Ok-clause-exact : goal.returns-in-Ok-clause-exact
+returns-in-Ok-clause-exact g c = λ honest1.
+    let s = c.self.inside in
+    let disk = g.D.Disk in
+    let k = as_kept s in
+    let d1 = c.grow.new.disk in
+    subst (λ (v : Kept g.row.D.Denot). StandForCovered disk.images v) (is_committed g c)
+    (stand_covered disk.images s.areas.side s.other (committed k d1) c.self.invariant.0.size
+    (standing_fresh disk.images s.areas.side s.other k c.self.invariant.0.size d1 (settled g c honest1)))

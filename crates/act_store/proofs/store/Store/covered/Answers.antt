@@ -1,7 +1,9 @@
 use Rattle.std.proofs.Common.{subst}
 use Rattle.act_store.specs.GroupsOfHistory.{KeepsGroups}
-use Rattle.act_store.specs.Kept.{Kept}
+use Rattle.act_store.specs.Kept.{Kept, StandForCovered}
 use Rattle.act_store.proofs.GroupsOfHistory.{keeps_groups}
+use Rattle.act_store.specs.StoreSeen.{as_kept}
+use Rattle.act_store.proofs.Settling.{stand_covered}
 use Rattle.act_store.proofs.store.Store.covered.Goals as goal
 
 pub returns-clause-groups : goal.returns-clause-groups
@@ -10,3 +12,10 @@ returns-clause-groups g c =
     let one = c.groups_have_one_holder_of_each_kind.ensures in
     subst (λ (v : Kept g.row.D.Denot). KeepsGroups v.base v.history) c.self.view_is
     (keeps_groups one.pending one.running c.every_group_keeps_its_law.ensures s.base s.history.items c.last_lease-last.ensures.sound)
+
+pub returns-clause-exact : goal.returns-clause-exact
+returns-clause-exact g c =
+    let s = c.self.inside in
+    let disk = g.D.Disk in
+    subst (λ (v : Kept g.row.D.Denot). disk.honest v.disk → StandForCovered disk.images v) c.self.view_is
+    (λ honest. stand_covered disk.images s.areas.side s.other (as_kept s) c.self.invariant.0.size (c.self.invariant.2 honest))

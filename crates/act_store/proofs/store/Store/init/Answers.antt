@@ -1,4 +1,5 @@
-use Rattle.std.proofs.Common.{rules, ◌≡◌, ◌∙◌, [], sym, arith}
+use Rattle.std.proofs.Common.{rules, false, ◌≡◌, ◌∙◌, [], sym, arith}
+use Rattle.std.specs.Prelude.{None}
 use Rattle.run_table.specs.Step.{empty}
 use Rattle.gated_journal.specs.declared.gate.Gate.TheVariants.{Closed}
 use Rattle.gated_journal.specs.declared.side.Side.TheVariants.{First}
@@ -15,14 +16,15 @@ invariant_of-result g c =
     let size : IsAreaLength area = record { least = c.requires.least; most = c.requires.most } in
     let none : c.new-in-Ok-2.result.items ≡ [] = c.new-in-Ok-2.ensures.items in
     let base : c.new.result ≡ empty = c.new.ensures in (
-      counted_begun d1 area c.new.result 30 1 c.new-in-Ok-2.result.items none c.new-in-Ok.result (c.new-in-Ok.ensures ∙ sym base)
+      counted_begun d1 area c.new.result 30 1 None false c.new-in-Ok-2.result.items none c.new-in-Ok.result (c.new-in-Ok.ensures ∙ sym base)
           c.new-in-Ok-3.result c.new-in-Ok-3.ensures size (omega (arith, c.requires.least)),
       (λ _. search (rules, arith)),
       λ honest1.
           let honest = c.make_areas.ensures.honest.0 honest1 in
-          standing_begun d1 area c.new.result 30 1 c.new-in-Ok-2.result.items none disk.images First Closed size
+          standing_begun d1 area c.new.result 30 1 None false c.new-in-Ok-2.result.items none disk.images First Closed size
           (settled_at area First Closed 1 30 empty c.new.result (disk.images d1) (sym base)
           (first_settled area (disk.images d1) (c.in-Ok.ensures.made first_head [] honest (sym first_bytes) first_fits))),
+      _,
     )
 
 pub returns-in-Ok-clause-stands : goal.returns-in-Ok-clause-stands

@@ -1,8 +1,9 @@
-use Rattle.std.proofs.Common.{rules, arith, ◌≡◌, [], ℕ, List, sym, subst}
+use Rattle.std.proofs.Common.{rules, false, arith, ◌≡◌, [], ℕ, List, sym, subst}
+use Rattle.std.specs.Prelude.{None}
 use Rattle.run_table.specs.TableState.{TableState}
-use Rattle.act_store.specs.Images.{StandsFor}
+use Rattle.act_store.specs.Images.{StandsAt, StandsFor}
 use Rattle.act_store.proofs.Beginning.{counted_begun, standing_begun}
-use Rattle.act_store.proofs.Opening.{found_one, found_settled, found_stands}
+use Rattle.act_store.proofs.Opening.{found_at, found_one, found_settled, found_stands}
 use Rattle.act_store.proofs.Settling.{settled_at}
 use Rattle.act_store.proofs.store.Store.open.Goals as goal
 
@@ -17,14 +18,15 @@ invariant_of-result g c =
     let same : spelled.table ≡ base = search rules in
     let none : c.new.result.items ≡ [] = c.new.ensures.items in
     let area = c.in-Ok.ensures.area in (
-      counted_begun d1 found.area base spelled.used spelled.generation c.new.result.items none spelled.table same c.new-2.result
+      counted_begun d1 found.area base spelled.used spelled.generation None false c.new.result.items none spelled.table same c.new-2.result
           c.new-2.ensures area.0 area.1,
       (λ _. search (rules, arith)),
-      λ honest. standing_begun d1 found.area base spelled.used spelled.generation c.new.result.items none disk.images found.chosen.side
+      λ honest. standing_begun d1 found.area base spelled.used spelled.generation None false c.new.result.items none disk.images found.chosen.side
           found.chosen.other area.0
           (settled_at found.area found.chosen.side found.chosen.other spelled.generation spelled.used spelled.table base
           (disk.images d1) same
           (found_settled found file (c.in-Ok.ensures.found honest) (disk.images d1) (c.in-Ok.ensures.stable honest))),
+      _,
     )
 
 pub returns-clause-base : goal.returns-clause-base
@@ -45,3 +47,11 @@ returns-clause-stands g c = λ honest image now.
 pub returns-in-Err-copy-clause-nothing_stands : goal.returns-in-Err-copy-clause-nothing_stands
 returns-in-Err-copy-clause-nothing_stands g c = λ honest nothing.
     absurd (found_one c.in-Ok.found (g.D.Disk.seen c.args.disk) (c.in-Ok.ensures.found honest) c.in-Ok.ensures.area.0 nothing)
+
+pub returns-clause-place : goal.returns-clause-place
+returns-clause-place g c = λ honest.
+    let file = g.D.Disk.seen c.args.disk in
+    let found = c.in-Ok.found in
+    let same : found.spelled.table ≡ c.in-Ok-copy.base = search rules in
+    subst (λ (t : TableState). StandsAt found.spelled.generation found.spelled.used t file) same
+    (found_at found file (c.in-Ok.ensures.found honest) c.in-Ok.ensures.area.0)

@@ -1,5 +1,5 @@
-use Rattle.gated_journal.proofs.Composed.{three_ok}
-use Rattle.gated_journal.proofs.Whole.{grow_moments, grow_done}
+use Rattle.gated_journal.proofs.Composed.{on_ok, three_ok}
+use Rattle.gated_journal.proofs.Whole.{grow_moments, grow_done, whole_beside}
 use Rattle.gated_journal.proofs.standing.Standing.grow.Goals as goal
 
 pub returns-clause-any_moment : goal.returns-clause-any_moment
@@ -20,3 +20,10 @@ returns-clause-grown g c =
     grow_done c.args.self.now.len c.args.self.now.side head bodies gate c.start.result c.args.at c.args.bytes.now body
     c.start.ensures.place place is short c.requires.fits (disk.images d1) (disk.seen d0) (disk.seen d1)
     (each (disk.seen d0) (g.met.D.Disk.seen_is_image d0 honest)) (only honest) (whole honest) (holds honest))
+
+pub returns-clause-beside : goal.returns-clause-beside
+returns-clause-beside g c =
+    let disk = g.D.Disk in
+    on_ok c.append_behind.result c.append_behind.ensures.whole (λ whole from put honest long below held.
+    whole_beside c.args.self.now.len c.args.self.now.side c.start.result c.args.at from c.args.bytes.now put
+    (disk.seen c.args.disk.now) (disk.seen c.append_behind.new.disk) c.start.ensures.place long below c.requires.fits (whole honest) held)

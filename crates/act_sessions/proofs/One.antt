@@ -1,0 +1,57 @@
+-- A session of the same bytes and answers is one.
+use Rattle.std.proofs.Common.{◌≡◌, ℕ, ◌+◌, Bool, true, false, List, [], ◌∷◌, ◌++◌, refl, sym, ap, subst, ◌∙◌, append-nil}
+use Rattle.run_plan.specs.declared.command.Command.{Command}
+use Rattle.act_sessions.specs.declared.request.Demand.{Demand}
+use Rattle.act_sessions.specs.declared.request.Demand.TheVariants as demand
+use Rattle.act_sessions.specs.declared.request.Request.{Request}
+use Rattle.act_sessions.specs.Rules.{Rules, Turn, Answered, Refused, request_of, told_at, is_last, Reads, IsEnded, AnsweredBy, IsOne}
+use Rattle.act_sessions.specs.Told.{Response, Told}
+
+abbrev turn_by : {F : Type 0} → (Command → Response) → Bool → Demand F → Turn F
+turn_by f closes (demand.Command c) = Answered c closes (f c)
+turn_by f closes (demand.Fault e) = Refused e closes
+
+abbrev turn_at : {F : Type 0} → (Command → Response) → Request F → Turn F
+turn_at f r = turn_by f r.closes r.demand
+
+answered_head : {F : Type 0} (f : List Told → Command → Response) (told : List Told) (t : Turn F) (ts : List (Turn F)) → AnsweredBy f told (t ∷ ts)
+    → t ≡ turn_at (f told) (request_of t)
+answered_head f told (Answered c closes a) ts h = ap (Answered c closes) h.0
+answered_head f told (Refused e closes) ts h = refl
+
+answered_tail : {F : Type 0} (f : List Told → Command → Response) (told : List Told) (t : Turn F) (ts : List (Turn F)) → AnsweredBy f told (t ∷ ts)
+    → AnsweredBy f (told ++ told_at t) ts
+answered_tail f told (Answered c closes a) ts h = h.1
+answered_tail f told (Refused e closes) ts h = subst (λ l. AnsweredBy f l ts) (sym (append-nil told)) h
+
+apart : true ≡ false → ⊥
+apart e = cc
+
+same_turn : {F : Type 0} (p : Rules F) → IsOne p → (f : List Told → Command → Response) (told : List Told) (bytes rest other : List ℕ) (t u : Turn F)
+    (ts us : List (Turn F)) → p.reads bytes (request_of t) rest → p.reads bytes (request_of u) other → AnsweredBy f told (t ∷ ts)
+    → AnsweredBy f told (u ∷ us) → (t ≡ u) × (rest ≡ other)
+same_turn p one f told bytes rest other t u ts us r s a b =
+    let same = one bytes rest other (request_of t) (request_of u) r s in
+    (answered_head f told t ts a ∙ ap (turn_at (f told)) same.0 ∙ sym (answered_head f told u us b), same.1)
+
+pub one_session_by : {F : Type 0} (p : Rules F) → IsOne p → (f : List Told → Command → Response) (n : ℕ) (told : List Told) (bytes rest other : List ℕ)
+    (ts us : List (Turn F)) → Reads p bytes ts rest → Reads p bytes us other → AnsweredBy f told ts → AnsweredBy f told us → IsEnded p n ts
+    → IsEnded p n us → (ts ≡ us) × (rest ≡ other)
+one_session_by p one f n told bytes rest other [] us r s a b x y = absurd x
+one_session_by p one f n told bytes rest other (t ∷ ts) [] r s a b x y = absurd y
+one_session_by p one f n told bytes rest other (t ∷ []) (u ∷ []) r s a b x y =
+    let same = same_turn p one f told bytes r.0 s.0 t u [] [] r.1 s.1 a b in
+    (ap (λ v. v ∷ []) same.0, sym r.2 ∙ same.1 ∙ s.2)
+one_session_by p one f n told bytes rest other (t ∷ []) (u ∷ w ∷ us) r s a b x y =
+    let same = same_turn p one f told bytes r.0 s.0 t u [] (w ∷ us) r.1 s.1 a b in
+    absurd (apart (sym x ∙ ap (is_last p n) same.0 ∙ y.0))
+one_session_by p one f n told bytes rest other (t ∷ v ∷ ts) (u ∷ []) r s a b x y =
+    let same = same_turn p one f told bytes r.0 s.0 t u (v ∷ ts) [] r.1 s.1 a b in
+    absurd (apart (sym y ∙ ap (is_last p n) (sym same.0) ∙ x.0))
+one_session_by {F} p one f n told bytes rest other (t ∷ v ∷ ts) (u ∷ w ∷ us) r s a b x y =
+    let same = same_turn p one f told bytes r.0 s.0 t u (v ∷ ts) (w ∷ us) r.1 s.1 a b in
+    let s_tail : Reads p r.0 (w ∷ us) other = subst (λ m. Reads p m (w ∷ us) other) (sym same.1) s.2 in
+    let tail_of : Turn F → Type 0 = λ z. AnsweredBy f (told ++ told_at z) (w ∷ us) in
+    let b_tail : AnsweredBy f (told ++ told_at t) (w ∷ us) = subst tail_of (sym same.0) (answered_tail f told u (w ∷ us) b) in
+    let rest_same = one_session_by p one f (n + 1) (told ++ told_at t) r.0 rest other (v ∷ ts) (w ∷ us) r.2 s_tail (answered_tail f told t (v ∷ ts) a) b_tail x.1 y.1 in
+    (ap (λ z. z ∷ v ∷ ts) same.0 ∙ ap (λ l. u ∷ l) rest_same.0, rest_same.1)

@@ -1,0 +1,52 @@
+ghost use Rattle.std.specs.Prelude.{◌≡◌, ◌≤◌, ◌<◌, ◌+◌, ◌++◌, ℕ, List, length, vec_len, true, false, IfOk, OnErr};
+ghost use Rattle.std.specs.Io.KnownBytes.{Consumes, IsAtEnd};
+ghost use Rattle.act_sessions.specs.Hearing.{Awaits};
+
+use crate::protocol::Protocol;
+use crate::request::Request;
+use crate::trouble::Trouble;
+use byte_streams::read_some;
+use std::alloc::Global;
+use std::io::Read;
+
+/// How many bytes are read at a time, at most.
+const CHUNK: usize = 4096;
+
+/// Reads the next piece, of any length, to the end of a buffer that holds less than `limit` bytes, and then at most these. Answers whether
+/// one came: none does at the end of the input.
+fn read_more<R: Read>(reader: &mut R, buffer: &mut Vec<u8>, limit: usize) -> Result<bool, Trouble>
+    requires { vec_len buffer.old < limit }
+    ensures ok { IfOk result (λ more. (piece : List ℕ) × Consumes (R.remaining reader.old) (R.remaining reader.new) piece
+        × (buffer.new.items ≡ buffer.old.items ++ piece)) }
+    ensures bound { vec_len buffer.new ≤ limit }
+    ensures more { IfOk result (λ more. more ≡ true → vec_len buffer.old < vec_len buffer.new) }
+    ensures end { IfOk result (λ more. more ≡ false → IsAtEnd (R.remaining reader.new) × (buffer.new.items ≡ buffer.old.items)) }
+    ensures err { OnErr result ((piece : List ℕ) × Consumes (R.remaining reader.old) (R.remaining reader.new) piece
+        × (length buffer.old.items + length piece ≤ limit)) }
+{
+    let mut piece = [0; CHUNK];
+    let room = (limit - buffer.len()).min(CHUNK);
+    let count = read_some(reader, &mut piece[..room])?;
+    buffer.extend_from_slice(&piece[..count])?;
+    Ok(count > 0)
+}
+
+/// Reads until a request is whole, and takes it from the buffer. None comes where the input ends before or inside one.
+pub fn await_request<P: Protocol, R: Read>(
+    alloc: Global,
+    reader: &mut R,
+    buffer: &mut Vec<u8>,
+) -> Result<Option<Request<P::Fault>>, Trouble>
+    requires { vec_len buffer.old ≤ P.rules.limit }
+    ensures { Awaits P.rules (R.remaining reader.old) (R.remaining reader.new) buffer.old.items buffer.new.items result }
+{
+    'pieces: loop {
+        if let Some(found) = P::next(alloc, buffer)? {
+            buffer.drain(..found.length);
+            return Ok(Some(found.request));
+        }
+        if !read_more(reader, buffer, P::limit())? {
+            return Ok(None);
+        }
+    }
+}

@@ -1,0 +1,293 @@
+-- What a checkpoint that is finished stands for.
+use Rattle.std.proofs.Common.{◌≡◌, inl, inr, ⊎_elim, ℕ, ◌+◌, ◌-◌, ◌<◌, ◌≤◌, ◌^◌, List, [], ◌∷◌, ◌++◌, length, take, drop, refl, sym, ◌∙◌, ap, subst, arith}
+use Rattle.std.proofs.Common.{Bool, not, append_assoc, drop_of_length-le, length-append}
+use Rattle.std.specs.Prelude.{IfSome, None, Option, Some, flat_map, nat_lt, option_map}
+use Rattle.std.specs.Int.{to_be_bytes, w32}
+use Rattle.std.proofs.lemmas.Bool.{cases_Bool, le-ltb, lt-ltb, ltb-false, ltb-true}
+use Rattle.std.specs.List.{AllByRecursion}
+use Rattle.std.proofs.lemmas.List.{take_all, length-drop, length-map}
+use Rattle.act_disk.specs.Images.{EachSince, Holds}
+use Rattle.act_disk.specs.Moments.{weakened}
+use Rattle.gated_journal.specs.Layout.{Fits, Head, head_bytes, opened, record_bytes}
+use Rattle.gated_journal.specs.TwoAreas.{other, start_of, Completes}
+use Rattle.gated_journal.specs.Whole.{StandsWhole, WholeOrTurned}
+use Rattle.gated_journal.specs.declared.gate.Gate.{Gate}
+use Rattle.gated_journal.specs.declared.gate.Gate.TheVariants.{Open, Closed}
+use Rattle.run_plan.specs.declared.command.Command.{Command}
+use Rattle.run_table.specs.Histories.{after}
+use Rattle.run_table.specs.TableState.{TableState}
+use Rattle.table_text.specs.Commands.{IsSpelled, batch, command_bytes}
+use Rattle.act_store.specs.Checkpoints.{first_gate, gate_behind, refusal_of_finish}
+use Rattle.act_store.specs.Entries.{commands_of, table_after}
+use Rattle.act_store.specs.Kept.{Kept, StandsForEither, covered_table, table_of}
+use Rattle.act_store.specs.LastPart.{bodies_of, last_part}
+use Rattle.act_store.specs.Meaning.{MeansTable}
+use Rattle.act_store.specs.Promise.{IsBegun, IsCounted, IsPut, IsSettled, IsSnapshot, IsStanding}
+use Rattle.act_store.specs.StoreSeen.{as_checkpoint, as_kept}
+use Rattle.act_store.specs.Waiting.{Waits, waits_of}
+use Rattle.act_store.specs.declared.begun.Begun.{Begun}
+use Rattle.act_store.specs.declared.entry.Entry.{Entry}
+use Rattle.act_store.specs.declared.store.Store.TheInside.{Inside}
+use Rattle.act_store.proofs.Histories.{table_split}
+use Rattle.act_store.proofs.LastPart.{from_on}
+use Rattle.act_store.proofs.Meanings.{means_more}
+use Rattle.act_store.proofs.Records.{length_batch}
+use Rattle.act_store.proofs.RefusalsOfCheckpoints.{MayFinish, may_finish}
+use Rattle.act_store.proofs.Settling.{settled_at, settled_stands, stands_for}
+use Rattle.act_store.proofs.Snapshots.{it_is, length_head}
+
+-- ---- the room of the last part
+
+length_bodies : (commands : List Command) (text : ℕ) → first_gate text + length (record_bytes (bodies_of commands)) ≡ gate_behind text commands
+length_bodies [] text = omega arith
+length_bodies (c ∷ cs) text =
+    let body = batch.spelling (c ∷ cs) in
+    let number = to_be_bytes w32 (length body) in
+    let four : length number ≡ 4 = refl in
+    omega (arith, four, length-append (number ++ body) [], length-append number body)
+
+-- the test of it
+pub fits_is : (len front spelled area : ℕ) (entries : List Entry) → 0 < length entries → 17 ≤ front → len ≡ front
+    → spelled ≡ length (flat_map command_bytes (commands_of entries))
+    → nat_lt (len + 10 + spelled) area ≡ not (nat_lt area (gate_behind (front - 17) (commands_of entries) + 1))
+fits_is len front spelled area [] some head same is = absurd (omega (arith, some))
+fits_is len front spelled area (e ∷ es) some head same is =
+    let cs = commands_of (e ∷ es) in
+    let end = gate_behind (front - 17) cs + 1 in
+    let place : end ≡ len + 10 + spelled + 1 = omega (arith, head, same, is, length_batch cs) in
+    elim (cases_Bool (nat_lt area end)) [
+      | inl full ↦ le-ltb (len + 10 + spelled) area (omega (arith, place, ltb-true area end full)) ∙ sym (ap (λ (x : Bool). not x) full)
+      | inr fits ↦ lt-ltb (len + 10 + spelled) area (omega (arith, place, ltb-false area end fits)) ∙ sym (ap (λ (x : Bool). not x) fits)
+    ]
+
+short_bodies : (area text : ℕ) (commands : List Command) → area ≤ 1073741824 → gate_behind text commands ≤ area
+    → AllByRecursion (λ (body : List ℕ). length body < 2 ^ 32) (bodies_of commands)
+short_bodies area text [] most room = _
+short_bodies area text (c ∷ cs) most room = (omega (arith, most, room), _)
+
+-- ---- what the area means that was made
+
+means_with : (head : Head) (table : TableState) (commands : List Command) → length commands ≤ 4294967295
+    → AllByRecursion IsSpelled commands → MeansTable head [] table → MeansTable head (bodies_of commands) (after table commands)
+means_with head table [] few spelled means = means
+means_with head table (c ∷ cs) few spelled means = means_more head [] table (c ∷ cs) (omega arith, few, spelled) means
+
+-- What a finish is given: the disk turns over with these bytes, the last part, behind what was put.
+pub record Finishes {D : Type 0} (honest : D → Type 0) (images : D → List ℕ → Type 0) (seen : D → List ℕ) (s : Inside D) (at : ℕ)
+    (bytes : List ℕ) : Type 0 where
+  pub counted : IsCounted (as_kept s) s.table s.waiting
+  pub standing : honest s.disk → IsStanding images s.areas.side s.other (as_kept s)
+  pub b : Begun
+  pub snapshot : IsSnapshot s.base s.history.items s.generation s.areas.len b
+  pub may : MayFinish (as_kept s) (as_checkpoint b)
+  pub put : honest s.disk → IsPut s.areas.len s.areas.side s.other (seen s.disk) b
+  pub place : at ≡ 1 + length b.front.items
+  pub is : bytes ≡ last_part (commands_of (drop b.place s.history.items))
+  pub spelled : AllByRecursion IsSpelled (commands_of (drop b.place s.history.items))
+
+-- What is known as a checkpoint is finished, made to that.
+pub finishing : {D : Type 0} (honest : D → Type 0) (images : D → List ℕ → Type 0) (seen : D → List ℕ) (s : Inside D)
+    → IsCounted (as_kept s) s.table s.waiting → (honest s.disk → IsStanding images s.areas.side s.other (as_kept s))
+    → IfSome s.begun (IsBegun s.base s.history.items s.generation s.areas.len s.areas.side s.other (honest s.disk) s.failed (seen s.disk))
+    → (v : Kept D) → as_kept s ≡ v → refusal_of_finish v ≡ None → (b : Begun) → s.begun ≡ Some b
+    → (history : List Entry) → history ≡ s.history.items → (len : ℕ) → len ≡ length b.front.items → (bytes last : List ℕ) → bytes ≡ last
+    → last ≡ last_part (commands_of (take (length history - b.place) (drop b.place history)))
+    → AllByRecursion IsSpelled (commands_of (take (length history - b.place) (drop b.place history)))
+    → Finishes honest images seen s (1 + len) bytes
+finishing {D} honest images seen s counted standing begun v view none b some history value len front bytes last same is spelled =
+    let may = may_finish (as_kept s) (as_checkpoint b) (ap (λ (o : Option Begun). option_map as_checkpoint o) some)
+    (subst (λ (k : Kept D). refusal_of_finish k ≡ None) (sym view) none) in
+    let so = it_is s.begun b
+    (IsBegun s.base s.history.items s.generation s.areas.len s.areas.side s.other (honest s.disk) s.failed (seen s.disk)) some begun in
+    let on = from_on b.place s.history.items history value in
+    record {
+      counted = counted;
+      standing = standing;
+      b = b;
+      snapshot = so.0;
+      may = may;
+      put = λ is_honest. so.1 is_honest may.live;
+      place = omega (arith, front);
+      is = same ∙ subst (λ (h : List Entry). last ≡ last_part (commands_of h)) on is;
+      spelled = subst (λ (h : List Entry). AllByRecursion IsSpelled (commands_of h)) on spelled;
+    }
+
+module _ {D : Type 0} (honest : D → Type 0) (images : D → List ℕ → Type 0) (seen : D → List ℕ) (s : Inside D)
+    (at : ℕ) (bytes : List ℕ) (f : Finishes honest images seen s at bytes) where
+  abbrev cs : List Command
+  cs = commands_of (drop f.b.place s.history.items)
+
+  abbrev others : List (List ℕ)
+  others = bodies_of cs
+
+  abbrev next : Head
+  next = record { version = 1; generation = s.generation + 1; text = f.snapshot.text }
+
+  abbrev first : TableState
+  first = table_after s.base (take f.b.place s.history.items)
+
+  long_front : length f.b.front.items ≡ 17 + length f.snapshot.text
+  long_front = ap (λ (l : List ℕ). length l) f.snapshot.front_is ∙ length_head (s.generation + 1) f.snapshot.text
+
+  -- the gate behind the last part has room
+  room : gate_behind (length f.snapshot.text) cs + 1 ≤ s.areas.len
+  room =
+      let same : length f.b.front.items - 17 ≡ length f.snapshot.text = omega (arith, long_front) in
+      subst (λ (n : ℕ). gate_behind n cs + 1 ≤ s.areas.len) same f.may.room
+
+  end : first_gate (length f.snapshot.text) + length (record_bytes others) ≡ gate_behind (length f.snapshot.text) cs
+  end = length_bodies cs (length f.snapshot.text)
+
+  fits_next : Fits next others
+  fits_next = record {
+    generation = f.snapshot.newer;
+    text = omega (arith, room, end, f.counted.size.most);
+    each = short_bodies s.areas.len (length f.snapshot.text) cs f.counted.size.most (omega (arith, room));
+  }
+
+  means_first : MeansTable next [] first
+  means_first = record {
+    version = refl;
+    first = first;
+    text = f.snapshot.spells;
+    commands = [];
+    batched = record { batches = []; takes = _; spelled = refl; commands_are = refl };
+    table_is = refl;
+  }
+
+  -- the text, and then the entries since
+  means_all : MeansTable next others (table_of (as_kept s))
+  means_all =
+      subst (λ (t : TableState). MeansTable next others t) (table_split s.base f.b.place s.history.items)
+      (means_with next first cs
+      (omega (
+        arith,
+        f.counted.most,
+        length-map (drop f.b.place s.history.items) (λ (e : Entry). e.command),
+        length-drop f.b.place s.history.items,
+      )) f.spelled means_first)
+
+  module _ (is_honest : honest s.disk) where
+    settled : IsSettled s.areas.len s.areas.side s.other s.generation s.used (covered_table (as_kept s)) (images s.disk)
+    settled = (f.standing is_honest).settled f.may.live
+
+    shut : (c : List ℕ) → images s.disk c → StandsWhole s.areas.len s.areas.side Closed c settled.head settled.bodies
+    shut c now = subst (λ (g : Gate). StandsWhole s.areas.len s.areas.side g c settled.head settled.bodies) (f.put is_honest).closed
+        (settled.each c now)
+
+    completes : Completes s.areas.len s.areas.side (seen s.disk) at bytes settled.head next others
+    completes =
+        let all : f.b.put ≡ length f.b.front.items = omega (arith, f.snapshot.put, f.may.none_left) in
+        record {
+          front = f.b.front.items;
+          held = subst (λ (l : List ℕ). Holds (seen s.disk) (start_of s.areas.len (other s.areas.side) + 1) l)
+              (take_all f.b.put f.b.front.items (omega (arith, all))) (f.put is_honest).held;
+          place = f.place;
+          whole = ap (λ (l : List ℕ). l ++ bytes) f.snapshot.front_is ∙ ap (λ (l : List ℕ). head_bytes next ++ l) f.is
+              ∙ sym (append_assoc (head_bytes next) (record_bytes others) (0 ∷ []));
+          fits = fits_next;
+          newer = omega (arith, settled.generation_is);
+        }
+
+    either_of : (c : List ℕ) → WholeOrTurned s.areas.len s.areas.side settled.head settled.bodies next others c
+        → StandsForEither (as_kept s) c
+    either_of c either = ⊎_elim
+        (λ old. inl (stands_for s.areas.len s.areas.side Closed settled.head settled.bodies (covered_table (as_kept s)) c
+        f.counted.size old settled.means))
+        (λ new. inr (stands_for s.areas.len (other s.areas.side) Open next others (table_of (as_kept s)) c f.counted.size new means_all))
+        either
+
+  -- what is promised of the turn
+  abbrev pub Turns : (Head → Head → List (List ℕ) → List (List ℕ) → Type 0) → Type 0
+  Turns what =
+      (head next : Head) (bodies others : List (List ℕ)) → honest s.disk
+      → ((c : List ℕ) → images s.disk c → StandsWhole s.areas.len s.areas.side Closed c head bodies)
+      → Completes s.areas.len s.areas.side (seen s.disk) at bytes head next others → what head next bodies others
+
+  module _ (disk : D) where
+    -- each image since, as a store of this view says it
+    pub finish_moments : (moment : D → ℕ) (images_since : D → ℕ → List ℕ → Type 0)
+        → Turns (λ head next bodies others. EachSince moment images_since s.disk disk
+        (WholeOrTurned s.areas.len s.areas.side head bodies next others))
+        → (v : Kept D) → as_kept s ≡ v → honest v.disk → EachSince moment images_since v.disk disk (StandsForEither v)
+    finish_moments moment images_since turns v same =
+        subst (λ (k : Kept D). honest k.disk → EachSince moment images_since k.disk disk (StandsForEither k)) same (λ is_honest.
+        weakened moment images_since s.disk disk
+        (WholeOrTurned s.areas.len s.areas.side (settled is_honest).head (settled is_honest).bodies next others)
+        (StandsForEither (as_kept s))
+        (turns (settled is_honest).head next (settled is_honest).bodies others is_honest (shut is_honest) (completes is_honest))
+        (either_of is_honest))
+
+    -- ---- once it was done
+
+    used_is : at + length bytes - 1 ≡ gate_behind (length f.snapshot.text) cs
+    used_is =
+        omega (arith, f.place, long_front, end, ap (λ (l : List ℕ). length l) f.is, length-append (record_bytes others) (0 ∷ []))
+
+    -- and it is where the checkpoint says
+    pub used_of : at + length bytes - 1 ≡ gate_behind (as_checkpoint f.b).text cs
+    used_of =
+        let same : length f.b.front.items - 17 ≡ length f.snapshot.text = omega (arith, long_front) in
+        used_is ∙ ap (λ (n : ℕ). gate_behind n cs) (sym same)
+
+    pub finish_settles : Turns (λ head next bodies others. (c : List ℕ) → images disk c
+        → StandsWhole s.areas.len (other s.areas.side) Open c next others) → honest s.disk
+        → IsSettled s.areas.len (other s.areas.side) Open (s.generation + 1) (at + length bytes - 1) (table_of (as_kept s))
+        (images disk)
+    finish_settles turns is_honest = record {
+      head = next;
+      bodies = others;
+      each = turns (settled is_honest).head next (settled is_honest).bodies others is_honest (shut is_honest) (completes is_honest);
+      used_is =
+          omega (
+            arith,
+            used_is,
+            end,
+            long_front,
+            ap (λ (l : List ℕ). length l) f.snapshot.front_is,
+            length-append (head_bytes next) (record_bytes others),
+          );
+      generation_is = refl;
+      means = means_all;
+    }
+
+    abbrev pub done : ℕ → ℕ → Kept D
+    done covered used = record (as_kept s) {
+      disk = disk;
+      covered = covered;
+      used = used;
+      generation = s.generation + 1;
+      begun = None;
+    }
+
+    module _ (covered used : ℕ) (all : covered ≡ length s.history.items) (here : used ≡ at + length bytes - 1) where
+      pub counted_finished : (left : Waits) → left ≡ waits_of [] → IsCounted (done covered used) s.table left
+      counted_finished left nothing =
+          let none : drop covered s.history.items ≡ [] = drop_of_length-le s.history.items (omega (arith, all)) in
+          record {
+            legal = f.counted.legal;
+            table_is = f.counted.table_is;
+            covers = omega (arith, all);
+            most = f.counted.most;
+            size = f.counted.size;
+            gate_fits = omega (arith, here, used_is, room);
+            record_fits = λ less. absurd (omega (arith, less, all));
+            spelled = subst (λ (l : List Entry). AllByRecursion IsSpelled (commands_of l)) (sym none) _;
+            waiting_is = nothing ∙ ap (λ (l : List Entry). waits_of (commands_of l)) (sym none);
+          }
+
+      pub standing_finished : IsSettled s.areas.len (other s.areas.side) Open (s.generation + 1) (at + length bytes - 1)
+          (table_of (as_kept s)) (images disk)
+          → IsStanding images (other s.areas.side) Open (done covered used)
+      standing_finished now =
+          let same : table_of (as_kept s) ≡ covered_table (done covered used) =
+          ap (λ (l : List Entry). table_after s.base l) (sym (take_all covered s.history.items (omega (arith, all)))) in
+          let again = settled_at s.areas.len (other s.areas.side) Open (s.generation + 1) used (table_of (as_kept s))
+          (covered_table (done covered used)) (images disk) same
+          (subst (λ (n : ℕ). IsSettled s.areas.len (other s.areas.side) Open (s.generation + 1) n (table_of (as_kept s)) (images disk))
+          (sym here) now) in
+          record {
+            each = λ c there. inl (settled_stands s.areas.len (other s.areas.side) Open (s.generation + 1) used
+                (covered_table (done covered used)) (images disk) f.counted.size again c there);
+            settled = λ _. again;
+          }

@@ -1,0 +1,157 @@
+-- What is kept of a checkpoint that was begun, from call to call.
+use Rattle.std.proofs.Common.{◌≡◌, ℕ, ◌+◌, ◌-◌, ◌<◌, ◌≤◌, List, [], ◌∷◌, ◌++◌, length, take, drop, refl, sym, ◌∙◌, ap, subst, arith}
+use Rattle.std.proofs.Common.{Bool, true, false, length-append, take-add, length-take-le}
+use Rattle.std.specs.Prelude.{Option, Some, None, IfSome, is_some}
+use Rattle.std.proofs.lemmas.List.{take_all, take-append-le}
+use Rattle.std.specs.Int.{to_be_bytes, w64}
+use Rattle.act_disk.specs.Images.{Holds}
+use Rattle.gated_journal.specs.Layout.{Head, head_bytes}
+use Rattle.gated_journal.specs.TwoAreas.{other, start_of}
+use Rattle.gated_journal.specs.declared.gate.Gate.{Gate}
+use Rattle.gated_journal.specs.declared.gate.Gate.TheVariants.{Closed}
+use Rattle.gated_journal.specs.declared.side.Side.{Side}
+use Rattle.run_table.specs.TableState.{TableState}
+use Rattle.table_text.specs.WholeTables.{whole_table}
+use Rattle.act_store.specs.Checkpoints.{first_gate, text_length}
+use Rattle.act_store.specs.Entries.{table_after}
+use Rattle.act_store.specs.Promise.{IsBegun, IsPut, IsSnapshot}
+use Rattle.act_store.specs.TableText.{SpellsTable}
+use Rattle.act_store.specs.declared.begun.Begun.{Begun}
+use Rattle.act_store.specs.declared.entry.Entry.{Entry}
+
+-- ---- what is said of a value that may be there
+
+pub if_some : {X : Type 0} (o : Option X) (P Q : X → Type 0) → ((x : X) → P x → Q x) → IfSome o P → IfSome o Q
+if_some None P Q weaker here = tt
+if_some (Some x) P Q weaker here = weaker x here
+
+pub if_none : {X : Type 0} (o : Option X) (P : X → Type 0) → is_some o ≡ false → IfSome o P
+if_none None P none = tt
+if_none (Some x) P none = absurd (cc none)
+
+pub it_is : {X : Type 0} (o : Option X) (x : X) (P : X → Type 0) → o ≡ Some x → IfSome o P → P x
+it_is {X} o x P is here = subst (λ (y : Option X). IfSome y P) is here
+
+-- ---- a head with a text is 17 bytes longer than the text
+
+pub length_head : (generation : ℕ) (text : List ℕ)
+    → length (head_bytes (record { version = 1; generation = generation; text = text })) ≡ 17 + length text
+length_head generation text =
+    let one : length (to_be_bytes w64 generation) ≡ 8 = refl in
+    let two : length (to_be_bytes w64 (length text)) ≡ 8 = refl in
+    omega (
+      arith,
+      one,
+      two,
+      length-append (to_be_bytes w64 generation) (to_be_bytes w64 (length text) ++ text),
+      length-append (to_be_bytes w64 (length text)) text,
+    )
+
+-- ---- begun
+
+pub snapshot_taken : (base table : TableState) (history : List Entry) (generation area : ℕ) (b : Begun)
+    → table ≡ table_after base history → b.place ≡ length history → b.put ≡ 0 → generation < 18446744073709551615
+    → first_gate (text_length table) + 1 ≤ area
+    → b.front.items ≡ head_bytes (record { version = 1; generation = generation + 1; text = whole_table.spelling table })
+    → SpellsTable table (whole_table.spelling table) → IsSnapshot base history generation area b
+snapshot_taken base table history generation area b is place put newer room front spells = record {
+  text = whole_table.spelling table;
+  spells = subst (λ (t : TableState). SpellsTable t (whole_table.spelling table))
+      (is ∙ ap (λ (l : List Entry). table_after base l) (sym (take_all b.place history (omega (arith, place))))) spells;
+  front_is = front;
+  place = omega (arith, place);
+  put = omega (arith, put);
+  newer = omega (arith, newer);
+  fits = omega (arith, ap (λ (l : List ℕ). length l) front, length_head (generation + 1) (whole_table.spelling table), room);
+}
+
+empty_of : (l : List ℕ) → length l ≡ 0 → l ≡ []
+empty_of [] none = refl
+empty_of (x ∷ xs) none = absurd (omega (arith, none))
+
+-- nothing was put yet
+pub held_none : (file : List ℕ) (at : ℕ) (xs : List ℕ) → Holds file at (take 0 xs)
+held_none file at xs =
+    let n : length (take 0 xs) ≡ 0 = length-take-le 0 xs (omega arith) in
+    empty_of (take (length (take 0 xs)) (drop at file))
+    (omega (arith, n, length-take-le (length (take 0 xs)) (drop at file) (omega (arith, n)))) ∙ sym (empty_of (take 0 xs) n)
+
+-- ---- sliced
+
+pub slice_on : (items other : List ℕ) (from to : ℕ) → from ≤ to → other ≡ items
+    → take from items ++ take (to - from) (drop from other) ≡ take to items
+slice_on items other from to less is =
+    ap (λ (l : List ℕ). take from items ++ take (to - from) (drop from l)) is
+    ∙ sym (take-add from (to - from) items)
+    ∙ ap (λ (n : ℕ). take n items) (let whole : from + (to - from) ≡ to = omega (arith, less) in whole)
+
+pub snapshot_sliced : (base : TableState) (history : List Entry) (generation area : ℕ) (b next : Begun)
+    → next.front.items ≡ b.front.items → next.place ≡ b.place → next.put ≤ length b.front.items
+    → IsSnapshot base history generation area b → IsSnapshot base history generation area next
+snapshot_sliced base history generation area b next front place put snapshot = record {
+  text = snapshot.text;
+  spells = subst (λ (n : ℕ). SpellsTable (table_after base (take n history)) snapshot.text) (sym place) snapshot.spells;
+  front_is = front ∙ snapshot.front_is;
+  place = omega (arith, place, snapshot.place);
+  put = omega (arith, put, ap (λ (l : List ℕ). length l) front);
+  newer = snapshot.newer;
+  fits = omega (arith, snapshot.fits, ap (λ (l : List ℕ). length l) front);
+}
+
+pub put_sliced : (area : ℕ) (side : Side) (gate : Gate) (seen : List ℕ) (b next : Begun) → next.front.items ≡ b.front.items
+    → gate ≡ Closed → Holds seen (start_of area (other side) + 1) (take next.put b.front.items) → IsPut area side gate seen next
+put_sliced area side gate seen b next front closed held = record {
+  closed = closed;
+  held = subst (λ (l : List ℕ). Holds seen (start_of area (other side) + 1) (take next.put l)) (sym front) held;
+}
+
+-- ---- beside the other calls
+
+-- a history with an entry more
+snapshot_entered : (base : TableState) (history more : List Entry) (entry : Entry) (generation area : ℕ) (b : Begun)
+    → more ≡ history ++ entry ∷ [] → IsSnapshot base history generation area b → IsSnapshot base more generation area b
+snapshot_entered base history more entry generation area b is snapshot = record {
+  text = snapshot.text;
+  spells = subst (λ (l : List Entry). SpellsTable (table_after base l) snapshot.text)
+      (sym (ap (λ (l : List Entry). take b.place l) is ∙ take-append-le b.place history (entry ∷ []) snapshot.place)) snapshot.spells;
+  front_is = snapshot.front_is;
+  place = omega (arith, snapshot.place, ap (λ (l : List Entry). length l) is, length-append history (entry ∷ []));
+  put = snapshot.put;
+  newer = snapshot.newer;
+  fits = snapshot.fits;
+}
+
+module _ (base : TableState) (history : List Entry) (generation area : ℕ) (side : Side) (gate : Gate) (honest : Type 0) (failed : Bool)
+    (seen : List ℕ) (o : Option Begun)
+    (here : IfSome o (IsBegun base history generation area side gate honest failed seen)) where
+  pub begun_entered : (more : List Entry) (entry : Entry) → more ≡ history ++ entry ∷ []
+      → IfSome o (IsBegun base more generation area side gate honest failed seen)
+  begun_entered more entry is =
+      if_some o (IsBegun base history generation area side gate honest failed seen)
+      (IsBegun base more generation area side gate honest failed seen)
+      (λ b so. (snapshot_entered base history more entry generation area b is so.0, so.1)) here
+
+  -- where the device failed nothing is known of the disk
+  pub begun_broken : (later : Type 0) (file : List ℕ) → IfSome o (IsBegun base history generation area side gate later true file)
+  begun_broken later file =
+      if_some o (IsBegun base history generation area side gate honest failed seen)
+      (IsBegun base history generation area side gate later true file) (λ b so. (so.0, λ honest impossible. absurd (cc impossible))) here
+
+  -- after an append to the area that stands, what was put stands there
+  pub begun_grown : (later : Type 0) (new : List ℕ) → (later → honest) → (honest → failed ≡ false → length seen ≡ area + area)
+      → (honest → (from : ℕ) (put : List ℕ) → area + area ≤ length seen → from + length put ≤ area
+      → Holds seen (start_of area (other side) + from) put → Holds new (start_of area (other side) + from) put)
+      → IfSome o (IsBegun base history generation area side gate later failed new)
+  begun_grown later new before long beside =
+      if_some o (IsBegun base history generation area side gate honest failed seen)
+      (IsBegun base history generation area side gate later failed new)
+      (λ b so. (
+        so.0,
+        λ still live.
+            let put = so.1 (before still) live in
+            record {
+              closed = put.closed;
+              held = beside (before still) 1 (take b.put b.front.items) (omega (arith, long (before still) live))
+                  (omega (arith, length-take-le b.put b.front.items so.0.put, so.0.put, so.0.fits)) put.held;
+            },
+      )) here

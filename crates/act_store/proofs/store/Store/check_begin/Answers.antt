@@ -1,0 +1,86 @@
+use Rattle.std.proofs.Common.{rules, arith, ◌≡◌, ◌≤◌, ◌+◌, length, true, refl, subst, sym}
+use Rattle.std.specs.Prelude.{Some, option_map}
+use Rattle.gated_journal.specs.TwoAreas.{other, start_of}
+use Rattle.gated_journal.specs.declared.gate.Gate.TheVariants.{Closed}
+use Rattle.act_store.specs.Checkpoints.{first_gate, text_length}
+use Rattle.act_store.specs.Kept.{StandsForEither}
+use Rattle.act_store.specs.Promise.{IsBegun}
+use Rattle.act_store.specs.StoreSeen.{as_checkpoint, as_kept}
+use Rattle.act_store.specs.declared.begun.Begun.{Begun}
+use Rattle.act_store.proofs.Checkpointing.{begin_moments, counted_with, few_runners, settled_again, standing_failed, standing_with}
+use Rattle.act_store.proofs.Committing.{now_of}
+use Rattle.act_store.proofs.RefusalsOfCheckpoints.{begins, none_begun}
+use Rattle.act_store.proofs.Snapshots.{held_none, if_none, snapshot_taken}
+use Rattle.act_store.proofs.store.Store.check_begin.Goals as goal
+
+pub front_of-requires : goal.front_of-requires
+front_of-requires g c =
+    let s = c.self.inside in
+    let k = as_kept s in
+    few_runners k s.table s.waiting c.self.invariant.0 (begins s c.args.self.now c.self.view_is (search rules))
+
+pub invariant_of-self : goal.invariant_of-self
+invariant_of-self g c =
+    let s = c.self.inside in
+    let disk = g.D.Disk in
+    let k = as_kept s in
+    let counted = c.self.invariant.0 in
+    let d1 = c.close_other.new.disk in
+    let may = begins s c.args.self.now c.self.view_is (search rules) in
+    let since = begin_moments disk.honest disk.images s counted may.live c.self.invariant.2 d1 disk.moment disk.images_since
+    c.close_other.ensures.any_moment k refl in (
+      counted_with k s.table s.waiting counted d1 (option_map as_checkpoint s.begun) true,
+      (λ impossible. absurd (cc impossible)),
+      (λ honest1. standing_failed k s.table s.waiting counted disk.images s.areas.side s.other d1 (option_map as_checkpoint s.begun)
+          (now_of disk.moment disk.images_since disk.images s.disk d1 (StandsForEither k) (g.met.D.Disk.counts_now d1 honest1)
+          (since (c.close_other.ensures.honest.0 honest1)))),
+      if_none s.begun
+          (IsBegun s.base s.history.items s.generation s.areas.len s.areas.side s.other (disk.honest d1) true (disk.seen d1))
+          (none_begun s.begun may.none),
+    )
+
+pub invariant_of-self-in-Ok : goal.invariant_of-self-in-Ok
+invariant_of-self-in-Ok g c =
+    let s = c.self.inside in
+    let disk = g.D.Disk in
+    let k = as_kept s in
+    let counted = c.self.invariant.0 in
+    let d1 = c.close_other.new.disk in
+    let may = begins s c.args.self.now c.self.view_is (search rules) in
+    let b : Begun = record { place = c.len.result; front = c.in_ok-front.front; put = 0 } in
+    let place : c.len.result ≡ length s.history.items = search rules in
+    let checkpoint = Some (as_checkpoint b) in (
+      counted_with k s.table s.waiting counted d1 checkpoint s.failed,
+      (λ _. search (rules, arith)),
+      (λ honest1.
+          let honest = c.close_other.ensures.honest.0 honest1 in
+          let settled = (c.self.invariant.2 honest).settled may.live in
+          standing_with k s.table s.waiting counted disk.images s.areas.side Closed d1 checkpoint
+          (settled_again k s.table s.waiting counted disk.images s.areas.side s.other settled Closed d1
+          (c.in-Ok.ensures.closed settled.head settled.bodies honest settled.each))),
+      (
+        snapshot_taken s.base s.table s.history.items s.generation s.areas.len b counted.table_is place refl may.newer
+            (subst (λ t. first_gate (text_length t) + 1 ≤ s.areas.len) (sym counted.table_is) may.room)
+            c.in_ok-front.ensures.front c.in_ok-front.ensures.spells,
+        λ honest1 live. record {
+          closed = refl;
+          held = held_none (disk.seen d1) (start_of s.areas.len (other s.areas.side) + 1) c.in_ok-front.front.items;
+        },
+      ),
+    )
+
+pub returns-in-Err-clause-any_moment : goal.returns-in-Err-clause-any_moment
+returns-in-Err-clause-any_moment g c =
+    let s = c.self.inside in
+    let disk = g.D.Disk in
+    let may = begins s c.args.self.now c.self.view_is (search rules) in
+    begin_moments disk.honest disk.images s c.self.invariant.0 may.live c.self.invariant.2 c.close_other.new.disk disk.moment
+    disk.images_since c.close_other.ensures.any_moment c.args.self.now c.self.view_is
+
+pub returns-in-Ok-clause-any_moment : goal.returns-in-Ok-clause-any_moment
+returns-in-Ok-clause-any_moment g c =
+    let s = c.self.inside in
+    let disk = g.D.Disk in
+    let may = begins s c.args.self.now c.self.view_is (search rules) in
+    begin_moments disk.honest disk.images s c.self.invariant.0 may.live c.self.invariant.2 c.close_other.new.disk disk.moment
+    disk.images_since c.close_other.ensures.any_moment c.args.self.now c.self.view_is

@@ -1,0 +1,36 @@
+use Rattle.std.proofs.Common.{rules, ◌≡◌, sym, ◌∙◌, subst}
+use Rattle.std.specs.Prelude.{None, option_map}
+use Rattle.act_store.specs.Kept.{Kept, covered_table}
+use Rattle.act_store.specs.Plain.{refusal_of_turning}
+use Rattle.act_store.specs.Promise.{IsBegun}
+use Rattle.act_store.specs.StoreSeen.{as_checkpoint, as_kept}
+use Rattle.act_store.proofs.Beginning.{counted_begun, standing_begun}
+use Rattle.act_store.proofs.Checkpointing.{all_table, nothing_waits}
+use Rattle.act_store.proofs.RefusalsOfCheckpoints.{may_turn, none_begun}
+use Rattle.act_store.proofs.Settling.{settled_at}
+use Rattle.act_store.proofs.Snapshots.{if_none}
+use Rattle.act_store.proofs.store.Store.turn_over.Goals as goal
+
+pub invariant_of-self : goal.invariant_of-self
+invariant_of-self g c =
+    let s = c.self.inside in
+    let disk = g.D.Disk in
+    let k = as_kept s in
+    let counted = c.self.invariant.0 in
+    let none : refusal_of_turning c.args.self.now ≡ None = search rules in
+    let may = may_turn k (subst (λ (v : Kept g.row.D.Denot). refusal_of_turning v ≡ None) (sym c.self.view_is) none) in
+    let base = c.in_ok-self-inside.field-0 in
+    let same : s.table ≡ base = search rules in
+    let now = c.clear.new.self.items in
+    let checkpoint = option_map as_checkpoint s.begun in (
+      counted_begun s.disk s.areas.len base s.used s.generation checkpoint s.failed now c.clear.ensures.items s.table same s.waiting
+          (nothing_waits k s.table s.waiting counted may.all) counted.size counted.gate_fits,
+      c.self.invariant.1,
+      λ honest. standing_begun s.disk s.areas.len base s.used s.generation checkpoint s.failed now c.clear.ensures.items disk.images
+          s.areas.side s.other counted.size
+          (settled_at s.areas.len s.areas.side s.other s.generation s.used (covered_table k) base (disk.images s.disk)
+          (all_table k s.table s.waiting counted may.all ∙ same) ((c.self.invariant.2 honest).settled may.live)),
+      if_none s.begun
+          (IsBegun base now s.generation s.areas.len s.areas.side s.other (disk.honest s.disk) s.failed (disk.seen s.disk))
+          (none_begun s.begun may.none),
+    )

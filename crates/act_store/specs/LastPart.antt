@@ -1,0 +1,12 @@
+-- The last part of what a checkpoint writes: one record of the entries since it was begun, where there are some, and the gate behind.
+use Rattle.std.specs.Prelude.{ℕ, List, [], ◌∷◌, ◌++◌}
+use Rattle.gated_journal.specs.Layout.{record_bytes}
+use Rattle.run_plan.specs.declared.command.Command.{Command}
+use Rattle.table_text.specs.Commands.{batch}
+
+abbrev pub bodies_of : List Command → List (List ℕ)
+bodies_of [] = []
+bodies_of (command ∷ commands) = batch.spelling (command ∷ commands) ∷ []
+
+abbrev pub last_part : List Command → List ℕ
+last_part commands = record_bytes (bodies_of commands) ++ 0 ∷ []

@@ -1,0 +1,117 @@
+ghost use Rattle.std.specs.Prelude.{◌≡◌, ◌⊎◌, ◌↔◌, ◌+◌, ◌≤◌, ℕ, List, length, nat_lt, not, Err, IfErr, IfOk, IfSome, OnOk, Some};
+ghost use Rattle.wf_value.specs.Gives.{no_memory};
+ghost use Rattle.act_disk.specs.Failed.{device_failed};
+ghost use Rattle.act_disk.specs.Images.{EachSince};
+ghost use Rattle.gated_journal.specs.Layout.{head_bytes};
+ghost use Rattle.table_text.specs.WholeTables.{whole_table};
+ghost use Rattle.act_store.specs.Checkpoints.{begun_at, first_gate, refusal_of_begin, text_length};
+ghost use Rattle.act_store.specs.Kept.{StandsForEither, table_of};
+ghost use Rattle.act_store.specs.Plain.{broken};
+ghost use Rattle.act_store.specs.TableText.{SpellsTable};
+ghost use Rattle.act_store.specs.Told.{TellsFault};
+
+use crate::begun::Begun;
+use crate::spelled::VERSION;
+use crate::store::Store;
+use act_disk::Disk;
+use gated_journal::Gate;
+use run_table::Table;
+use std::alloc::Global;
+use table_text::{table_length, write_table};
+use wf_value::{Code, Refusal};
+
+/// What an area has beside its text and its records: its gate, its version, its generation and the length of its text, and the gate
+/// behind the text.
+const FRAME: u64 = 19;
+
+impl<D: Disk> Store<D> {
+    /// Begins a checkpoint: takes the text of the present table, and closes the gate of the other area where that is open; else no device
+    /// is called. It answers how many bytes are to be written, 17 and those of the text.
+    ///
+    /// It is refused, memory or not, with 52 where the device has failed, else with 56 where a checkpoint is begun, else with 48 where
+    /// the generation is at its last, else with 47 where the text has no room in an area. Else 50 is left, and 51, after which the store
+    /// has failed. At each moment of the call the disk stands for the entries that were covered or for all.
+    pub fn check_begin(&mut self, alloc: Global) -> Result<u64, Refusal>
+        ensures any_moment { D.honest self.old.disk
+            → EachSince D.moment D.images_since self.old.disk self.new.disk (StandsForEither self.old) }
+        ensures begun { OnOk result (self.new ≡ begun_at self.old self.new.disk) }
+        ensures left { IfOk result (λ left. left ≡ 17 + text_length (table_of self.old)) }
+        ensures refused { IfSome (refusal_of_begin self.old) (λ refusal. result ≡ Err refusal) }
+        ensures cause { IfErr result (λ e. (e ≡ no_memory) ⊎ (e ≡ device_failed) ⊎ (refusal_of_begin self.old ≡ Some e)) }
+        ensures broken { result ≡ Err device_failed → self.new ≡ broken self.old self.new.disk }
+        ensures unchanged { IfErr result (λ e. (e ≡ device_failed → ⊥) → self.new ≡ self.old) }
+        ensures faults { TellsFault result (D.fault_count self.old.disk) (D.fault_count self.new.disk) }
+        ensures calls { D.calls self.new.disk ≤ D.calls self.old.disk + 2 }
+        ensures honest { D.honest self.new.disk ↔ D.honest self.old.disk }
+    {
+        if let Some(refusal) = self.refusal_of_begin() {
+            return Err(refusal);
+        }
+        let front = front_of(alloc, self.generation + 1, &self.table)?;
+        let areas = self.areas;
+        match areas.close_other(&mut self.disk, self.other) {
+            Err(fault) => {
+                self.failed = true;
+                Err(Refusal::from(fault))
+            }
+            Ok(()) => {
+                let left = front.len() as u64;
+                self.other = Gate::Closed;
+                self.begun = Some(Begun {
+                    place: self.history.len(),
+                    front,
+                    put: 0,
+                });
+                Ok(left)
+            }
+        }
+    }
+
+    /// Why no checkpoint is begun, memory or not.
+    fn refusal_of_begin(&self) -> Option<Refusal>
+        ensures { result ≡ refusal_of_begin self.now }
+    {
+        if self.failed {
+            return Some(Refusal::Numbered(Code::FailedEarlier));
+        }
+        if self.begun.is_some() {
+            return Some(Refusal::Numbered(Code::CheckpointTurn));
+        }
+        if self.generation == u64::MAX {
+            return Some(Refusal::Numbered(Code::LastCounter));
+        }
+        if !self.text_fits() {
+            return Some(Refusal::Numbered(Code::AreaFull));
+        }
+        None
+    }
+
+    /// Whether the text of the present table has room in an area.
+    fn text_fits(&self) -> bool
+        ensures { result ≡ not (nat_lt self.now.area (first_gate (text_length (table_of self.now)) + 1)) }
+    {
+        // No more runners can be spelled; their text would have no room.
+        if self.table.runners().len() > u32::MAX as usize {
+            return false;
+        }
+        table_length(&self.table) <= self.areas.len - FRAME
+    }
+}
+
+/// The head of an area of a generation, with the text of a table.
+#[tactic(auto, using(crate::proofs::TextOfTable::table_spells))]
+fn front_of(alloc: Global, generation: u64, table: &Table) -> Result<Vec<u8>, Refusal>
+    requires { length table.now.runners ≤ 4294967295 }
+    ensures front { IfOk result (λ bytes. bytes.items
+        ≡ head_bytes (record { version = 1; generation = generation; text = whole_table.spelling table.now })) }
+    ensures spells { OnOk result (SpellsTable table.now (whole_table.spelling table.now)) }
+    ensures refused { IfErr result (λ e. e ≡ no_memory) }
+{
+    let _last = table.last_lease();
+    let text = table_length(table);
+    let mut bytes = vec![in alloc; VERSION; 1]?;
+    bytes.extend_from_slice(&generation.to_be_bytes())?;
+    bytes.extend_from_slice(&text.to_be_bytes())?;
+    write_table(&mut bytes, table)?;
+    Ok(bytes)
+}

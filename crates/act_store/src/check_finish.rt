@@ -1,0 +1,113 @@
+ghost use Rattle.std.specs.Prelude.{◌≡◌, ◌⊎◌, ◌↔◌, ◌+◌, ◌≤◌, ℕ, List, length, not, Err, IfErr, IfOk, IfSome, OnOk, Some};
+ghost use Rattle.wf_value.specs.Gives.{no_memory};
+ghost use Rattle.act_disk.specs.Failed.{device_failed};
+ghost use Rattle.act_disk.specs.Images.{EachSince};
+ghost use Rattle.act_store.specs.Checkpoints.{IsFinished, dropped, has_no_room, refusal_of_finish};
+ghost use Rattle.act_store.specs.Images.{StandsFor};
+ghost use Rattle.act_store.specs.Kept.{StandsForEither, table_of};
+ghost use Rattle.act_store.specs.Plain.{area_full, broken};
+ghost use Rattle.act_store.specs.StoreSeen.{as_checkpoint};
+ghost use Rattle.act_store.specs.Told.{TellsFault};
+
+use crate::begun::Begun;
+use crate::last_part::{last_part, spelled_len};
+use crate::store::Store;
+use act_disk::Disk;
+use gated_journal::{Gate, Standing};
+use std::alloc::Global;
+use wf_value::{Code, Refusal};
+
+/// What stands round the commands of the last record: its gate, its length in four bytes, their count in four, and the next gate.
+const FRAME: u64 = 10;
+
+impl<D: Disk> Store<D> {
+    /// Finishes a checkpoint: writes one record of the entries since it was begun behind its text, syncs, opens the gate of its area, and
+    /// syncs. It answers how many entries are covered, which are all.
+    ///
+    /// It is refused, memory or not, with 52 where the device has failed, else with 56 where none is begun or bytes are left of it, else
+    /// with 47 where the record has no room; then the checkpoint is dropped, and all else is as it was. Else 50 is left, and 51, after
+    /// which the store has failed. At each moment of the call the disk stands for the entries that were covered or for all, and after
+    /// `Ok` for all.
+    pub fn check_finish(&mut self, alloc: Global) -> Result<u64, Refusal>
+        ensures any_moment { D.honest self.old.disk
+            → EachSince D.moment D.images_since self.old.disk self.new.disk (StandsForEither self.old) }
+        ensures stands { OnOk result (D.honest self.new.disk → (c : List ℕ) → D.images self.new.disk c → StandsFor (table_of self.old) c) }
+        ensures finished { OnOk result (IsFinished self.old self.new) }
+        ensures covered { IfOk result (λ count. count ≡ length self.old.history) }
+        ensures refused { IfSome (refusal_of_finish self.old) (λ refusal. result ≡ Err refusal) }
+        ensures dropped { result ≡ Err area_full → self.new ≡ dropped self.old }
+        ensures broken { result ≡ Err device_failed → self.new ≡ broken self.old self.new.disk }
+        ensures unchanged { IfErr result (λ e. (e ≡ device_failed → ⊥) → (e ≡ area_full → ⊥) → self.new ≡ self.old) }
+        ensures cause { IfErr result (λ e. (e ≡ no_memory) ⊎ (e ≡ device_failed) ⊎ (refusal_of_finish self.old ≡ Some e)) }
+        ensures faults { TellsFault result (D.fault_count self.old.disk) (D.fault_count self.new.disk) }
+        ensures calls { D.calls self.new.disk ≤ D.calls self.old.disk + 4 }
+        ensures honest { D.honest self.new.disk ↔ D.honest self.old.disk }
+    {
+        match self.refusal_of_finish() {
+            Some(Refusal::Numbered(Code::AreaFull)) => {
+                self.begun = None;
+                return Err(Refusal::Numbered(Code::AreaFull));
+            }
+            Some(refusal) => return Err(refusal),
+            None => {}
+        }
+        let Some(begun) = &self.begun else {
+            return Err(Refusal::Numbered(Code::CheckpointTurn));
+        };
+        let at = 1 + begun.front.len() as u64;
+        let last = last_part(alloc, &self.history[begun.place..])?;
+        let areas = self.areas;
+        match areas.turn(&mut self.disk, at, last.as_slice()) {
+            Err(fault) => {
+                self.failed = true;
+                Err(Refusal::from(fault))
+            }
+            Ok(()) => {
+                self.areas = Standing {
+                    len: areas.len,
+                    side: areas.side.other(),
+                };
+                self.other = Gate::Open;
+                self.used = at + last.len() as u64 - 1;
+                self.generation += 1;
+                self.covered = self.history.len();
+                self.waiting.keep(0, 0);
+                self.begun = None;
+                Ok(self.covered as u64)
+            }
+        }
+    }
+
+    /// Why no checkpoint is finished, memory or not.
+    fn refusal_of_finish(&self) -> Option<Refusal>
+        ensures { result ≡ refusal_of_finish self.now }
+    {
+        if self.failed {
+            return Some(Refusal::Numbered(Code::FailedEarlier));
+        }
+        let Some(begun) = &self.begun else {
+            return Some(Refusal::Numbered(Code::CheckpointTurn));
+        };
+        if begun.put < begun.front.len() {
+            return Some(Refusal::Numbered(Code::CheckpointTurn));
+        }
+        if !self.last_fits(begun) {
+            return Some(Refusal::Numbered(Code::AreaFull));
+        }
+        None
+    }
+
+    /// Whether the record of the entries since a checkpoint was begun has room behind its text.
+    fn last_fits(&self, begun: &Begun) -> bool
+        requires place { begun.now.place ≤ length self.now.history }
+        requires head { 17 ≤ length begun.now.front.items }
+        requires fits { 2 + length begun.now.front.items ≤ self.now.area }
+        ensures { result ≡ not (has_no_room self.now (as_checkpoint begun.now)) }
+    {
+        let since = &self.history[begun.place..];
+        if since.is_empty() {
+            return true;
+        }
+        begun.front.len() as u64 + FRAME + spelled_len(since) < self.areas.len
+    }
+}

@@ -1,0 +1,101 @@
+ghost use Rattle.std.specs.Prelude.{◌≡◌, ◌⊎◌, ◌↔◌, ◌+◌, ◌-◌, ◌<◌, ◌≤◌, ◌^◌, ℕ, List, length, take, min, Err, IfErr, IfOk, IfSome, OnOk, OnErr, Some};
+ghost use Rattle.act_disk.specs.Failed.{device_failed};
+ghost use Rattle.act_disk.specs.Images.{CountsFault, EachSince, Holds};
+ghost use Rattle.gated_journal.specs.Layout.{Head};
+ghost use Rattle.gated_journal.specs.TwoAreas.{other, start_of};
+ghost use Rattle.gated_journal.specs.Whole.{StandsWhole};
+ghost use Rattle.gated_journal.specs.declared.gate.Gate.TheVariants.{Closed};
+ghost use Rattle.act_store.specs.Checkpoints.{left_of, refusal_of_slice, sliced};
+ghost use Rattle.act_store.specs.Kept.{StandsForEither};
+ghost use Rattle.act_store.specs.Plain.{broken};
+ghost use Rattle.act_store.specs.Told.{TellsFault};
+
+use crate::begun::Begun;
+use crate::store::Store;
+use act_disk::{Disk, DiskFault};
+use gated_journal::Standing;
+use wf_value::{Code, Refusal};
+
+/// How many bytes a slice has at most.
+const SLICE: usize = 4_096;
+
+impl<D: Disk> Store<D> {
+    /// Writes a slice of a checkpoint that was begun, up to 4,096 bytes, and answers how many are left. It takes no memory.
+    ///
+    /// It is refused with 52 where the device has failed, else with 56 where no checkpoint is begun or nothing is left of it; else with 51
+    /// where the device fails, and the store then has failed. At each moment of the call the disk stands for the entries that were covered
+    /// or for all.
+    pub fn check_slice(&mut self) -> Result<u64, Refusal>
+        ensures any_moment { D.honest self.old.disk
+            → EachSince D.moment D.images_since self.old.disk self.new.disk (StandsForEither self.old) }
+        ensures sliced { OnOk result (self.new ≡ sliced self.old self.new.disk) }
+        ensures left { IfOk result (λ left. left ≡ left_of self.new.begun) }
+        ensures refused { IfSome (refusal_of_slice self.old) (λ refusal. (result ≡ Err refusal) × (self.new ≡ self.old)) }
+        ensures cause { IfErr result (λ e. (e ≡ device_failed) ⊎ (refusal_of_slice self.old ≡ Some e)) }
+        ensures broken { result ≡ Err device_failed → self.new ≡ broken self.old self.new.disk }
+        ensures faults { TellsFault result (D.fault_count self.old.disk) (D.fault_count self.new.disk) }
+        ensures calls { D.calls self.new.disk ≤ D.calls self.old.disk + 1 }
+        ensures honest { D.honest self.new.disk ↔ D.honest self.old.disk }
+    {
+        if let Some(refusal) = self.refusal_of_slice() {
+            return Err(refusal);
+        }
+        let areas = self.areas;
+        let Some(begun) = self.begun.take() else {
+            return Err(Refusal::Numbered(Code::CheckpointTurn));
+        };
+        let mut begun = begun;
+        match put_slice(areas, &mut self.disk, &mut begun) {
+            Err(fault) => {
+                self.begun = Some(begun);
+                self.failed = true;
+                Err(Refusal::from(fault))
+            }
+            Ok(()) => {
+                let left = begun.front.len() - begun.put;
+                self.begun = Some(begun);
+                Ok(left as u64)
+            }
+        }
+    }
+
+    /// Why no slice is written.
+    fn refusal_of_slice(&self) -> Option<Refusal>
+        ensures { result ≡ refusal_of_slice self.now }
+    {
+        if self.failed {
+            return Some(Refusal::Numbered(Code::FailedEarlier));
+        }
+        match &self.begun {
+            Some(begun) if begun.put < begun.front.len() => None,
+            _ => Some(Refusal::Numbered(Code::CheckpointTurn)),
+        }
+    }
+}
+
+/// Writes the next slice of a checkpoint behind those that were put.
+fn put_slice<D: Disk>(areas: Standing, disk: &mut D, begun: &mut Begun) -> Result<(), DiskFault>
+    requires countable { D.fault_count disk.old < u64.MAX }
+    requires addressed { areas.len + areas.len < 2 ^ 64 }
+    requires put { begun.old.put ≤ length begun.old.front.items }
+    requires fits { 2 + length begun.old.front.items ≤ areas.len }
+    ensures any_moment { (head : Head) (bodies : List (List ℕ)) → D.honest disk.old
+        → ((c : List ℕ) → D.images disk.old c → StandsWhole areas.len areas.side Closed c head bodies)
+        → EachSince D.moment D.images_since disk.old disk.new (λ c. StandsWhole areas.len areas.side Closed c head bodies) }
+    ensures held { OnOk result (D.honest disk.old → areas.len + areas.len ≤ length (D.seen disk.old)
+        → Holds (D.seen disk.old) (start_of areas.len (other areas.side) + 1) (take begun.old.put begun.old.front.items)
+        → Holds (D.seen disk.new) (start_of areas.len (other areas.side) + 1) (take begun.new.put begun.old.front.items)) }
+    ensures same_front { begun.new.front.items ≡ begun.old.front.items }
+    ensures same_place { begun.new.place ≡ begun.old.place }
+    ensures put { OnOk result (begun.new.put ≡ min (begun.old.put + 4096) (length begun.old.front.items)) }
+    ensures same { OnErr result (begun.new ≡ begun.old) }
+    ensures calls { D.calls disk.new ≡ D.calls disk.old + 1 }
+    ensures faults { CountsFault result (D.fault_count disk.old) (D.fault_count disk.new) }
+    ensures honest { D.honest disk.new ↔ D.honest disk.old }
+{
+    let from = begun.put;
+    let to = begun.front.len().min(from + SLICE);
+    areas.put(disk, 1 + from as u64, &begun.front[from..to])?;
+    begun.put = to;
+    Ok(())
+}

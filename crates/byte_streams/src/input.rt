@@ -1,0 +1,24 @@
+ghost use Rattle.std.specs.Prelude.{◌≡◌, ◌≤◌, ◌<◌, take, length, IfErr, IfOk, OnErr};
+ghost use Rattle.std.specs.Io.KnownBytes.{Consumes, IsAtEnd, Keeps};
+
+use std::io::{ErrorKind, Read};
+use wf_value::{Code, Refusal};
+
+/// One read, tried again where a signal interrupts it. It gives no byte only at the end of the input, or where there is no room. A failed
+/// read is 61.
+pub fn read_some<R: Read>(reader: &mut R, buffer: &mut [u8]) -> Result<usize, Refusal>
+    ensures bound { IfOk result (λ n. n ≤ length buffer.new) }
+    ensures bytes { IfOk result (λ n. Consumes (R.remaining reader.old) (R.remaining reader.new) (take n buffer.new)) }
+    ensures end { IfOk result (λ n. n ≡ 0 → 0 < length buffer.old → IsAtEnd (R.remaining reader.new)) }
+    ensures kept { OnErr result (Keeps (R.remaining reader.old) (R.remaining reader.new)) }
+    ensures err { IfErr result (λ e. e ≡ Refusal.Numbered Code.StreamFailed) }
+{
+    for _ in 0..u64::MAX {
+        match reader.read(buffer) {
+            Ok(count) => return Ok(count),
+            Err(e) if e.kind() == ErrorKind::Interrupted => {}
+            Err(_) => return Err(Refusal::Numbered(Code::StreamFailed)),
+        }
+    }
+    Err(Refusal::Numbered(Code::StreamFailed))
+}

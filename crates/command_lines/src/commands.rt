@@ -1,0 +1,142 @@
+ghost use Rattle.std.specs.Prelude.{◌≡◌, Ok, Some, None, IfOk, IfErr, ok_or};
+ghost use Rattle.wf_value.specs.Gives.{Gives};
+ghost use Rattle.run_plan.specs.SmallText.{label_list_of, short_text_of};
+ghost use Rattle.command_lines.specs.Commands.{not_a_line, prepared, admit_of, claim_of, outcome_of, done_of, beat_of};
+ghost use Rattle.command_lines.specs.Commands.{cancel_of, lost_of, look_of, fetch_of};
+
+use crate::fields::{at_space, three_fields};
+use run_plan::{
+    Beat, Claim, Command, DeliveryId, Done, EventName, Form, Labels, Number, SmallText, prepare,
+};
+use std::alloc::Global;
+use wf_value::{Code, Outcome, Refusal};
+
+/// What a part of a line spells, or 75 where it spells nothing.
+pub fn spelled<T: Drop>(part: Option<T>) -> Result<T, Refusal>
+    ensures something { IfOk result (λ value. part ≡ Some value) }
+    ensures nothing { IfErr result (λ e. (part ≡ None) × (e ≡ not_a_line)) }
+{
+    part.ok_or(Refusal::Numbered(Code::Line))
+}
+
+/// The small text that a field is.
+fn small_text<F: Form>(alloc: Global, field: &[u8]) -> Result<SmallText<F>, Refusal>
+    ensures { Gives (λ t. t) result (ok_or (short_text_of F.allows field.now) not_a_line) }
+{
+    spelled(SmallText::of(alloc, field)?)
+}
+
+/// The labels that a field is.
+fn labels(alloc: Global, field: &[u8]) -> Result<Labels, Refusal>
+    ensures { Gives (λ l. l) result (ok_or (label_list_of field.now) not_a_line) }
+{
+    spelled(Labels::of(alloc, field)?)
+}
+
+/// `DELIVERY EVENT BODY`: the body is all that follows the second space. One with a fault is refused with the first one's number: 10 to 26.
+pub fn admit_of(alloc: Global, fields: &[u8]) -> Result<Command, Refusal>
+    ensures { Gives (λ c. c) result (admit_of fields.now) }
+{
+    let (delivery, event, body) = spelled(three_fields(fields))?;
+    let delivery = small_text(alloc, delivery)?;
+    let event = small_text(alloc, event)?;
+    prepared(alloc, delivery, event, body)
+}
+
+/// The admission of an event, or the first fault of its body.
+fn prepared(
+    alloc: Global,
+    delivery: DeliveryId,
+    event: EventName,
+    body: &[u8],
+) -> Result<Command, Refusal>
+    ensures { Gives (λ c. c) result (prepared (record { delivery = delivery; event = event; body = body.now })) }
+{
+    let body = body.to_vec(alloc)?;
+    Ok(Command::Admit(prepare(alloc, event, delivery, body)?))
+}
+
+/// `RUNNER NUMBER LABELS`.
+pub fn claim_of(alloc: Global, fields: &[u8]) -> Result<Command, Refusal>
+    ensures { Gives (λ c. c) result (ok_or (claim_of fields.now) not_a_line) }
+{
+    let (runner, number, asked) = spelled(three_fields(fields))?;
+    let runner = small_text(alloc, runner)?;
+    let number = spelled(Number::of(number))?;
+    let labels = labels(alloc, asked)?;
+    Ok(Command::Claim(Claim {
+        runner,
+        number,
+        labels,
+    }))
+}
+
+fn outcome_of(text: &[u8]) -> Option<Outcome>
+    ensures { result ≡ outcome_of text.now }
+{
+    if text == b"success".as_slice() {
+        Some(Outcome::Success)
+    } else if text == b"failure".as_slice() {
+        Some(Outcome::Failure)
+    } else if text == b"cancelled".as_slice() {
+        Some(Outcome::Cancelled)
+    } else {
+        None
+    }
+}
+
+/// `RUNNER NUMBER LEASE RESULT`.
+pub fn done_of(alloc: Global, fields: &[u8]) -> Result<Command, Refusal>
+    ensures { Gives (λ c. c) result (ok_or (done_of fields.now) not_a_line) }
+{
+    let (runner, fields) = spelled(at_space(fields))?;
+    let (number, lease, outcome) = spelled(three_fields(fields))?;
+    let runner = small_text(alloc, runner)?;
+    let number = spelled(Number::of(number))?;
+    let lease = spelled(Number::of(lease))?;
+    let result = spelled(outcome_of(outcome))?;
+    Ok(Command::Done(Done {
+        runner,
+        number,
+        lease,
+        result,
+    }))
+}
+
+/// `RUNNER LEASE`.
+pub fn beat_of(alloc: Global, fields: &[u8]) -> Result<Command, Refusal>
+    ensures { Gives (λ c. c) result (ok_or (beat_of fields.now) not_a_line) }
+{
+    let (runner, lease) = spelled(at_space(fields))?;
+    let runner = small_text(alloc, runner)?;
+    let lease = spelled(Number::of(lease))?;
+    Ok(Command::Beat(Beat { runner, lease }))
+}
+
+/// `RUN`.
+pub fn cancel_of(field: &[u8]) -> Result<Command, Refusal>
+    ensures { result ≡ ok_or (cancel_of field.now) not_a_line }
+{
+    Ok(Command::Cancel(spelled(Number::of(field))?))
+}
+
+/// `RUNNER`.
+pub fn lost_of(alloc: Global, field: &[u8]) -> Result<Command, Refusal>
+    ensures { Gives (λ c. c) result (ok_or (lost_of field.now) not_a_line) }
+{
+    Ok(Command::Lost(small_text(alloc, field)?))
+}
+
+/// `RUN`.
+pub fn look_of(field: &[u8]) -> Result<Command, Refusal>
+    ensures { result ≡ ok_or (look_of field.now) not_a_line }
+{
+    Ok(Command::Look(spelled(Number::of(field))?))
+}
+
+/// `RUN`.
+pub fn fetch_of(field: &[u8]) -> Result<Command, Refusal>
+    ensures { result ≡ ok_or (fetch_of field.now) not_a_line }
+{
+    Ok(Command::Fetch(spelled(Number::of(field))?))
+}

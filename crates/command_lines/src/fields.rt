@@ -1,0 +1,32 @@
+ghost use Rattle.std.specs.Prelude.{◌≡◌, position, option_map};
+ghost use Rattle.wf_reader.specs.Condition.{is_space};
+ghost use Rattle.command_lines.specs.Fields.{at_space, three_fields};
+
+fn place_of_space(text: &[u8]) -> Option<usize>
+    ensures { result ≡ position is_space text.now }
+{
+    text.iter().position(|b| *b == b' ')
+}
+
+/// What stands before the first space of a text, and all that follows it.
+pub fn at_space(text: &[u8]) -> Option<(&[u8], &[u8])>
+    ensures { option_map (λ p. (p.0.now, p.1.now)) result ≡ at_space text.now }
+{
+    match place_of_space(text) {
+        Some(place) => Some((&text[..place], &text[place + 1..])),
+        None => None,
+    }
+}
+
+/// Two fields, and all that follows the space after them.
+pub fn three_fields(text: &[u8]) -> Option<(&[u8], &[u8], &[u8])>
+    ensures { option_map (λ f. (f.0.now, f.1.now, f.2.now)) result ≡ three_fields text.now }
+{
+    match at_space(text) {
+        Some((first, rest)) => match at_space(rest) {
+            Some((second, third)) => Some((first, second, third)),
+            None => None,
+        },
+        None => None,
+    }
+}

@@ -1,0 +1,13 @@
+//! What the lines of scripts and of runners have in common: their fields, parted by one space, the commands that the fields of a line
+//! ask for, and where a line ends.
+#![tactic(auto)]
+
+mod commands;
+mod ends;
+mod fields;
+
+pub use commands::{
+    admit_of, beat_of, cancel_of, claim_of, done_of, fetch_of, look_of, lost_of, spelled,
+};
+pub use ends::{place_of_line_feed, strip_carriage_return};
+pub use fields::{at_space, three_fields};
