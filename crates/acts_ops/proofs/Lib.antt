@@ -1,5 +1,6 @@
+pub mod Answering
 pub mod Checks
-pub mod CutLines
+mod CutLines
 pub mod Inputs
 pub mod Making
 pub mod Plays

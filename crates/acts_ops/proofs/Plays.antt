@@ -31,7 +31,7 @@ as_defined s (line ∷ ls) (a ∷ others) (after, is, rest) n =
       | inl d ↦ (ap (λ x. x ∷ others) d.0
           ∙ ap (λ xs. answer_of s line ∷ xs)
           (as_defined after ls others rest (All-tail IsUnfailed a others n) ∙ ap (λ (k : PlainStore). answers_from k ls) d.1))
-      | inr failed ↦ elim failed [ inl m ↦ absurd (here.0 m.1) | inr b ↦ absurd (here.1 b.2) ]
+      | inr failed ↦ elim failed [ inl m ↦ absurd (here.0 m.1) | inr b ↦ absurd (here.1 b.1) ]
     ]
 
 defined : (s : PlainStore) (ls : List (List ℕ)) → Answers s ls (answers_from s ls)

@@ -1,15 +1,18 @@
 -- The definitions worked through on rows, by computation.
-use Rattle.std.proofs.Common.{◌≡◌, [], ◌∷◌, ◌++◌, codes, Ok, Err, None, refl}
+use Rattle.std.proofs.Common.{◌≡◌, [], ◌∷◌, ◌++◌, codes, Ok, Err, refl}
+use Rattle.wf_value.specs.RefusalText.{refusal_text}
 use Rattle.wf_value.specs.declared.code.Code.TheVariants.{NoRun}
 use Rattle.wf_value.specs.declared.refusal.Refusal.TheVariants.{Numbered, Turn}
 use Rattle.run_plan.specs.declared.command.Command.{Command}
 use Rattle.run_plan.specs.declared.command.Command.TheVariants as command
 use Rattle.run_plan.specs.declared.reply.Reply.TheVariants as reply
+use Rattle.act_store.specs.Plain.{checkpoint_turn}
 use Rattle.act_store.specs.declared.step.Played.TheVariants as told
+use Rattle.act_store.specs.declared.step.Step.TheVariants as asked
 use Rattle.command_lines.specs.Commands.{not_a_line}
 use Rattle.acts_ops.specs.Line.{command_of}
-use Rattle.acts_ops.specs.Answers.{script_lines, answer_of, output_of}
-use Rattle.acts_ops.specs.PlainStore.{applied, covering, played_text, start}
+use Rattle.acts_ops.specs.Answers.{script_lines, answer_of, output_of, played_text}
+use Rattle.acts_ops.specs.PlainStore.{done, start, taken}
 
 empty_script : output_of [] ≡ []
 empty_script = refl
@@ -42,24 +45,31 @@ asked_second : Command
 asked_second = command.Claim (record { runner = codes "r1"; number = 2; labels = codes "linux" ∷ [] })
 
 -- what is told of a command that is entered first
-out_of_turn : (applied start asked_second None).1 ≡ told.Replied (reply.Refused (Turn 0))
+out_of_turn : (done start (asked.Apply asked_second)).1 ≡ told.Replied (reply.Refused (Turn 0))
 unfolding asked_second
 out_of_turn = refl
 
-nothing : (applied start asked_first None).1 ≡ told.Replied reply.Nothing
+nothing : (done start (asked.Apply asked_first)).1 ≡ told.Replied reply.Nothing
 unfolding asked_first
 nothing = refl
 
-no_run : (applied start (command.Look 1) None).1 ≡ told.Replied (reply.Refused (Numbered NoRun))
+no_run : (done start (asked.Apply (command.Look 1))).1 ≡ told.Replied (reply.Refused (Numbered NoRun))
 no_run = refl
 
 -- a commit counts the entries, also those of refused commands, and each once
-none_covered : answer_of start (codes "commit") ≡ played_text (told.Count 0)
+none_covered : answer_of start (codes "commit") ≡ played_text (codes "committed ") (told.Count 0)
 none_covered = refl
 
-one_covered : (covering (applied start (command.Look 1) None).0).1 ≡ told.Count 1
+one_covered : (taken (done start (asked.Apply (command.Look 1))).0 asked.Commit).1 ≡ told.Count 1
 one_covered = refl
 
 -- and no other line is a commit
-commit_with_a_space : answer_of start (codes "commit ") ≡ played_text (told.Refused not_a_line)
+commit_with_a_space : answer_of start (codes "commit ") ≡ refusal_text not_a_line
 commit_with_a_space = refl
+
+-- a slice, and a finish, of no checkpoint
+none_begun : answer_of start (codes "slice") ≡ refusal_text checkpoint_turn
+none_begun = refl
+
+nothing_to_finish : answer_of start (codes "finish") ≡ refusal_text checkpoint_turn
+nothing_to_finish = refl

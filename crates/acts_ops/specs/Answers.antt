@@ -1,14 +1,18 @@
 -- The answers of a script: one for each line that is not empty, each from the plain store that the lines before it left.
 use Rattle.std.specs.Prelude.{ℕ, List, [], ◌∷◌, ◌++◌, length, Bool, not, nat_eq, codes, filter, flat_map, Result, Ok, Err, if◌then◌else◌}
+use Rattle.std.specs.Fmt.{decimal}
 use Rattle.std.specs.Str.{bytes_eq}
 use Rattle.std.specs.Str.Lines.{lines}
+use Rattle.wf_value.specs.RefusalText.{refusal_text}
 use Rattle.wf_value.specs.declared.refusal.Refusal.{Refusal}
-use Rattle.run_plan.specs.declared.command.Command.{Command}
+use Rattle.run_plan.specs.ReplyText.{reply_text}
 use Rattle.act_store.specs.declared.step.Played.{Played}
 use Rattle.act_store.specs.declared.step.Played.TheVariants as told
+use Rattle.act_store.specs.declared.step.Step.{Step}
 use Rattle.act_store.specs.declared.step.Step.TheVariants as asked
+use Rattle.command_lines.specs.Commands.{onward}
 use Rattle.acts_ops.specs.Line.{command_of}
-use Rattle.acts_ops.specs.PlainStore.{PlainStore, played_text, start, taken}
+use Rattle.acts_ops.specs.PlainStore.{PlainStore, start, taken}
 
 abbrev pub has_bytes : List ℕ → Bool
 has_bytes line = not (nat_eq (length line) 0)
@@ -18,24 +22,37 @@ has_bytes line = not (nat_eq (length line) 0)
 abbrev pub script_lines : List ℕ → List (List ℕ)
 script_lines script = filter has_bytes (lines script)
 
--- `commit` alone is a line that is no command
-abbrev pub is_commit : List ℕ → Bool
-is_commit line = bytes_eq line (codes "commit")
+-- The step that a line asks for: `commit`, `begin`, `slice` and `finish` alone are these, and a line of a command applies it.
+abbrev pub step_of : List ℕ → Result Step Refusal
+step_of line =
+    if bytes_eq line (codes "commit") then Ok asked.Commit
+    else (if bytes_eq line (codes "begin") then Ok asked.Begin
+    else (if bytes_eq line (codes "slice") then Ok asked.Slice
+    else (if bytes_eq line (codes "finish") then Ok asked.Finish else onward (λ command. asked.Apply command) (command_of line))))
 
--- a refused line leaves the store
-abbrev pub commanded : PlainStore → Result Command Refusal → PlainStore × Played
-commanded s (Ok command) = taken s (asked.Apply command)
-commanded s (Err e) = (s, told.Refused e)
+-- how the answer of a step is printed: its count goes by the step
+abbrev pub counted_as : Step → List ℕ
+counted_as (asked.Apply command) = []
+counted_as asked.Commit = codes "committed "
+counted_as asked.Begin = codes "begun "
+counted_as asked.Slice = codes "left "
+counted_as asked.Finish = codes "checked "
 
--- the store after a line, and the answer to it
-abbrev pub carried_out : PlainStore → List ℕ → PlainStore × Played
-carried_out s line = if is_commit line then taken s asked.Commit else commanded s (command_of line)
+abbrev pub played_text : List ℕ → Played → List ℕ
+played_text word (told.Replied reply) = reply_text reply
+played_text word (told.Count count) = word ++ decimal count
+played_text word (told.Refused e) = refusal_text e
+
+-- The store after a line, and the answer to it. A line that asks for no step is refused, and leaves the store.
+abbrev pub carried_out : PlainStore → Result Step Refusal → PlainStore × List ℕ
+carried_out s (Ok step) = ((taken s step).0, played_text (counted_as step) (taken s step).1)
+carried_out s (Err e) = (s, refusal_text e)
 
 abbrev pub after_line : PlainStore → List ℕ → PlainStore
-after_line s line = (carried_out s line).0
+after_line s line = (carried_out s (step_of line)).0
 
 abbrev pub answer_of : PlainStore → List ℕ → List ℕ
-answer_of s line = played_text (carried_out s line).1
+answer_of s line = (carried_out s (step_of line)).1
 
 -- the answers of lines, one after the other from a store
 abbrev pub answers_from : PlainStore → List (List ℕ) → List (List ℕ)

@@ -1,9 +1,8 @@
-ghost use Rattle.std.specs.Prelude.{◌≡◌, ◌≤◌, ◌++◌, ◌∷◌, [], length, Ok, string_bytes};
+ghost use Rattle.std.specs.Prelude.{◌≡◌, ◌++◌, ◌∷◌, [], Ok, IfErr, string_bytes};
 ghost use Rattle.wf_value.specs.Gives.{Gives};
-ghost use Rattle.act_store.specs.Steps.{Takes};
-ghost use Rattle.act_store.specs.declared.step.Step.TheVariants as asked;
-ghost use Rattle.acts_ops.specs.PlainStore.{played_text, without_disk};
-ghost use Rattle.acts_ops.specs.Play.{IsAnswer};
+ghost use Rattle.acts_ops.specs.Answers.{counted_as, played_text, step_of};
+ghost use Rattle.acts_ops.specs.PlainStore.{without_disk};
+ghost use Rattle.acts_ops.specs.Play.{IsAnswer, IsOfCommand};
 
 use crate::line::command_of;
 use act_disk::Disk;
@@ -11,42 +10,76 @@ use act_store::{Played, Step, Store, take};
 use std::alloc::Global;
 use wf_value::Refusal;
 
-/// Covers all entries.
-fn commit<D: Disk>(alloc: Global, store: &mut Store<D>) -> Played
-    ensures told { Takes store.old asked.Commit result store.new }
-    ensures within { store.old.covered ≤ length store.old.history }
-{
-    let _covered = store.covered();
-    take(alloc, store, Step::Commit)
+/// The answer to a line: that of its step, and what a count in it is printed behind.
+#[derive(Drop)]
+pub struct Answer {
+    pub word: &'static str,
+    pub played: Played,
 }
 
-/// The answer to a line, which is a step of the store. A refused line leaves the store.
-pub fn answer_to<D: Disk>(alloc: Global, store: &mut Store<D>, line: &[u8]) -> Played
-    ensures { IsAnswer (without_disk store.old) line.now (played_text result) (without_disk store.new) }
+/// The step that a line asks for: `commit`, `begin`, `slice`, `finish`, or the apply of its command. Only the line of a command is
+/// refused, and takes memory.
+fn step_of(alloc: Global, line: &[u8]) -> Result<Step, Refusal>
+    ensures step { Gives (λ s. s) result (step_of line.now) }
+    ensures refused { IfErr result (λ e. IsOfCommand (step_of line.now)) }
 {
     if line == b"commit".as_slice() {
-        return commit(alloc, store);
+        Ok(Step::Commit)
+    } else if line == b"begin".as_slice() {
+        Ok(Step::Begin)
+    } else if line == b"slice".as_slice() {
+        Ok(Step::Slice)
+    } else if line == b"finish".as_slice() {
+        Ok(Step::Finish)
+    } else {
+        Ok(Step::Apply(command_of(alloc, line)?))
     }
-    match command_of(alloc, line) {
-        Ok(command) => take(alloc, store, Step::Apply(command)),
-        Err(refusal) => Played::Refused(refusal),
+}
+
+/// What the count in the answer to a step is printed behind.
+fn counted_as(step: &Step) -> &'static str
+    ensures { result.now ≡ counted_as step.now }
+{
+    match step {
+        Step::Apply(_) => "",
+        Step::Commit => "committed ",
+        Step::Begin => "begun ",
+        Step::Slice => "left ",
+        Step::Finish => "checked ",
+    }
+}
+
+/// The answer to a line, which is a step of the store. A line that is refused leaves the store.
+pub fn answer_to<D: Disk>(alloc: Global, store: &mut Store<D>, line: &[u8]) -> Answer
+    ensures { IsAnswer (without_disk store.old) line.now (played_text result.word.now result.played) (without_disk store.new) }
+{
+    match step_of(alloc, line) {
+        Ok(step) => Answer {
+            word: counted_as(&step),
+            played: take(alloc, store, step),
+        },
+        Err(refusal) => Answer {
+            word: "",
+            played: Played::Refused(refusal),
+        },
     }
 }
 
 /// The text of an answer.
-fn answer_text(alloc: Global, answer: &Played) -> Result<String, Refusal>
-    ensures { Gives (λ text. string_bytes text) result (Ok (played_text answer.now)) }
+fn answer_text(alloc: Global, answer: &Answer) -> Result<String, Refusal>
+    ensures { Gives (λ text. string_bytes text) result (Ok (played_text answer.now.word.now answer.now.played)) }
 {
-    match answer {
+    let word = answer.word;
+    match &answer.played {
         Played::Replied(reply) => Ok(reply.text(alloc)?.into_string()),
-        Played::Count(count) => Ok(format!(in alloc; "committed {count}")?),
+        Played::Count(count) => Ok(format!(in alloc; "{word}{count}")?),
         Played::Refused(refusal) => Ok(refusal.text(alloc)?.into_string()),
     }
 }
 
 /// The printed answer to a line, and a line feed.
-pub fn answer_line(alloc: Global, answer: &Played) -> Result<String, Refusal>
-    ensures { Gives (λ text. string_bytes text) result (Ok (played_text answer.now ++ 10 ∷ [])) }
+pub fn answer_line(alloc: Global, answer: &Answer) -> Result<String, Refusal>
+    ensures { Gives (λ text. string_bytes text) result (Ok (played_text answer.now.word.now answer.now.played ++ 10 ∷ [])) }
 {
     let mut text = answer_text(alloc, answer)?;
     text.push_str("\n")?;

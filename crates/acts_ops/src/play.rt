@@ -92,8 +92,8 @@ fn play_input<D: Disk, R: Read, W: Write>(
 /// Plays a script over a store in memory, which begins empty: reads it, and writes one answer and a line feed
 /// for each line that is not empty. A script over 1,048,576 bytes is refused 76 with nothing written, and no
 /// more than 1,048,577 bytes are read. A failed read or write is 61. Where memory is refused for a line's
-/// command, the line is answered `refused 50` and the store is as it was; refused to the disk in memory it is
-/// answered 51 in a commit, after which each step is answered 52, and ends the call with 51, before anything is
+/// command, or for a checkpoint, the line is answered `refused 50` and the store is as it was; refused to the disk in
+/// memory it is answered 51 in a commit or a step of a checkpoint, after which each step is answered 52, and ends the call with 51, before anything is
 /// read, as the store is made; refused elsewhere it ends the call with 50.
 pub fn run_script<R: Read, W: Write>(
     alloc: Global,

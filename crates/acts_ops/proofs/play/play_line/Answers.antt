@@ -1,7 +1,7 @@
 use Rattle.std.proofs.KnownBytes.{Appends-nil}
-use Rattle.acts_ops.specs.PlainStore.{played_text}
+use Rattle.acts_ops.specs.Answers.{played_text}
 use Rattle.acts_ops.proofs.play.play_line.Goals as goal
 
 pub returns-in_err-text-clause-front : goal.returns-in_err-text-clause-front
 returns-in_err-text-clause-front g c =
-    (played_text c.answer_to-answer.result, 0, c.answer_to-answer.ensures, Appends-nil (g.W.Write.contents c.args.writer.now))
+    (played_text c.answer_to-answer.result.word.now c.answer_to-answer.result.played, 0, c.answer_to-answer.ensures, Appends-nil (g.W.Write.contents c.args.writer.now))

@@ -1,0 +1,136 @@
+-- A step of a store is answered as a line of a script is.
+use Rattle.std.proofs.Common.{◌≡◌, ◌⊎◌, inl, inr, ⊎_elim, ℕ, ◌<◌, ◌≤◌, List, length, refl, sym, ◌∙◌, ap, subst, arith}
+use Rattle.std.proofs.Common.{Bool, true, false, Result, Ok, Err}
+use Rattle.std.proofs.lemmas.Bool.{cases_Bool, ltb-false, ltb-true}
+use Rattle.std.specs.Prelude.{IsSomeAnd, Option, Some, None, nat_lt, if◌then◌else◌}
+use Rattle.wf_value.specs.Gives.{no_memory}
+use Rattle.wf_value.specs.RefusalText.{refusal_text}
+use Rattle.wf_value.specs.declared.refusal.Refusal.{Refusal}
+use Rattle.run_plan.specs.ReplyText.{reply_text}
+use Rattle.run_plan.specs.declared.reply.Reply.{Reply}
+use Rattle.act_store.specs.Checkpoints.{dropped, finished, left_of}
+use Rattle.act_store.specs.Kept.{Checkpoint, Kept}
+use Rattle.act_store.specs.Plain.{committed}
+use Rattle.act_store.specs.Steps.{Counts, Covers, IsRefused, MayCallDevice, MayTakeMemory, Replies, Takes, is_area_full, left_by, refusal_of}
+use Rattle.act_store.specs.declared.step.Played.{Played}
+use Rattle.act_store.specs.declared.step.Played.TheVariants as told
+use Rattle.act_store.specs.declared.step.Step.{Step}
+use Rattle.act_store.specs.declared.step.Step.TheVariants as asked
+use Rattle.acts_ops.specs.Answers.{counted_as, played_text}
+use Rattle.acts_ops.specs.PlainStore.{PlainStore, all_checked, all_covered, done, taken_unless, without_disk}
+use Rattle.acts_ops.specs.Play.{IsAnswerOf, IsOfCommand, WantsMemory}
+
+module _ {D : Type 0} (old new : Kept D) where
+  abbrev plain : PlainStore
+  plain = without_disk old
+
+  -- the disk is not asked why a step is refused
+  same_refusal : (step : Step) → refusal_of plain step ≡ refusal_of old step
+  same_refusal (asked.Apply command) = refl
+  same_refusal asked.Commit = refl
+  same_refusal asked.Begin = refl
+  same_refusal asked.Slice = refl
+  same_refusal asked.Finish = refl
+
+  left_plain : (step : Step) (e : Refusal) → without_disk (left_by old step e) ≡ left_by plain step e
+  left_plain (asked.Apply command) e = refl
+  left_plain asked.Commit e = refl
+  left_plain asked.Begin e = refl
+  left_plain asked.Slice e = refl
+  left_plain asked.Finish e = by_test (is_area_full e)
+    where
+      by_test : (b : Bool) → without_disk (if b then dropped old else old) ≡ (if b then dropped plain else plain)
+      by_test true = refl
+      by_test false = refl
+
+  as_defined : (step : Step) (o : Option Refusal) (answer : Played) → refusal_of old step ≡ o
+      → without_disk new ≡ (taken_unless plain step o).0 → answer ≡ (taken_unless plain step o).1
+      → IsAnswerOf plain (Ok step) (played_text (counted_as step) answer) (without_disk new)
+  as_defined step o answer is after same =
+      let cause : o ≡ refusal_of plain step = sym (same_refusal step ∙ is) in
+      inl (
+        ap (λ (p : Played). played_text (counted_as step) p) (same ∙ ap (λ (x : Option Refusal). (taken_unless plain step x).1) cause),
+        after ∙ ap (λ (x : Option Refusal). (taken_unless plain step x).0) cause,
+      )
+
+  covers_plain : (count : ℕ) → Covers old count new → without_disk new ≡ all_covered plain
+  covers_plain count covers = elim (cases_Bool (nat_lt old.covered (length old.history))) [
+    | inl less ↦ ap (λ (k : Kept D). without_disk k) (covers.some (ltb-true old.covered (length old.history) less))
+        ∙ sym (ap (λ (b : Bool). if b then committed plain tt else plain) less)
+    | inr all ↦ ap (λ (k : Kept D). without_disk k) (covers.none (ltb-false old.covered (length old.history) all))
+        ∙ sym (ap (λ (b : Bool). if b then committed plain tt else plain) all)
+  ]
+
+  finishes_plain : (o : Option Checkpoint) → IsSomeAnd o (λ checkpoint. new ≡ finished old checkpoint new.disk)
+      → without_disk new ≡ all_checked plain o
+  finishes_plain None done = absurd done
+  finishes_plain (Some checkpoint) done = ap (λ (k : Kept D). without_disk k) done
+
+  replied_plain : (step : Step) (reply : Reply) → Replies old step reply new
+      → (without_disk new ≡ (done plain step).0) × (told.Replied reply ≡ (done plain step).1)
+  replied_plain (asked.Apply command) reply replies =
+      (ap (λ (k : Kept D). without_disk k) replies.0, ap (λ (r : Reply). told.Replied r) replies.1)
+  replied_plain asked.Commit reply replies = absurd replies
+  replied_plain asked.Begin reply replies = absurd replies
+  replied_plain asked.Slice reply replies = absurd replies
+  replied_plain asked.Finish reply replies = absurd replies
+
+  counted_plain : (step : Step) (count : ℕ) → Counts old step count new
+      → (without_disk new ≡ (done plain step).0) × (told.Count count ≡ (done plain step).1)
+  counted_plain (asked.Apply command) count counts = absurd counts
+  counted_plain asked.Commit count counts = (covers_plain count counts, ap (λ (n : ℕ). told.Count n) counts.count_is)
+  counted_plain asked.Begin count counts =
+      (ap (λ (k : Kept D). without_disk k) counts.0, ap (λ (n : ℕ). told.Count n) counts.1)
+  counted_plain asked.Slice count counts =
+      (ap (λ (k : Kept D). without_disk k) counts.0,
+      ap (λ (n : ℕ). told.Count n) (counts.1 ∙ ap (λ (k : Kept D). left_of k.begun) counts.0))
+  counted_plain asked.Finish count counts = (finishes_plain old.begun counts.0, ap (λ (n : ℕ). told.Count n) counts.1)
+
+  wants_memory : (step : Step) → refusal_of old step ≡ None → MayTakeMemory step → WantsMemory plain (Ok step)
+  wants_memory (asked.Apply command) none may = tt
+  wants_memory asked.Commit none may = absurd may
+  wants_memory asked.Begin none may = none
+  wants_memory asked.Slice none may = absurd may
+  wants_memory asked.Finish none may = none
+
+  calls_device : (step : Step) → MayCallDevice old step → MayCallDevice plain step
+  calls_device (asked.Apply command) may = absurd may
+  calls_device asked.Commit may = may
+  calls_device asked.Begin may = tt
+  calls_device asked.Slice may = tt
+  calls_device asked.Finish may = tt
+
+  refused_plain : (step : Step) (e : Refusal) → IsRefused old step e new
+      → IsAnswerOf plain (Ok step) (refusal_text e) (without_disk new)
+  refused_plain step e refused =
+      ⊎_elim (λ cause. as_defined step (Some e) (told.Refused e) cause.0
+      (ap (λ (k : Kept D). without_disk k) cause.1 ∙ left_plain step e) refl)
+      (λ rest. ⊎_elim
+      (λ memory. inr (inl (wants_memory step memory.0 memory.1, ap refusal_text memory.2, ap (λ (k : Kept D). without_disk k) memory.3)))
+      (λ fault. inr (inr ((same_refusal step ∙ fault.0, calls_device step fault.1), ap refusal_text fault.2,
+      ap (λ (k : Kept D). without_disk k) fault.3)))
+      rest) refused
+
+  pub answers_as : (step : Step) (answer : Played) → Takes old step answer new
+      → IsAnswerOf plain (Ok step) (played_text (counted_as step) answer) (without_disk new)
+  answers_as step (told.Replied reply) takes =
+      let so = replied_plain step reply takes.1 in as_defined step None (told.Replied reply) takes.0 so.0 so.1
+  answers_as step (told.Count count) takes =
+      let so = counted_plain step count takes.1 in as_defined step None (told.Count count) takes.0 so.0 so.1
+  answers_as step (told.Refused e) takes = refused_plain step e takes
+
+-- ---- a line that asks for no step
+
+wants_of : (s : PlainStore) (wanted : Result Step Refusal) → IsOfCommand wanted → WantsMemory s wanted
+wants_of s (Err e) of = tt
+wants_of s (Ok (asked.Apply command)) of = tt
+wants_of s (Ok asked.Commit) of = absurd of
+wants_of s (Ok asked.Begin) of = absurd of
+wants_of s (Ok asked.Slice) of = absurd of
+wants_of s (Ok asked.Finish) of = absurd of
+
+pub refused_line : (s : PlainStore) (wanted : Result Step Refusal) (e : Refusal) → (e ≡ no_memory) ⊎ (wanted ≡ Err e) → IsOfCommand wanted
+    → IsAnswerOf s wanted (refusal_text e) s
+refused_line s wanted e told of =
+    ⊎_elim (λ memory. inr (inl (wants_of s wanted of, ap refusal_text memory, refl)))
+    (λ is. let P : Result Step Refusal → Type 0 = λ r. IsAnswerOf s r (refusal_text e) s in subst P (sym is) (inl (refl, refl))) told

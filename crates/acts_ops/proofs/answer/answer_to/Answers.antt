@@ -1,0 +1,22 @@
+use Rattle.std.proofs.Common.{◌≡◌, List, Result, Ok, sym, subst}
+use Rattle.wf_value.specs.declared.refusal.Refusal.{Refusal}
+use Rattle.act_store.specs.declared.step.Step.{Step}
+use Rattle.acts_ops.specs.Answers.{counted_as, played_text}
+use Rattle.acts_ops.specs.PlainStore.{without_disk}
+use Rattle.acts_ops.specs.Play.{IsAnswerOf}
+use Rattle.acts_ops.proofs.Answering.{answers_as, refused_line}
+use Rattle.acts_ops.proofs.answer.answer_to.Goals as goal
+
+pub returns-in-Ok : goal.returns-in-Ok
+returns-in-Ok g c =
+    let old = c.args.store.now in
+    let new = c.take.new.store in
+    let played = c.take.result in
+    subst (λ (r : Result Step Refusal). IsAnswerOf (without_disk old) r (played_text c.counted_as.result.now played) (without_disk new))
+    (sym c.in-Ok.ensures.step)
+    (subst (λ word. IsAnswerOf (without_disk old) (Ok c.in-Ok.step) (played_text word played) (without_disk new))
+    (sym c.counted_as.ensures) (answers_as old new c.in-Ok.step played c.take.ensures.takes))
+
+pub returns-in-Err : goal.returns-in-Err
+returns-in-Err g c =
+    refused_line (without_disk c.args.store.now) _ c.in-Err.refusal c.in-Err.ensures.step c.in-Err.ensures.refused
