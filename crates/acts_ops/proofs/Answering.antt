@@ -81,9 +81,10 @@ module _ {D : Type 0} (old new : Kept D) where
   counted_plain asked.Commit count counts = (covers_plain count counts, ap (λ (n : ℕ). told.Count n) counts.count_is)
   counted_plain asked.Begin count counts =
       (ap (λ (k : Kept D). without_disk k) counts.0, ap (λ (n : ℕ). told.Count n) counts.1)
-  counted_plain asked.Slice count counts =
-      (ap (λ (k : Kept D). without_disk k) counts.0,
-      ap (λ (n : ℕ). told.Count n) (counts.1 ∙ ap (λ (k : Kept D). left_of k.begun) counts.0))
+  counted_plain asked.Slice count counts = (
+    ap (λ (k : Kept D). without_disk k) counts.0,
+    ap (λ (n : ℕ). told.Count n) (counts.1 ∙ ap (λ (k : Kept D). left_of k.begun) counts.0),
+  )
   counted_plain asked.Finish count counts = (finishes_plain old.begun counts.0, ap (λ (n : ℕ). told.Count n) counts.1)
 
   wants_memory : (step : Step) → refusal_of old step ≡ None → MayTakeMemory step → WantsMemory plain (Ok step)
@@ -107,8 +108,11 @@ module _ {D : Type 0} (old new : Kept D) where
       (ap (λ (k : Kept D). without_disk k) cause.1 ∙ left_plain step e) refl)
       (λ rest. ⊎_elim
       (λ memory. inr (inl (wants_memory step memory.0 memory.1, ap refusal_text memory.2, ap (λ (k : Kept D). without_disk k) memory.3)))
-      (λ fault. inr (inr ((same_refusal step ∙ fault.0, calls_device step fault.1), ap refusal_text fault.2,
-      ap (λ (k : Kept D). without_disk k) fault.3)))
+      (λ fault. inr (inr (
+        (same_refusal step ∙ fault.0, calls_device step fault.1),
+        ap refusal_text fault.2,
+        ap (λ (k : Kept D). without_disk k) fault.3,
+      )))
       rest) refused
 
   pub answers_as : (step : Step) (answer : Played) → Takes old step answer new
