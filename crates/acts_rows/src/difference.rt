@@ -11,8 +11,8 @@ pub struct Difference<'a> {
 /// The first line of a text, with its line feed, and what follows it.
 fn first_line(text: &[u8]) -> (&[u8], &[u8]) {
     match text.iter().position(|byte| *byte == b'\n') {
-        Some(place) => text.split_at(place + 1),
-        None => (text, &[]),
+        Some(place) if place < text.len() => text.split_at(place + 1),
+        _ => (text, &[]),
     }
 }
 
