@@ -3,7 +3,7 @@
 ACTS := crates/acts/out/acts
 FIRST := crates/first_run
 
-.PHONY: first-run test build example bench gate sweep wrong-bodies
+.PHONY: first-run test build example bench gate sweep wrong-bodies definitions
 
 # Plays the example by a trial run, and prints each line of the script with its answer. A trial interprets the program first, which ends
 # without an answer where this one reads; so that takes one step here in place of some seconds, and the compiled program answers as before.
@@ -22,8 +22,8 @@ example: build
 	$(ACTS) play < examples/fan_out_fan_in.script | diff - examples/fan_out_fan_in.answers
 
 # The merge gate: every proof, but for what an earlier run on this machine has passed; the must-fail edits, the tests and the stored runs.
-# By itself `rt ci` keeps over 15 GB free for a crate as long as `acts_tests`, whose check takes up to 11, and so a processor waits. Here
-# each processor has a check, as far as there are 5 GB for it. CRATES="NAME .." tries these alone, with those below them.
+# By itself `rt ci` keeps memory free for a check by the length of its crate, more than it takes, and so a processor waits. Here each
+# processor has a check, as far as there are 5 GB for it. CRATES="NAME .." tries these alone, with those below them.
 LANES ?= $(shell awk -v most="$$(nproc)" '/^MemAvailable/ { held = int($$2 / 5000000); print held < 1 ? 1 : held < most ? held : most }' /proc/meminfo)
 
 test:
@@ -40,6 +40,10 @@ sweep: build
 # The wrong bodies beyond those of the gate: of each crate, of CRATE, or the one of CRATE=NAME/EDIT.
 wrong-bodies:
 	sweeps/wrong_bodies/run $(CRATE)
+
+# The changed definitions that a law or a row has to refuse; of CRATE, or the one of CRATE=NAME/EDIT.
+definitions:
+	sweeps/definitions/run $(CRATE)
 
 # Processor minutes of the gate, by crate, in a fresh clone; of CRATES and those below alone, where they are named.
 gate:

@@ -5,7 +5,7 @@ use run_plan::Reply;
 use wf_value::Refusal;
 
 /// Whether a refusal ends a session.
-fn ends_by(refusal: &Refusal) -> bool
+pub fn ends_by(refusal: &Refusal) -> bool
     ensures { result ≡ ends_by refusal.now }
 {
     matches!(refusal.number(), 46 | 47 | 48 | 50 | 51 | 52 | 60)

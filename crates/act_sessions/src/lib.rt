@@ -15,6 +15,7 @@ mod trouble;
 mod work;
 
 pub use answer::Answer;
+pub use last::ends_by;
 pub use laws::one_session;
 pub use protocol::Protocol;
 pub use request::{Demand, Found, Request};

@@ -55,7 +55,7 @@ fn spelled_at<D: Disk>(alloc: Global, disk: &mut D, area: Area) -> Result<Option
     spelled_in(alloc, bytes.as_slice())
 }
 
-/// Syncs, and finds what stands on a disk. No image comes to those that a stop might have left before.
+/// Syncs, and reads what stands on a disk. A stop meanwhile leaves nothing that it might not have left before.
 pub(crate) fn find<D: Disk>(alloc: Global, disk: &mut D) -> Result<Found, Refusal>
     requires { D.fault_count disk.old < u64.MAX }
     ensures found { IfOk result (λ found. D.honest disk.new → IsFound found (D.seen disk.old)) }

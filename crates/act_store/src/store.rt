@@ -27,7 +27,7 @@ const FRAME: u64 = 6;
 pub struct Store<D: Disk> {
     pub(crate) disk: D,
     pub(crate) areas: Standing,
-    /// The gate of the area that does not stand.
+    /// Whether the gate of the other area, which does not stand, is open.
     pub(crate) other: Gate,
     /// The table at the history's begin.
     pub(crate) base: Table,
@@ -71,7 +71,7 @@ impl<D: Disk> Store<D> {
         self.history.len() as u64
     }
 
-    /// How many of the first entries are covered. What a store keeps stands beside it.
+    /// How many of the first entries are covered. The clauses say what every store keeps.
     pub fn covered(&self) -> u64
         ensures value { result ≡ self.now.covered }
         ensures within { self.now.covered ≤ length self.now.history }

@@ -116,7 +116,7 @@ impl Waiting {
         Ok(())
     }
 
-    /// Keeps the first commands, `count` of them, whose spellings have `spelled` bytes, and all the room. No memory is taken.
+    /// Drops all commands but the first `count`, whose spellings have `spelled` bytes. The memory is kept.
     pub(crate) fn keep(&mut self, count: u32, spelled: usize)
         requires count_within { count ≤ self.old.count }
         requires spelled_within { spelled ≤ length self.old.spelled }

@@ -22,8 +22,8 @@ const LEAST_AREA: u64 = 4_096;
 
 const MOST_AREA: u64 = 1_073_741_824;
 
-/// A disk over a file of the system. What it held as it was opened is not supposed anywhere here: a contract alone
-/// could name it.
+/// A disk over a file of the system. `Empty` stands for what the file held when it was opened, of which only clauses could
+/// speak: nothing here does.
 type RealDisk = FileDisk<HostFile<Empty>>;
 
 /// How long each area of a new store is to be, in bytes.
@@ -101,19 +101,19 @@ fn explain_command<'a>(alloc: Global, numbers: &'a [&'a str]) -> Result<Command<
         .arg(number)
 }
 
-/// With the commands that read standard input.
+/// Adds the subcommands that read standard input.
 fn with_readers<'a>(alloc: Global, acts: Command<'a>) -> Result<Command<'a>, AllocError> {
     acts.subcommand(play_command(alloc))?
         .subcommand(check_command(alloc))
 }
 
-/// With the commands over a store in a file.
+/// Adds the subcommands over a store in a file.
 fn with_stores<'a>(alloc: Global, acts: Command<'a>) -> Result<Command<'a>, AllocError> {
     let acts = acts.subcommand(init_command(alloc)?)?;
     acts.subcommand(show_command(alloc)?)
 }
 
-/// With the command that explains a refusal, of one of these numbers.
+/// Adds the subcommand that explains a refusal of one of these numbers.
 fn with_explain<'a>(
     alloc: Global,
     acts: Command<'a>,
@@ -122,7 +122,7 @@ fn with_explain<'a>(
     acts.subcommand(explain_command(alloc, numbers)?)
 }
 
-/// The program without a command yet.
+/// The program, without its subcommands.
 fn program<'a>(alloc: Global) -> Command<'a> {
     Command::new(alloc, "acts")
         .about("The coordinating half of GitHub Actions")

@@ -52,7 +52,7 @@ fn write_views<D: Disk, W: Write>(
     Ok(())
 }
 
-/// The same, and sends on what the writer holds back.
+/// Writes the view of each run of a store, and flushes the writer.
 fn show_store<D: Disk, W: Write>(
     alloc: Global,
     store: &Store<D>,

@@ -1,6 +1,6 @@
 -- Commands from the fields that follow their word in a line (own), in the order and the forms of docs/FORMATS.md. Other fields are refused 75,
 -- and a body that can't be admitted with its first fault.
-use Rattle.std.specs.Prelude.{ℕ, List, codes, Option, Some, None, option_map, option_and_then, ok_or, Result, Ok, Err, if◌then◌else◌}
+use Rattle.std.specs.Prelude.{ℕ, List, codes, Option, Some, None, option_map, option_and_then, Result, Ok, Err, if◌then◌else◌}
 use Rattle.std.specs.Option.{option_map_or}
 use Rattle.std.specs.Str.{bytes_eq}
 use Rattle.wf_value.specs.declared.code.Code.TheVariants as code

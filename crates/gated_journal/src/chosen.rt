@@ -32,7 +32,7 @@ fn generation_of(front: &[u8; 10]) -> Option<u64>
     ]))
 }
 
-/// Of areas with these generations where their gates are open.
+/// Which of two areas stands, from the generation of each whose gate is open.
 fn chosen_of(first: Option<u64>, second: Option<u64>) -> Option<Chosen>
     ensures { StandsBetween first second result }
 {
@@ -56,7 +56,7 @@ fn gate_of(generation: Option<u64>) -> Gate
 
 /// Syncs, and finds which of the two areas of a disk stands, each `len` long, and how the gate of the other one is.
 ///
-/// What was found is so in what a stop leaves from then on. No image comes to those from before.
+/// What was found is what a stop leaves from then on. A stop meanwhile leaves nothing that it might not have left before.
 pub fn choose<D: Disk>(disk: &mut D, len: u64) -> Result<Option<Chosen>, DiskFault>
     requires countable { D.fault_count disk.old < u64.MAX }
     requires within { len + len ≤ D.size disk.old }

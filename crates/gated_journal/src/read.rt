@@ -9,7 +9,7 @@ use crate::scanned::{ScannedArea, scan};
 use act_disk::{Disk, DiskFault};
 
 impl Area {
-    /// Fills the buffer with the area's bytes. No image comes, and none goes.
+    /// Fills the buffer with the area's bytes. What a stop may leave stays the same.
     pub fn read<D: Disk>(&self, disk: &mut D, bytes: &mut [u8]) -> Result<(), DiskFault>
         requires countable { D.fault_count disk.old < u64.MAX }
         requires whole { length bytes.old ≡ self.now.len }
@@ -26,7 +26,7 @@ impl Area {
 
     /// Syncs, and then fills the buffer with the area's bytes.
     ///
-    /// What was read is what a stop leaves from then on. No image comes to those from before.
+    /// What was read is what a stop leaves from then on. A stop meanwhile leaves nothing that it might not have left before.
     pub fn read_synced<D: Disk>(&self, disk: &mut D, bytes: &mut [u8]) -> Result<(), DiskFault>
         requires countable { D.fault_count disk.old < u64.MAX }
         requires whole { length bytes.old ≡ self.now.len }

@@ -1,22 +1,22 @@
-//! Laws of going over the records of an area with `record_at`.
+//! Laws for a loop that takes the records of an area one by one with `record_at`.
 
 ghost use Rattle.std.specs.Prelude.{◌≡◌, ◌<◌, ◌^◌, ℕ, List, [], ◌∷◌, ◌++◌, length};
 ghost use Rattle.std.specs.List.{AllByRecursion};
 ghost use Rattle.gated_journal.specs.Layout.{record_bytes};
 ghost use Rattle.gated_journal.specs.Scanned.{OpensWith, Parts};
 
-/// Before the first record none is parted.
+/// At first no record has been taken, and all bytes are left.
 pub fn none_is_parted_at_first()
     ensures { (bytes : List ℕ) → Parts bytes [] bytes }
 {}
 
-/// The record that stands next is the next that is parted.
+/// Taking the record at the front of what is left adds its body behind those that were taken.
 pub fn next_record_is_parted()
     ensures { (bytes : List ℕ) (bodies : List (List ℕ)) (rest body past : List ℕ) → Parts bytes bodies rest → OpensWith rest body past
         → Parts bytes (bodies ++ body ∷ []) past }
 {}
 
-/// Where no record stands next, all are parted.
+/// Where no record is at the front of what is left, all have been taken.
 pub fn all_are_parted_at_last()
     ensures { (bodies parted : List (List ℕ)) (rest : List ℕ) → AllByRecursion (λ body. length body < 2 ^ 32) bodies
         → Parts (record_bytes bodies) parted rest → ((body past : List ℕ) → OpensWith rest body past → ⊥) → parted ≡ bodies }

@@ -1,4 +1,5 @@
 pub mod Arriving
 pub mod Filtered
+pub mod HoldersDecided
 pub mod Keeping
 pub mod Lines

@@ -1,9 +1,15 @@
 //! What follows for the holders of groups, in a reader's words. Each law stands over any list of holders.
 ghost use Rattle.std.specs.Prelude.{◌≡◌, ◌≢◌, ◌∷◌, [], List, Bool, true, filter, not};
+ghost use Rattle.std.specs.Bool.{Decides};
 ghost use Rattle.group_name.specs.Group.{Group};
 ghost use Rattle.group_book.specs.Changes.{arrived, may_start, started, stopped, without};
 ghost use Rattle.group_book.specs.Holders.{HasOneEach, HoldingState, group_in, pending_in, running_in, same_holder, unstopped_in};
 ghost use Rattle.group_book.specs.declared.holder.Holder.{Holder};
+
+/// Two holders are the same exactly where they are equal: two runs at one place, or two legs at one place.
+pub fn same_holders_are_equal()
+    ensures { (one other : Holder) → Decides (same_holder one other) (one ≡ other) }
+{}
 
 /// After an arrival the newcomer is pending in its group, and nobody else is.
 pub fn newcomer_waits_alone()

@@ -1,4 +1,4 @@
-//! What follows for names, in a reader's words.
+//! When two names mean one group, and when two keys are equal.
 ghost use Rattle.std.specs.Prelude.{◌≡◌, ◌≢◌, ◌↔◌, ℕ, IsTrue, List, [], chars};
 ghost use Rattle.caseless.specs.Caseless.{IsDefaultMatch};
 ghost use Rattle.group_name.specs.Group.{group_of};

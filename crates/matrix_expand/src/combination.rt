@@ -11,7 +11,7 @@ use crate::pattern::Pattern;
 use std::alloc::Global;
 use wf_value::{Chars, Combo, Refusal, Same};
 
-/// Which objects agree with the original of a number, and a flag for the original.
+/// For each include object whether it agrees with the original of this number, and last a flag that is set, for the original itself.
 fn flags(alloc: Global, patterns: &[Pattern], number: usize) -> Result<Vec<bool>, Refusal>
     ensures { Gives (λ v. v.items) result (Ok (flags_of patterns.now number)) }
 {
@@ -39,7 +39,7 @@ fn original_entries<'a>(
     Ok(entries)
 }
 
-/// Whether the object of a place has a flag.
+/// Whether the flag at a place is set.
 fn has_flag(flags: &[bool], place: usize) -> bool
     ensures { result ≡ slice_index_or flags.now place false }
 {
@@ -50,7 +50,7 @@ fn has_flag(flags: &[bool], place: usize) -> bool
     }
 }
 
-/// Whether the last name is this one.
+/// Whether the name that was added last is this one.
 fn is_named(last: Option<&Chars>, name: &Chars) -> bool
     ensures { result ≡ is_last (option_copied last.entry) name.now }
 {
@@ -60,7 +60,7 @@ fn is_named(last: Option<&Chars>, name: &Chars) -> bool
     }
 }
 
-/// The combination that has for each name the first pair of a flagged object.
+/// For each name its first pair among those of the flagged objects. The entries stand in the order of their names.
 fn firsts<'a>(alloc: Global, entries: &[Entry<'a>], flags: &[bool]) -> Result<Combo, Refusal>
     requires { IsTrue (names_ascend (pairs_of entries.now)) }
     ensures { Gives (λ c. c) result (Ok (firsts_after None (flagged flags.now entries.now))) }

@@ -7,7 +7,7 @@ use std::alloc::{AllocError, Global};
 use std::marker::Model;
 use wf_value::{Refusal, TryCopy};
 
-/// A set of jobs in little room. A contract sees its words.
+/// A set of jobs, one bit for each. A contract sees its words.
 #[derive(Drop)]
 pub(crate) struct JobSet {
     words: Vec<u64>,

@@ -33,7 +33,7 @@ impl Marks {
         })
     }
 
-    /// The set, cut at a place behind its last job: it adds the same to any other.
+    /// The set without the marks behind its last job, so that adding it to another takes less time.
     pub(crate) fn trimmed(&self, alloc: Global) -> Result<Self, AllocError>
         ensures { IfOk result (λ t. (marks : List Bool) → either marks t ≡ either marks self.now) }
     {
@@ -63,7 +63,7 @@ impl Marks {
         add_marks(self.marks.as_mut_slice(), others.marks.as_slice());
     }
 
-    /// Adds the others where the job is in the set.
+    /// Where the job is in the set, adds the others: the jobs that it reaches.
     pub(crate) fn lead_through(&mut self, job: usize, others: &Marks)
         ensures { self.new ≡ through job others.now self.old }
     {
@@ -87,7 +87,7 @@ impl Marks {
     }
 }
 
-/// A place behind the last mark: the next that is whole steps from the first, or the end.
+/// Where the set may be cut: behind its last mark, at a whole number of steps, or at the end.
 fn end_of(marks: &[bool]) -> usize
     ensures within { result ≤ length marks.now }
     ensures rest { (job : ℕ) → result ≤ job → is_marked marks.now job ≡ false }

@@ -77,7 +77,7 @@ pub(crate) fn all_places(
     Ok(Sequence::new(places))
 }
 
-/// The jobs whose rows have the job, in order.
+/// The jobs that need the job directly, in order.
 fn dependents_on(alloc: Global, rows: &[Marks], job: usize) -> Result<Vec<usize>, AllocError>
     ensures { IfOk result (λ v. v.items ≡ places (λ row. is_marked row job) rows.now) }
 {
@@ -88,7 +88,7 @@ fn dependents_on(alloc: Global, rows: &[Marks], job: usize) -> Result<Vec<usize>
         .collect(alloc)
 }
 
-/// For each job the jobs whose rows have it, in order.
+/// For each job the jobs that need it directly, in order.
 pub(crate) fn all_dependents(
     alloc: Global,
     rows: &[Marks],

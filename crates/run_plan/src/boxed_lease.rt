@@ -6,7 +6,7 @@ use std::alloc::{AllocError, Global};
 use std::marker::Model;
 use wf_value::{Refusal, Same, TryCopy};
 
-/// A lease apart, so that a reply is no longer than a text: most replies tell of no lease. A contract sees the lease.
+/// A lease in a box of its own, so that a reply takes no more room than a text: most replies have no lease. A contract sees the lease.
 #[derive(Drop)]
 pub struct BoxedLease {
     inside: Box<Lease>,

@@ -137,7 +137,7 @@ impl Prepared {
         &self.admission.plan
     }
 
-    /// The same event. It takes no memory: 50 comes only where the event has 2^63 - 1 shares.
+    /// One share more of the event. It takes no memory: 50 comes only where the event has 2^63 - 1 shares.
     pub fn share(&self) -> Result<Self, Refusal>
         ensures { Gives (λ p. p) result (Ok self.now) }
     {

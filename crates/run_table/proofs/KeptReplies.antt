@@ -1,19 +1,17 @@
 -- What is kept of a runner stays until a later command of it is carried out: its last number, the command, and the reply to it.
-use Rattle.std.proofs.Common.{◌≡◌, ℕ, ◌+◌, ◌≤◌, Bool, true, false, List, [], ◌∷◌, refl, sym, ◌∙◌, ap, subst}
+use Rattle.std.proofs.Common.{◌≡◌, ℕ, ◌+◌, ◌<◌, ◌≤◌, Bool, true, false, List, [], ◌∷◌, refl, sym, ◌∙◌, ap, subst}
 use Rattle.std.proofs.Common.{arith}
-use Rattle.std.specs.Prelude.{Option, Some, None, option_map, if◌then◌else◌, nat_eq, ◌&&◌}
-use Rattle.std.specs.Cmp.Lexicographic.{pointwise}
+use Rattle.std.specs.Prelude.{Option, Some, None, option_map, if◌then◌else◌, nat_eq, nat_lt, ◌&&◌}
 use Rattle.std.specs.Option.{option_map_or, option_or}
 use Rattle.std.specs.Str.{bytes_eq}
-use Rattle.std.proofs.lemmas.Bool.{and_from, and_parts, eq-eqb, eqb-true, true≢false}
+use Rattle.std.proofs.lemmas.Bool.{and_parts, eq-eqb, eqb-true, ltb-false, ltb-true, true≢false}
 use Rattle.std.proofs.lemmas.Slice.Eq.{bytes_eq-Decides}
 use Rattle.std.proofs.lemmas.Option.{same_Some}
 use Rattle.wf_value.specs.declared.code.Code.TheVariants.{HasLease, LastCounter, LeaseNotHeld, NoRunner}
-use Rattle.wf_value.specs.declared.outcome.Outcome.{Outcome}
-use Rattle.wf_value.specs.declared.outcome.Outcome.TheVariants as ended
 use Rattle.wf_value.specs.declared.refusal.Refusal.{Refusal}
 use Rattle.wf_value.specs.declared.refusal.Refusal.TheVariants.{Numbered, Turn}
-use Rattle.run_plan.specs.LastCommand.{is_last_claim, is_last_report, kept_reply, same_claims, same_outcomes, same_reports}
+use Rattle.run_plan.proofs.SameCommands.{claims_decide, reports_decide}
+use Rattle.run_plan.specs.LastCommand.{is_last_claim, is_last_report, kept_reply}
 use Rattle.run_plan.specs.declared.command.Claim.{Claim as Claimed}
 use Rattle.run_plan.specs.declared.command.Command.{Command}
 use Rattle.run_plan.specs.declared.command.Command.TheVariants as command
@@ -157,15 +155,40 @@ module _ (name : List ℕ) (number : ℕ) (same : LastCommand → Bool) (kept : 
             ]
       ] refl
 
-  has_step : (t : TableState) (c : Command) → ((n : ℕ) → HasTurn c name n → n ≤ number) → Has t → Has (stepped t c).table
+  -- a claim that changes the table is no refusal, and no more is a report
+  claim_unrefused : (t : TableState) (claim : Claimed) → claim_answer t claim ≡ None → IsRefused (stepped t (command.Claim claim)).reply → ⊥
+  claim_unrefused t claim none =
+      subst (λ (o : Option Reply). IsRefused (option_map_or (unchanged t) o (claiming t claim)).reply → ⊥) (sym none)
+      (elim (first_fit claim.labels t.runs) as
+      (λ o. IsRefused (option_map_or (leasing t claim) o (serving_nothing t claim)).reply → ⊥) [
+        | None ↦ λ is. cc is.1
+        | Some p ↦ λ is. cc is.1
+      ])
+
+  report_unrefused : (t : TableState) (report : Reported) → report_answer t report ≡ None
+      → IsRefused (stepped t (command.Done report)).reply → ⊥
+  report_unrefused t report none =
+      subst (λ (o : Option Reply). IsRefused (option_map_or (unchanged t) o (reporting t report)).reply → ⊥) (sym none) (λ is. cc is.1)
+
+  at_most : (n : ℕ) → (number < n → ⊥) → n ≤ number
+  at_most n no_more =
+      elim (nat_lt number n) as (λ b. nat_lt number n ≡ b → n ≤ number) [
+        | true ↦ λ is. absurd (no_more (ltb-true number n is))
+        | false ↦ λ is. ltb-false number n is
+      ] refl
+
+  pub has_step : (t : TableState) (c : Command) → ((n : ℕ) → HasTurn c name n → number < n → IsRefused (stepped t c).reply) → Has t
+      → Has (stepped t c).table
   has_step t (command.Admit event) no_later has =
       answered t (admission_answer t event) (admitting t event) has (λ none. has_runners t (admitting t event).table refl has)
   has_step t (command.Claim claim) no_later has =
       answered t (claim_answer t claim) (claiming t claim) has
-      (λ none. has_claim t claim (λ own. no_later claim.number (own, refl)) none has)
+      (λ none. has_claim t claim
+      (λ own. at_most claim.number (λ more. claim_unrefused t claim none (no_later claim.number (own, refl) more))) none has)
   has_step t (command.Done report) no_later has =
       answered t (report_answer t report) (reporting t report) has
-      (λ none. has_report t report (λ own. no_later report.number (own, refl)) none has)
+      (λ none. has_report t report
+      (λ own. at_most report.number (λ more. report_unrefused t report none (no_later report.number (own, refl) more))) none has)
   has_step t (command.Beat beat) no_later has = has
   has_step t (command.Cancel id) no_later has =
       answered t (cancel_answer t id) (cancelling t id) has (λ none. has_runners t (cancelling t id).table refl has)
@@ -175,7 +198,9 @@ module _ (name : List ℕ) (number : ℕ) (same : LastCommand → Bool) (kept : 
 
   pub has_after : (t : TableState) (cs : List Command) → HaveNoLaterTurn name number cs → Has t → Has (after t cs)
   has_after t [] no_later has = has
-  has_after t (c ∷ cs) no_later has = has_after (stepped t c).table cs no_later.1 (has_step t c no_later.0 has)
+  has_after t (c ∷ cs) no_later has =
+      has_after (stepped t c).table cs no_later.1
+      (has_step t c (λ n turn later. absurd (omega (arith, no_later.0 n turn, later))) has)
 
   -- the command again
   pub answer_again : (t : TableState) → Has t → answer_of_turn (runner_named t.runners name) number same ≡ Some kept
@@ -186,33 +211,6 @@ module _ (name : List ℕ) (number : ℕ) (same : LastCommand → Bool) (kept : 
       ap (λ (o : Option RunnerState). answer_of_turn o number same) has.found
       ∙ ap (λ (b : Bool). if b then Some (kept_reply x.last) else turn_answer x.number number) repeats
       ∙ ap (λ (r : Reply). Some r) has.keeps
-
--- ---- a command that is the same as itself
-
-same_labels : (xs : List (List ℕ)) → pointwise bytes_eq xs xs ≡ true
-same_labels [] = refl
-same_labels (x ∷ xs) =
-    ap (λ (b : Bool). b && pointwise bytes_eq xs xs) ((bytes_eq-Decides x x).1 refl) ∙ ap (λ (b : Bool). true && b) (same_labels xs)
-
-same_claim : (claim : Claimed) → same_claims claim claim ≡ true
-same_claim claim = and_from (bytes_eq claim.runner claim.runner && nat_eq claim.number claim.number)
-    (pointwise bytes_eq claim.labels claim.labels)
-    (and_from (bytes_eq claim.runner claim.runner) (nat_eq claim.number claim.number) ((bytes_eq-Decides claim.runner claim.runner).1 refl)
-    (eq-eqb claim.number claim.number refl)) (same_labels claim.labels)
-
-same_outcome : (o : Outcome) → same_outcomes o o ≡ true
-same_outcome ended.Success = refl
-same_outcome ended.Failure = refl
-same_outcome ended.Cancelled = refl
-
-same_report : (report : Reported) → same_reports report report ≡ true
-same_report report =
-    and_from (bytes_eq report.runner report.runner && nat_eq report.number report.number && nat_eq report.lease report.lease)
-    (same_outcomes report.result report.result)
-    (and_from (bytes_eq report.runner report.runner && nat_eq report.number report.number) (nat_eq report.lease report.lease)
-    (and_from (bytes_eq report.runner report.runner) (nat_eq report.number report.number)
-    ((bytes_eq-Decides report.runner report.runner).1 refl)
-    (eq-eqb report.number report.number refl)) (eq-eqb report.lease report.lease refl)) (same_outcome report.result)
 
 -- ---- what a command keeps that is not refused
 
@@ -311,10 +309,10 @@ claim_has t claim taken =
         (option_map_or (leasing t claim) o (serving_nothing t claim)).reply) [
           | None ↦ put_has t (serving_nothing t claim).table (claiming_runner claim None given.Nothing) (is_last_claim claim)
               reply.Nothing refl
-              (same_claim claim) refl
+              ((claims_decide claim claim).1 refl) refl
           | Some p ↦ (let told = lease_at t.runs p (t.last_lease + 1) in
               put_has t (leasing t claim p).table (claiming_runner claim (Some (t.last_lease + 1)) (given.Lease told)) (is_last_claim claim)
-              (reply.Lease told) refl (same_claim claim) refl)
+              (reply.Lease told) refl ((claims_decide claim claim).1 refl) refl)
         ]
 
 report_has : (t : TableState) (report : Reported) → (IsRefused (stepped t (command.Done report)).reply → ⊥)
@@ -337,7 +335,7 @@ report_has t report taken =
     changes : others ≡ None → HasKept (reporting t report).table report.runner report.number (is_last_report report)
         (reporting t report).reply
     changes none = put_has t (reporting t report).table (reporting_runner report) (is_last_report report) reply.Ok refl
-        (same_report report) refl
+        ((reports_decide report report).1 refl) refl
 
 -- ---- both kinds of numbered commands
 

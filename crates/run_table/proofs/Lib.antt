@@ -3,6 +3,7 @@ pub mod AncestorsSettled
 pub mod ArrivalLaw
 pub mod ArrivalTold
 pub mod AtWork
+mod BeatRows
 pub mod BeforeSettling
 mod CancelRows
 pub mod ChangesTold
@@ -31,6 +32,7 @@ pub mod HistoryLaw
 pub mod HistoryWords
 pub mod HolderStatus
 pub mod HoldersOnce
+pub mod HoldersSaid
 pub mod JobsText
 pub mod JoinedLegs
 pub mod KeepsSound
@@ -46,6 +48,7 @@ pub mod OwnMoves
 pub mod OwnRun
 pub mod PlacedOne
 pub mod ReachedTables
+pub mod Remembered
 pub mod ReportKeeps
 pub mod RulesDecided
 pub mod RulesLaw

@@ -4,11 +4,13 @@ pub mod Claims
 pub mod ExactlyOnce
 pub mod GroupChanges
 pub mod GroupHistories
+pub mod GroupHolders
 pub mod GroupLaw
 pub mod GroupLawTest
 pub mod GroupSets
 pub mod Histories
 pub mod OneByOne
+pub mod Remembered
 pub mod Skips
 pub mod Sound
 pub mod Step

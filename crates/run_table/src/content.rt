@@ -129,7 +129,7 @@ impl Content {
         }
     }
 
-    /// The same, of a command that is no claim.
+    /// Carries out a command that is no claim, and then copies its reply.
     fn step_then_copy(
         &mut self,
         alloc: Global,
@@ -215,7 +215,7 @@ impl Content {
         }
     }
 
-    /// No leg is ready for the runner.
+    /// Answers a claim that no leg fits, and keeps it.
     fn serve_nothing(&mut self, alloc: Global, claim: &Claim) -> Result<(Reply, Reply), Refusal>
         requires { IsSound self.old }
         ensures step { Gives (λ replies. (self.new, replies.0)) result (Ok (outcome (serving_nothing self.old claim.now))) }

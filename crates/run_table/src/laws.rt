@@ -4,10 +4,13 @@ ghost use Rattle.std.specs.Prelude.{◌≡◌, ◌<◌, ◌≤◌, ℕ, List, []
 ghost use Rattle.run_plan.specs.Admitted.{Admitted};
 ghost use Rattle.run_plan.specs.declared.command.Command.{Command};
 ghost use Rattle.run_plan.specs.declared.command.Command.TheVariants as command;
+ghost use Rattle.run_plan.specs.declared.reply.Reply.{Reply};
 ghost use Rattle.run_plan.specs.declared.reply.Reply.TheVariants as reply;
 ghost use Rattle.group_name.specs.Group.{Group};
 ghost use Rattle.run_table.specs.ExactlyOnce.{HasTurn, HaveNoLaterTurn, IsRefused};
+ghost use Rattle.run_table.specs.Remembered.{AreNoLaterTurns, IsNoLaterTurn, KnowsDelivery, LastCommandIs};
 ghost use Rattle.run_table.specs.GroupHistories.{IsOf, NeverBegan, all_moves, asks_for_cancelling};
+ghost use Rattle.run_table.specs.GroupHolders.{SayWhoHolds};
 ghost use Rattle.run_table.specs.GroupLaw.{KeepsLaw};
 ghost use Rattle.workflow_runs.specs.GroupWords.{has_arrived, has_ended, has_started, next_displaced, was_stopped};
 ghost use Rattle.workflow_runs.specs.Groups.{pending_in, running_in};
@@ -82,6 +85,12 @@ pub fn every_group_keeps_its_law()
     ensures { (t : TableState) (cs : List Command) (g : Group) → IsSound t → KeepsLaw (asks_for_cancelling g t cs) (all_moves g t cs) }
 {}
 
+/// The moves of each group say exactly who holds it: after any commands, from any table that keeps what tables keep, the holders that they say
+/// are running, pending and told to stop are those that filters over all runs and legs of the table give.
+pub fn the_moves_say_who_holds_each_group()
+    ensures { (t : TableState) (cs : List Command) (g : Group) → IsSound t → SayWhoHolds (after t cs).runs g (all_moves g t cs) }
+{}
+
 /// Between the start of a holder and its end no other holder of its group starts.
 pub fn nobody_starts_before_the_holder_has_ended()
     ensures { (t : TableState) (cs : List Command) (g : Group) (before between after_it : List Move) (h k : Holder) → IsSound t
@@ -129,4 +138,32 @@ pub fn a_kept_reply_is_given_again()
     ensures { (t : TableState) (c : Command) (runner : List ℕ) (number : ℕ) (later : List Command)
         → HasTurn c runner number → (IsRefused (stepped t c).reply → ⊥) → HaveNoLaterTurn runner number later
         → step (after (stepped t c).table later) c ≡ (after (stepped t c).table later, (stepped t c).reply) }
+{}
+
+/// What a table knows of a delivery: the reply that makes a run establishes it, each step keeps it, and so do any commands. Where it is
+/// known, an event with that delivery is answered with the run again, whatever its body is, and the table stays.
+pub fn a_delivery_stays_known()
+    ensures established { (t : TableState) (event : Admitted) (run : ℕ) → (stepped t (command.Admit event)).reply ≡ reply.Created run
+        → KnowsDelivery (stepped t (command.Admit event)).table event.delivery run }
+    ensures kept { (t : TableState) (c : Command) (delivery : List ℕ) (run : ℕ) → KnowsDelivery t delivery run
+        → KnowsDelivery (stepped t c).table delivery run }
+    ensures kept_on { (t : TableState) (later : List Command) (delivery : List ℕ) (run : ℕ) → KnowsDelivery t delivery run
+        → KnowsDelivery (after t later) delivery run }
+    ensures answered { (t : TableState) (event : Admitted) (run : ℕ) → KnowsDelivery t event.delivery run
+        → step t (command.Admit event) ≡ (t, reply.Created run) }
+{}
+
+/// What a table knows of a runner's last command: a reply to it that is no refusal establishes it, and each step keeps it until a command of
+/// that runner with a later number is carried out. Where it is known, the command gets that reply again, and the table stays.
+pub fn a_last_command_stays_known()
+    ensures established { (t : TableState) (c : Command) (runner : List ℕ) (number : ℕ) → HasTurn c runner number
+        → (IsRefused (stepped t c).reply → ⊥) → LastCommandIs (stepped t c).table runner c (stepped t c).reply }
+    ensures kept { (t : TableState) (c d : Command) (runner : List ℕ) (number : ℕ) (given : Reply) → HasTurn c runner number
+        → LastCommandIs t runner c given → IsNoLaterTurn runner number d (stepped t d).reply
+        → LastCommandIs (stepped t d).table runner c given }
+    ensures kept_on { (t : TableState) (c : Command) (later : List Command) (runner : List ℕ) (number : ℕ) (given : Reply)
+        → HasTurn c runner number → LastCommandIs t runner c given → AreNoLaterTurns runner number later (replies t later)
+        → LastCommandIs (after t later) runner c given }
+    ensures answered { (t : TableState) (c : Command) (runner : List ℕ) (given : Reply) → LastCommandIs t runner c given
+        → step t c ≡ (t, given) }
 {}

@@ -17,7 +17,7 @@ use std::marker::Model;
 use wf_value::{Refusal, TryCopy};
 use workflow_runs::run::Run;
 
-/// The run table. Whatever its commands were, it keeps what a table is.
+/// The run table. It is sound (`IsSound`) after any commands.
 #[derive(Drop)]
 pub struct Table {
     content: Content,

@@ -17,7 +17,7 @@ pub(crate) enum Kept {
     Done,
 }
 
-/// What a byte and a lease stand for.
+/// The kept reply that is stored as this byte and this lease.
 pub(crate) fn kept_of(reply: u8, lease: Option<Number>) -> Result<Kept, NotRead>
     ensures { Finds (λ k. k) result (kept_of (reply, lease)) }
 {

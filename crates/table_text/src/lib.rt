@@ -1,4 +1,4 @@
-//! The stored bytes of commands and of batches of them, both ways, and of tables.
+//! The stored bytes of commands, of batches of them and of tables: written, read, and their lengths.
 #![tactic(auto)]
 
 mod command_at;

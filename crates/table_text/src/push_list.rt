@@ -9,7 +9,7 @@ use std::alloc::AllocError;
 
 /// What is appended to bytes as its spelling.
 pub(crate) trait Push {
-    /// What has to be known of the value.
+    /// What a caller has to show of the value before it is written.
     ghost can_push: { Self → Type 0 };
 
     ghost takes: { Self → Type 0 };

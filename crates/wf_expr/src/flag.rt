@@ -18,7 +18,7 @@ pub fn is_flag_set(value: &Scalar) -> bool
     }
 }
 
-/// The same of a value whose text stands elsewhere.
+/// Whether a flag is set by a value whose text is borrowed.
 pub(crate) fn view_sets_flag(value: ScalarView<'_>) -> bool
     ensures { result ≡ sets_flag (shown value.entry) }
 {

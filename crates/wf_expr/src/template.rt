@@ -76,7 +76,7 @@ impl Template {
         are_text(self.pieces(), context, text, Case::Sensitive)
     }
 
-    /// The same without the case of ASCII letters, as labels are compared. It takes no memory.
+    /// Whether it is this text, whatever the case of ASCII letters, as labels are compared. It takes no memory.
     pub fn is_text_ignoring_ascii_case<C: Context>(&self, context: &C, text: &[u8]) -> bool
         ensures { IsTrue result ↔
             (lowered (scalar_text (template_value (C.values context.now) self.now)) ≡ lowered text.now) }

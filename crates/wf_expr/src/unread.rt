@@ -5,7 +5,7 @@ use crate::bound::BoundPiece;
 use crate::results::NeedResults;
 use std::marker::Model;
 
-/// What is left to be read of the text of pieces by the results. A contract sees the list of its bytes.
+/// The bytes that are still to be read of a bound template's text, by the results of needs. A contract sees the list of them.
 #[derive(Drop)]
 pub(crate) struct Unread<'a, R: NeedResults> {
     text: &'a [u8],

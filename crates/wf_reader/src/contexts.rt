@@ -34,7 +34,7 @@ impl Model for Contexts {
 }
 
 impl Contexts {
-    /// Those of an envelope, and the envelope's workflow, which are taken out of it and not copied.
+    /// The contexts of an envelope, and its workflow: both are taken out of it and not copied.
     pub fn and_workflow(envelope: Value) -> (Contexts, Option<Value>)
         ensures contexts { result.0 ≡ contexts_in (view envelope) }
         ensures workflow { option_map (λ v. view v) result.1 ≡ get (codes "workflow") (view envelope) }
@@ -52,7 +52,7 @@ impl Contexts {
         }
     }
 
-    /// Those of an envelope's members.
+    /// The contexts among an envelope's members.
     fn and_workflow_of(mut members: Map<String, Value>) -> (Contexts, Option<Value>)
         ensures contexts { result.0 ≡ contexts_in (object (members_view members.entries)) }
         ensures workflow { option_map (λ v. view v) result.1 ≡ get (codes "workflow") (object (members_view members.entries)) }

@@ -1,6 +1,6 @@
 //! From the bytes of a body to the event or the workflow that it spells: an event's envelope with its
-//! contexts, and workflows of plain jobs, whose labels are templates. What is wrong with a body is a list
-//! in a stated order, and the refusal is its first.
+//! contexts, and a workflow with its jobs. What is wrong with a body is a list in a stated order, and the
+//! refusal is its first.
 #![tactic(auto)]
 
 mod body;

@@ -52,7 +52,7 @@ fn first_of_open(runs: &Runs, r: usize, j: usize, job: &Job) -> Option<Place>
     }
 }
 
-/// A blocked job opens, or settles, where the jobs that it needs have settled.
+/// The first place with a rule in a job: where it opens, if it is blocked and all that it needs has settled, else one of its legs or its end.
 fn first_in_job(runs: &Runs, r: usize, run: &Run, j: usize, job: &Job) -> Option<Place>
     ensures { result ≡ first_in_job runs.now r run.now j job.now.state }
 {
@@ -62,7 +62,7 @@ fn first_in_job(runs: &Runs, r: usize, run: &Run, j: usize, job: &Job) -> Option
     first_of_open(runs, r, j, job)
 }
 
-/// None of the jobs before the one at `from` has a rule.
+/// The first place with a rule in the jobs of a run, of which none before the one at `from` has a rule.
 fn first_in_jobs(runs: &Runs, r: usize, run: &Run, jobs: &[Job], from: usize) -> Option<Place>
     requires { NoneBefore (first_in_job runs.now r run.now) (states jobs.now) from }
     ensures { result ≡ first_in_jobs runs.now r run.now (states jobs.now) }
@@ -89,7 +89,7 @@ pub fn has_settled_jobs(run: &Run) -> bool
     are_settled(run.jobs())
 }
 
-/// The jobs of an ended run are not looked at.
+/// The run itself as a place, where a rule applies to it: it waits and may start, or is live and all its jobs have settled.
 fn first_of_whole(runs: &Runs, r: usize, run: &Run) -> Option<Place>
     ensures { result ≡ first_of_whole runs.now r run.now }
 {

@@ -13,10 +13,10 @@ pub enum Holder {
     Leg(LegPlace),
 }
 
-/// Whom of the group of a holder is meant.
+/// Which holders of a group are looked for.
 #[derive(Clone, Copy)]
 pub enum Whom {
-    /// Those that are pending, but for itself.
+    /// The pending ones, other than the one whose group it is.
     OthersPending,
     Running,
 }

@@ -208,7 +208,7 @@ impl Runs {
         self.add_counted(alloc, run, found, workflow)
     }
 
-    /// The same, of a run of this workflow, whose delivery is found there in the runs so far.
+    /// Adds a run of this workflow. `found` is the place of an earlier run of its delivery, if there is one.
     fn add_counted(
         &mut self,
         alloc: Global,

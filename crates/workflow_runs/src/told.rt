@@ -1,4 +1,4 @@
-//! What is told of a run while what it asks is bound: no job of it has a result yet.
+//! What the templates of a run are told when it is admitted: its event, its id and its number. No job of it has a result yet.
 
 ghost use Rattle.std.specs.Prelude.{◌≡◌, ◌<◌, ◌^◌};
 ghost use Rattle.wf_expr.specs.Bound.{HasResults, Results};

@@ -1,4 +1,4 @@
-//! What the table of these parts holds.
+//! Makes what a table holds from the parts as which it is stored.
 
 ghost use Rattle.std.specs.Prelude.{IfOk, MatchOption};
 ghost use Rattle.workflow_runs.specs.BoundGroups.{ErrsOnlyByMemory};

@@ -1,4 +1,4 @@
-//! The runners of their parts.
+//! Makes the runners of a table from the parts as which they are stored.
 
 ghost use Rattle.std.specs.BTreeMap.{get};
 ghost use Rattle.std.specs.Ordering.{nat_cmp};

@@ -23,7 +23,7 @@ pub(crate) enum Standing {
     Running,
 }
 
-/// The runs, and how the runs and legs stand whose groups are gathered.
+/// Gathers the groups of all runs and legs that are pending, or of all that are running.
 #[derive(Drop)]
 struct Gathering<'a> {
     alloc: Global,
@@ -41,7 +41,7 @@ impl<'a> Gathering<'a> {
         }
     }
 
-    /// The group in which the holder stands so, where it does.
+    /// The group of the holder, where it is pending, or running, as is asked.
     fn group_as(&self, holder: &Holder) -> Result<Option<GroupKey>, Refusal>
         ensures { Gives (λ group. group) result (Ok (group_as self.now.runs.now self.now.standing (holder_in_words holder.now))) }
     {
@@ -52,7 +52,7 @@ impl<'a> Gathering<'a> {
         }
     }
 
-    /// Adds the group in which the holder stands so, and says whether it is new.
+    /// Adds that group, and says whether it was not there yet.
     fn put(&self, groups: &mut GroupSet, holder: &Holder) -> Result<bool, Refusal>
         ensures err { ErrsOnlyByMemory result }
         ensures put { IfOk result (AddsEach (group_as self.now.runs.now self.now.standing) groups.old groups.new
@@ -64,7 +64,7 @@ impl<'a> Gathering<'a> {
         }
     }
 
-    /// Adds the groups of all runs and legs that stand so.
+    /// Adds the groups of all runs and legs, and says whether no two of them have one.
     fn put_all(&self, groups: &mut GroupSet) -> Result<bool, Refusal>
         ensures err { ErrsOnlyByMemory result }
         ensures put { IfOk result (AddsEach (group_as self.now.runs.now self.now.standing) groups.old groups.new IsAny) }
@@ -77,7 +77,7 @@ impl<'a> Gathering<'a> {
         Ok(true)
     }
 
-    /// Those of the run and of its legs.
+    /// Adds the groups of the run and of its legs.
     fn put_of_run(&self, groups: &mut GroupSet, r: usize) -> Result<bool, Refusal>
         ensures err { ErrsOnlyByMemory result }
         ensures put { IfOk result (AddsEach (group_as self.now.runs.now self.now.standing) groups.old groups.new (IsOfRun r)) }
@@ -115,7 +115,7 @@ impl<'a> Gathering<'a> {
     }
 }
 
-/// The groups in which runs and legs stand so, where no two of these have one group.
+/// The groups of all runs and legs that are pending, or running, as is asked; `None` where two of them have one group.
 fn groups_of(alloc: Global, runs: &Runs, standing: Standing) -> Result<Option<GroupSet>, Refusal>
     ensures err { ErrsOnlyByMemory result }
     ensures of { IfOk result (λ found. MatchOption found (DifferInGroup (group_as runs.now standing) → ⊥)
@@ -134,7 +134,7 @@ fn groups_of(alloc: Global, runs: &Runs, standing: Standing) -> Result<Option<Gr
     }
 }
 
-/// The groups in which somebody runs, where each group has at most one pending and one running holder.
+/// The groups in which a run or a leg is running; `None` where a group has two pending or two running ones.
 pub(crate) fn taken_groups(alloc: Global, runs: &Runs) -> Result<Option<GroupSet>, Refusal>
     ensures err { ErrsOnlyByMemory result }
     ensures of { IfOk result (λ found. MatchOption found (HasOneEach runs.now → ⊥)

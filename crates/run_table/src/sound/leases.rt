@@ -21,15 +21,15 @@ use workflow_runs::runs::Runs;
 /// What is known of the leases of a table.
 #[derive(Drop)]
 pub(crate) struct Leases {
-    /// The last that was given.
+    /// The last lease that was given.
     pub last: u32,
-    /// Of each lease a leg that has it.
+    /// For each lease that a leg has, the place of such a leg.
     pub legs: BTreeMap<u32, LegPlace>,
-    /// Of each lease that is held, the place of a runner that holds it.
+    /// For each lease that a runner holds, the place of such a runner.
     pub held: BTreeMap<u32, usize>,
 }
 
-/// Of each lease of a leg, a leg that has it.
+/// For each lease that a leg has, the place of such a leg.
 pub(crate) fn legs_by_lease(alloc: Global, runs: &Runs) -> Result<BTreeMap<u32, LegPlace>, Refusal>
     ensures err { ErrsOnlyByMemory result }
     ensures found { IfOk result (λ legs. (n : ℕ) → Finds (lease_of_leg runs.now) n (get nat_cmp legs n)) }
@@ -101,7 +101,7 @@ fn put_runner(
     Ok(())
 }
 
-/// Of each lease that is held, the place of a runner that holds it.
+/// For each lease that a runner holds, the place of such a runner.
 pub(crate) fn runners_by_lease(
     alloc: Global,
     runners: &[Runner],

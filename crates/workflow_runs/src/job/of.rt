@@ -1,4 +1,4 @@
-//! A job of its parts.
+//! Makes a job from the parts as which it is stored.
 
 ghost use Rattle.std.specs.Prelude.{◌≡◌, IfOk, MatchOption};
 ghost use Rattle.workflow_runs.specs.BoundGroups.{ErrsOnlyByMemory};

@@ -1,4 +1,4 @@
-//! A run of its parts.
+//! Makes a run from the parts as which it is stored.
 
 ghost use Rattle.std.specs.Prelude.{◌≡◌, IfOk, MatchOption, length};
 ghost use Rattle.run_plan.specs.PlanOf.{plan_of};

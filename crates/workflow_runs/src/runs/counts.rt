@@ -52,7 +52,7 @@ impl Counts {
         }
     }
 
-    /// Counts none of a workflow that has no count.
+    /// Enters a workflow with the count 0.
     fn begin(&mut self, alloc: Global, workflow: &Workflow) -> Result<(), Refusal>
         requires { has_count self.old.counts workflow.now ≡ false }
         ensures err { ErrsOnlyByMemory result }
@@ -64,7 +64,7 @@ impl Counts {
         Ok(())
     }
 
-    /// The same counts.
+    /// A copy of the counts.
     pub(crate) fn copy(&self) -> Result<Self, Refusal>
         ensures err { ErrsOnlyByMemory result }
         ensures same { IfOk result (λ copy. (event : Admitted) → count_of copy.counts event ≡ count_of self.now.counts event) }

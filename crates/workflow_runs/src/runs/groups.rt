@@ -35,7 +35,7 @@ impl Runs {
         Some((run, asks))
     }
 
-    /// What a run or a leg asks of a group, and the run by the results of whose jobs.
+    /// What a run or a leg asks of a group, and its run: the results of that run's jobs may be in the group's name.
     fn asked(&self, holder: &Holder) -> Option<(&Asked, &Run)>
         ensures group { option_and_then (λ a. bound_group_at (results_by_place a.1.now) a.0.now.group) result
             ≡ group_at self.now (holder_in_words holder.now) }
@@ -125,7 +125,7 @@ impl Runs {
 
     // ---- over all runs and legs
 
-    /// Whether the other one is among those that are meant in the group of the holder.
+    /// Whether the other one is in the group of `holder`, and pending or running there, as `whom` asks.
     fn is_meant(&self, holder: &Holder, whom: Whom, other: &Holder) -> bool
         ensures { result ≡ is_meant self.now (holder_in_words holder.now) whom (holder_in_words other.now) }
     {
@@ -137,7 +137,7 @@ impl Runs {
         }
     }
 
-    /// The first of those that are meant, the runs before the legs.
+    /// The first run, else the first leg, that is in the group of `holder` and pending or running there, as `whom` asks.
     pub(crate) fn first_meant(&self, holder: &Holder, whom: Whom) -> Option<Holder>
         ensures { option_map holder_in_words result ≡ first_meant self.now (holder_in_words holder.now) whom }
     {
@@ -243,7 +243,7 @@ impl Runs {
         }
     }
 
-    /// The first of those that are meant is stopped, if there is one.
+    /// Stops the first that is found so, if there is one.
     fn stop_meant(&mut self, newcomer: &Holder, whom: Whom)
         ensures { self.new ≡ option_map_or (λ h. (stop_holder h self.old).runs)
             (first_meant self.old (holder_in_words newcomer.now) whom) self.old }

@@ -1,4 +1,4 @@
-//! By what the runs of a table are looked up and counted.
+//! The index of a table's runs: where the run of each delivery stands, and how many runs each workflow has.
 
 ghost use Rattle.std.specs.BTreeMap.{get_by_text};
 ghost use Rattle.std.specs.List.{position};
@@ -37,8 +37,8 @@ impl Index {
         }
     }
 
-    /// Takes the memory for one run more behind these, of an event of this workflow, and answers its number. Its place is kept for its
-    /// delivery unless one of its runs was found before; it is not counted yet.
+    /// Takes the memory for one run more at the end, of an event of this workflow, and answers the run's number. Its place is kept for
+    /// its delivery, unless an earlier run of that delivery was found. `Counts::add` counts it, once it stands there.
     pub(crate) fn make_room(
         &mut self,
         alloc: Global,
@@ -62,7 +62,7 @@ impl Index {
         self.take_memory(alloc, event, workflow, runs.len(), found)
     }
 
-    /// The same for a run that is to stand at a place.
+    /// Takes that memory for a run that is to stand at this place, and answers its number.
     fn take_memory(
         &mut self,
         alloc: Global,
@@ -88,7 +88,7 @@ impl Index {
         Ok(number)
     }
 
-    /// One in which the same is found.
+    /// A copy of the index.
     pub(crate) fn copy(&self) -> Result<Self, Refusal>
         ensures err { ErrsOnlyByMemory result }
         ensures places { IfOk result (λ index. (delivery : List ℕ)

@@ -34,7 +34,7 @@ impl Runs {
         }
     }
 
-    /// The same, by the values of the labels in the leg's context.
+    /// Whether the leg asks for no label that these lack, by the values of its label templates in its context.
     fn is_served_in_context(&self, labels: &[Label], place: LegPlace) -> bool
         requires leg { place.leg < 2 ^ 63 }
         ensures { result ≡ is_served labels.now self.now place }

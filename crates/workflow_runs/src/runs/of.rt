@@ -1,4 +1,4 @@
-//! The runs of their parts.
+//! Makes the runs of a table from the parts as which they are stored.
 
 ghost use Rattle.std.specs.Prelude.{◌≡◌, IfOk, MatchOption};
 ghost use Rattle.workflow_runs.specs.BoundGroups.{ErrsOnlyByMemory};
@@ -11,7 +11,7 @@ use std::alloc::Global;
 use wf_value::Refusal;
 
 impl Runs {
-    /// The runs of these parts, where they are not too many and each is as its plan.
+    /// The runs of these parts, or `None` where they are over 100,000, or one has not the jobs and legs of its plan.
     pub fn of_parts(alloc: Global, parts: &[RunParts]) -> Result<Option<Self>, Refusal>
         ensures err { ErrsOnlyByMemory result }
         ensures of { IfOk result (λ found. MatchOption found (AreAsPlanned parts.now → ⊥)

@@ -66,7 +66,7 @@ impl Places {
         Ok(())
     }
 
-    /// The same places.
+    /// A copy of the places.
     pub(crate) fn copy(&self) -> Result<Self, Refusal>
         ensures err { ErrsOnlyByMemory result }
         ensures same { IfOk result (λ copy. (delivery : List ℕ) → get_by_text copy.places delivery ≡ get_by_text self.now.places delivery) }

@@ -34,7 +34,7 @@ impl Runs {
         self.settle_from(JobPlace { run: 0, job: 0 });
     }
 
-    /// The same, where no rule applies before a place.
+    /// Settles, and begins to look for rules at a job before which none applies.
     pub fn settle_from(&mut self, start: JobPlace)
         requires sound { RunsAreSound self.old }
         requires one_each { HasOneEach self.old }

@@ -1,0 +1,4 @@
+pub mod Adding
+pub mod Causes
+pub mod Fronts
+pub mod Standing

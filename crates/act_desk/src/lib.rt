@@ -1,0 +1,24 @@
+//! The desk: many threads, one history. Each command is entered under one lock, and its reply is given out once a stop can no longer take
+//! the entry away.
+#![tactic(auto)]
+
+mod alone;
+mod book_rules;
+mod desk;
+mod desked;
+mod front;
+mod ledgers;
+mod line;
+mod named;
+mod pending;
+mod seat;
+mod seats;
+
+pub use alone::Alone;
+pub use desk::Desk;
+pub use desked::Desked;
+pub use front::{Front, Head, Unnamed};
+pub use ledgers::{Ledgers, MOST_SEATS};
+pub use named::Named;
+pub use pending::Pending;
+pub use seat::Seat;

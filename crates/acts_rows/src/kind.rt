@@ -1,0 +1,31 @@
+//! The kinds of rows, by the last part of a file's name.
+
+/// What a row plays.
+#[derive(Clone, Copy)]
+pub enum Kind {
+    /// A script.
+    Script,
+    /// A workflow that is checked.
+    Workflow,
+    /// Workflows that are checked, each in a line.
+    Workflows,
+}
+
+/// Each kind, with how the names of its files end, and how those of its answers do.
+const ENDINGS: &[(Kind, &str, &str)] = &[
+    (Kind::Script, ".script", ".answers"),
+    (Kind::Workflow, ".workflow", ".lines"),
+    (Kind::Workflows, ".workflows", ".lines"),
+];
+
+impl Kind {
+    /// The name of the row that a file plays, its kind, and how the name of its answers ends. No other file plays one.
+    pub fn of(file: &str) -> Option<(&str, Kind, &'static str)> {
+        for (kind, ending, answers) in ENDINGS {
+            if let Some(name) = file.strip_suffix(*ending) {
+                return Some((name, *kind, answers));
+            }
+        }
+        None
+    }
+}

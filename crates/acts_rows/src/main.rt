@@ -1,0 +1,36 @@
+//! Plays the rows of the folder that it runs in: pairs of files, in a folder for each topic. It prints the name of each row, and `same`
+//! or the first line that is not as it is wanted. The last part of a file's name says what the file is:
+//!
+//! - `NAME.script`, the bytes of a script, has to be answered by those of `NAME.answers`.
+//! - `NAME.workflow`, the bytes of a workflow that is checked, by those of `NAME.lines`: the lines of its legs, or its refusal.
+//! - `NAME.workflows`, a workflow in each line, by the same of each in turn.
+//!
+//! A row is named by its topic and its name, as `groups/jobs_have_groups`. A call that is refused ends its answers by a line with the refusal.
+#![tactic(auto)]
+
+mod answers;
+mod difference;
+mod folder;
+mod kind;
+mod row;
+
+use folder::names_in;
+use row::play_file;
+use std::{fs, io};
+
+/// Plays the rows of a topic, in the order of their names.
+fn play_topic(rt: &HostRuntime, topic: &str) -> io::Result<()> {
+    for file in names_in(rt, topic)?.as_slice() {
+        play_file(rt, topic, file)?;
+    }
+    Ok(())
+}
+
+fn main(rt: HostRuntime) -> io::Result<()> {
+    for topic in names_in(&rt, ".")?.as_slice() {
+        if fs::metadata(&rt, topic)?.is_dir() {
+            play_topic(&rt, topic)?;
+        }
+    }
+    Ok(())
+}

@@ -1,0 +1,43 @@
+//! Plays one row, and says how it came out.
+
+use crate::answers::answers_to;
+use crate::difference::{Difference, first_difference};
+use crate::kind::Kind;
+use std::fs::Files;
+use std::{fs, io};
+
+/// A part of a line that is not as wanted, on a line of its own.
+fn print_part<R: Print>(rt: &R, what: &str, part: &[u8]) -> io::Result<()> {
+    rt.print(what)?;
+    rt.write_all(part)?;
+    if part.last() == Some(&b'\n') {
+        Ok(())
+    } else {
+        rt.println("")
+    }
+}
+
+fn print_difference<R: Print>(rt: &R, row: &str, difference: &Difference<'_>) -> io::Result<()> {
+    let line = difference.line;
+    println!(rt; "{row} differs in line {line}")?;
+    print_part(rt, "  found:  ", difference.found)?;
+    print_part(rt, "  wanted: ", difference.wanted)
+}
+
+/// Plays the row of a file, where it plays one.
+pub fn play_file<R>(rt: &R, topic: &str, file: &str) -> io::Result<()>
+where
+    R: Files + Print + AllocGlobal,
+{
+    let Some((name, kind, ending)) = Kind::of(file) else {
+        return Ok(());
+    };
+    let row = format!(in rt.alloc(); "{topic}/{name}")?;
+    let given = fs::read(rt, format!(in rt.alloc(); "{topic}/{file}")?)?;
+    let wanted = fs::read(rt, format!(in rt.alloc(); "{row}{ending}")?)?;
+    let found = answers_to(rt.alloc(), kind, &given)?;
+    match first_difference(&found, &wanted) {
+        None => println!(rt; "{row} same"),
+        Some(difference) => print_difference(rt, &row, &difference),
+    }
+}

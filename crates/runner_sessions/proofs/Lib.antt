@@ -1,0 +1,2 @@
+-- Lemmas on lines.
+mod Feeds

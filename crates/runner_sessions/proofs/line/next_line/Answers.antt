@@ -1,0 +1,41 @@
+use Rattle.std.proofs.Common.{◌≡◌, ◌≤◌, ◌<◌, refl, sym, subst, ◌∙◌, inl, inr, length, take, length-take, take-append-drop, arith, Some, None}
+use Rattle.std.specs.List.{position}
+use Rattle.std.proofs.lemmas.Bool.Decides.{nat_tests}
+use Rattle.std.proofs.lemmas.List.{take_all}
+use Rattle.runner_sessions.specs.Line.{HasNoFeed}
+use Rattle.runner_sessions.proofs.Feeds.{is_feed, first_at, nowhere}
+use Rattle.runner_sessions.proofs.line.next_line.Goals as goal
+
+pub returns-in_ok-request_in-in-Some : goal.returns-in_ok-request_in-in-Some
+returns-in_ok-request_in-in-Some c =
+    let bytes = c.args.bytes.now in
+    let place = c.in-Some.place in
+    let m = c.min.result in
+    let least = c.min.ensures in
+    let found : position is_feed (take m bytes) ≡ Some place = sym c.place_of_line_feed.ensures ∙ c.in-Some.is in
+    let first = first_at bytes m place (omega arith) (omega arith) found in
+    let within = first.within in
+    let short : length (take place bytes) < 512 = let l = length-take place bytes in let s = first.short in omega arith in
+    (omega arith, (take place bytes, first.none, inl (short, first.cut, let asks = c.in_ok-request_in-in-Some.ensures in cc)))
+
+pub returns-in-None : goal.returns-in-None
+returns-in-None c =
+    let bytes = c.args.bytes.now in
+    let m = c.min.result in
+    let least = c.min.ensures in
+    let found : position is_feed (take m bytes) ≡ None = sym c.place_of_line_feed.ensures ∙ c.in-None.is in
+    let brief : length (take m bytes) < 512 = grind (arith, nat_tests) in
+    let all : take m bytes ≡ bytes = let l = length-take m bytes in take_all m bytes (omega arith) in
+    let none = nowhere (take m bytes) found in
+    (subst HasNoFeed all none, let l = length-take m bytes in omega arith)
+
+pub returns-in-None-2 : goal.returns-in-None-2
+returns-in-None-2 c =
+    let bytes = c.args.bytes.now in
+    let m = c.min.result in
+    let least = c.min.ensures in
+    let found : position is_feed (take m bytes) ≡ None = sym c.place_of_line_feed.ensures ∙ c.in-None.is in
+    let long : 512 ≤ length (take m bytes) = grind (arith, nat_tests) in
+    let is : m ≡ 512 = let l = length-take m bytes in omega arith in
+    let none = subst (λ n. HasNoFeed (take n bytes)) is (nowhere (take m bytes) found) in
+    (let l = length-take m bytes in omega arith, (take 512 bytes, none, inr (let l = length-take 512 bytes in omega arith, sym (take-append-drop 512 bytes), refl)))

@@ -1,0 +1,49 @@
+-- The lines of a session's bytes are one list, whatever follows them.
+use Rattle.std.specs.Prelude.{◌≡◌, ℕ, ◌<◌, List, [], ◌∷◌, ◌++◌, length, take, drop, slice_index_or, refl}
+use Rattle.std.proofs.Common.{sym, ap, ◌∙◌, inl, inr, append_assoc, arith}
+use Rattle.std.proofs.lemmas.List.{get_or_append_left}
+use lib.Seq.{take-append_seam, drop-append_seam}
+use Rattle.act_sessions.specs.Rules.{IsOne, IsSteady}
+use Rattle.runner_sessions.specs.Line.{HasNoFeed, request_in, runner_rules}
+
+pub lines_steady : IsSteady runner_rules
+lines_steady bytes more rest r (line, none, inl (short, is, asks)) =
+    (line, none, inl (short, ap (λ b. b ++ more) is ∙ append_assoc line (10 ∷ rest) more, asks))
+lines_steady bytes more rest r (line, none, inr (long, is, asks)) = (line, none, inr (long, ap (λ b. b ++ more) is ∙ append_assoc line rest more, asks))
+
+-- behind a line stands its line feed, so no line goes further
+feed_behind : (line rest : List ℕ) → slice_index_or (line ++ 10 ∷ rest) (length line) 0 ≡ 10
+feed_behind [] rest = refl
+feed_behind (b ∷ line) rest = feed_behind line rest
+
+no_further : (line rest other behind : List ℕ) → HasNoFeed other → line ++ 10 ∷ rest ≡ other ++ behind → length line < length other → ⊥
+no_further line rest other behind none e less =
+    none (length line) 0 less
+    (sym (get_or_append_left other behind 0 (length line) less) ∙ ap (λ (b : List ℕ). slice_index_or b (length line) 0) (sym e) ∙ feed_behind line rest)
+
+same_length : (m n : ℕ) → (m < n → ⊥) → (n < m → ⊥) → m ≡ n
+same_length m n a b = omega arith
+
+-- fronts of one length are one
+same_front : (line other a b : List ℕ) → length line ≡ length other → line ++ a ≡ other ++ b → line ≡ other
+same_front line other a b same e =
+    sym (take-append_seam line a) ∙ ap (λ n. take n (line ++ a)) same ∙ ap (take (length other)) e ∙ take-append_seam other b
+
+same_rest : (line other a b : List ℕ) → length line ≡ length other → line ++ a ≡ other ++ b → a ≡ b
+same_rest line other a b same e =
+    sym (drop-append_seam line a) ∙ ap (λ n. drop n (line ++ a)) same ∙ ap (drop (length other)) e ∙ drop-append_seam other b
+
+pub lines_one : IsOne runner_rules
+lines_one bytes rest after r s (line, none, inl (short, is, asks)) (other, never, inl (brief, stands, demands)) =
+    let e = sym is ∙ stands in
+    let same = same_length (length line) (length other)
+    (no_further line rest other (10 ∷ after) never e) (no_further other after line (10 ∷ rest) none (sym e)) in (
+      asks ∙ ap request_in (same_front line other (10 ∷ rest) (10 ∷ after) same e) ∙ sym demands,
+      let f = same_rest line other (10 ∷ rest) (10 ∷ after) same e in cc f,
+    )
+lines_one bytes rest after r s (line, none, inl (short, is, asks)) (other, never, inr (long, stands, demands)) =
+    absurd (no_further line rest other after never (sym is ∙ stands) (omega arith))
+lines_one bytes rest after r s (line, none, inr (long, is, asks)) (other, never, inl (brief, stands, demands)) =
+    absurd (no_further other after line rest none (sym stands ∙ is) (omega arith))
+lines_one bytes rest after r s (line, none, inr (long, is, asks)) (other, never, inr (vast, stands, demands)) =
+    let same = long ∙ sym vast in (asks ∙ sym demands, same_rest line other rest after same (sym is ∙ stands))

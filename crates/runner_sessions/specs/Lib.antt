@@ -1,0 +1,3 @@
+-- Sessions of runner lines.
+pub mod Laws
+pub mod Line

@@ -1,0 +1,72 @@
+-- The lines of a runner (own): what one asks, and where it stands in the bytes of a session.
+use Rattle.std.specs.Prelude.{◌≡◌, ◌≢◌, ◌⊎◌, ℕ, ◌<◌, true, false, List, ◌∷◌, ◌++◌, [], length, codes, None, ok_or, Result, Ok, Err, if◌then◌else◌}
+use Rattle.std.specs.List.{All}
+use Rattle.std.specs.Option.{option_map_or}
+use Rattle.std.specs.Str.{bytes_eq}
+use Rattle.std.specs.Str.Lines.{strip_carriage_return}
+use Rattle.wf_value.specs.RefusalText.{refusal_text}
+use Rattle.wf_value.specs.declared.refusal.Refusal.{Refusal}
+use Rattle.run_plan.specs.ReplyText.{reply_text}
+use Rattle.run_plan.specs.declared.command.Command.{Command}
+use Rattle.command_lines.specs.Commands.{not_a_line, claim_of, done_of, beat_of, fetch_of}
+use Rattle.command_lines.specs.Fields.{at_space}
+use Rattle.act_sessions.specs.declared.request.Demand.{Demand}
+use Rattle.act_sessions.specs.declared.request.Demand.TheVariants as demand
+use Rattle.act_sessions.specs.declared.request.Request.{Request}
+use Rattle.act_sessions.specs.Rules.{Rules}
+use Rattle.act_sessions.specs.Told.{Response}
+
+-- `CLAIM RUNNER NUMBER LABELS`, `DONE RUNNER NUMBER LEASE RESULT`, `BEAT RUNNER LEASE` or `FETCH RUN`
+abbrev pub command_by : List ℕ → List ℕ → Result Command Refusal
+command_by word fields =
+    if bytes_eq word (codes "CLAIM") then ok_or (claim_of fields) not_a_line
+    else (if bytes_eq word (codes "DONE") then ok_or (done_of fields) not_a_line
+    else (if bytes_eq word (codes "BEAT") then ok_or (beat_of fields) not_a_line
+    else (if bytes_eq word (codes "FETCH") then ok_or (fetch_of fields) not_a_line else Err not_a_line)))
+
+-- the command of a line; every other line is refused 75
+abbrev pub command_of : List ℕ → Result Command Refusal
+command_of line = option_map_or (λ p. command_by p.0 p.1) (at_space line) (Err not_a_line)
+
+abbrev pub demand_by : Result Command Refusal → Demand Refusal
+demand_by (Ok command) = demand.Command command
+demand_by (Err e) = demand.Fault e
+
+-- what a line asks, without one carriage return at its end: the session goes on, whatever the line
+abbrev pub request_in : List ℕ → Request Refusal
+request_in line = record { demand = demand_by (command_of (strip_carriage_return line)); closes = false }
+
+-- the longest line, with its line feed
+abbrev pub most_line : ℕ
+most_line = 512
+
+-- so many bytes without a line feed are refused 75, and end the session
+abbrev pub too_long : Request Refusal
+too_long = record { demand = demand.Fault not_a_line; closes = true }
+
+abbrev pub HasNoFeed : List ℕ → Type 0
+HasNoFeed line = All (λ b. b ≢ 10) line
+
+-- The bytes begin with a line and its line feed, or with the longest line's length of bytes without one; and then there is a rest.
+abbrev pub LineReads : List ℕ → Request Refusal → List ℕ → Type 0
+LineReads bytes r rest =
+    (line : List ℕ) × HasNoFeed line
+    × (((length line < most_line) × (bytes ≡ line ++ 10 ∷ rest) × (r ≡ request_in line))
+    ⊎ ((length line ≡ most_line) × (bytes ≡ line ++ rest) × (r ≡ too_long)))
+
+-- the reply's text or the refusal's, and a line feed
+abbrev pub response_text : Response → List ℕ
+response_text (Ok reply) = reply_text reply ++ 10 ∷ []
+response_text (Err e) = refusal_text e ++ 10 ∷ []
+
+-- At most 1,024 lines, faulty and empty ones among them. An unfinished line waits. Want of memory is told by a fault alone.
+abbrev pub runner_rules : Rules Refusal
+runner_rules = record {
+  reads = LineReads;
+  waits = HasNoFeed;
+  answer_text = λ last a. response_text a;
+  fault_text = λ last e. refusal_text e ++ 10 ∷ [];
+  starved = None;
+  most = 1024;
+  limit = most_line;
+}

@@ -1,0 +1,77 @@
+ghost use Rattle.std.specs.Prelude.{◌≡◌, Ok};
+ghost use Rattle.wf_value.specs.Gives.{Gives};
+ghost use Rattle.act_sessions.specs.Rules.{IsNext};
+ghost use Rattle.command_lines.specs.Commands.{not_a_line};
+ghost use Rattle.runner_sessions.specs.Line.{command_by, command_of, demand_by, request_in, runner_rules};
+
+use act_sessions::{Demand, Found, Request};
+use command_lines::{
+    at_space, beat_of, claim_of, done_of, fetch_of, place_of_line_feed, spelled,
+    strip_carriage_return,
+};
+use run_plan::Command;
+use std::alloc::Global;
+use wf_value::{Code, Refusal};
+
+/// The longest line with its line feed, in bytes.
+pub const MOST_LINE: usize = 512;
+
+fn command_by(alloc: Global, word: &[u8], fields: &[u8]) -> Result<Command, Refusal>
+    ensures { Gives (λ c. c) result (command_by word.now fields.now) }
+{
+    if word == b"CLAIM".as_slice() {
+        claim_of(alloc, fields)
+    } else if word == b"DONE".as_slice() {
+        done_of(alloc, fields)
+    } else if word == b"BEAT".as_slice() {
+        beat_of(alloc, fields)
+    } else if word == b"FETCH".as_slice() {
+        fetch_of(fields)
+    } else {
+        spelled(None)
+    }
+}
+
+/// The command of a line. Every other line is refused 75, and want of memory is 50.
+fn command_of(alloc: Global, line: &[u8]) -> Result<Command, Refusal>
+    ensures { Gives (λ c. c) result (command_of line.now) }
+{
+    let (word, fields) = spelled(at_space(line))?;
+    command_by(alloc, word, fields)
+}
+
+/// What a line asks, which may end with a carriage return.
+fn request_in(alloc: Global, line: &[u8]) -> Result<Request<Refusal>, Refusal>
+    ensures { Gives (λ r. r) result (Ok (request_in line.now)) }
+{
+    let demand = match command_of(alloc, strip_carriage_return(line)) {
+        Ok(command) => Demand::Command(command),
+        Err(Refusal::Numbered(Code::NoMemory)) => return Err(Refusal::Numbered(Code::NoMemory)),
+        Err(refusal) => Demand::Fault(refusal),
+    };
+    Ok(Request {
+        demand,
+        closes: false,
+    })
+}
+
+/// The line that stands whole at the front of the bytes: one with its line feed, or as many bytes as the longest has without one.
+pub fn next_line(alloc: Global, bytes: &[u8]) -> Result<Option<Found<Refusal>>, Refusal>
+    ensures { IsNext runner_rules bytes.now result }
+{
+    let front = &bytes[..bytes.len().min(MOST_LINE)];
+    match place_of_line_feed(front) {
+        Some(place) => Ok(Some(Found {
+            request: request_in(alloc, &bytes[..place])?,
+            length: place + 1,
+        })),
+        None if front.len() < MOST_LINE => Ok(None),
+        None => Ok(Some(Found {
+            request: Request {
+                demand: Demand::Fault(Refusal::Numbered(Code::Line)),
+                closes: true,
+            },
+            length: MOST_LINE,
+        })),
+    }
+}

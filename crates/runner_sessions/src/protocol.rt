@@ -1,0 +1,79 @@
+ghost use Rattle.std.specs.Prelude.{◌≡◌, ◌++◌, ◌∷◌, [], Ok};
+ghost use Rattle.std.proofs.Common.{rules as common};
+ghost use Rattle.wf_value.specs.Gives.{Gives};
+ghost use Rattle.wf_value.specs.RefusalText.{refusal_text};
+ghost use Rattle.runner_sessions.specs.Line.{response_text};
+
+use crate::line::{MOST_LINE, next_line};
+use act_sessions::{Found, Protocol};
+use run_plan::Reply;
+use std::alloc::Global;
+use wf_value::{Chars, Refusal};
+
+/// The most lines of a session.
+const MOST_LINES: u64 = 1024;
+
+/// The protocol of runners.
+pub struct RunnerLines;
+
+/// A text and a line feed.
+fn line_of(text: Chars) -> Result<Vec<u8>, Refusal>
+    ensures { Gives (λ v. v.items) result (Ok (text ++ 10 ∷ [])) }
+{
+    let mut line = text.into_string();
+    line.push_str("\n")?;
+    Ok(line.into_bytes())
+}
+
+/// The line that answers a command.
+fn response_text(alloc: Global, answer: &Result<Reply, Refusal>) -> Result<Vec<u8>, Refusal>
+    ensures { Gives (λ v. v.items) result (Ok (response_text answer.now)) }
+{
+    match answer {
+        Ok(reply) => line_of(reply.text(alloc)?),
+        Err(refusal) => line_of(refusal.text(alloc)?),
+    }
+}
+
+impl Protocol for RunnerLines {
+    ghost use Rattle.runner_sessions.specs.Laws.{lines_one, lines_steady};
+    ghost use Rattle.runner_sessions.specs.Line.{runner_rules};
+
+    type Fault = Refusal;
+
+    ghost rules = { runner_rules };
+
+    fn most() -> u64 {
+        MOST_LINES
+    }
+
+    fn limit() -> usize {
+        MOST_LINE
+    }
+
+    fn next(alloc: Global, bytes: &[u8]) -> Result<Option<Found<Refusal>>, Refusal> {
+        next_line(alloc, bytes)
+    }
+
+    fn answer_text(
+        alloc: Global,
+        _last: bool,
+        answer: &Result<Reply, Refusal>,
+    ) -> Result<Vec<u8>, Refusal> {
+        response_text(alloc, answer)
+    }
+
+    fn fault_text(alloc: Global, _last: bool, fault: &Refusal) -> Result<Vec<u8>, Refusal> {
+        line_of(fault.text(alloc)?)
+    }
+
+    fn starved() -> Option<&'static [u8]> {
+        None
+    }
+
+    ghost steady = { lines_steady };
+
+    ghost one = { lines_one };
+
+    ghost some = { Prim.search common };
+}

@@ -1,0 +1,114 @@
+//! Commands, made of their words. Words that make none are refused 75.
+
+use run_plan::{
+    Beat, Claim, Command, DeliveryId, Done, EventName, Labels, Number, Prepared, RunnerName,
+    prepare,
+};
+use std::alloc::Global;
+use wf_value::{Code, Outcome, Refusal};
+
+/// A command in words: the delivery and the body of a `push`, or what a runner sends, or a runner, or a run.
+#[derive(Drop)]
+pub enum Words<'a> {
+    Admit(&'a str, &'a str),
+    Claim(&'a str, &'a str, &'a str),
+    Done(&'a str, &'a str, &'a str, Outcome),
+    Beat(&'a str, &'a str),
+    Cancel(&'a str),
+    Lost(&'a str),
+    Look(&'a str),
+    Fetch(&'a str),
+}
+
+/// A value that has to be there.
+pub fn there<T: Drop>(found: Option<T>) -> Result<T, Refusal> {
+    match found {
+        Some(value) => Ok(value),
+        None => Err(Refusal::Numbered(Code::Line)),
+    }
+}
+
+pub fn number(text: &str) -> Result<Number, Refusal> {
+    there(Number::of(text.as_bytes()))
+}
+
+pub fn labels(alloc: Global, text: &str) -> Result<Labels, Refusal> {
+    there(Labels::of(alloc, text.as_bytes())?)
+}
+
+fn runner(alloc: Global, text: &str) -> Result<RunnerName, Refusal> {
+    there(RunnerName::of(alloc, text.as_bytes())?)
+}
+
+fn delivery(alloc: Global, text: &str) -> Result<DeliveryId, Refusal> {
+    there(DeliveryId::of(alloc, text.as_bytes())?)
+}
+
+fn event(alloc: Global, text: &str) -> Result<EventName, Refusal> {
+    there(EventName::of(alloc, text.as_bytes())?)
+}
+
+/// The event of this name, with its delivery's id and its body.
+pub fn prepared(alloc: Global, id: &str, name: &str, body: &str) -> Result<Prepared, Refusal> {
+    let event = event(alloc, name)?;
+    let delivery = delivery(alloc, id)?;
+    let body = body.as_bytes().to_vec(alloc)?;
+    prepare(alloc, event, delivery, body)
+}
+
+pub fn claim(alloc: Global, name: &str, count: &str, asked: &str) -> Result<Claim, Refusal> {
+    let number = number(count)?;
+    let runner = runner(alloc, name)?;
+    let labels = labels(alloc, asked)?;
+    Ok(Claim {
+        runner,
+        number,
+        labels,
+    })
+}
+
+pub fn done(
+    alloc: Global,
+    name: &str,
+    count: &str,
+    lease: &str,
+    outcome: Outcome,
+) -> Result<Done, Refusal> {
+    let lease = number(lease)?;
+    let number = number(count)?;
+    Ok(Done {
+        runner: runner(alloc, name)?,
+        number,
+        lease,
+        result: outcome,
+    })
+}
+
+pub fn beat(alloc: Global, name: &str, lease: &str) -> Result<Beat, Refusal> {
+    let lease = number(lease)?;
+    let runner = runner(alloc, name)?;
+    Ok(Beat { runner, lease })
+}
+
+/// What a runner sends, or that it is lost.
+fn command_of_runner(alloc: Global, words: &Words<'_>) -> Result<Command, Refusal> {
+    match words {
+        Words::Claim(name, count, asked) => Ok(Command::Claim(claim(alloc, name, count, asked)?)),
+        Words::Done(name, count, lease, outcome) => {
+            Ok(Command::Done(done(alloc, name, count, lease, *outcome)?))
+        }
+        Words::Beat(name, lease) => Ok(Command::Beat(beat(alloc, name, lease)?)),
+        Words::Lost(name) => Ok(Command::Lost(runner(alloc, name)?)),
+        _ => Err(Refusal::Numbered(Code::Line)),
+    }
+}
+
+pub fn command_of(alloc: Global, words: &Words<'_>) -> Result<Command, Refusal> {
+    match words {
+        Words::Admit(id, body) => Ok(Command::Admit(prepared(alloc, id, "push", body)?)),
+        Words::Cancel(run) => Ok(Command::Cancel(number(run)?)),
+        Words::Look(run) => Ok(Command::Look(number(run)?)),
+        Words::Fetch(run) => Ok(Command::Fetch(number(run)?)),
+        words => command_of_runner(alloc, words),
+    }
+}

@@ -1,0 +1,33 @@
+//! Disks can be handed to another thread, and stand behind a lock that threads share.
+
+use act_disk::{Disk, Empty, FileDisk, FuseDisk, HostFile, MemoryDisk, ScriptedFile};
+use std::sync::Mutex;
+
+/// A value that threads may share.
+fn shared<T: Sync>(_value: &T) {}
+
+/// Shares a disk behind a lock, which another thread may have.
+fn share<D: Disk + Send + Drop>(disk: D) {
+    shared(&Mutex::new(disk));
+}
+
+/// A disk that there is none of. Its type is what is asked for.
+fn is_shared<D: Disk + Send + Drop, E: Drop>(opened: Result<D, E>) -> bool {
+    match opened {
+        Ok(disk) => {
+            share(disk);
+            true
+        }
+        Err(_) => false,
+    }
+}
+
+#[test]
+fn disks_can_be_sent(rt: HostRuntime) {
+    let alloc = rt.alloc();
+    share(MemoryDisk::new(alloc));
+    share(FuseDisk::once(MemoryDisk::new(alloc), 0));
+    assert!(rt; is_shared(FileDisk::over(ScriptedFile::new(alloc, Vec::new(alloc)))));
+    let opened = FileDisk::<HostFile<Empty>>::open(&rt, "act_disk_no_such_folder/disk");
+    assert!(rt; !is_shared(opened));
+}

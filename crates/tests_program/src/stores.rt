@@ -1,0 +1,199 @@
+//! What is made and shown of disks.
+
+use crate::holds::holds;
+use act_disk::{Disk, Fill, FuseDisk, MemoryDisk};
+use act_store::Store;
+use acts_ops::{run_init, run_show};
+use std::alloc::Global;
+use std::process::Abort;
+use tests_common::commands::{Words, command_of};
+use wf_value::Refusal;
+
+/// The least length of an area.
+const LEAST: u64 = 4_096;
+
+/// The body of an event of one job.
+const BUILD: &str =
+    "{\"repo\":\"o/r\",\"path\":\"ci.json\",\"workflow\":{\"jobs\":{\"build\":{\"runs-on\":\"linux\"}}}}";
+
+/// The number of the refusal with which a call ended, and 0 where it ended well.
+fn number_of(ended: Result<(), Refusal>) -> u64 {
+    match ended {
+        Ok(()) => 0,
+        Err(refusal) => refusal.number(),
+    }
+}
+
+/// A making prints this, and ends with this number.
+fn expect_making<D: Disk + Drop>(
+    rt: &impl Abort,
+    alloc: Global,
+    disk: D,
+    number: u64,
+    printed: &str,
+) {
+    holds!(rt; disk.faults() < u64::MAX);
+    let mut text = Vec::new(alloc);
+    holds!(rt; number_of(run_init(alloc, disk, LEAST, &mut text)) == number, number);
+    holds!(rt; text.as_slice() == printed.as_bytes(), number);
+}
+
+/// A store is made on an empty disk alone, and where each of the six calls of the device is done.
+#[test]
+fn makes_a_store(rt: HostRuntime) {
+    let alloc = rt.alloc();
+    expect_making(&rt, alloc, MemoryDisk::new(alloc), 0, "made\n");
+    let full = MemoryDisk::from_slice(alloc, &[0]).expect(&rt, "a disk");
+    expect_making(&rt, alloc, full, 55, "");
+    for call in 0..6 {
+        let disk = FuseDisk::once(MemoryDisk::new(alloc), call);
+        expect_making(&rt, alloc, disk, 51, "");
+    }
+    let spared = FuseDisk::once(MemoryDisk::new(alloc), 6);
+    expect_making(&rt, alloc, spared, 0, "made\n");
+}
+
+/// A showing prints this, and ends with this number.
+fn expect_showing<D: Disk + Drop>(
+    rt: &impl Abort,
+    alloc: Global,
+    disk: D,
+    number: u64,
+    printed: &str,
+) {
+    holds!(rt; disk.faults() < u64::MAX);
+    let mut text = Vec::new(alloc);
+    holds!(rt; number_of(run_show(alloc, disk, &mut text)) == number, number);
+    holds!(rt; text.as_slice() == printed.as_bytes(), printed);
+}
+
+/// Applies commands, and commits once.
+fn enter(
+    alloc: Global,
+    store: &mut Store<MemoryDisk>,
+    asked: &[Words<'_>],
+) -> Result<u64, Refusal> {
+    for words in asked {
+        let _receipt = store.apply(alloc, 0, command_of(alloc, words)?)?;
+    }
+    store.commit()
+}
+
+/// The disk of a new store on which these commands were committed at once.
+fn disk_after(rt: &impl Abort, alloc: Global, asked: &[Words<'_>]) -> MemoryDisk {
+    match Store::init(alloc, MemoryDisk::new(alloc), LEAST) {
+        Ok(mut store) => {
+            let covered = enter(alloc, &mut store, asked).expect(rt, "a commit");
+            holds!(rt; covered == asked.len() as u64);
+            store.into_disk()
+        }
+        Err((_, refusal)) => panic!(rt; "not made: {refusal}"),
+    }
+}
+
+const ONE_RUN: &[Words<'static>] = &[Words::Admit("d1", BUILD)];
+
+const QUEUED: &str = "run 1 1 queued - build:open(ready)\n";
+
+const ASKED_OF_TWO: &[Words<'static>] = &[
+    Words::Admit("d1", BUILD),
+    Words::Cancel("1"),
+    Words::Admit("d2", BUILD),
+    Words::Claim("r1", "1", "linux"),
+];
+
+const TWO_RUNS: &str = concat!(
+    "run 1 1 completed cancelled build:cancelled(cancelled)\n",
+    "run 2 2 in_progress - build:open(running)\n",
+);
+
+#[test]
+fn shows_the_runs_of_a_store(rt: HostRuntime) {
+    let alloc = rt.alloc();
+    expect_showing(&rt, alloc, disk_after(&rt, alloc, &[]), 0, "");
+    expect_showing(&rt, alloc, disk_after(&rt, alloc, ONE_RUN), 0, QUEUED);
+    let two = disk_after(&rt, alloc, ASKED_OF_TWO);
+    expect_showing(&rt, alloc, two, 0, TWO_RUNS);
+}
+
+/// The bytes of a new store that are no zeros: an open gate, version 1, generation 1, and the length of the empty table's text.
+const FRONT: &[(usize, u8)] = &[(0, 0xA5), (1, 1), (9, 1), (17, 12)];
+
+fn set(bytes: &mut [u8], place: usize, byte: u8) {
+    if let Some(there) = bytes.get_mut(place) {
+        *there = byte;
+    }
+}
+
+/// The disk of a new store, of which a byte is another one.
+fn disk_with(alloc: Global, place: usize, byte: u8) -> Result<MemoryDisk, Refusal> {
+    let mut bytes = vec![in alloc; 0; 8_192]?;
+    for &(at, value) in FRONT {
+        set(&mut bytes, at, value);
+    }
+    set(&mut bytes, place, byte);
+    MemoryDisk::from_slice(alloc, &bytes)
+}
+
+fn zeros(alloc: Global) -> Result<MemoryDisk, Refusal> {
+    let bytes = vec![in alloc; 0; 8_192]?;
+    MemoryDisk::from_slice(alloc, &bytes)
+}
+
+/// A byte of a new store that is another one, and the number with which its showing ends: the area's gate, its version, a last lease out
+/// of range, and the gate of the first record, which is closed by any byte but one, and by that opens a record without a batch.
+const BYTES: &[(usize, u8, u64)] = &[
+    (0, 0, 53),
+    (1, 2, 54),
+    (18, 0xFF, 54),
+    (30, 1, 0),
+    (30, 0xA5, 54),
+];
+
+#[test]
+fn refuses_to_show_what_is_no_store(rt: HostRuntime) {
+    let alloc = rt.alloc();
+    expect_showing(&rt, alloc, zeros(alloc).expect(&rt, "a disk"), 53, "");
+    expect_showing(&rt, alloc, MemoryDisk::new(alloc), 53, "");
+    for &(place, byte, number) in BYTES {
+        let disk = disk_with(alloc, place, byte).expect(&rt, "a disk");
+        expect_showing(&rt, alloc, disk, number, "");
+    }
+}
+
+/// The device fails in the opening: at its sync, at the read of each area's gate, and at the read of the area that stands.
+#[test]
+fn tells_that_the_device_fails_in_a_showing(rt: HostRuntime) {
+    let alloc = rt.alloc();
+    for call in 0..4 {
+        let disk = FuseDisk::once(disk_after(&rt, alloc, ONE_RUN), call);
+        expect_showing(&rt, alloc, disk, 51, "");
+    }
+    let spared = FuseDisk::once(disk_after(&rt, alloc, ONE_RUN), 4);
+    expect_showing(&rt, alloc, spared, 0, QUEUED);
+}
+
+/// A stop inside a call of the first commit, how it fills what was not synced, and what is shown then: inside the write of the record and
+/// its sync no run; inside the write of the gate and its sync none, or run 1.
+const STOPS: &[(u64, Fill, &str)] = &[
+    (6, Fill::Old, ""),
+    (6, Fill::New, ""),
+    (7, Fill::Old, ""),
+    (7, Fill::New, ""),
+    (8, Fill::Old, ""),
+    (8, Fill::New, QUEUED),
+    (9, Fill::Old, ""),
+    (9, Fill::New, QUEUED),
+];
+
+#[test]
+fn shows_what_a_stop_leaves(rt: HostRuntime) {
+    let alloc = rt.alloc();
+    let disk = disk_after(&rt, alloc, ONE_RUN);
+    holds!(rt; disk.calls().len() == 10);
+    for &(call, fill, shown) in STOPS {
+        let image = disk.image(alloc, call, fill).expect(&rt, "an image");
+        expect_showing(&rt, alloc, image, 0, shown);
+    }
+    expect_showing(&rt, alloc, disk, 0, QUEUED);
+}

@@ -1,0 +1,86 @@
+//! Webhook sessions whose reader or writer fails at each byte.
+
+use crate::webhook_fakes::{Bounded, Fake, Pieces};
+use crate::webhook_rows::{CREATED, EVENT};
+use act_sessions::{Ending, Transcript};
+use std::alloc::Global;
+use std::process::Abort;
+use webhook_sessions::Session;
+
+/// The two worked requests and what answers them.
+const INPUT: &str = concat!(
+    "POST /events HTTP/1.1\r\n",
+    "Host: x\r\n",
+    "X-GitHub-Delivery: d1\r\n",
+    "X-GitHub-Event: push\r\n",
+    "Content-Length: 81\r\n",
+    "\r\n",
+    "{\"repo\":\"o/r\",\"path\":\"ci.json\",\"workflow\":{\"jobs\":{\"build\":{\"runs-on\":\"linux\"}}}}",
+    "GET /runs/1 HTTP/1.1\r\n\r\n",
+);
+
+const OUTPUT: &str = concat!(
+    "HTTP/1.1 201 Created\r\nContent-Type: text/plain\r\nContent-Length: 10\r\n\r\ncreated 1\n",
+    "HTTP/1.1 200 OK\r\nContent-Type: text/plain\r\nContent-Length: 35\r\n\r\nrun 1 1 queued - build:open(ready)\n",
+);
+
+/// A session that broke: its transcript, what was written, and how often the fake was asked.
+fn broken(
+    rt: &impl Abort,
+    alloc: Global,
+    reader: Pieces<'_>,
+    taken: usize,
+) -> (Transcript, Vec<u8>, usize) {
+    let mut reader = reader;
+    let mut writer = Bounded::new(alloc, taken);
+    let mut fake = Fake::new(alloc);
+    match Session::run(alloc, &mut reader, &mut writer, &mut fake) {
+        Ok(_) => panic!(rt; "it broke"),
+        Err(fault) => {
+            assert!(rt; fault.transcript.ending == Ending::Broken);
+            assert!(rt; fault.refusal().number() == 61);
+            (fault.transcript, writer.bytes, fake.count())
+        }
+    }
+}
+
+/// That a transcript holds what was asked and counts what was written.
+fn expect_held(rt: &impl Abort, transcript: &Transcript, written: &[u8], asked: usize) {
+    assert!(rt; transcript.asked.len() == asked);
+    assert!(rt; transcript.written == written.len() as u64);
+}
+
+#[test]
+fn fails_with_its_reader(rt: HostRuntime) {
+    for given in 0..=INPUT.len() {
+        let reader = Pieces::failing(INPUT.as_bytes(), 50, given);
+        let (transcript, written, asked) = broken(&rt, rt.alloc(), reader, usize::MAX);
+        let wanted = if given < EVENT.len() {
+            (0, "")
+        } else if given < INPUT.len() {
+            (1, CREATED)
+        } else {
+            (2, OUTPUT)
+        };
+        assert!(rt;
+            asked == wanted.0 && written.as_slice() == wanted.1.as_bytes(),
+            "{given}"
+        );
+        expect_held(&rt, &transcript, written.as_slice(), asked);
+    }
+}
+
+#[test]
+fn fails_with_its_writer(rt: HostRuntime) {
+    let output = OUTPUT.as_bytes();
+    for taken in 0..output.len() {
+        let reader = Pieces::new(INPUT.as_bytes(), 50);
+        let (transcript, written, asked) = broken(&rt, rt.alloc(), reader, taken);
+        let wanted = if taken < CREATED.len() { 1 } else { 2 };
+        assert!(rt;
+            asked == wanted && written.as_slice() == &output[..taken],
+            "{taken}"
+        );
+        expect_held(&rt, &transcript, written.as_slice(), asked);
+    }
+}

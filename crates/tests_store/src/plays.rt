@@ -1,0 +1,178 @@
+//! Scripts whose answers are worked out by hand, and what opens of their disks.
+
+use crate::events::{BUILD, BUILD_ELSEWHERE};
+use crate::holds::holds;
+use crate::stores::{Ask, LEAST, Row, close, made, opened, play, steps_of, text_of, try_make};
+use act_disk::{Disk, FuseDisk, MemoryDisk};
+use act_store::{Played, Store};
+use std::alloc::Global;
+use std::process::Abort;
+use tests_common::commands::Words;
+use wf_value::{Outcome, Refusal};
+
+/// A run is made and leased. Nothing is pending at the first commit and at the last.
+const FIRST: &[Row] = &[
+    (Ask::Commit, "covered 0", 0, 0),
+    (Ask::Apply(Words::Look("1")), "refused 40", 1, 0),
+    (Ask::Apply(Words::Admit("d1", BUILD)), "created 1", 2, 0),
+    (Ask::Commit, "covered 2", 2, 2),
+    (
+        Ask::Apply(Words::Claim("r1", "2", "linux")),
+        "refused 43 0",
+        3,
+        2,
+    ),
+    (
+        Ask::Apply(Words::Claim("r1", "1", "linux")),
+        "lease 1 1 build 0 {}",
+        4,
+        2,
+    ),
+    (Ask::Apply(Words::Beat("r1", "1")), "go on", 5, 2),
+    (Ask::Commit, "covered 5", 5, 5),
+    (Ask::Commit, "covered 5", 5, 5),
+];
+
+/// After an opening: the delivery has its run and no second one, and the runner's last number has the reply that was kept. An entry
+/// stays behind that is not covered.
+const AGAIN: &[Row] = &[
+    (Ask::Apply(Words::Admit("d1", BUILD)), "created 1", 1, 0),
+    (
+        Ask::Apply(Words::Admit("d1", BUILD_ELSEWHERE)),
+        "created 1",
+        2,
+        0,
+    ),
+    (Ask::Apply(Words::Look("2")), "refused 40", 3, 0),
+    (
+        Ask::Apply(Words::Claim("r1", "1", "linux")),
+        "lease 1 1 build 0 {}",
+        4,
+        0,
+    ),
+    (
+        Ask::Apply(Words::Claim("r1", "1", "gpu")),
+        "refused 43 1",
+        5,
+        0,
+    ),
+    (Ask::Commit, "covered 5", 5, 5),
+    (
+        Ask::Apply(Words::Done("r1", "2", "1", Outcome::Success)),
+        "ok",
+        6,
+        5,
+    ),
+];
+
+/// The report was not covered, so it counts for nothing.
+const AFTER_THAT: &[Row] = &[
+    (
+        Ask::Apply(Words::Look("1")),
+        "run 1 1 in_progress - build:open(running)",
+        1,
+        0,
+    ),
+    (
+        Ask::Apply(Words::Done("r1", "2", "1", Outcome::Failure)),
+        "ok",
+        2,
+        0,
+    ),
+    (
+        Ask::Apply(Words::Done("r1", "2", "1", Outcome::Failure)),
+        "ok",
+        3,
+        0,
+    ),
+    (
+        Ask::Apply(Words::Look("1")),
+        "run 1 1 completed failure build:failure(failure)",
+        4,
+        0,
+    ),
+    (Ask::Commit, "covered 4", 4, 4),
+];
+
+/// Each is played over what the one before it left.
+const PLAYS: &[&[Row]] = &[FIRST, AGAIN, AFTER_THAT];
+
+#[test]
+fn what_is_covered_opens_again(rt: HostRuntime) {
+    let mut disk = made(&rt, rt.alloc(), LEAST).into_disk();
+    for &rows in PLAYS {
+        let mut store = opened(&rt, rt.alloc(), disk);
+        play(&rt, rt.alloc(), &mut store, rows);
+        disk = store.into_disk();
+    }
+    holds!(rt; disk.faults() == 0);
+}
+
+/// Whether the answers are those of the rows.
+fn are_answers(alloc: Global, answers: &[Played], rows: &[Row]) -> Result<bool, Refusal> {
+    for (answer, row) in answers.iter().zip(rows) {
+        if text_of(alloc, answer)?.as_str() != row.1 {
+            return Ok(false);
+        }
+    }
+    Ok(answers.len() == rows.len())
+}
+
+/// Whether the steps of the rows are answered so, all in one call.
+fn plays_at_once<D: Disk>(
+    alloc: Global,
+    store: &mut Store<D>,
+    rows: &[Row],
+) -> Result<bool, Refusal> {
+    let steps = steps_of(alloc, rows)?;
+    let answers = act_store::play(alloc, store, steps.as_slice())?;
+    are_answers(alloc, answers.as_slice(), rows)
+}
+
+#[test]
+fn steps_are_played_in_one_call(rt: HostRuntime) {
+    let mut store = made(&rt, rt.alloc(), LEAST);
+    let as_wanted = plays_at_once(rt.alloc(), &mut store, FIRST).expect(&rt, "memory");
+    close(store);
+    holds!(rt; as_wanted);
+}
+
+/// The sync behind the record of the second commit fails, and nothing after it is entered or covered.
+const FAILING: &[Row] = &[
+    (Ask::Apply(Words::Admit("d1", BUILD)), "created 1", 1, 0),
+    (Ask::Commit, "covered 1", 1, 1),
+    (
+        Ask::Apply(Words::Claim("r1", "1", "linux")),
+        "lease 1 1 build 0 {}",
+        2,
+        1,
+    ),
+    (Ask::Commit, "refused 51", 2, 1),
+    (Ask::Apply(Words::Look("1")), "refused 52", 2, 1),
+    (Ask::Commit, "refused 52", 2, 1),
+];
+
+/// A disk whose call 11 fails: six calls make the store, four are of the first commit, and the next two write the record and sync it.
+fn fused(rt: &impl Abort, alloc: Global) -> Store<FuseDisk<MemoryDisk>> {
+    match try_make(rt, alloc, FuseDisk::once(MemoryDisk::new(alloc), 11), LEAST) {
+        Ok(store) => store,
+        Err((_, refusal)) => panic!(rt; "not made: {refusal}"),
+    }
+}
+
+/// The record's gate is closed still, so that the claim is not there.
+const AFTER_THE_FAULT: &[Row] = &[(
+    Ask::Apply(Words::Look("1")),
+    "run 1 1 queued - build:open(ready)",
+    1,
+    0,
+)];
+
+#[test]
+fn steps_after_a_fault_are_refused(rt: HostRuntime) {
+    let mut store = fused(&rt, rt.alloc());
+    play(&rt, rt.alloc(), &mut store, FAILING);
+    let mut again = opened(&rt, rt.alloc(), store.into_disk().into_inner());
+    play(&rt, rt.alloc(), &mut again, AFTER_THE_FAULT);
+    close(again);
+}

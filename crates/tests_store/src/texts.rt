@@ -1,0 +1,174 @@
+//! Stores that begin with the text of a table with runs and runners.
+
+use crate::events::{BUILD, BUILD_ELSEWHERE};
+use crate::holds::holds;
+use crate::openings::lay;
+use crate::stores::{Ask, Row, close, number_of_opening, opened, play};
+use act_disk::MemoryDisk;
+use run_table::Table;
+use std::alloc::Global;
+use std::process::Abort;
+use table_text::write_table;
+use tests_common::commands::{Words, command_of};
+use wf_value::{Outcome, Refusal};
+
+/// A disk of two areas of the least length. The first is open, of version 1 and of generation 1, and has this text behind its length;
+/// all other bytes are zeros.
+fn disk_of(alloc: Global, text: &[u8]) -> Result<MemoryDisk, Refusal> {
+    let mut bytes = vec![in alloc; 0; 8_192]?;
+    lay(&mut bytes, 0, &[0xA5, 1, 0, 0, 0, 0, 0, 0, 0, 1]);
+    lay(&mut bytes, 10, &(text.len() as u64).to_be_bytes());
+    lay(&mut bytes, 18, text);
+    MemoryDisk::from_slice(alloc, &bytes)
+}
+
+/// Runs of two workflows, the third the second of its own, each of whose legs a runner has.
+const LEASED: &[Words<'static>] = &[
+    Words::Admit("d1", BUILD),
+    Words::Claim("r1", "1", "linux"),
+    Words::Admit("d2", BUILD_ELSEWHERE),
+    Words::Claim("r2", "1", "linux"),
+    Words::Admit("d3", BUILD),
+    Words::Claim("r3", "1", "linux"),
+];
+
+fn leased(alloc: Global) -> Result<Table, Refusal> {
+    let mut table = Table::new(alloc);
+    for words in LEASED {
+        let _reply = table.step(alloc, &command_of(alloc, words)?)?;
+    }
+    Ok(table)
+}
+
+/// The text of the table after `LEASED`.
+fn leased_text(rt: &impl Abort, alloc: Global) -> Vec<u8> {
+    let table = leased(alloc).expect(rt, "a table");
+    holds!(rt; table.runners().len() <= 4_294_967_295);
+    let mut text = Vec::new(alloc);
+    write_table(&mut text, &table).expect(rt, "memory");
+    text
+}
+
+/// The runs of the text, with their numbers, and the leases, numbers and kept replies of its runners.
+const GONE_ON: &[Row] = &[
+    (
+        Ask::Apply(Words::Look("1")),
+        "run 1 1 in_progress - build:open(running)",
+        1,
+        0,
+    ),
+    (
+        Ask::Apply(Words::Look("2")),
+        "run 2 1 in_progress - build:open(running)",
+        2,
+        0,
+    ),
+    (
+        Ask::Apply(Words::Look("3")),
+        "run 3 2 in_progress - build:open(running)",
+        3,
+        0,
+    ),
+    (
+        Ask::Apply(Words::Claim("r1", "1", "linux")),
+        "lease 1 1 build 0 {}",
+        4,
+        0,
+    ),
+    (
+        Ask::Apply(Words::Claim("r1", "1", "gpu")),
+        "refused 43 1",
+        5,
+        0,
+    ),
+    (
+        Ask::Apply(Words::Claim("r1", "2", "linux")),
+        "refused 42",
+        6,
+        0,
+    ),
+    (
+        Ask::Apply(Words::Done("r1", "2", "2", Outcome::Success)),
+        "refused 44",
+        7,
+        0,
+    ),
+    (Ask::Apply(Words::Admit("d4", BUILD)), "created 4", 8, 0),
+    (
+        Ask::Apply(Words::Claim("r4", "1", "linux")),
+        "lease 4 4 build 0 {}",
+        9,
+        0,
+    ),
+    (
+        Ask::Apply(Words::Done("r1", "2", "1", Outcome::Failure)),
+        "ok",
+        10,
+        0,
+    ),
+    (Ask::Commit, "covered 10", 10, 10),
+];
+
+/// What is committed stands in what opens.
+const OPENED_AGAIN: &[Row] = &[
+    (
+        Ask::Apply(Words::Look("1")),
+        "run 1 1 completed failure build:failure(failure)",
+        1,
+        0,
+    ),
+    (
+        Ask::Apply(Words::Look("4")),
+        "run 4 3 in_progress - build:open(running)",
+        2,
+        0,
+    ),
+];
+
+#[test]
+fn steps_go_on_from_the_table_of_a_text(rt: HostRuntime) {
+    let alloc = rt.alloc();
+    let text = leased_text(&rt, alloc);
+    let disk = disk_of(alloc, text.as_slice()).expect(&rt, "a disk");
+    let mut store = opened(&rt, alloc, disk);
+    play(&rt, alloc, &mut store, GONE_ON);
+    let mut again = opened(&rt, alloc, store.into_disk());
+    play(&rt, alloc, &mut again, OPENED_AGAIN);
+    close(again);
+}
+
+/// The empty table, but for its last lease, 5: no commands lead to it.
+const AFTER_FIVE: &[u8] = &[0, 0, 0, 5, 0, 0, 0, 0, 0, 0, 0, 0];
+
+const SIXTH: &[Row] = &[
+    (Ask::Apply(Words::Admit("d1", BUILD)), "created 1", 1, 0),
+    (
+        Ask::Apply(Words::Claim("r1", "1", "linux")),
+        "lease 6 1 build 0 {}",
+        2,
+        0,
+    ),
+];
+
+#[test]
+fn leases_go_on_from_the_last_of_a_text(rt: HostRuntime) {
+    let disk = disk_of(rt.alloc(), AFTER_FIVE).expect(&rt, "a disk");
+    let mut store = opened(&rt, rt.alloc(), disk);
+    play(&rt, rt.alloc(), &mut store, SIXTH);
+    close(store);
+}
+
+/// The empty table with a byte behind it, without its last byte, and with a run that is not there.
+const NO_TABLES: &[&[u8]] = &[
+    &[0, 0, 0, 0, 0, 0, 0, 0, 0, 0, 0, 0, 0],
+    &[0, 0, 0, 0, 0, 0, 0, 0, 0, 0, 0],
+    &[0, 0, 0, 0, 0, 0, 0, 1, 0, 0, 0, 0],
+];
+
+#[test]
+fn texts_of_no_table_are_refused(rt: HostRuntime) {
+    for (row, &text) in NO_TABLES.iter().enumerate() {
+        let disk = disk_of(rt.alloc(), text).expect(&rt, "a disk");
+        holds!(rt; number_of_opening(&rt, rt.alloc(), disk) == 54, row);
+    }
+}

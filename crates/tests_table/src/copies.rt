@@ -1,0 +1,132 @@
+//! Copies of commands, and of a table with runs and runners.
+
+use crate::holds::holds;
+use run_plan::Command;
+use run_table::Table;
+use std::alloc::Global;
+use tests_common::commands::{Words, command_of, prepared};
+use tests_common::values::are_apart;
+use wf_value::{Outcome, Refusal, TryCopy};
+
+/// The body of an event of one job, `build`.
+const BUILD: &str =
+    "{\"repo\":\"o/r\",\"path\":\"ci.json\",\"workflow\":{\"jobs\":{\"build\":{\"runs-on\":\"linux\"}}}}";
+
+/// The same of another path.
+const BUILD_ELSEWHERE: &str =
+    "{\"repo\":\"o/r\",\"path\":\"cd.json\",\"workflow\":{\"jobs\":{\"build\":{\"runs-on\":\"linux\"}}}}";
+
+/// The same of another label.
+const OTHER_BODY: &str =
+    "{\"repo\":\"o/r\",\"path\":\"ci.json\",\"workflow\":{\"jobs\":{\"build\":{\"runs-on\":\"gpu\"}}}}";
+
+/// Deliveries, events and bodies, of which no two are the same.
+const EVENTS: &[(&str, &str, &str)] = &[
+    ("d1", "push", BUILD),
+    ("d2", "push", BUILD),
+    ("d1", "fork", BUILD),
+    ("d1", "push", OTHER_BODY),
+];
+
+/// Other commands, of which no two are the same.
+const COMMANDS: &[Words<'static>] = &[
+    Words::Claim("r1", "1", "linux,x64"),
+    Words::Claim("r2", "1", "linux,x64"),
+    Words::Claim("r1", "2", "linux,x64"),
+    Words::Claim("r1", "1", "x64,linux"),
+    Words::Claim("r1", "1", "linux"),
+    Words::Done("r1", "1", "1", Outcome::Success),
+    Words::Done("r2", "1", "1", Outcome::Success),
+    Words::Done("r1", "2", "1", Outcome::Success),
+    Words::Done("r1", "1", "2", Outcome::Success),
+    Words::Done("r1", "1", "1", Outcome::Failure),
+    Words::Beat("r1", "1"),
+    Words::Beat("r1", "2"),
+    Words::Cancel("1"),
+    Words::Cancel("2"),
+    Words::Lost("r1"),
+    Words::Lost("r2"),
+    Words::Look("1"),
+    Words::Look("2"),
+    Words::Fetch("1"),
+    Words::Fetch("2"),
+];
+
+fn commands(alloc: Global) -> Result<Vec<Command>, Refusal> {
+    let mut commands = Vec::new(alloc);
+    for &(id, name, body) in EVENTS {
+        commands.push(Command::Admit(prepared(alloc, id, name, body)?))?;
+    }
+    for words in COMMANDS {
+        commands.push(command_of(alloc, words)?)?;
+    }
+    Ok(commands)
+}
+
+fn are_commands_apart(alloc: Global) -> Result<bool, Refusal> {
+    are_apart(alloc, commands(alloc)?.as_slice())
+}
+
+#[test]
+fn commands_are_copied_and_told_apart(rt: HostRuntime) {
+    let apart = are_commands_apart(rt.alloc()).expect(&rt, "memory");
+    holds!(rt; apart);
+}
+
+/// A command, and the printed reply.
+type Row = (Words<'static>, &'static str);
+
+/// Runs of two workflows, the third the second of its own, each of whose legs a runner has.
+const LEASED: &[Row] = &[
+    (Words::Admit("d1", BUILD), "created 1"),
+    (Words::Claim("r1", "1", "linux"), "lease 1 1 build 0 {}"),
+    (Words::Admit("d2", BUILD_ELSEWHERE), "created 2"),
+    (Words::Claim("r2", "1", "linux"), "lease 2 2 build 0 {}"),
+    (Words::Admit("d3", BUILD), "created 3"),
+    (Words::Claim("r3", "1", "linux"), "lease 3 3 build 0 {}"),
+];
+
+/// Runs, a runner's number, its last command with the reply, the lease that it holds, and the last
+/// lease of all.
+const GONE_ON: &[Row] = &[
+    (Words::Claim("r1", "1", "linux"), "lease 1 1 build 0 {}"),
+    (Words::Claim("r1", "1", "gpu"), "refused 43 1"),
+    (Words::Claim("r1", "2", "linux"), "refused 42"),
+    (Words::Done("r1", "2", "2", Outcome::Success), "refused 44"),
+    (Words::Admit("d4", BUILD), "created 4"),
+    (Words::Claim("r4", "1", "linux"), "lease 4 4 build 0 {}"),
+    (Words::Done("r1", "2", "1", Outcome::Failure), "ok"),
+    (
+        Words::Look("1"),
+        "run 1 1 completed failure build:failure(failure)",
+    ),
+];
+
+/// Whether a table answers a command so.
+fn is_answered(alloc: Global, table: &mut Table, row: &Row) -> Result<bool, Refusal> {
+    let command = command_of(alloc, &row.0)?;
+    let text = table.step(alloc, &command)?.text(alloc)?;
+    Ok(text.as_str() == row.1)
+}
+
+/// Whether a table answers commands so, in turn.
+fn plays(alloc: Global, table: &mut Table, rows: &[Row]) -> Result<bool, Refusal> {
+    for row in rows {
+        if !is_answered(alloc, table, row)? {
+            return Ok(false);
+        }
+    }
+    Ok(true)
+}
+
+/// The copy goes on from what the table was, twice: each by itself.
+#[test]
+fn copies_of_a_table_go_on(rt: HostRuntime) {
+    let alloc = rt.alloc();
+    let mut table = Table::new(alloc);
+    holds!(rt; plays(alloc, &mut table, LEASED).expect(&rt, "memory"));
+    for copy in 0..2 {
+        let mut copied = table.copy(alloc).expect(&rt, "a copy");
+        holds!(rt; plays(alloc, &mut copied, GONE_ON).expect(&rt, "memory"), copy);
+    }
+}

@@ -1,0 +1,11 @@
+pub mod Fields
+pub mod Heading
+pub mod Length
+pub mod EventHeaders
+pub mod Paths
+pub mod Asking
+pub mod Statuses
+pub mod Answers
+pub mod Hooks
+pub mod Found
+pub mod Laws

@@ -1,0 +1,49 @@
+-- What the target of a request names (own). It has to match exactly: with a query it is another one.
+use Rattle.std.specs.Prelude.{◌≡◌, ℕ, ◌-◌, List, ◌++◌, take, drop, length, codes, Option, Some, None, option_map, if◌then◌else◌}
+use Rattle.std.specs.Option.{option_map_or}
+use Rattle.std.specs.Str.{bytes_eq}
+use Rattle.run_plan.specs.SmallText.{found_if, number_of, runner_name_of}
+use Rattle.webhook_sessions.specs.declared.path.Path.{Path}
+use Rattle.webhook_sessions.specs.declared.path.Path.TheVariants.{Events, Run, Body, Cancel, Lost}
+
+-- what follows a front of the bytes, where they begin with it
+abbrev pub after_front : List ℕ → List ℕ → Option (List ℕ)
+after_front front bytes = found_if (bytes_eq (take (length front) bytes) front) (drop (length front) bytes)
+
+-- what stands before an end of the bytes, where they end with it
+abbrev pub before_end : List ℕ → List ℕ → Option (List ℕ)
+before_end end bytes =
+    let place = length bytes - length end in
+    found_if (bytes_eq (drop place bytes) end) (take place bytes)
+
+-- behind `/runs/`: RUN`/body`, RUN`/cancel` or RUN
+abbrev pub run_path : List ℕ → Option Path
+run_path rest =
+    option_map_or (λ run. option_map Body (number_of run)) (before_end (codes "/body") rest)
+    (option_map_or (λ run. option_map Cancel (number_of run)) (before_end (codes "/cancel") rest)
+    (option_map Run (number_of rest)))
+
+-- behind `/runners/`: NAME`/lost`
+abbrev pub runner_path : List ℕ → Option Path
+runner_path rest = option_map_or (λ name. option_map Lost (runner_name_of name)) (before_end (codes "/lost") rest) None
+
+abbrev pub path_of : List ℕ → Option Path
+path_of target =
+    if bytes_eq target (codes "/events") then Some Events
+    else option_map_or run_path (after_front (codes "/runs/") target) (option_map_or runner_path (after_front (codes "/runners/") target) None)
+
+-- the target that a path has
+abbrev pub IsTargetOf : Path → List ℕ → Type 0
+IsTargetOf Events target = target ≡ codes "/events"
+IsTargetOf (Run run) target = (text : List ℕ) × (number_of text ≡ Some run) × (target ≡ codes "/runs/" ++ text)
+IsTargetOf (Body run) target = (text : List ℕ) × (number_of text ≡ Some run) × (target ≡ codes "/runs/" ++ text ++ codes "/body")
+IsTargetOf (Cancel run) target = (text : List ℕ) × (number_of text ≡ Some run) × (target ≡ codes "/runs/" ++ text ++ codes "/cancel")
+IsTargetOf (Lost runner) target = (text : List ℕ) × (runner_name_of text ≡ Some runner) × (target ≡ codes "/runners/" ++ text ++ codes "/lost")
+
+-- the method that a path is asked by: RFC 9110, section 9
+abbrev pub method_of : Path → List ℕ
+method_of Events = codes "POST"
+method_of (Run run) = codes "GET"
+method_of (Body run) = codes "GET"
+method_of (Cancel run) = codes "POST"
+method_of (Lost runner) = codes "POST"

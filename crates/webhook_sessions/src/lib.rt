@@ -1,0 +1,21 @@
+//! Sessions of HTTP/1.1: what a sender's bytes ask for, and the bytes that answer it.
+#![tactic(auto)]
+
+mod answers;
+mod demand;
+mod event_headers;
+mod fault;
+mod fields;
+mod head;
+mod hook;
+pub mod laws;
+mod length;
+mod occurrence;
+mod path;
+mod protocol;
+mod request;
+mod session;
+mod statuses;
+
+pub use hook::Hook;
+pub use session::Session;

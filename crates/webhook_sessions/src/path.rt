@@ -1,0 +1,87 @@
+ghost use Rattle.std.specs.Prelude.{◌≡◌, Ok, Some, None, option_map};
+ghost use Rattle.wf_value.specs.Gives.{Gives};
+ghost use Rattle.run_plan.specs.SmallText.{number_of};
+ghost use Rattle.webhook_sessions.specs.Paths.{after_front, before_end, method_of, path_of, run_path, runner_path};
+
+use http::Method;
+use run_plan::{Number, RunnerName};
+use std::alloc::Global;
+use wf_value::Refusal;
+
+/// What the target of a request names.
+#[derive(Drop)]
+pub enum Path {
+    /// `/events`
+    Events,
+    /// `/runs/RUN`
+    Run(Number),
+    /// `/runs/RUN/body`
+    Body(Number),
+    /// `/runs/RUN/cancel`
+    Cancel(Number),
+    /// `/runners/NAME/lost`
+    Lost(RunnerName),
+}
+
+impl Path {
+    /// The path that a target is, or `None` where it is none.
+    pub fn of(alloc: Global, target: &[u8]) -> Result<Option<Path>, Refusal>
+        ensures { Gives (λ p. p) result (Ok (path_of target.now)) }
+    {
+        if target == b"/events".as_slice() {
+            return Ok(Some(Path::Events));
+        }
+        if let Some(rest) = after_front(b"/runs/", target) {
+            return Ok(run_path(rest));
+        }
+        match after_front(b"/runners/", target) {
+            Some(rest) => runner_path(alloc, rest),
+            None => Ok(None),
+        }
+    }
+
+    /// The method that the path is asked by.
+    pub fn method(&self) -> Method
+        ensures { result ≡ method_of self.now }
+    {
+        match self {
+            Path::Run(_) | Path::Body(_) => Method::GET,
+            Path::Events | Path::Cancel(_) | Path::Lost(_) => Method::POST,
+        }
+    }
+}
+
+/// What follows a front of the bytes, where they begin with it.
+fn after_front<'a>(front: &[u8], bytes: &'a [u8]) -> Option<&'a [u8]>
+    ensures { option_map (λ rest. rest.now) result ≡ after_front front.now bytes.now }
+{
+    bytes.strip_prefix(front)
+}
+
+/// What stands before an end of the bytes, where they end with it.
+fn before_end<'a>(end: &[u8], bytes: &'a [u8]) -> Option<&'a [u8]>
+    ensures { option_map (λ rest. rest.now) result ≡ before_end end.now bytes.now }
+{
+    bytes.strip_suffix(end)
+}
+
+fn run_path(rest: &[u8]) -> Option<Path>
+    ensures { result ≡ run_path rest.now }
+{
+    if let Some(run) = before_end(b"/body", rest) {
+        return Number::of(run).map(Path::Body);
+    }
+    if let Some(run) = before_end(b"/cancel", rest) {
+        return Number::of(run).map(Path::Cancel);
+    }
+    Number::of(rest).map(Path::Run)
+}
+
+fn runner_path(alloc: Global, rest: &[u8]) -> Result<Option<Path>, Refusal>
+    ensures { Gives (λ p. p) result (Ok (runner_path rest.now)) }
+{
+    match before_end(b"/lost", rest) {
+        Some(name) => Ok(RunnerName::of(alloc, name)?.map(Path::Lost)),
+        None => Ok(None),
+    }
+}

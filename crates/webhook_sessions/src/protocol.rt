@@ -1,0 +1,59 @@
+ghost use Rattle.std.proofs.Common.{rules};
+
+use crate::answers::{answer_text, fault_text, starved_text};
+use crate::fault::Fault;
+use crate::length::MOST_BODY;
+use crate::request::{MOST_HEAD, next_request};
+use act_sessions::{Found, Protocol};
+use run_plan::Reply;
+use std::alloc::Global;
+use wf_value::Refusal;
+
+/// How many requests a session takes.
+const MOST_REQUESTS: u64 = 64;
+
+/// How a sender's bytes are read and answered: HTTP/1.1.
+pub struct Hooks;
+
+impl Protocol for Hooks {
+    ghost use Rattle.webhook_sessions.specs.Hooks.{hooks};
+    ghost use Rattle.webhook_sessions.specs.Laws.{hooks_steady, hooks_one};
+
+    type Fault = Fault;
+
+    ghost rules = { hooks };
+
+    fn most() -> u64 {
+        MOST_REQUESTS
+    }
+
+    fn limit() -> usize {
+        MOST_HEAD + MOST_BODY
+    }
+
+    fn next(alloc: Global, bytes: &[u8]) -> Result<Option<Found<Fault>>, Refusal> {
+        next_request(alloc, bytes)
+    }
+
+    fn answer_text(
+        alloc: Global,
+        last: bool,
+        answer: &Result<Reply, Refusal>,
+    ) -> Result<Vec<u8>, Refusal> {
+        answer_text(alloc, last, answer)
+    }
+
+    fn fault_text(alloc: Global, last: bool, fault: &Fault) -> Result<Vec<u8>, Refusal> {
+        fault_text(alloc, last, fault)
+    }
+
+    fn starved() -> Option<&'static [u8]> {
+        Some(starved_text())
+    }
+
+    ghost steady = { hooks_steady };
+
+    ghost one = { hooks_one };
+
+    ghost some = { Prim.search rules };
+}
