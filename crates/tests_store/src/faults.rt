@@ -35,7 +35,9 @@ fn plays_to_fault(rt: &impl Abort, alloc: Global, store: &mut Store<Fused>) -> b
 fn expect_failed(rt: &impl Abort, alloc: Global, store: &mut Store<Fused>) {
     let (from, to) = (store.covered(), store.entries());
     holds!(rt; number_of(rt, alloc, store, &Ask::Apply(Words::Look("1"))) == 52);
-    holds!(rt; number_of(rt, alloc, store, &Ask::Commit) == 52);
+    for ask in [Ask::Commit, Ask::Begin, Ask::Slice, Ask::Finish] {
+        holds!(rt; number_of(rt, alloc, store, &ask) == 52);
+    }
     holds!(rt; store.covered() == from && store.entries() == to);
 }
 

@@ -5,6 +5,8 @@
 #[cfg(test)]
 mod bounds;
 #[cfg(test)]
+mod checkpoints;
+#[cfg(test)]
 mod events;
 #[cfg(test)]
 mod faults;

@@ -111,7 +111,7 @@ fn what_is_covered_opens_again(rt: HostRuntime) {
 /// Whether the answers are those of the rows.
 fn are_answers(alloc: Global, answers: &[Played], rows: &[Row]) -> Result<bool, Refusal> {
     for (answer, row) in answers.iter().zip(rows) {
-        if text_of(alloc, answer)?.as_str() != row.1 {
+        if text_of(alloc, &row.0, answer)?.as_str() != row.1 {
             return Ok(false);
         }
     }

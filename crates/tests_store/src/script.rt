@@ -10,27 +10,33 @@ use std::process::Abort;
 use tests_common::commands::Words;
 use wf_value::{Outcome, Refusal};
 
-/// Commits of one command, of several and of none.
+/// Commits of one command, of several and of none, beside two checkpoints: the second one closes an open gate.
 pub const SCRIPT: &[Ask] = &[
     Ask::Apply(Words::Admit("d1", BUILD)),
     Ask::Commit,
     Ask::Apply(Words::Claim("r1", "1", "linux,x")),
     Ask::Apply(Words::Admit("d2", BUILD_ELSEWHERE)),
+    Ask::Begin,
     Ask::Apply(Words::Admit("d1", THREE)),
     Ask::Commit,
     Ask::Commit,
+    Ask::Slice,
     Ask::Apply(Words::Done("r1", "2", "1", Outcome::Success)),
     Ask::Apply(Words::Admit("d3", THREE)),
+    Ask::Finish,
     Ask::Apply(Words::Cancel("2")),
     Ask::Commit,
     Ask::Apply(Words::Claim("r2", "1", "x")),
     Ask::Apply(Words::Look("1")),
+    Ask::Begin,
+    Ask::Slice,
     Ask::Apply(Words::Lost("r2")),
     Ask::Commit,
+    Ask::Finish,
     Ask::Apply(Words::Claim("r1", "3", "linux,x")),
 ];
 
-/// A commit: how many entries were covered before it, and how many there were.
+/// A step: how many entries were covered before it, and how many there were.
 #[derive(Clone, Copy)]
 pub struct Span {
     pub from: u64,
@@ -52,7 +58,7 @@ fn told_by<D: Disk>(alloc: Global, store: &mut Store<D>) -> Result<String, Refus
     for probe in PROBES {
         let answer = asked(alloc, store, probe)?;
         told.push_str("\n")?;
-        told.push_str(text_of(alloc, &answer)?.as_str())?;
+        told.push_str(text_of(alloc, probe, &answer)?.as_str())?;
     }
     Ok(told)
 }

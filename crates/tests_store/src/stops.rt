@@ -4,29 +4,22 @@ use crate::holds::holds;
 use crate::script::{SCRIPT, Span, expect_either, tables};
 use crate::stores::{LEAST, asked, made, number_of_opening};
 use act_disk::{Fill, MemoryDisk};
-use act_store::Store;
 use std::alloc::Global;
 use std::process::Abort;
 
-/// How many writes and syncs make a store, and a commit.
+/// How many writes and syncs make a store.
 const MAKES: usize = 6;
-
-const COMMITS: usize = 4;
 
 const FILLS: &[Fill] = &[Fill::Old, Fill::New, Fill::Half, Fill::Gates];
 
-/// Plays the script, and keeps each commit that wrote.
-fn play(rt: &impl Abort, alloc: Global, store: &mut Store<MemoryDisk>) -> Vec<Span> {
-    let mut spans = Vec::new(alloc);
-    for ask in SCRIPT {
-        let from = store.covered();
-        let _answer = asked(alloc, store, ask).expect(rt, "memory");
-        let to = store.covered();
-        if from < to {
-            spans.push(Span { from, to }).expect(rt, "memory");
-        }
+/// The first steps of the script, so many of them: how many entries are covered then, and how many there are, and the disk.
+fn played(rt: &impl Abort, alloc: Global, count: usize) -> (Span, MemoryDisk) {
+    let mut store = made(rt, alloc, LEAST);
+    for ask in SCRIPT.iter().take(count) {
+        let _answer = asked(alloc, &mut store, ask).expect(rt, "memory");
     }
-    spans
+    let (from, to) = (store.covered(), store.entries());
+    (Span { from, to }, store.into_disk())
 }
 
 /// The images of a stop inside a call, with each fill.
@@ -45,23 +38,27 @@ fn expect_call(
     }
 }
 
-/// The commit of a call behind those that make the store.
-fn span_of(rt: &impl Abort, spans: &[Span], call: usize) -> Span {
-    let place = call.saturating_sub(MAKES) / COMMITS;
-    *spans.get(place).expect(rt, "a commit")
+/// The images of a stop inside each call of a step.
+fn expect_step(rt: &impl Abort, alloc: Global, tables: &[String], step: usize) {
+    let (before, old) = played(rt, alloc, step);
+    let (after, disk) = played(rt, alloc, step.saturating_add(1));
+    let span = Span {
+        from: before.from,
+        to: after.to,
+    };
+    for call in old.calls().len()..disk.calls().len() {
+        expect_call(rt, alloc, &disk, call, tables, span);
+    }
 }
 
 #[test]
 fn stops_leave_what_was_covered_or_all(rt: HostRuntime) {
     let tables = tables(&rt, rt.alloc());
-    let mut store = made(&rt, rt.alloc(), LEAST);
-    let spans = play(&rt, rt.alloc(), &mut store);
-    let disk = store.into_disk();
-    holds!(rt; spans.len() == 4 && disk.calls().len() == MAKES + 4 * COMMITS);
-    for call in MAKES..disk.calls().len() {
-        let span = span_of(&rt, spans.as_slice(), call);
-        expect_call(&rt, rt.alloc(), &disk, call, tables.as_slice(), span);
+    for step in 0..SCRIPT.len() {
+        expect_step(&rt, rt.alloc(), tables.as_slice(), step);
     }
+    let (last, disk) = played(&rt, rt.alloc(), SCRIPT.len());
+    holds!(&rt; disk.calls().len() == MAKES + 28 && last.from < last.to);
 }
 
 /// Whether what a stop inside a call of the making leaves is no store yet, or one that opens.

@@ -16,6 +16,9 @@ pub const LEAST: u64 = 4_096;
 pub enum Ask {
     Apply(Words<'static>),
     Commit,
+    Begin,
+    Slice,
+    Finish,
 }
 
 /// What a store is asked and the printed answer, and then how many entries it has and how many of them are covered.
@@ -79,6 +82,9 @@ fn step_of(alloc: Global, ask: &Ask) -> Result<Step, Refusal> {
     match ask {
         Ask::Apply(words) => Ok(Step::Apply(command_of(alloc, words)?)),
         Ask::Commit => Ok(Step::Commit),
+        Ask::Begin => Ok(Step::Begin),
+        Ask::Slice => Ok(Step::Slice),
+        Ask::Finish => Ok(Step::Finish),
     }
 }
 
@@ -88,11 +94,23 @@ pub fn asked<D: Disk>(alloc: Global, store: &mut Store<D>, ask: &Ask) -> Result<
     Ok(take(alloc, store, step))
 }
 
+/// What the count in an answer is printed behind.
+fn counted_as(ask: &Ask) -> &'static str {
+    match ask {
+        Ask::Apply(_) => "",
+        Ask::Commit => "covered",
+        Ask::Begin => "begun",
+        Ask::Slice => "left",
+        Ask::Finish => "checked",
+    }
+}
+
 /// The text of an answer.
-pub fn text_of(alloc: Global, answer: &Played) -> Result<Chars, Refusal> {
+pub fn text_of(alloc: Global, ask: &Ask, answer: &Played) -> Result<Chars, Refusal> {
+    let word = counted_as(ask);
     match answer {
         Played::Replied(reply) => reply.text(alloc),
-        Played::Count(count) => Ok(Chars::new(format!(in alloc; "covered {count}")?)),
+        Played::Count(count) => Ok(Chars::new(format!(in alloc; "{word} {count}")?)),
         Played::Refused(refusal) => refusal.text(alloc),
     }
 }
@@ -105,7 +123,7 @@ pub fn is_answered<D: Disk>(
     want: &str,
 ) -> Result<bool, Refusal> {
     let answer = asked(alloc, store, ask)?;
-    Ok(text_of(alloc, &answer)?.as_str() == want)
+    Ok(text_of(alloc, ask, &answer)?.as_str() == want)
 }
 
 /// Asks a store in turn, and compares each answer.
