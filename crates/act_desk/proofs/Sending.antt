@@ -1,0 +1,174 @@
+-- What may go to another thread. The toolchain finds by itself that most types may; an event that is admitted, which is shared by a count
+-- and seen by its bytes, and all that holds one, it does not find, so their parts are named here.
+use denote.Param.Send.{IsSend, IsSync, sendable, view_send, view_sync}
+use Rattle.std.proofs.Crossing as crossing
+use Rattle.std.proofs.MapsCrossing as maps
+use Rattle.std.proofs.sync.Arc.TheSendSync as arc
+use Rattle.std.proofs.alloc.Global.TheSendSync as heap
+use Rattle.std.proofs.vec.Vec.TheSendSync as vec
+use Rattle.std.proofs.collections.BTreeMap.TheSendSync as map
+use Rattle.std.proofs.string.String.TheSendSync as text
+use Rattle.std.proofs.option.Option.TheSendSync as option
+use Rattle.run_plan.proofs.planned.Plan.TheSendSync as plan
+use Rattle.run_plan.proofs.small_text.SmallText.TheSendSync as small
+use Rattle.wf_value.proofs.chars.Chars.TheSendSync as chars
+use Rattle.wf_reader.proofs.concurrency.Concurrency.TheSendSync as concurrency
+use Rattle.serde_json.proofs.value.Value.TheLaws.TheKnot as knot
+use Rattle.serde_json.specs.contracts.value.Value.{the_row as value}
+use Rattle.wf_reader.specs.contracts.contexts.Contexts.{the_row as contexts}
+use Rattle.wf_reader.specs.contracts.contexts.Contexts.TheInside.{the_row as contexts_inside}
+use Rattle.run_plan.proofs.form.DeliveryForm.TheSendSync as delivery
+use Rattle.run_plan.proofs.form.EventForm.TheSendSync as event
+use denote.Param.SendFields.{declared_send, declared_sync, variants_send}
+use Rattle.run_plan.specs.contracts.prepared.Admission.{the_row as admission, the_type as admission_type}
+use Rattle.run_plan.specs.contracts.prepared.Origin.{the_row as origin}
+use Rattle.run_plan.specs.contracts.prepared.Prepared.{the_row}
+use Rattle.run_plan.specs.contracts.prepared.Prepared.TheInside.{the_row as inside}
+use Rattle.std.proofs.result.Result.TheSendSync as result
+use Rattle.wf_value.proofs.refusal.Refusal.TheSendSync as refusal
+use Rattle.run_plan.proofs.reply.Reply.TheSendSync as reply
+use Rattle.run_plan.proofs.number.Number.TheSendSync as number
+use Rattle.run_plan.proofs.command.Claim.TheSendSync as claim
+use Rattle.run_plan.proofs.command.Done.TheSendSync as done
+use Rattle.run_plan.proofs.command.Beat.TheSendSync as beat
+use Rattle.act_sessions.proofs.transcript.Ending.TheSendSync as ending
+use Rattle.workflow_runs.proofs.phases.RunPhase.TheSendSync as phase
+use Rattle.workflow_runs.proofs.job.Job.TheSendSync as job
+use Rattle.workflow_runs.proofs.asks.RunAsks.TheSendSync as asks
+use Rattle.workflow_runs.proofs.runs.index.Index.TheSendSync as index
+use Rattle.run_table.proofs.runners.Runners.TheSendSync as runners
+use Rattle.run_plan.specs.contracts.command.Command.{the_row as command, enum as command_variants}
+use Rattle.act_store.specs.contracts.entry.Entry.{the_row as entry, the_type as entry_type}
+use Rattle.act_sessions.specs.contracts.transcript.Asked.{the_row as asked, the_type as asked_type}
+use Rattle.act_sessions.specs.contracts.transcript.Transcript.{the_row as transcript, the_type as transcript_type}
+use Rattle.workflow_runs.specs.contracts.run.Run.{the_row as run}
+use Rattle.workflow_runs.specs.contracts.run.Run.TheInside.{the_row as run_inside, the_type as run_type}
+use Rattle.workflow_runs.specs.contracts.runs.Runs.{the_row as runs}
+use Rattle.workflow_runs.specs.contracts.runs.Runs.TheInside.{the_row as runs_inside, the_type as runs_type}
+use Rattle.run_table.specs.contracts.content.Content.{the_row as content}
+use Rattle.run_table.specs.contracts.content.Content.TheInside.{the_row as content_inside, the_type as content_type}
+use Rattle.run_table.specs.contracts.table.Table.{the_row as table}
+use Rattle.run_table.specs.contracts.table.Table.TheInside.{the_row as table_inside, the_type as table_type}
+use denote.RattleType.{RattleType}
+use Rattle.act_disk.specs.declared.disk.Disk.{Ghosts}
+use Rattle.gated_journal.proofs.standing.Standing.TheSendSync as standing
+use Rattle.gated_journal.proofs.gate.Gate.TheSendSync as gate
+use Rattle.act_store.proofs.waiting.Waiting.TheSendSync as waiting
+use Rattle.act_store.proofs.begun.Begun.TheSendSync as begun
+use Rattle.act_store.specs.contracts.store.Store.{the_row as store}
+use Rattle.act_store.specs.contracts.store.Store.TheInside.{the_row as store_inside, the_type as store_type}
+
+ruleset parts = (
+  sendable,
+  vec.the_send,
+  vec.the_sync,
+  map.the_send,
+  map.the_sync,
+  text.the_send,
+  text.the_sync,
+  option.the_send,
+  option.the_sync,
+  crossing.frees,
+  heap.the_send,
+  heap.the_sync,
+  heap.the_field_send,
+  heap.the_field_sync,
+)
+
+value_send : IsSend value
+value_send = search (parts, knot.send-Value) depth 12
+
+value_sync : IsSync value
+value_sync = search (parts, knot.sync-Value) depth 12
+
+contexts_send : IsSend contexts
+contexts_send = view_send contexts_inside _ _ _ _ (search (parts, value_send) depth 12)
+
+contexts_sync : IsSync contexts
+contexts_sync = view_sync contexts_inside _ _ _ _ (search (parts, value_sync) depth 12)
+
+origin_send : IsSend origin
+origin_send = search (parts, chars.the_send, concurrency.the_send, contexts_send) depth 12
+
+origin_sync : IsSync origin
+origin_sync = search (parts, chars.the_sync, concurrency.the_sync, contexts_sync) depth 12
+
+admission_send : IsSend admission
+admission_send =
+    declared_send admission_type (
+      search (parts, small.the_send) depth 8,
+      (search (parts, small.the_send) depth 8, (search parts depth 8, (search (parts, origin_send) depth 6, (search (parts, plan.the_send) depth 6, tt)))),
+    )
+
+admission_sync : IsSync admission
+admission_sync =
+    declared_sync admission_type (
+      search (parts, small.the_sync) depth 8,
+      (search (parts, small.the_sync) depth 8, (search parts depth 8, (search (parts, origin_sync) depth 6, (search (parts, plan.the_sync) depth 6, tt)))),
+    )
+
+inside_send : IsSend inside
+inside_send = search (parts, arc.the_send, admission_send, admission_sync) depth 12
+
+inside_sync : IsSync inside
+inside_sync = search (parts, arc.the_sync, admission_send, admission_sync) depth 12
+
+pub prepared_send : IsSend the_row
+prepared_send = view_send inside _ _ _ _ inside_send
+
+pub prepared_sync : IsSync the_row
+prepared_sync = view_sync inside _ _ _ _ inside_sync
+
+command_send : IsSend command
+command_send =
+    variants_send command_variants (
+      (search (parts, prepared_send) depth 6, tt),
+      (
+        (search (parts, claim.the_send) depth 6, tt),
+        (
+          (search (parts, done.the_send) depth 6, tt),
+          ((search (parts, beat.the_send) depth 6, tt), ((search (parts, number.the_send) depth 6, tt), ((search (parts, small.the_send) depth 6, tt), ((search (parts, number.the_send) depth 6, tt), ((search (parts, number.the_send) depth 6, tt), tt))))),
+        ),
+      ),
+    )
+
+pub entry_send : IsSend entry
+entry_send = declared_send entry_type (search parts depth 6, (search (parts, command_send) depth 6, (search (parts, reply.the_send) depth 6, tt)))
+
+asked_send : IsSend asked
+asked_send = declared_send asked_type (search (parts, command_send) depth 6, (search (parts, reply.the_send, refusal.the_send, result.the_send) depth 8, tt))
+
+pub transcript_send : IsSend transcript
+transcript_send = declared_send transcript_type (search (parts, asked_send) depth 10, (search parts depth 6, (search (parts, ending.the_send) depth 6, tt)))
+
+run_send : IsSend run
+run_send = view_send run_inside _ _ _ _ (declared_send run_type (search (parts, prepared_send) depth 6, (search (parts, phase.the_send) depth 6, (search parts depth 6, (search (parts, job.the_send) depth 10, tt)))))
+
+runs_send : IsSend runs
+runs_send = view_send runs_inside _ _ _ _ (declared_send runs_type (search (parts, run_send) depth 10, (search parts depth 10, (search (parts, asks.the_send) depth 10, (search (parts, index.the_send) depth 6, tt)))))
+
+content_send : IsSend content
+content_send = view_send content_inside _ _ _ _ (declared_send content_type (search parts depth 6, (search (parts, runs_send) depth 6, (search (parts, runners.the_send) depth 6, tt))))
+
+pub table_send : IsSend table
+table_send = view_send table_inside _ _ _ _ (declared_send table_type (search (parts, content_send) depth 6, tt))
+
+pub store_send : (D : RattleType) (g : Ghosts D.Denot) → IsSend D → IsSend (store D g)
+store_send D g disk =
+    view_send (store_inside D g) _ _ _ _
+    (declared_send (store_type D g) (
+      search (parts, disk) depth 6,
+      (
+        search (parts, standing.the_send) depth 6,
+        (
+          search (parts, gate.the_send) depth 6,
+          (
+            search (parts, table_send) depth 6,
+            (
+              search (parts, table_send) depth 6,
+              (search (parts, entry_send) depth 10, (search parts depth 6, (search parts depth 6, (search parts depth 6, (search (parts, waiting.the_send) depth 6, (search (parts, begun.the_send) depth 8, (search parts depth 6, tt))))))),
+            ),
+          ),
+        ),
+      ),
+    ))

@@ -1,0 +1,79 @@
+-- What the sessions asked, compared with the history of the store. Own: there is no public source.
+use Rattle.std.specs.Prelude.{◌≡◌, ◌≢◌, ◌⊎◌, ◌==◌, ◌||◌, ◌<◌, ℕ, Bool, true, false, List, [], ◌∷◌, ◌++◌, filter, flat_map, length, get_or, Result, Ok, Err, Option, Some, None, IfSome, All}
+use Rattle.wf_value.specs.RefusalText.{refusal_number}
+use Rattle.wf_value.specs.declared.refusal.Refusal.{Refusal}
+use Rattle.run_plan.specs.declared.command.Command.{Command}
+use Rattle.run_plan.specs.declared.reply.Reply.{Reply}
+use Rattle.act_sessions.specs.declared.transcript.Ending.TheVariants.{Broken, Memory}
+use Rattle.act_sessions.specs.declared.transcript.Transcript.{Transcript}
+use Rattle.act_sessions.specs.Told.{Told, told_by}
+use Rattle.act_store.specs.declared.entry.Entry.{Entry}
+
+-- the entries that a seat has made
+abbrev pub part_of : ℕ → List Entry → List Entry
+part_of seat history = filter (λ (e : Entry). e.seat == seat) history
+
+-- a command that got a reply stands in the history with it, and one that was refused does not
+abbrev pub entries_of_one : ℕ → Told → List Entry
+entries_of_one seat (command, Ok reply) = record { seat = seat; command = command; reply = reply } ∷ []
+entries_of_one seat (command, Err refusal) = []
+
+abbrev pub entries_of : ℕ → List Told → List Entry
+entries_of seat told = flat_map (entries_of_one seat) told
+
+-- 50, 51, 52 and 60 do not say whether the command was entered
+abbrev pub open_number : ℕ → Bool
+open_number n = (n == 50) || (n == 51) || (n == 52) || (n == 60)
+
+abbrev pub leaves_open : Result Reply Refusal → Bool
+leaves_open (Ok reply) = false
+leaves_open (Err refusal) = open_number (refusal_number refusal)
+
+-- the entry of the last command that was asked, where its answer leaves open whether there is one
+pub record IsOfLast (seat : ℕ) (told : List Told) (entry : Entry) : Type 0 where
+  pub front : List Told
+  pub last : Told
+  pub last_is : told ≡ front ++ last ∷ []
+  pub open_is : leaves_open last.1 ≡ true
+  pub command_is : entry.command ≡ last.0
+  pub seat_is : entry.seat ≡ seat
+
+abbrev pub if_any : Option Entry → List Entry
+if_any None = []
+if_any (Some entry) = entry ∷ []
+
+-- The seat's part of the history is what was asked, in order, each once, with the replies; and at its end the last command may stand,
+-- where its answer leaves that open.
+pub record Agrees (seat : ℕ) (told : List Told) (history : List Entry) : Type 0 where
+  pub over : Option Entry
+  pub part_is : part_of seat history ≡ entries_of seat told ++ if_any over
+  pub of_last : IfSome over (IsOfLast seat told)
+
+-- how far a list of asked commands was found: so many of the first, and perhaps the entry of the last one behind them
+pub record Progress : Type 0 where
+  pub asked : ℕ
+  pub over : Option Entry
+
+-- Nothing was read, and nothing asked: no thread could be started for the session.
+pub record IsUnread (t : Transcript) : Type 0 where
+  pub asked : t.asked.items ≡ []
+  pub written : t.written ≡ 0
+  pub ending : t.ending ≡ Memory
+
+-- The session has ended as its bytes say, or could not be started.
+abbrev pub HasEnded : (Transcript → Type 0) → Transcript → Type 0
+HasEnded ends t = ends t ⊎ IsUnread t
+
+-- Each session has ended, in the order of the works.
+pub record HaveEnded {W : Type 0} (ends : W → Transcript → Type 0) (works : List W) (transcripts : List Transcript) : Type 0 where
+  pub len : length transcripts ≡ length works
+  pub ended : (i : ℕ) (w : W) (t : Transcript) → i < length works → HasEnded (ends (get_or works i w)) (get_or transcripts i t)
+
+-- The part of each seat is what the session of its number asked, and the history has no other entries.
+pub record IsSettled (transcripts : List Transcript) (history : List Entry) : Type 0 where
+  pub agree : (i : ℕ) (t : Transcript) → i < length transcripts → Agrees i (told_by (get_or transcripts i t)) history
+  pub no_other : All (λ (e : Entry). e.seat < length transcripts) history
+
+-- no session was ended by its reader or writer
+abbrev pub NoneBroken : List Transcript → Type 0
+NoneBroken transcripts = (k : ℕ) (t : Transcript) → k < length transcripts → (get_or transcripts k t).ending ≢ Broken

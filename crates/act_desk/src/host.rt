@@ -1,0 +1,45 @@
+ghost use Rattle.act_desk.specs.Settled.{HasEnded};
+
+use crate::desk::Desk;
+use crate::ended::Ended;
+use crate::gate::Gate;
+use crate::named::Named;
+use crate::seat::Seat;
+use crate::seated::hold;
+use act_disk::Disk;
+use act_sessions::Work;
+use std::alloc::Global;
+use std::sync::Wait;
+use std::sync::ledger::Ledger;
+
+/// What holds sessions at seats, whichever thread asks it.
+pub(crate) trait Host<S> {
+    /// A seat for one more session.
+    fn seat(&self) -> Option<S>;
+
+    /// Holds a session at a seat, to its end.
+    fn hold<W: Work>(&self, seat: S, work: W) -> Ended
+        ensures { HasEnded (W.ends work) result.transcript };
+}
+
+/// A desk, with what a session at it needs.
+#[derive(Drop)]
+pub(crate) struct Table<'a, D: Disk, E: Named, T: Ledger, G: Gate, R: Wait> {
+    pub(crate) rt: &'a R,
+    pub(crate) alloc: Global,
+    pub(crate) desk: &'a Desk<D, E, T>,
+    pub(crate) gate: &'a G,
+}
+
+impl<'a, D: Disk, E: Named, T: Ledger, G: Gate, R: Wait> Host<Seat<E, T>>
+    for Table<'a, D, E, T, G, R> {
+    fn seat(&self) -> Option<Seat<E, T>> {
+        self.desk.seat(self.rt)
+    }
+
+    fn hold<W: Work>(&self, seat: Seat<E, T>, work: W) -> Ended {
+        Ended {
+            transcript: hold(self.rt, self.alloc, self.desk, self.gate, seat, work),
+        }
+    }
+}

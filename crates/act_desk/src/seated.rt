@@ -1,0 +1,81 @@
+ghost use Rattle.act_desk.specs.Settled.{HasEnded};
+
+use crate::desk::Desk;
+use crate::gate::Gate;
+use crate::named::Named;
+use crate::seat::Seat;
+use act_disk::Disk;
+use act_sessions::{Answer, Transcript, Work};
+use run_plan::{Command, Reply};
+use std::alloc::Global;
+use std::snapshot::Snapshot;
+use std::sync::Wait;
+use std::sync::ledger::Ledger;
+use wf_value::Refusal;
+
+/// A command that was asked, and its answer, as contracts see them. It takes no memory.
+#[derive(Drop)]
+pub(crate) struct Noted {
+    command: Snapshot<Command>,
+    answer: Snapshot<Result<Reply, Refusal>>,
+}
+
+/// Answers at a desk, by a seat, and calls the gate round each command.
+#[derive(Drop)]
+pub(crate) struct Seated<'a, D: Disk, E: Named, T: Ledger, G: Gate, R: Wait> {
+    rt: &'a R,
+    alloc: Global,
+    desk: &'a Desk<D, E, T>,
+    gate: &'a G,
+    seat: Seat<E, T>,
+    noted: Vec<Noted>,
+}
+
+impl<'a, D: Disk, E: Named, T: Ledger, G: Gate, R: Wait> Answer for Seated<'a, D, E, T, G, R> {
+    ghost use Rattle.std.specs.Prelude.{map};
+    ghost use Rattle.act_desk.specs.declared.seated.Noted.{Noted};
+
+    ghost asked = { λ s. map (λ (n : Noted). (n.command.value, n.answer.value)) s.noted.items };
+
+    fn ask(&mut self, command: Command) -> Result<Reply, Refusal> {
+        self.noted.reserve(1)?;
+        let session = self.seat.number();
+        let call = self.noted.len() as u64;
+        let asked = Snapshot::of(&command);
+        self.gate.before(session, call);
+        let answer = self
+            .desk
+            .submit(self.rt, self.alloc, &mut self.seat, command);
+        self.gate.after(session, call);
+        self.noted.push_reserved(Noted {
+            command: asked,
+            answer: Snapshot::of(&answer),
+        });
+        answer
+    }
+}
+
+/// Holds a session at a desk, to its end.
+pub(crate) fn hold<D: Disk, E: Named, T: Ledger, G: Gate, W: Work, R: Wait>(
+    rt: &R,
+    alloc: Global,
+    desk: &Desk<D, E, T>,
+    gate: &G,
+    seat: Seat<E, T>,
+    work: W,
+) -> Transcript
+    ensures { HasEnded (W.ends work) result }
+{
+    let mut seated = Seated {
+        rt,
+        alloc,
+        desk,
+        gate,
+        seat,
+        noted: Vec::new(alloc),
+    };
+    match work.work(alloc, &mut seated) {
+        Ok(transcript) => transcript,
+        Err(fault) => fault.transcript,
+    }
+}

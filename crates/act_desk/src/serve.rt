@@ -1,0 +1,118 @@
+ghost use Rattle.std.specs.Prelude.{◌≡◌, ◌<◌, ◌≤◌, [], IfErr, IfOk, vec_capacity, vec_len};
+ghost use Rattle.act_desk.specs.Faults.{IsCause, IsServed, IsUnsettledOrBroken};
+ghost use Rattle.act_desk.specs.Settled.{HaveEnded, IsSettled, NoneBroken};
+
+use crate::desk::Desk;
+use crate::gate::Gate;
+use crate::host::Table;
+use crate::ledgers::Ledgers;
+use crate::named::Named;
+use crate::running::Running;
+use crate::settle::{any_broken, is_settled};
+use crate::settled::{Fault, Settled};
+use crate::starting::hold_all;
+use act_disk::Disk;
+use act_sessions::{Transcript, Work};
+use act_store::Store;
+use std::alloc::Global;
+use std::marker::Brand;
+use std::sync::Wait;
+use std::sync::ledger::Ledger;
+use std::thread::Threads;
+
+/// Holds 1 to 64 sessions over one store whose history is empty, each in a thread of its own, and compares the history with what they
+/// asked. The session with the number `k`, counted from 0, has the seat `k`.
+///
+/// After `Ok` each session has ended as its bytes say, or, where no thread could be started for it, with `Ending::Memory` and nothing
+/// read; and the part of each seat in the history is what the session of that number asked, in order, each command once, with the
+/// replies; there is no other part. A command refused with 46 or 47 stands nowhere; the last one of a session may stand or not where its
+/// answer was 50, 51, 52 or 60.
+///
+/// It is refused with 50 only before a session is started, and then gives all back; with 60 where that comparison fails; and with 61,
+/// once all have ended and it holds, where a session was ended by its reader or its writer.
+pub fn serve_all<D: Disk + Send, W: Work + Send, G: Gate + Sync, R: Threads + Wait + Sync>(
+    rt: &R,
+    alloc: Global,
+    store: Store<D>,
+    works: Vec<W>,
+    gate: &G,
+) -> Result<Settled<D>, Fault<D, W>>
+    requires empty { store.history ≡ [] }
+    requires some { 0 < vec_len works }
+    requires most { vec_len works ≤ 64 }
+    ensures served { IfOk result (λ settled. IsServed W.ends works.items settled) }
+    ensures cause { IfErr result (IsCause W.ends store works.items) }
+{
+    let count = works.len();
+    let Ok(running) = Vec::with_capacity(alloc, count) else {
+        return Err(Fault::Memory(store, works));
+    };
+    let Ok(transcripts) = Vec::with_capacity(alloc, count) else {
+        return Err(Fault::Memory(store, works));
+    };
+    let ledgers = Ledgers::new();
+    judge(hold_named::<D, Brand, Brand, W, G, R>(
+        rt,
+        alloc,
+        store,
+        ledgers,
+        works,
+        gate,
+        running,
+        transcripts,
+    ))
+}
+
+/// Holds all sessions at a desk whose ledgers have these names.
+fn hold_named<
+    D: Disk + Send,
+    E: Named + Send + Sync,
+    T: Ledger + Send + Sync,
+    W: Work + Send,
+    G: Gate + Sync,
+    R: Threads + Wait + Sync,
+>(
+    rt: &R,
+    alloc: Global,
+    store: Store<D>,
+    ledgers: Ledgers,
+    works: Vec<W>,
+    gate: &G,
+    running: Vec<Running<W>>,
+    transcripts: Vec<Transcript>,
+) -> Settled<D>
+    requires empty { store.history ≡ [] }
+    requires entries { (ledgers.entries.name ≡ E.name) × (E.parts ≡ 64) }
+    requires replies { (ledgers.replies.name ≡ T.name) × (T.parts ≡ 64) }
+    requires history { ledgers.history.seen.book ≡ E.book }
+    requires running { (running.items ≡ []) × (vec_len works ≤ vec_capacity running) }
+    requires transcripts { (transcripts.items ≡ []) × (vec_len works ≤ vec_capacity transcripts) }
+    ensures { HaveEnded W.ends works.items result.transcripts.items }
+{
+    let desk: Desk<D, E, T> = Desk::new(store, ledgers);
+    let table = Table {
+        rt,
+        alloc,
+        desk: &desk,
+        gate,
+    };
+    let transcripts = hold_all(rt, alloc, &table, works, running, transcripts);
+    Settled {
+        store: desk.into_store(),
+        transcripts,
+    }
+}
+
+/// Compares the history with what the sessions asked.
+fn judge<D: Disk, W: Work>(settled: Settled<D>) -> Result<Settled<D>, Fault<D, W>>
+    ensures served { IfOk result (λ s. (s ≡ settled) × IsSettled s.transcripts.items s.store.history × NoneBroken s.transcripts.items) }
+    ensures cause { IfErr result (IsUnsettledOrBroken settled) }
+{
+    if !is_settled(&settled.store, settled.transcripts.as_slice()) {
+        return Err(Fault::Unsettled(settled));
+    }
+    if any_broken(settled.transcripts.as_slice()) {
+        return Err(Fault::Broken(settled));
+    }
+    Ok(settled)
+}

@@ -1,0 +1,207 @@
+//! The comparison of the history with what the sessions asked. It takes no memory.
+
+ghost use Rattle.std.specs.Prelude.{◌≡◌, ◌≢◌, ◌<◌, ◌≤◌, ◌+◌, ℕ, List, [], ◌∷◌, ◌++◌, All, length, take, false, true, IfSome, None, Some};
+ghost use Rattle.act_sessions.specs.Told.{told_in};
+ghost use Rattle.act_desk.specs.Settled.{Agrees, IsOfLast, IsSettled, NoneBroken, entries_of, if_any, leaves_open as leaves, open_number, part_of};
+
+use act_disk::Disk;
+use act_sessions::{Asked, Ending, Transcript};
+use act_store::{Entry, Store};
+use run_plan::Reply;
+use std::marker::Model;
+use std::snapshot::Snapshot;
+use wf_value::{Refusal, Same};
+
+/// How far a list of asked commands was found in the history: so many of the first, and perhaps the entry of the last one behind them.
+#[derive(Drop)]
+struct Found {
+    asked: usize,
+    over: Option<Snapshot<Entry>>,
+}
+
+impl Model for Found {
+    ghost use Rattle.std.specs.Prelude.{option_map};
+    ghost use Rattle.act_desk.specs.Settled.{Progress};
+
+    ghost Value = { Progress };
+
+    ghost view = { λ f. record { asked = f.asked; over = option_map (λ s. s.value) f.over } };
+}
+
+impl Found {
+    /// The first ones, and nothing else.
+    fn first(asked: usize) -> Found
+        ensures { result ≡ record { asked = asked; over = None } }
+    {
+        Found { asked, over: None }
+    }
+
+    /// All of them, and the entry of the last one.
+    fn all_and_over(asked: usize, entry: &Entry) -> Found
+        ensures { result ≡ record { asked = asked; over = Some entry.now } }
+    {
+        Found {
+            asked,
+            over: Some(Snapshot::of(entry)),
+        }
+    }
+}
+
+/// Whether an answer leaves open that the command was entered.
+fn leaves_open(answer: &Result<Reply, Refusal>) -> bool
+    ensures { result ≡ leaves answer.now }
+{
+    match answer {
+        Ok(_) => false,
+        Err(refusal) => is_open(refusal.number()),
+    }
+}
+
+fn is_open(number: u64) -> bool
+    ensures { result ≡ open_number number }
+{
+    number == 50 || number == 51 || number == 52 || number == 60
+}
+
+/// The next place with a reply.
+fn skip(asked: &[Asked], at: usize) -> usize
+    requires { at ≤ length asked.now }
+    ensures within { result ≤ length asked.now }
+    ensures none { (seat : ℕ) → entries_of seat (told_in (take result asked.now)) ≡ entries_of seat (told_in (take at asked.now)) }
+{
+    for i in at..asked.len() {
+        if asked[i].answer.is_ok() {
+            return i;
+        }
+    }
+    asked.len()
+}
+
+/// Whether an entry of the seat may be that of the last command.
+fn is_of_last(asked: &[Asked], seat: u64, entry: &Entry) -> bool
+    requires { entry.now.seat ≡ seat }
+    ensures { result ≡ true → IsOfLast seat (told_in asked.now) entry.now }
+{
+    let Some(last) = asked.last() else {
+        return false;
+    };
+    leaves_open(&last.answer) && last.command.same(&entry.command)
+}
+
+/// Finds one more entry, or passes over that of another seat.
+fn find(asked: &[Asked], seat: u64, entry: &Entry, found: Found) -> Option<Found>
+    requires within { found.asked ≤ length asked.now }
+    requires over { IfSome found.over (IsOfLast seat (told_in asked.now)) }
+    ensures within { IfSome result (λ f. f.asked ≤ length asked.now) }
+    ensures more { IfSome result (λ f. entries_of seat (told_in (take f.asked asked.now)) ++ if_any f.over
+        ≡ (entries_of seat (told_in (take found.asked asked.now)) ++ if_any found.over) ++ part_of seat (entry.now ∷ [])) }
+    ensures over { IfSome result (λ f. IfSome f.over (IsOfLast seat (told_in asked.now))) }
+{
+    if entry.seat != seat {
+        return Some(found);
+    }
+    find_next(asked, seat, entry, found)
+}
+
+/// Finds one more entry of the seat.
+fn find_next(asked: &[Asked], seat: u64, entry: &Entry, found: Found) -> Option<Found>
+    requires seat { entry.now.seat ≡ seat }
+    requires within { found.asked ≤ length asked.now }
+    ensures within { IfSome result (λ f. f.asked ≤ length asked.now) }
+    ensures more { IfSome result (λ f. entries_of seat (told_in (take f.asked asked.now)) ++ if_any f.over
+        ≡ (entries_of seat (told_in (take found.asked asked.now)) ++ if_any found.over) ++ entry.now ∷ []) }
+    ensures over { IfSome result (λ f. IfSome f.over (IsOfLast seat (told_in asked.now))) }
+{
+    if found.over.is_some() {
+        return None;
+    }
+    let at = skip(asked, found.asked);
+    if at < asked.len() {
+        return find_reply(asked, seat, entry, at);
+    }
+    if !is_of_last(asked, seat, entry) {
+        return None;
+    }
+    Some(Found::all_and_over(at, entry))
+}
+
+/// Finds the entry of the command at a place, with its reply.
+fn find_reply(asked: &[Asked], seat: u64, entry: &Entry, at: usize) -> Option<Found>
+    requires seat { entry.now.seat ≡ seat }
+    requires within { at < length asked.now }
+    ensures within { IfSome result (λ f. f.asked ≤ length asked.now) }
+    ensures more { IfSome result (λ f. entries_of seat (told_in (take f.asked asked.now)) ++ if_any f.over
+        ≡ entries_of seat (told_in (take at asked.now)) ++ entry.now ∷ []) }
+    ensures over { IfSome result (λ f. f.over ≡ None) }
+{
+    let one = &asked[at];
+    let Ok(reply) = &one.answer else {
+        return None;
+    };
+    if !one.command.same(&entry.command) || !reply.same(&entry.reply) {
+        return None;
+    }
+    Some(Found::first(at + 1))
+}
+
+/// Whether the entries of a seat are what its session asked.
+fn agrees<D: Disk>(store: &Store<D>, seat: u64, asked: &[Asked]) -> bool
+    ensures { result ≡ true → Agrees seat (told_in asked.now) store.now.history }
+{
+    let mut found = Found::first(0);
+    for index in 0..store.entries() {
+        let Some(entry) = store.entry(index + 1) else {
+            return false;
+        };
+        match find(asked, seat, entry, found) {
+            Some(more) => found = more,
+            None => return false,
+        }
+    }
+    skip(asked, found.asked) == asked.len()
+}
+
+/// Whether all entries are of the first seats, so many.
+fn are_of_first<D: Disk>(store: &Store<D>, seats: u64) -> bool
+    ensures { result ≡ true → All (λ e. e.seat < seats) store.now.history }
+{
+    for index in 0..store.entries() {
+        match store.entry(index + 1) {
+            Some(entry) if entry.seat < seats => {}
+            _ => return false,
+        }
+    }
+    true
+}
+
+/// Whether each seat's part of the history is what its session asked, and there is no other part.
+pub(crate) fn is_settled<D: Disk>(store: &Store<D>, transcripts: &[Transcript]) -> bool
+    ensures { result ≡ true → IsSettled transcripts.now store.now.history }
+{
+    for k in 0..transcripts.len() {
+        if !agrees(store, k as u64, transcripts[k].asked.as_slice()) {
+            return false;
+        }
+    }
+    are_of_first(store, transcripts.len() as u64)
+}
+
+/// Whether a session's reader or writer failed.
+pub(crate) fn any_broken(transcripts: &[Transcript]) -> bool
+    ensures some { result ≡ true → NoneBroken transcripts.now → ⊥ }
+    ensures none { result ≡ false → NoneBroken transcripts.now }
+{
+    for transcript in transcripts {
+        if is_broken(transcript) {
+            return true;
+        }
+    }
+    false
+}
+
+fn is_broken(transcript: &Transcript) -> bool
+    ensures broken { result ≡ true → transcript.now.ending ≡ Ending.Broken }
+    ensures whole { result ≡ false → transcript.now.ending ≢ Ending.Broken }
+{
+    transcript.ending == Ending::Broken
+}
