@@ -1,0 +1,5 @@
+//! Tests of the service over loopback.
+#![tactic(auto)]
+
+#[cfg(test)]
+mod loopback;
