@@ -1,5 +1,0 @@
-//! Tests of the service over loopback.
-#![tactic(auto)]
-
-#[cfg(test)]
-mod loopback;
