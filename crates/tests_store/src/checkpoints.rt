@@ -12,7 +12,8 @@ use wf_value::Outcome;
 
 const CLAIM: Ask = Ask::Apply(Words::Claim("r1", "1", "linux"));
 
-const LOOK: Ask = Ask::Apply(Words::Look("1"));
+/// Of a run that is never there.
+const LOOK: Ask = Ask::Apply(Words::Look("9"));
 
 /// Two commits go on between the begin and the first slice.
 const BESIDE_COMMITS: &[Row] = &[

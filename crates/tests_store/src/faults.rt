@@ -73,7 +73,7 @@ fn fresh(rt: &impl Abort, alloc: Global) -> MemoryDisk {
 }
 
 /// More calls than opening and the script make.
-const MOST: u64 = 30;
+const MOST: u64 = 40;
 
 #[test]
 fn faults_leave_what_was_covered_or_all(rt: HostRuntime) {
