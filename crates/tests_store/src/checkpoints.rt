@@ -81,7 +81,7 @@ fn file(alloc: Global) -> Result<Vec<u8>, AllocError> {
 }
 
 const COMPLETED: &[Row] = &[(
-    LOOK,
+    Ask::Apply(Words::Look("1")),
     "run 1 1 completed success build:success(success)",
     1,
     0,
