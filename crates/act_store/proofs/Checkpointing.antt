@@ -1,5 +1,5 @@
 -- What the begin of a checkpoint and its slices leave.
-use Rattle.std.proofs.Common.{◌≡◌, inl, ⊎_elim, ℕ, ◌+◌, ◌<◌, ◌≤◌, List, [], ◌∷◌, ◌++◌, length, drop, refl, sym, ◌∙◌, ap, subst, arith}
+use Rattle.std.proofs.Common.{◌≡◌, inl, ⊎_elim, ℕ, ◌+◌, ◌<◌, ◌≤◌, List, [], ◌∷◌, ◌++◌, length, sym, ◌∙◌, ap, subst, arith}
 use Rattle.std.proofs.Common.{Bool, true, false, drop_of_length-le, length-append}
 use Rattle.std.specs.Prelude.{Option, flat_map, map}
 use Rattle.std.proofs.lemmas.List.{take_all, length-map}

@@ -8,7 +8,7 @@ use Rattle.std.specs.List.{AllByRecursion}
 use Rattle.std.proofs.lemmas.List.{take_all, length-drop, length-map}
 use Rattle.act_disk.specs.Images.{EachSince, Holds}
 use Rattle.act_disk.specs.Moments.{weakened}
-use Rattle.gated_journal.specs.Layout.{Fits, Head, head_bytes, opened, record_bytes}
+use Rattle.gated_journal.specs.Layout.{Fits, Head, head_bytes, record_bytes}
 use Rattle.gated_journal.specs.TwoAreas.{other, start_of, Completes}
 use Rattle.gated_journal.specs.Whole.{StandsWhole, WholeOrTurned}
 use Rattle.gated_journal.specs.declared.gate.Gate.{Gate}

@@ -11,7 +11,7 @@ use Rattle.act_store.specs.Images.{HasNoArea, HasNoTable, IsAreaLength, StandsAt
 use Rattle.act_store.specs.Opened.{IsFound}
 use Rattle.act_store.specs.Promise.{IsSettled}
 use Rattle.act_store.specs.Spelled.{SpellsArea}
-use Rattle.act_store.specs.declared.found.Found.{Found}
+use Rattle.act_store.specs.declared.located_area.LocatedArea.{LocatedArea}
 use Rattle.act_store.proofs.Spelling.{SpellsNone}
 
 module _ (len : ℕ) (file : List ℕ) (long : length file ≡ len + len) where
@@ -37,7 +37,7 @@ module _ (len : ℕ) (file : List ℕ) (long : length file ≡ len + len) where
           none stands.head stands.bodies table (reads_there stands.side stands.head stands.bodies spells) stands.means;
     }
 
-module _ (found : Found) (file : List ℕ) (is_found : IsFound found file) where
+module _ (found : LocatedArea) (file : List ℕ) (is_found : IsFound found file) where
   abbrev spelled : SpellsArea (area_on found.area found.chosen.side file) found.spelled.generation found.spelled.used found.spelled.table
   spelled = is_found.spelled
 

@@ -1,15 +1,15 @@
 -- A step that is refused: for which cause, and what it leaves.
-use Rattle.std.proofs.Common.{◌≡◌, inl, inr, ⊎_elim, ℕ, ◌+◌, ◌<◌, [], ◌∷◌, ◌++◌, length, refl, sym, ◌∙◌, ap, subst}
+use Rattle.std.proofs.Common.{◌≡◌, inl, inr, ⊎_elim, ◌+◌, ◌<◌, length, refl, sym, ◌∙◌, ap, subst}
 use Rattle.std.proofs.Common.{Bool, true, false}
 use Rattle.std.specs.Prelude.{◌⊎◌, Option, Some, None, IfSome, Result, Err, if◌then◌else◌, nat_le, nat_lt, is_some}
 use Rattle.wf_value.specs.Gives.{no_memory}
 use Rattle.wf_value.specs.declared.refusal.Refusal.{Refusal}
 use Rattle.act_disk.specs.Failed.{device_failed}
 use Rattle.run_plan.specs.declared.command.Command.{Command}
-use Rattle.act_store.specs.Checkpoints.{dropped, first_gate, has_no_room, is_written, last_counter, refusal_of_last, text_length}
-use Rattle.act_store.specs.Kept.{Checkpoint, Kept, pending_commands, table_of}
-use Rattle.act_store.specs.Plain.{area_full, broken, checkpoint_turn, failed_earlier, history_full, record_end}
-use Rattle.act_store.specs.Steps.{IsRefused, MayCallDevice, MayTakeMemory, is_area_full, left_by, refusal_of}
+use Rattle.act_store.specs.Checkpoints.{dropped, first_gate, has_no_room, last_counter, refusal_of_last, text_length}
+use Rattle.act_store.specs.Kept.{Checkpoint, Kept, table_of}
+use Rattle.act_store.specs.Plain.{area_full, broken, checkpoint_turn, failed_earlier}
+use Rattle.act_store.specs.Steps.{IsRefused, is_area_full, left_by, refusal_of}
 use Rattle.act_store.specs.declared.step.Step.{Step}
 use Rattle.act_store.specs.declared.step.Step.TheVariants as asked
 

@@ -5,7 +5,7 @@ use Rattle.std.specs.Prelude.{Option, Some, None, IfSome, is_some}
 use Rattle.std.proofs.lemmas.List.{take_all, take-append-le}
 use Rattle.std.specs.Int.{to_be_bytes, w64}
 use Rattle.act_disk.specs.Images.{Holds}
-use Rattle.gated_journal.specs.Layout.{Head, head_bytes}
+use Rattle.gated_journal.specs.Layout.{head_bytes}
 use Rattle.gated_journal.specs.TwoAreas.{other, start_of}
 use Rattle.gated_journal.specs.declared.gate.Gate.{Gate}
 use Rattle.gated_journal.specs.declared.gate.Gate.TheVariants.{Closed}

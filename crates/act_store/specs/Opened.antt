@@ -2,10 +2,10 @@
 use Rattle.std.specs.Prelude.{◌≡◌, ℕ, ◌+◌, List, length, Some}
 use Rattle.gated_journal.specs.TwoAreas.{IsGate, area_on, other, standing}
 use Rattle.act_store.specs.Spelled.{SpellsArea}
-use Rattle.act_store.specs.declared.found.Found.{Found}
+use Rattle.act_store.specs.declared.located_area.LocatedArea.{LocatedArea}
 
 -- The disk is two areas long; the one that stands, and the gate of the other one, are those; and it spells this.
-pub record IsFound (found : Found) (file : List ℕ) : Type 0 where
+pub record IsFound (found : LocatedArea) (file : List ℕ) : Type 0 where
   pub long : length file ≡ found.area + found.area
   pub stands : standing found.area file ≡ Some found.chosen.side
   pub gate : IsGate found.chosen.other (area_on found.area (other found.chosen.side) file)

@@ -4,7 +4,7 @@ use Rattle.gated_journal.specs.Layout.{Head, Reads, opened}
 use Rattle.run_table.specs.TableState.{TableState}
 use Rattle.act_store.specs.Images.{IsAreaLength}
 use Rattle.act_store.specs.Meaning.{MeansTable}
-use Rattle.act_store.specs.declared.spelled.Spelled.{Spelled}
+use Rattle.act_store.specs.declared.decoded_area.DecodedArea.{DecodedArea}
 use Rattle.act_store.specs.TableText.{SpellsTable}
 
 -- The area reads as a head of this generation and bodies, which stand for this table, and its first closed gate is at `used`.
@@ -17,7 +17,7 @@ pub record SpellsArea (area : List ℕ) (generation used : ℕ) (table : TableSt
   pub means : MeansTable head bodies table
 
 -- The area spells this, or no table.
-abbrev pub IsSpelled : List ℕ → Option Spelled → Type 0
+abbrev pub IsSpelled : List ℕ → Option DecodedArea → Type 0
 IsSpelled area (Some found) = SpellsArea area found.generation found.used found.table
 IsSpelled area None = (head : Head) (bodies : List (List ℕ)) (table : TableState) → Reads area head bodies
     → MeansTable head bodies table → ⊥

@@ -102,7 +102,7 @@ fn enter(
     match step_and_push(alloc, table, history, seat, command) {
         Ok(reply) => Ok(reply),
         Err(refusal) => {
-            waiting.keep(count, spelled);
+            waiting.truncate(count, spelled);
             Err(refusal)
         }
     }

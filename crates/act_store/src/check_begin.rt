@@ -11,7 +11,7 @@ ghost use Rattle.act_store.specs.TableText.{SpellsTable};
 ghost use Rattle.act_store.specs.Told.{TellsFault};
 
 use crate::begun::Begun;
-use crate::spelled::VERSION;
+use crate::decoded_area::VERSION;
 use crate::store::Store;
 use act_disk::Disk;
 use gated_journal::Gate;

@@ -71,7 +71,7 @@ impl<D: Disk> Store<D> {
                 self.used = at + last.len() as u64 - 1;
                 self.generation += 1;
                 self.covered = self.history.len();
-                self.waiting.keep(0, 0);
+                self.waiting.truncate(0, 0);
                 self.begun = None;
                 Ok(self.covered as u64)
             }

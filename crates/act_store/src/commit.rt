@@ -48,7 +48,7 @@ impl<D: Disk> Store<D> {
             Ok(()) => {
                 self.used += bytes.len() as u64;
                 self.covered = self.history.len();
-                self.waiting.keep(0, 0);
+                self.waiting.truncate(0, 0);
                 Ok(self.covered as u64)
             }
         }

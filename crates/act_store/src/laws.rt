@@ -4,9 +4,12 @@ ghost use Rattle.std.specs.Prelude.{◌≡◌, ◌+◌, ℕ, List, length, drop}
 ghost use Rattle.run_plan.specs.Admitted.{Admitted};
 ghost use Rattle.run_plan.specs.declared.command.Command.TheVariants as command;
 ghost use Rattle.run_plan.specs.declared.reply.Reply.TheVariants as reply;
-ghost use Rattle.run_table.specs.ExactlyOnce.{HasTurn, HaveNoLaterTurn, IsRefused};
-ghost use Rattle.run_table.specs.Step.{step};
+ghost use Rattle.run_table.specs.ExactlyOnce.{HasTurn, IsRefused};
+ghost use Rattle.run_table.specs.Histories.{replies};
+ghost use Rattle.run_table.specs.Remembered.{AreNoLaterTurns};
+ghost use Rattle.run_table.specs.Step.{step, stepped};
 ghost use Rattle.run_table.specs.TableState.{TableState};
+ghost use Rattle.act_store.specs.Entries.{table_after};
 ghost use Rattle.act_store.specs.Images.{StandsFor};
 ghost use Rattle.act_store.specs.Reopened.{IsAcknowledged, LeadTo, Life, asked_in};
 ghost use Rattle.act_store.specs.declared.entry.Entry.{Entry};
@@ -25,17 +28,18 @@ pub fn a_delivery_makes_one_run()
         → entry.command ≡ command.Admit event → entry.reply ≡ reply.Created run → again.delivery ≡ event.delivery
         → step table (command.Admit again) ≡ (table, reply.Created run) }
 {
-    run_table::laws::a_delivery_makes_one_run();
+    run_table::laws::a_delivery_stays_known();
 }
 
 /// In the same way, a runner that asks again what an acknowledged entry carried out gets the reply of that entry again, as long as no
-/// later number of that runner stands behind it. The table stays.
+/// later number of that runner was carried out by what stands behind it. The table stays.
 pub fn a_kept_reply_is_given_again()
     ensures { (life : Life) (lives : List Life) (table : TableState) (before behind : List Entry) (entry : Entry) (number : ℕ)
         (runner : List ℕ) → (leads : LeadTo life lives table) → IsAcknowledged life before entry behind
         → HasTurn entry.command runner number → (IsRefused entry.reply → ⊥)
-        → HaveNoLaterTurn runner number (drop (length before + 1) (asked_in life lives table leads))
+        → AreNoLaterTurns runner number (drop (length before + 1) (asked_in life lives table leads))
+        (replies (stepped (table_after life.base before) entry.command).table (drop (length before + 1) (asked_in life lives table leads)))
         → step table entry.command ≡ (table, entry.reply) }
 {
-    run_table::laws::a_kept_reply_is_given_again();
+    run_table::laws::a_last_command_stays_known();
 }

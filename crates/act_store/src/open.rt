@@ -4,7 +4,7 @@ ghost use Rattle.act_store.specs.Images.{HasNoArea, HasNoTable, StandsAt, Stands
 ghost use Rattle.act_store.specs.Plain.{RefusesOpening, TellsNoArea, no_area, no_table};
 ghost use Rattle.act_store.specs.Told.{IsCause};
 
-use crate::found::find;
+use crate::located_area::find;
 use crate::store::Store;
 use crate::waiting::Waiting;
 use act_disk::Disk;

@@ -117,7 +117,7 @@ impl Waiting {
     }
 
     /// Drops all commands but the first `count`, whose spellings have `spelled` bytes. The memory is kept.
-    pub(crate) fn keep(&mut self, count: u32, spelled: usize)
+    pub(crate) fn truncate(&mut self, count: u32, spelled: usize)
         requires count_within { count ≤ self.old.count }
         requires spelled_within { spelled ≤ length self.old.spelled }
         ensures count { self.new.count ≡ count }

@@ -1,4 +1,5 @@
 mod Areas
+mod ChoiceRows
 mod Choosing
 mod ClosedGate
 pub mod Composed

@@ -16,7 +16,7 @@ use Rattle.workflow_runs.specs.GroupOf.{cancels_in_progress, group_at}
 use Rattle.workflow_runs.specs.GroupWords.{arrival_of, has_arrived, has_started, is_pending, is_running, latest, next_displaced}
 use Rattle.workflow_runs.specs.GroupWords.{same_holder, was_stopped}
 use Rattle.workflow_runs.specs.Groups.{HasOneBeside, holds, is_in, is_pending_in, is_running_in, running_in, waits}
-use Rattle.workflow_runs.specs.Moves.{Holder, Move, Moved, at_each, without_moves}
+use Rattle.workflow_runs.specs.Moves.{Holder, Move, Transition, at_each, without_moves}
 use Rattle.workflow_runs.specs.StopMoves.{displace, stop_holder}
 use Rattle.workflow_runs.specs.RunState.{RunState}
 use Rattle.workflow_runs.proofs.ArrivalKeeps.{asked_fades, displaced_one_each, itself, nobody_else, one_or_another}
@@ -445,7 +445,7 @@ module _ (in_group cancels : Holder → Bool) (g : Group) (before now : List Run
       here_goes_on : LawSoFar in_group cancels (room_made c n now g).runs
           (moves ++ of_group in_group (Move.arrive n ∷ (room_made c n now g).moves))
       here_goes_on =
-          let made : Moved = record { runs = (room_made c n now g).runs; moves = Move.arrive n ∷ (room_made c n now g).moves } in
+          let made : Transition = record { runs = (room_made c n now g).runs; moves = Move.arrive n ∷ (room_made c n now g).moves } in
           let tells : Tells before made =
           tells_then before (record { runs = now; moves = Move.arrive n ∷ [] }) (λ _. room_made c n now g) set
           (tells_then now (displaced g n now) (stopped_where_asked c g) so.0 (asked_tells c g (displaced g n now).runs)) in
@@ -466,7 +466,7 @@ module _ (in_group cancels : Holder → Bool) (g : Group) (before now : List Run
       (same_then : group_at now n ≡ Some g → (h : Holder) → IsOneOf (displaced g n now).runs h
       → in_group h ≡ is_in (displaced g n now).runs g h)
       (moves : List Move) (so_far : LawSoFar in_group cancels before moves) where
-    abbrev SoAfter : Moved → Type 0
+    abbrev SoAfter : Transition → Type 0
     SoAfter made = LawSoFar in_group cancels made.runs (moves ++ of_group in_group (Move.arrive n ∷ made.moves))
 
     its_group : (k : Group) → group_at now n ≡ Some k → in_group n ≡ true → g ≡ k

@@ -6,7 +6,7 @@ use Rattle.std.proofs.Common.{ap, inl, inr, sym, ◌∙◌, subst}
 use Rattle.wf_value.specs.declared.outcome.Outcome.TheVariants.{Cancelled}
 use Rattle.workflow_runs.specs.FirstOf.{changed_at}
 use Rattle.run_table.specs.GroupLaw.{BeginsWith}
-use Rattle.workflow_runs.specs.Moves.{Holder, Move, Moved, and_then, at_each, without_moves}
+use Rattle.workflow_runs.specs.Moves.{Holder, Move, Transition, and_then, at_each, without_moves}
 use Rattle.workflow_runs.specs.Places.{LegPlace, leg_at, run_at, with_leg}
 use Rattle.workflow_runs.specs.StopMoves.{displace, jobs_stop_moves, leg_stop_moves, run_stop_moves_in, stop_holder, told_moves}
 use Rattle.workflow_runs.specs.Stops.{stopped, stopped_in, stopped_run}
@@ -26,7 +26,7 @@ use Rattle.run_table.proofs.StopsTold.{Tells, goes_by}
 
 -- ---- one change after another tells
 
-pub tells_then : (runs : List RunState) (m : Moved) (change : List RunState → Moved) → Tells runs m → Tells m.runs (change m.runs)
+pub tells_then : (runs : List RunState) (m : Transition) (change : List RunState → Transition) → Tells runs m → Tells m.runs (change m.runs)
     → Tells runs (and_then m change)
 tells_then runs m change first second h =
     goes_by h (status runs h) (status (change m.runs).runs h) (own h (m.moves ++ (change m.runs).moves))
@@ -37,7 +37,7 @@ tells_then runs m change first second h =
 pub tells_nothing : (runs : List RunState) → Tells runs (without_moves runs)
 tells_nothing runs h = goes_not h (status runs h)
 
-pub each_tells : (change : Holder → List RunState → Moved) → ((h : Holder) (runs : List RunState) → Tells runs (change h runs))
+pub each_tells : (change : Holder → List RunState → Transition) → ((h : Holder) (runs : List RunState) → Tells runs (change h runs))
     → (hs : List Holder) (runs : List RunState) → Tells runs (at_each change hs runs)
 each_tells change one [] runs = tells_nothing runs
 each_tells change one (h ∷ hs) runs =

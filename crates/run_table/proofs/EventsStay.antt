@@ -11,13 +11,13 @@ use Rattle.workflow_runs.specs.FirstOf.{changed_at}
 use Rattle.workflow_runs.specs.Fitting.{place_of_lease}
 use Rattle.workflow_runs.specs.GroupOf.{cancels_in_progress, group_at}
 use Rattle.workflow_runs.specs.Groups.{running_in}
-use Rattle.workflow_runs.specs.Moves.{Holder, Moved, and_then, at_each, without_moves}
+use Rattle.workflow_runs.specs.Moves.{Holder, Transition, and_then, at_each, without_moves}
 use Rattle.workflow_runs.specs.Places.{LegPlace, with_job, with_leg, with_run}
 use Rattle.workflow_runs.specs.RunNumber.{events}
 use Rattle.workflow_runs.specs.Rules.{decided, leg_in_phase}
 use Rattle.workflow_runs.specs.Rules.{result_at, rule_at, run_in_phase, settled_as}
 use Rattle.workflow_runs.specs.Rules.{with_leg_in}
-use Rattle.workflow_runs.specs.Settling.{first_place, first_rule, left, settled, settled_within}
+use Rattle.workflow_runs.specs.Settling.{first_place, first_rule, remaining_phases, settled, settled_within}
 use Rattle.workflow_runs.specs.StopMoves.{with_ended, displace, stop_holder}
 use Rattle.workflow_runs.specs.Stops.{after_end, stopped, stopped_in, stopped_run, stops_others, told_to_stop, with_stopped_legs}
 use Rattle.workflow_runs.specs.RunState.{JobState, LegState, RunState}
@@ -56,7 +56,7 @@ stop_events (Holder.a_leg p) runs = leg_events p stopped runs
 
 -- ---- an arrival
 
-each_events : (change : Holder → List RunState → Moved) (hs : List Holder) (runs : List RunState)
+each_events : (change : Holder → List RunState → Transition) (hs : List Holder) (runs : List RunState)
     → ((h : Holder) (now : List RunState) → events (change h now).runs ≡ events now) → events (at_each change hs runs).runs ≡ events runs
 each_events change [] runs same = refl
 each_events change (h ∷ hs) runs same = each_events change hs (change h runs).runs same ∙ same h runs
@@ -84,7 +84,7 @@ arrived_events newcomer runs =
 run_events : (runs : List RunState) (r : ℕ) (phase : RunPhase) → events (with_run r (run_in_phase phase) runs) ≡ events runs
 run_events runs r phase = same_events r (run_in_phase phase) runs (λ x. refl)
 
-rule_events : (runs : List RunState) (m : Moved) (place : Place) → rule_at runs place ≡ Some m → events m.runs ≡ events runs
+rule_events : (runs : List RunState) (m : Transition) (place : Place) → rule_at runs place ≡ Some m → events m.runs ≡ events runs
 rule_events runs =
     by_rule runs (λ place made. events made.runs ≡ events runs)
     (record {
@@ -105,7 +105,7 @@ within_events zero runs = refl
 within_events (suc n) runs =
     elim (first_rule runs) as
     (λ o. first_rule runs ≡ o
-    → events (option_map_or (λ (m : Moved). and_then m (settled_within n)) o (without_moves runs)).runs ≡ events runs) [
+    → events (option_map_or (λ (m : Transition). and_then m (settled_within n)) o (without_moves runs)).runs ≡ events runs) [
       | None ↦ λ is. refl
       | Some next ↦ λ is.
           let made = from_and_then (rule_at runs) (first_place runs) next is in
@@ -113,7 +113,7 @@ within_events (suc n) runs =
     ] refl
 
 pub settled_events : (runs : List RunState) → events (settled runs) ≡ events runs
-settled_events runs = within_events (left runs) runs
+settled_events runs = within_events (remaining_phases runs) runs
 
 -- ---- a leg ends
 

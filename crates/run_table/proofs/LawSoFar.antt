@@ -10,7 +10,7 @@ use Rattle.group_name.specs.Group.{Group}
 use Rattle.run_table.specs.GroupLaw.{KeepsLaw}
 use Rattle.workflow_runs.specs.GroupWords.{arrival_of, has_arrived, has_ended, has_started, is_running, latest}
 use Rattle.workflow_runs.specs.Groups.{holds, is_in, may_start, waits}
-use Rattle.workflow_runs.specs.Moves.{Holder, Move, Moved, and_then, without_moves}
+use Rattle.workflow_runs.specs.Moves.{Holder, Move, Transition, and_then, without_moves}
 use Rattle.workflow_runs.specs.StopMoves.{stop_holder}
 use Rattle.workflow_runs.specs.RunState.{RunState}
 use Rattle.run_table.proofs.ChangesTold.{stop_tells}
@@ -45,11 +45,11 @@ module _ (in_group cancels : Holder → Bool) where
     pub law : KeepsLaw cancels moves
 
   -- a change after which it is so again
-  abbrev pub GoesOn : List RunState → Moved → Type 0
+  abbrev pub GoesOn : List RunState → Transition → Type 0
   GoesOn runs m = (moves : List Move) → LawSoFar runs moves → LawSoFar m.runs (moves ++ of_group in_group m.moves)
 
   -- a change at which nobody arrives in the group
-  pub record IsQuiet (runs : List RunState) (m : Moved) : Type 0 where
+  pub record IsQuiet (runs : List RunState) (m : Transition) : Type 0 where
     pub tells : Tells runs m
     pub silent : filter_map arrival_of (of_group in_group m.moves) ≡ []
     pub waited : (h : Holder) → in_group h ≡ true → waits m.runs h ≡ true → waits runs h ≡ true
@@ -57,14 +57,14 @@ module _ (in_group cancels : Holder → Bool) where
     pub lawful : (moves : List Move) → LawSoFar runs moves → Walk (Lawful cancels) moves (of_group in_group m.moves)
 
   -- what each holder's moves say after a change
-  pub each_on : (runs : List RunState) (m : Moved) (moves : List Move) → Tells runs m
+  pub each_on : (runs : List RunState) (m : Transition) (moves : List Move) → Tells runs m
       → ((h : Holder) → in_group h ≡ true → Fits (status runs h) h (own h moves)) → (h : Holder) → in_group h ≡ true
       → Fits (status m.runs h) h (own h (moves ++ of_group in_group m.moves))
   each_on runs m moves tells each h is =
       let parts = own_on h moves (of_group in_group m.moves) ∙ ap (λ ms. own h moves ++ ms) (own_of_group in_group h m.moves is) in
       subst (Fits (status m.runs h) h) (sym parts) (tells h (own h moves) (each h is))
 
-  pub others_on : (m : Moved) (moves : List Move) → ((h : Holder) → in_group h ≡ false → own h moves ≡ []) → (h : Holder)
+  pub others_on : (m : Transition) (moves : List Move) → ((h : Holder) → in_group h ≡ false → own h moves ≡ []) → (h : Holder)
       → in_group h ≡ false
       → own h (moves ++ of_group in_group m.moves) ≡ []
   others_on m moves others h isnt =
@@ -82,7 +82,7 @@ module _ (in_group cancels : Holder → Bool) where
   started_before h moves more unstarted =
       (or_parts (has_started h moves) (has_started h more) (sym (started_on h moves more) ∙ unstarted)).0
 
-  pub quiet_goes_on : (runs : List RunState) (m : Moved) → IsQuiet runs m → GoesOn runs m
+  pub quiet_goes_on : (runs : List RunState) (m : Transition) → IsQuiet runs m → GoesOn runs m
   quiet_goes_on runs m quiet moves so_far = record {
     each = each_on runs m moves quiet.tells so_far.each;
     others = others_on m moves so_far.others;
@@ -103,7 +103,7 @@ module _ (in_group cancels : Holder → Bool) where
 
   -- ---- one change after another
 
-  pub goes_on_then : (runs : List RunState) (m : Moved) (change : List RunState → Moved) → GoesOn runs m → GoesOn m.runs (change m.runs)
+  pub goes_on_then : (runs : List RunState) (m : Transition) (change : List RunState → Transition) → GoesOn runs m → GoesOn m.runs (change m.runs)
       → GoesOn runs (and_then m change)
   goes_on_then runs m change first second moves so_far =
       subst (LawSoFar (change m.runs).runs)
@@ -126,7 +126,7 @@ module _ (in_group cancels : Holder → Bool) where
     lawful = (λ moves so_far. tt);
   }
 
-  pub stops_are_quiet : (runs : List RunState) (m : Moved) → Tells runs m → OnlyStops m.moves
+  pub stops_are_quiet : (runs : List RunState) (m : Transition) → Tells runs m → OnlyStops m.moves
       → ((h : Holder) → waits m.runs h ≡ true → waits runs h ≡ true) → AllStill runs m.runs → IsQuiet runs m
   stops_are_quiet runs m tells stops waited still = record {
     tells = tells;

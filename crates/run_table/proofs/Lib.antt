@@ -54,6 +54,7 @@ pub mod RulesDecided
 pub mod RulesLaw
 pub mod RunnerOrder
 pub mod RunnerPut
+pub mod ServedNothing
 pub mod SkipsDue
 pub mod StepKeeps
 pub mod StepsLaw

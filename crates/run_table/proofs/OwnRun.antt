@@ -1,6 +1,6 @@
 -- A rule changes no run but the one of its place, unless a leg arrives.
 use Rattle.std.specs.Prelude.{◌≡◌, ℕ, List, Some}
-use Rattle.workflow_runs.specs.Moves.{Moved}
+use Rattle.workflow_runs.specs.Moves.{Transition}
 use Rattle.workflow_runs.specs.Places.{run_at}
 use Rattle.workflow_runs.specs.Rules.{rule_at, run_of_place}
 use Rattle.workflow_runs.specs.Rules.{IsNoArrival, decided, result_at}
@@ -13,7 +13,7 @@ use Rattle.workflow_runs.proofs.Changed.{at_another}
 use Rattle.workflow_runs.proofs.EachRule.{by_rule}
 use Rattle.workflow_runs.proofs.JobKeeps.{with_job_of, with_leg_of}
 
-pub own_run_alone : (runs : List RunState) (m : Moved) (place : Place) (r : ℕ) → rule_at runs place ≡ Some m → IsNoArrival runs place
+pub own_run_alone : (runs : List RunState) (m : Transition) (place : Place) (r : ℕ) → rule_at runs place ≡ Some m → IsNoArrival runs place
     → (r ≡ run_of_place place → ⊥) → run_at m.runs r ≡ run_at runs r
 own_run_alone runs m place r =
     by_rule runs (λ at made. IsNoArrival runs at → (r ≡ run_of_place at → ⊥) → run_at made.runs r ≡ run_at runs r)

@@ -12,7 +12,7 @@ use Rattle.group_name.specs.Group.{Group}
 use Rattle.workflow_runs.specs.Arrivals.{arrived, displaced, others_pending, room_made, stopped_where_asked}
 use Rattle.workflow_runs.specs.GroupOf.{cancels_in_progress, group_at}
 use Rattle.workflow_runs.specs.Groups.{running_in}
-use Rattle.workflow_runs.specs.Moves.{Holder, Moved, at_each, without_moves}
+use Rattle.workflow_runs.specs.Moves.{Holder, Transition, at_each, without_moves}
 use Rattle.workflow_runs.specs.Places.{run_at, job_at, with_run, with_job}
 use Rattle.workflow_runs.specs.Rules.{rule_at}
 use Rattle.workflow_runs.specs.Rules.{decided, leg_ends, may_run, result_at, with_leg_in}
@@ -35,7 +35,7 @@ use Rattle.workflow_runs.proofs.HoldersKeep.{displaced_settles, holder_stop_sett
 use Rattle.workflow_runs.proofs.JobKeeps.{job_in}
 use Rattle.workflow_runs.proofs.JobPhases.{is_open_open}
 use Rattle.workflow_runs.proofs.LivePlaces.{LivePlace}
-use Rattle.workflow_runs.proofs.Moved.{changed_none}
+use Rattle.workflow_runs.proofs.Transitions.{changed_none}
 use Rattle.workflow_runs.proofs.RuleKeeps.{newcomer_waits, rule_settles}
 use Rattle.workflow_runs.proofs.RunFits.{RunsFit, job_in_run}
 use Rattle.workflow_runs.proofs.Settles.{Settles}
@@ -98,7 +98,7 @@ stop_decided (Holder.a_run r) runs fit all =
     ] refl
 stop_decided (Holder.a_leg p) runs fit all = leg_change_decided runs p stopped all
 
-each_decided : (change : Holder → List RunState → Moved)
+each_decided : (change : Holder → List RunState → Transition)
     → ((h : Holder) (runs : List RunState) → RunsFit runs → Settles runs (change h runs).runs)
     → ((h : Holder) (runs : List RunState) → RunsFit runs → Decided runs → Decided (change h runs).runs) → (hs : List Holder)
     → (runs : List RunState) → RunsFit runs → Decided runs → Decided (at_each change hs runs).runs
@@ -129,7 +129,7 @@ arrival_decided newcomer runs fit all =
 decided_after : (runs next : List RunState) → Decided runs → NowDecided runs next → Settles runs next → Decided next
 decided_after runs next all now settles = all_decided runs next all settles.stay.same_admitted settles.stay.keeps_results now
 
-pub rule_decided : (runs : List RunState) (m : Moved) (place : Place) → RunsFit runs → LivePlace runs place → rule_at runs place ≡ Some m
+pub rule_decided : (runs : List RunState) (m : Transition) (place : Place) → RunsFit runs → LivePlace runs place → rule_at runs place ≡ Some m
     → Decided runs → Decided m.runs
 rule_decided runs m place fit live h all =
     let phase_decided = λ (r : ℕ) (x : RunState) (to : RunPhase) (was : run_at runs r ≡ Some x).

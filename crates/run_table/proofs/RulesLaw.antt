@@ -15,7 +15,7 @@ use Rattle.workflow_runs.specs.GroupOf.{cancels_in_progress, group_at}
 use Rattle.workflow_runs.specs.GroupWords.{holder_of, same_holder}
 use Rattle.workflow_runs.specs.Groups.{HasOneEach, holds, is_in, leg_waits, may_start, run_waits, waits}
 use Rattle.workflow_runs.specs.JobResults.{results_of}
-use Rattle.workflow_runs.specs.Moves.{Holder, Move, Moved, and_then, without_moves}
+use Rattle.workflow_runs.specs.Moves.{Holder, Move, Transition, and_then, without_moves}
 use Rattle.workflow_runs.specs.Places.{LegPlace, job_at, leg_at, run_at, with_job, with_run}
 use Rattle.workflow_runs.specs.Rules.{decided, may_run, result_at}
 use Rattle.workflow_runs.specs.Rules.{rule_at}
@@ -149,7 +149,7 @@ run_set_tells runs r x to m was of_it goes =
 module _ (reached later : List RunState) (g : Group) (cancels : Holder → Bool) (on : Grows reached later)
     (asks : (h : Holder) → cancels h ≡ true → cancels_in_progress later h ≡ true) where
   -- the groups are those of the table that is reached
-  abbrev pub Keeps : List RunState → Moved → Type 0
+  abbrev pub Keeps : List RunState → Transition → Type 0
   Keeps runs m = GoesOn (is_in reached g) cancels runs m
 
   agrees : (runs : List RunState) → RunsFit runs → Grows runs reached → (h : Holder) → IsOneOf runs h → is_in reached g h ≡ is_in runs g h
@@ -283,7 +283,7 @@ module _ (reached later : List RunState) (g : Group) (cancels : Holder → Bool)
 
   -- ---- at each place
 
-  rule_keeps : (runs : List RunState) (m : Moved) (place : Place) → RunsFit runs → LivePlace runs place → rule_at runs place ≡ Some m
+  rule_keeps : (runs : List RunState) (m : Transition) (place : Place) → RunsFit runs → LivePlace runs place → rule_at runs place ≡ Some m
       → HasOneEach runs
       → Grows runs reached → Grows m.runs reached → Keeps runs m
   rule_keeps runs m place fit live h each from =
@@ -300,7 +300,7 @@ module _ (reached later : List RunState) (g : Group) (cancels : Holder → Bool)
 
   -- ---- settling
 
-  first_rule_keeps : (runs : List RunState) (m : Moved) → RunsFit runs → first_rule runs ≡ Some m → HasOneEach runs → Grows runs reached
+  first_rule_keeps : (runs : List RunState) (m : Transition) → RunsFit runs → first_rule runs ≡ Some m → HasOneEach runs → Grows runs reached
       → Grows m.runs reached → Keeps runs m
   first_rule_keeps runs m fit h each from grows =
       let made = from_and_then (rule_at runs) (first_place runs) m h in

@@ -23,7 +23,7 @@ use Rattle.workflow_runs.specs.Arrivals.{started}
 use Rattle.workflow_runs.specs.Moves.{Holder, without_moves}
 use Rattle.workflow_runs.specs.Places.{with_job}
 use Rattle.workflow_runs.specs.Rules.{decided, may_run, new_leg, opened, rule_at, settled_as}
-use Rattle.workflow_runs.specs.Settling.{settled, first_place, first_rule, left}
+use Rattle.workflow_runs.specs.Settling.{settled, first_place, first_rule, remaining_phases}
 use Rattle.run_table.specs.Step.{step, empty, claiming_runner, reporting_runner, refused}
 use Rattle.workflow_runs.specs.NewRun.{blocked_job, leased_leg}
 use Rattle.workflow_runs.specs.Stops.{with_stopped_legs}
@@ -157,7 +157,7 @@ stopping_job_is_cancelled body needs may =
     ∙ ap (λ b. Some (without_moves (with_job 0 0 (if b then opened (planned_legs runs 0 0) else settled_as result.Cancelled) runs))) may
 
 -- each rule lowers what is left: a job that settles by one, a leg that goes on by one
-left_of_one_job : left (one_job (new_leg ∷ []) ∷ []) ≡ 7
+left_of_one_job : remaining_phases (one_job (new_leg ∷ []) ∷ []) ≡ 7
 left_of_one_job = refl
 
 abbrev claim_of : ℕ → Claimed

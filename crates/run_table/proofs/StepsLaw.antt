@@ -22,11 +22,11 @@ use Rattle.wf_value.specs.declared.code.Code.TheVariants.{LeaseNotHeld, NoRunner
 use Rattle.workflow_runs.specs.Fitting.{first_fit, has_lease, place_of_lease}
 use Rattle.workflow_runs.specs.GroupOf.{cancels_in_progress}
 use Rattle.workflow_runs.specs.Groups.{HasOneEach, holds, is_in, leg_holds}
-use Rattle.workflow_runs.specs.Moves.{Holder, Move, Moved, without_moves}
+use Rattle.workflow_runs.specs.Moves.{Holder, Move, Transition, without_moves}
 use Rattle.run_table.specs.TableState.{Step, RunnerState, TableState}
 use Rattle.workflow_runs.specs.Parallel.{is_at_work}
 use Rattle.workflow_runs.specs.Places.{LegPlace, job_at, leg_at, leg_places, run_at, with_job, with_leg}
-use Rattle.workflow_runs.specs.Settling.{left, settled, settling}
+use Rattle.workflow_runs.specs.Settling.{remaining_phases, settled, settling}
 use Rattle.run_table.specs.Sound.{IsSound}
 use Rattle.workflow_runs.specs.StateWords.{has_ended, leg_in_phase}
 use Rattle.run_table.specs.Step.{admission_answer, admitted, admitting, at_rest_after, cancel_answer, cancelled}
@@ -176,7 +176,7 @@ module _ (in_group cancels : Holder → Bool) (runs : List RunState) (p : LegPla
   after_end_goes_on : GoesOn in_group cancels runs (record { runs = after_end p o runs; moves = end_moves p o runs })
   after_end_goes_on =
       let ended = with_leg p (leg_in_phase (leg.Ended o)) runs in
-      let change : List RunState → Moved = λ rs. record {
+      let change : List RunState → Transition = λ rs. record {
         runs = with_job p.run p.job with_stopped_legs rs;
         moves = option_map_or (λ job. legs_stop_moves p.run p.job job.legs) (job_at rs p.run p.job) [];
       } in
@@ -238,7 +238,7 @@ module _ (later : List RunState) (g : Group) (cancels : Holder → Bool) (asks :
           grows = grows_on t.runs u.runs (settled u.runs) grows rests;
           goes_on = (λ on.
               goes_on_then (is_in (settled u.runs) g) cancels t.runs (record { runs = u.runs; moves = moves }) settling (first on)
-              (settled_keeps (settled u.runs) later g cancels on asks (left u.runs) u.runs fit each (grows_not (settled u.runs))));
+              (settled_keeps (settled u.runs) later g cancels on asks (remaining_phases u.runs) u.runs fit each (grows_not (settled u.runs))));
         }
 
     either_says : (t : TableState) (answer : Option Reply) (change : Step) → (answer ≡ None → StepSays t change)

@@ -9,7 +9,7 @@ use Rattle.wf_value.specs.declared.outcome.JobResult.TheVariants as result
 use Rattle.wf_value.specs.declared.outcome.Outcome.TheVariants.{Cancelled}
 use Rattle.workflow_runs.specs.FirstOf.{changed_at, placed}
 use Rattle.workflow_runs.specs.GroupWords.{holder_of, same_holder}
-use Rattle.workflow_runs.specs.Moves.{Holder, Move, Moved}
+use Rattle.workflow_runs.specs.Moves.{Holder, Move, Transition}
 use Rattle.workflow_runs.specs.Places.{LegPlace, leg_place, run_at, with_run}
 use Rattle.workflow_runs.specs.RunConditions.{may_run_in}
 use Rattle.workflow_runs.specs.StateWords.{is_open, settled_as}
@@ -268,7 +268,7 @@ run_goes_in r run.Ended x e = goes_not (Holder.a_run r) (status_of_run x)
 -- ---- a holder is stopped
 
 -- each holder goes on as its own moves say
-abbrev pub Tells : List RunState → Moved → Type 0
+abbrev pub Tells : List RunState → Transition → Type 0
 Tells runs m = (h : Holder) → Goes h (status runs h) (own h m.moves) (status m.runs h)
 
 own_of_run : (h : Holder) (r : ℕ) (o : Option RunState)

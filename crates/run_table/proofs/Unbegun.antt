@@ -12,7 +12,7 @@ use Rattle.wf_value.specs.declared.outcome.Outcome.TheVariants as outcome
 use Rattle.run_plan.specs.Admitted.{Admitted}
 use Rattle.workflow_runs.specs.FirstOf.{changed_at}
 use Rattle.workflow_runs.specs.Groups.{holds, leg_holds, leg_waits, run_waits, waits}
-use Rattle.workflow_runs.specs.Moves.{Holder, Moved, at_each}
+use Rattle.workflow_runs.specs.Moves.{Holder, Transition, at_each}
 use Rattle.workflow_runs.specs.Places.{LegPlace, job_at, leg_at, run_at, with_job, with_leg, with_run}
 use Rattle.workflow_runs.specs.RunConditions.{may_run_in}
 use Rattle.workflow_runs.specs.Rules.{result_at}
@@ -334,7 +334,7 @@ stop_all_still (Holder.a_run r) runs =
     (record { of_it = (λ x. stop_unbegun x.phase x refl); of_legs = (λ j l x. stop_legs x.phase j l x) })
 stop_all_still (Holder.a_leg p) runs = leg_all_still runs p stopped leg_stopped
 
-pub each_all_still : (change : Holder → List RunState → Moved) → ((h : Holder) (runs : List RunState) → AllStill runs (change h runs).runs)
+pub each_all_still : (change : Holder → List RunState → Transition) → ((h : Holder) (runs : List RunState) → AllStill runs (change h runs).runs)
     → (hs : List Holder) (runs : List RunState) → AllStill runs (at_each change hs runs).runs
 each_all_still change one [] runs h un = un
 each_all_still change one (k ∷ hs) runs h un = each_all_still change one hs (change k runs).runs h (one k runs h un)

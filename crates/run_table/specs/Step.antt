@@ -23,7 +23,7 @@ use Rattle.run_plan.specs.declared.reply.Reply.{Reply}
 use Rattle.run_plan.specs.declared.reply.Reply.TheVariants as reply
 use Rattle.workflow_runs.specs.Arrivals.{arrived}
 use Rattle.workflow_runs.specs.Fitting.{first_fit, is_told_to_stop}
-use Rattle.workflow_runs.specs.Moves.{Holder, Move, Moved}
+use Rattle.workflow_runs.specs.Moves.{Holder, Move, Transition}
 use Rattle.run_table.specs.TableState.{Step, RunnerState, TableState}
 use Rattle.workflow_runs.specs.Places.{LegPlace, run_at, with_leg}
 use Rattle.workflow_runs.specs.Settling.{settled, settling_moves}
@@ -72,7 +72,7 @@ admission_answer t event =
     (if nat_le 100000 (length t.runs) then Some (refused LastCounter) else None)
 
 -- the new run arrives in its group
-abbrev pub entered : TableState → Admitted → Moved
+abbrev pub entered : TableState → Admitted → Transition
 entered t event = arrived (Holder.a_run (length t.runs)) (t.runs ++ new_run event ∷ [])
 
 abbrev pub admitting : TableState → Admitted → Step

@@ -157,7 +157,7 @@ impl Content {
         if let Some(place) = self.runs.position(prepared.delivery()) {
             return Ok(Reply::Created(id_of(place)));
         }
-        if self.runs.len() >= MOST_RUNS {
+        if self.runs.len() >= MOST_RUNS as usize {
             return Ok(refused(Code::LastCounter));
         }
         self.enter(alloc, prepared)
@@ -215,7 +215,7 @@ impl Content {
         }
     }
 
-    /// Answers a claim that no leg fits, and keeps it.
+    /// Answers a claim that no leg fits, and keeps it. No rule applies before, so none applies then.
     fn serve_nothing(&mut self, alloc: Global, claim: &Claim) -> Result<(Reply, Reply), Refusal>
         requires { IsSound self.old }
         ensures step { Gives (λ replies. (self.new, replies.0)) result (Ok (outcome (serving_nothing self.old claim.now))) }
@@ -224,7 +224,6 @@ impl Content {
     {
         let runner = Runner::claiming(alloc, claim, None, ClaimReply::Nothing)?;
         self.runners.put(runner)?;
-        self.runs.settle();
         Ok((Reply::Nothing, Reply::Nothing))
     }
 

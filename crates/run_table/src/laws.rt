@@ -15,10 +15,10 @@ ghost use Rattle.run_table.specs.GroupLaw.{KeepsLaw};
 ghost use Rattle.workflow_runs.specs.GroupWords.{has_arrived, has_ended, has_started, next_displaced, was_stopped};
 ghost use Rattle.workflow_runs.specs.Groups.{pending_in, running_in};
 ghost use Rattle.run_table.specs.Histories.{WasAnswered, after, replies};
-ghost use Rattle.workflow_runs.specs.Moves.{Holder, Move, Moved, and_then};
+ghost use Rattle.workflow_runs.specs.Moves.{Holder, Move, Transition, and_then};
 ghost use Rattle.workflow_runs.specs.Places.{LegPlace, leg_at, run_at};
 ghost use Rattle.workflow_runs.specs.Rules.{IsNoArrival, rule_at, run_of_place};
-ghost use Rattle.workflow_runs.specs.Settling.{first_place, first_rule, left, settled, settling};
+ghost use Rattle.workflow_runs.specs.Settling.{first_place, first_rule, remaining_phases, settled, settling};
 ghost use Rattle.run_table.specs.Skips.{SkipsAreDue};
 ghost use Rattle.run_table.specs.Sound.{IsSound, ParallelIsBounded};
 ghost use Rattle.workflow_runs.specs.SoundRuns.{NeedsComeFirst};
@@ -30,7 +30,7 @@ ghost use Rattle.wf_value.specs.declared.outcome.Outcome.{Outcome};
 
 /// Settling ends: each rule lowers the number of phases that are before the runs.
 pub fn each_rule_lowers()
-    ensures { (runs : List RunState) (next : Moved) → first_rule runs ≡ Some next → left next.runs < left runs }
+    ensures { (runs : List RunState) (next : Transition) → first_rule runs ≡ Some next → remaining_phases next.runs < remaining_phases runs }
 {}
 
 /// After settling no rule applies.
@@ -40,13 +40,13 @@ pub fn settled_runs_rest()
 
 /// A rule that is taken first makes no difference to where settling ends.
 pub fn rules_lead_to_one_end()
-    ensures { (runs : List RunState) (next : Moved) → first_rule runs ≡ Some next → settling runs ≡ and_then next settling }
+    ensures { (runs : List RunState) (next : Transition) → first_rule runs ≡ Some next → settling runs ≡ and_then next settling }
 {}
 
 /// The rule at a place changes no run but the place's own, unless a leg arrives there: its arrival may end and stop holders of
 /// its group in other runs.
 pub fn rules_touch_one_run()
-    ensures { (runs : List RunState) (next : Moved) (place : Place) (r : ℕ) → rule_at runs place ≡ Some next
+    ensures { (runs : List RunState) (next : Transition) (place : Place) (r : ℕ) → rule_at runs place ≡ Some next
         → IsNoArrival runs place → (r ≡ run_of_place place → ⊥) → run_at next.runs r ≡ run_at runs r }
 {}
 

@@ -108,13 +108,6 @@ fn runner_in<'a>(runners: &'a [Runner], name: &RunnerName) -> Option<&'a Runner>
     named_at(runners, count_below(runners, name), name)
 }
 
-fn is_known(runners: &[Runner], name: &RunnerName) -> bool
-    requires { names_rise runners.now ≡ true }
-    ensures { result ≡ is_some (runner_named runners.now name.now) }
-{
-    runner_in(runners, name).is_some()
-}
-
 fn replace(runners: &mut Vec<Runner>, place: usize, runner: Runner)
     requires { place < length runners.old.items }
     ensures { runners.new.items ≡ slice_set runners.old.items place runner }
@@ -128,7 +121,7 @@ fn put_in(runners: &mut Vec<Runner>, runner: Runner) -> Result<(), Refusal>
     ensures err { OnErr result (runners.new.items ≡ runners.old.items) }
 {
     let place = count_below(runners, &runner.name);
-    if is_known(runners, &runner.name) {
+    if named_at(runners, place, &runner.name).is_some() {
         replace(runners, place, runner);
         return Ok(());
     }

@@ -18,8 +18,8 @@ use Rattle.wf_reader.specs.Faults.{fault, required, unless_faulty}
 use Rattle.run_plan.specs.Admitted.{Admitted}
 use Rattle.run_plan.specs.PlanOf.{faults_of, plan_faults}
 use Rattle.run_plan.specs.SmallText.{is_of_short_length, is_short, is_label_byte, are_labels}
-use Rattle.table_text.specs.declared.not_read.NotRead.{NotRead}
-use Rattle.table_text.specs.declared.not_read.NotRead.TheVariants.{NoMemory, NoSpelling}
+use Rattle.table_text.specs.declared.decode_error.DecodeError.{DecodeError}
+use Rattle.table_text.specs.declared.decode_error.DecodeError.TheVariants.{NoMemory, NoSpelling}
 use Rattle.table_text.specs.Commands.{is_numbered, are_none, is_faultless, small_text, labels}
 use Rattle.table_text.specs.Reading.{◌>>=◌, Fails, kept, text_at, items_at}
 use Rattle.table_text.specs.ReadingCommands.{small_text_at}
@@ -176,7 +176,7 @@ same_event b items d e z is h =
     sym by.1 ∙ ap (λ (l : List ℕ). record { delivery = d; event = e; body = l }) is
 
 -- and where it refuses for another cause than memory, the body does not
-pub fails_kept : (b items d e : List ℕ) (r : Refusal) (why : NotRead) → items ≡ b
+pub fails_kept : (b items d e : List ℕ) (r : Refusal) (why : DecodeError) → items ≡ b
     → (r ≡ no_memory) ⊎ (unless_faulty {X = Admitted} (faults_of items) (record { delivery = d; event = e; body = items }) ≡ Err r)
     → (why ≡ NoSpelling → refusal_number r ≢ 50) → Fails why (kept is_faultless b)
 unfolding is_faultless

@@ -1,8 +1,8 @@
 -- Reading values one behind the other, as a loop does.
 use Rattle.std.proofs.Common.{◌≡◌, ℕ, suc, ◌-◌, ◌+◌, ◌≤◌, ◌<◌, List, [], ◌∷◌, ◌++◌, sym, ◌∙◌, arith}
 use Rattle.std.specs.Prelude.{Option, Some}
-use Rattle.table_text.specs.declared.not_read.NotRead.{NotRead}
-use Rattle.table_text.specs.declared.not_read.NotRead.TheVariants.{NoMemory, NoSpelling}
+use Rattle.table_text.specs.declared.decode_error.DecodeError.{DecodeError}
+use Rattle.table_text.specs.declared.decode_error.DecodeError.TheVariants.{NoMemory, NoSpelling}
 use Rattle.table_text.specs.Reading.{Reader, Fails, items_at, with_front}
 use Rattle.table_text.proofs.Readers.{front_all, front_none, front_more}
 
@@ -14,7 +14,7 @@ goes_on at front count i bytes x after total below h so_far =
     let k : count - i ≡ suc (count - (i + 1)) = omega arith in
     sym (front_more at front (count - i) (count - (i + 1)) bytes x after k h) ∙ so_far
 
-pub ends : {A : Type 0} (at : Reader A) (e : NotRead) (front : List A) (count i : ℕ) (bytes : List ℕ) (total : Option (List A × List ℕ))
+pub ends : {A : Type 0} (at : Reader A) (e : DecodeError) (front : List A) (count i : ℕ) (bytes : List ℕ) (total : Option (List A × List ℕ))
     → i < count
     → Fails e (at bytes) → with_front front (items_at at (count - i) bytes) ≡ total → Fails e total
 ends at NoMemory front count i bytes total below h so_far = tt

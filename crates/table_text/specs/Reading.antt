@@ -2,15 +2,15 @@
 use Rattle.std.specs.Prelude.{◌≡◌, ℕ, zero, suc, ◌∷◌, List, [], ◌++◌, length, take, drop, nat_lt, nat_le, ◌&&◌, if◌then◌else◌, Bool, Option}
 use Rattle.std.specs.Prelude.{Some, None, Result, Ok, Err}
 use Rattle.std.specs.Int.{from_be_bytes, w32}
-use Rattle.table_text.specs.declared.not_read.NotRead.{NotRead}
-use Rattle.table_text.specs.declared.not_read.NotRead.TheVariants.{NoMemory, NoSpelling}
+use Rattle.table_text.specs.declared.decode_error.DecodeError.{DecodeError}
+use Rattle.table_text.specs.declared.decode_error.DecodeError.TheVariants.{NoMemory, NoSpelling}
 
 -- What a call found, seen by view, is what reading finds, unless memory was refused.
-abbrev pub Fails : {Y : Type 0} → NotRead → Option Y → Type 0
+abbrev pub Fails : {Y : Type 0} → DecodeError → Option Y → Type 0
 Fails NoSpelling found = found ≡ None
 Fails NoMemory found = Unit {0}
 
-abbrev pub Finds : {X Y : Type 0} → (X → Y) → Result X NotRead → Option Y → Type 0
+abbrev pub Finds : {X Y : Type 0} → (X → Y) → Result X DecodeError → Option Y → Type 0
 Finds view (Ok x) found = found ≡ Some (view x)
 Finds view (Err e) found = Fails e found
 

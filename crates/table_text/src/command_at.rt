@@ -1,14 +1,14 @@
 ghost use Rattle.std.specs.Prelude.{◌≡◌, ◌≢◌, IfOk};
 ghost use Rattle.wf_value.specs.RefusalText.{refusal_number};
-ghost use Rattle.table_text.specs.declared.not_read.NotRead.TheVariants.{NoSpelling};
+ghost use Rattle.table_text.specs.declared.decode_error.DecodeError.TheVariants.{NoSpelling};
 ghost use Rattle.table_text.specs.Commands.{is_faultless};
 ghost use Rattle.table_text.specs.Reading.{Finds, kept};
 ghost use Rattle.table_text.specs.ReadingCommands.{admit_at, batch_at, beat_at, claim_at, command_at, command_of, done_at};
 
+use crate::decode_error::DecodeError;
 use crate::fields::{is_within, labels_at, number_at, result_at, small_text_at};
 use crate::front::{text_at, word_at};
 use crate::list_at::{ReadAt, list_at};
-use crate::not_read::NotRead;
 use run_plan::{
     Beat, Claim, Command, DeliveryForm, DeliveryId, Done, EventForm, EventName, Number, Prepared,
     RunnerForm, prepare,
@@ -17,13 +17,13 @@ use std::alloc::Global;
 use wf_value::{Code, Refusal};
 
 /// Why a body was refused: for want of memory, or since it is none.
-fn why(refusal: &Refusal) -> NotRead
+fn why(refusal: &Refusal) -> DecodeError
     ensures { result ≡ NoSpelling → refusal_number refusal.now ≢ 50 }
 {
     if refusal.number() == Code::NoMemory.number() {
-        return NotRead::NoMemory;
+        return DecodeError::NoMemory;
     }
-    NotRead::NoSpelling
+    DecodeError::NoSpelling
 }
 
 /// The event of a body, where nothing is wrong with it.
@@ -32,7 +32,7 @@ fn prepared_of(
     event: EventName,
     delivery: DeliveryId,
     body: &[u8],
-) -> Result<Prepared, NotRead>
+) -> Result<Prepared, DecodeError>
     ensures body { Finds (λ p. p.body) result (kept is_faultless body.now) }
     ensures event { IfOk result (λ p. p ≡ record { delivery = delivery; event = event; body = body.now }) }
 {
@@ -44,7 +44,7 @@ fn prepared_of(
 }
 
 #[tactic(auto, unfolding(crate::specs::ReadingCommands::admit_at, crate::specs::ReadingCommands::body_at))]
-pub(crate) fn admit_at(alloc: Global, bytes: &[u8]) -> Result<(Prepared, &[u8]), NotRead>
+pub(crate) fn admit_at(alloc: Global, bytes: &[u8]) -> Result<(Prepared, &[u8]), DecodeError>
     ensures { Finds (λ f. (f.0, f.1.now)) result (admit_at bytes.now) }
 {
     let (delivery, rest) = small_text_at::<DeliveryForm>(alloc, bytes)?;
@@ -55,7 +55,7 @@ pub(crate) fn admit_at(alloc: Global, bytes: &[u8]) -> Result<(Prepared, &[u8]),
 }
 
 #[tactic(auto, unfolding(crate::specs::ReadingCommands::claim_at))]
-fn claim_at(alloc: Global, bytes: &[u8]) -> Result<(Claim, &[u8]), NotRead>
+fn claim_at(alloc: Global, bytes: &[u8]) -> Result<(Claim, &[u8]), DecodeError>
     ensures { Finds (λ f. (f.0, f.1.now)) result (claim_at bytes.now) }
 {
     let (runner, rest) = small_text_at::<RunnerForm>(alloc, bytes)?;
@@ -70,7 +70,7 @@ fn claim_at(alloc: Global, bytes: &[u8]) -> Result<(Claim, &[u8]), NotRead>
 }
 
 #[tactic(auto, unfolding(crate::specs::ReadingCommands::done_at))]
-fn done_at(alloc: Global, bytes: &[u8]) -> Result<(Done, &[u8]), NotRead>
+fn done_at(alloc: Global, bytes: &[u8]) -> Result<(Done, &[u8]), DecodeError>
     ensures { Finds (λ f. (f.0, f.1.now)) result (done_at bytes.now) }
 {
     let (runner, rest) = small_text_at::<RunnerForm>(alloc, bytes)?;
@@ -87,7 +87,7 @@ fn done_at(alloc: Global, bytes: &[u8]) -> Result<(Done, &[u8]), NotRead>
 }
 
 #[tactic(auto, unfolding(crate::specs::ReadingCommands::beat_at))]
-fn beat_at(alloc: Global, bytes: &[u8]) -> Result<(Beat, &[u8]), NotRead>
+fn beat_at(alloc: Global, bytes: &[u8]) -> Result<(Beat, &[u8]), DecodeError>
     ensures { Finds (λ f. (f.0, f.1.now)) result (beat_at bytes.now) }
 {
     let (runner, rest) = small_text_at::<RunnerForm>(alloc, bytes)?;
@@ -101,7 +101,7 @@ fn beat_at(alloc: Global, bytes: &[u8]) -> Result<(Beat, &[u8]), NotRead>
 
 /// The command of a kind, and what stands behind it.
 #[tactic(auto, unfolding(crate::specs::ReadingCommands::command_of))]
-fn command_of(alloc: Global, kind: u8, bytes: &[u8]) -> Result<(Command, &[u8]), NotRead>
+fn command_of(alloc: Global, kind: u8, bytes: &[u8]) -> Result<(Command, &[u8]), DecodeError>
     ensures { Finds (λ f. (f.0, f.1.now)) result (command_of kind bytes.now) }
 {
     match kind {
@@ -137,17 +137,17 @@ fn command_of(alloc: Global, kind: u8, bytes: &[u8]) -> Result<(Command, &[u8]),
             let (run, rest) = number_at(bytes)?;
             Ok((Command::Fetch(Number::new(run)), rest))
         }
-        _ => Err(NotRead::NoSpelling),
+        _ => Err(DecodeError::NoSpelling),
     }
 }
 
 /// The command at the front, and what stands behind it.
 #[tactic(auto, unfolding(crate::specs::ReadingCommands::command_at))]
-pub(crate) fn command_at(alloc: Global, bytes: &[u8]) -> Result<(Command, &[u8]), NotRead>
+pub(crate) fn command_at(alloc: Global, bytes: &[u8]) -> Result<(Command, &[u8]), DecodeError>
     ensures { Finds (λ f. (f.0, f.1.now)) result (command_at bytes.now) }
 {
     match bytes {
-        [] => Err(NotRead::NoSpelling),
+        [] => Err(DecodeError::NoSpelling),
         [kind, rest @ ..] => command_of(alloc, *kind, rest),
     }
 }
@@ -155,19 +155,19 @@ pub(crate) fn command_at(alloc: Global, bytes: &[u8]) -> Result<(Command, &[u8])
 impl ReadAt for Command {
     ghost stands_at = { command_at };
 
-    fn read_at(alloc: Global, bytes: &[u8]) -> Result<(Command, &[u8]), NotRead> {
+    fn read_at(alloc: Global, bytes: &[u8]) -> Result<(Command, &[u8]), DecodeError> {
         command_at(alloc, bytes)
     }
 }
 
 /// The commands behind their count, and what stands behind them.
 #[tactic(auto, unfolding(crate::specs::ReadingCommands::batch_at))]
-pub(crate) fn batch_at(alloc: Global, bytes: &[u8]) -> Result<(Vec<Command>, &[u8]), NotRead>
+pub(crate) fn batch_at(alloc: Global, bytes: &[u8]) -> Result<(Vec<Command>, &[u8]), DecodeError>
     ensures { Finds (λ f. (f.0.items, f.1.now)) result (batch_at bytes.now) }
 {
     let (count, rest) = word_at(bytes)?;
     if !is_within(count, u32::MAX) {
-        return Err(NotRead::NoSpelling);
+        return Err(DecodeError::NoSpelling);
     }
     list_at(alloc, count as usize, rest)
 }

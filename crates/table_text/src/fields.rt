@@ -5,9 +5,9 @@ ghost use Rattle.table_text.specs.Reading.{Finds, kept};
 ghost use Rattle.table_text.specs.ReadingCommands.{labels_at, number_at, result_at, result_of, small_text_at};
 ghost use Rattle.table_text.specs.ReadingTables.{lease_at, lease_of, lease_told};
 
+use crate::decode_error::DecodeError;
 use crate::front::{text_at, word_at};
 use crate::list_at::{ReadAt, list_at};
-use crate::not_read::NotRead;
 use run_plan::{Form, Labels, Number, SmallText};
 use std::alloc::Global;
 use wf_value::Outcome;
@@ -26,19 +26,19 @@ pub(crate) fn is_within(value: u32, most: u32) -> bool
 }
 
 /// The number, where it is one of a command.
-fn numbered(value: u32) -> Result<u32, NotRead>
+fn numbered(value: u32) -> Result<u32, DecodeError>
     ensures gives { Finds (λ n. n) result (kept is_numbered value) }
     ensures range { IfOk result (λ n. (1 ≤ n) × (n ≤ 999999999)) }
 {
     if 1 <= value && value <= MOST {
         return Ok(value);
     }
-    Err(NotRead::NoSpelling)
+    Err(DecodeError::NoSpelling)
 }
 
 /// The number of a command at the front, and what stands behind it.
 #[tactic(auto, unfolding(crate::specs::ReadingCommands::number_at))]
-pub(crate) fn number_at(bytes: &[u8]) -> Result<(u32, &[u8]), NotRead>
+pub(crate) fn number_at(bytes: &[u8]) -> Result<(u32, &[u8]), DecodeError>
     ensures gives { Finds (λ f. (f.0, f.1.now)) result (number_at bytes.now) }
     ensures range { IfOk result (λ f. (1 ≤ f.0) × (f.0 ≤ 999999999)) }
 {
@@ -48,7 +48,7 @@ pub(crate) fn number_at(bytes: &[u8]) -> Result<(u32, &[u8]), NotRead>
 }
 
 /// The number, where it is 0 or that of a lease.
-fn lease_number(value: u32) -> Result<u32, NotRead>
+fn lease_number(value: u32) -> Result<u32, DecodeError>
     ensures gives { Finds (λ n. lease_told n) result (lease_of value) }
     ensures most { IfOk result (λ n. n ≤ 999999999) }
 {
@@ -58,12 +58,12 @@ fn lease_number(value: u32) -> Result<u32, NotRead>
     if is_within(value, MOST) {
         return Ok(value);
     }
-    Err(NotRead::NoSpelling)
+    Err(DecodeError::NoSpelling)
 }
 
 /// The number of the lease at the front, 0 where there is none, and what stands behind it.
 #[tactic(auto, unfolding(crate::specs::ReadingTables::lease_at))]
-pub(crate) fn lease_at(bytes: &[u8]) -> Result<(u32, &[u8]), NotRead>
+pub(crate) fn lease_at(bytes: &[u8]) -> Result<(u32, &[u8]), DecodeError>
     ensures gives { Finds (λ f. (lease_told f.0, f.1.now)) result (lease_at bytes.now) }
     ensures most { IfOk result (λ f. f.0 ≤ 999999999) }
 {
@@ -84,13 +84,13 @@ pub(crate) fn lease_told(value: u32) -> Option<Number>
 }
 
 /// The text, where it is of the form.
-fn small_text_of<F: Form>(alloc: Global, text: &[u8]) -> Result<SmallText<F>, NotRead>
+fn small_text_of<F: Form>(alloc: Global, text: &[u8]) -> Result<SmallText<F>, DecodeError>
     ensures { Finds (λ t. t) result (short_text_of F.allows text.now) }
 {
     match SmallText::of(alloc, text) {
         Ok(Some(small)) => Ok(small),
-        Ok(None) => Err(NotRead::NoSpelling),
-        Err(_) => Err(NotRead::NoMemory),
+        Ok(None) => Err(DecodeError::NoSpelling),
+        Err(_) => Err(DecodeError::NoMemory),
     }
 }
 
@@ -99,7 +99,7 @@ fn small_text_of<F: Form>(alloc: Global, text: &[u8]) -> Result<SmallText<F>, No
 pub(crate) fn small_text_at<F: Form>(
     alloc: Global,
     bytes: &[u8],
-) -> Result<(SmallText<F>, &[u8]), NotRead>
+) -> Result<(SmallText<F>, &[u8]), DecodeError>
     ensures { Finds (λ f. (f.0, f.1.now)) result (small_text_at F.allows bytes.now) }
 {
     let (text, rest) = text_at(bytes)?;
@@ -110,43 +110,43 @@ pub(crate) fn small_text_at<F: Form>(
 impl<F: Form> ReadAt for SmallText<F> {
     ghost stands_at = { small_text_at F.allows };
 
-    fn read_at(alloc: Global, bytes: &[u8]) -> Result<(SmallText<F>, &[u8]), NotRead> {
+    fn read_at(alloc: Global, bytes: &[u8]) -> Result<(SmallText<F>, &[u8]), DecodeError> {
         small_text_at(alloc, bytes)
     }
 }
 
 /// The labels behind their count, and what stands behind them.
 #[tactic(auto, unfolding(crate::specs::ReadingCommands::labels_at))]
-pub(crate) fn labels_at(alloc: Global, bytes: &[u8]) -> Result<(Labels, &[u8]), NotRead>
+pub(crate) fn labels_at(alloc: Global, bytes: &[u8]) -> Result<(Labels, &[u8]), DecodeError>
     ensures { Finds (λ f. (f.0, f.1.now)) result (labels_at bytes.now) }
 {
     let (count, rest) = word_at(bytes)?;
     if !is_within(count, MOST_LABELS) {
-        return Err(NotRead::NoSpelling);
+        return Err(DecodeError::NoSpelling);
     }
     let (labels, rest) = list_at(alloc, count as usize, rest)?;
     Ok((Labels::new(labels), rest))
 }
 
 /// The result that a byte stands for.
-fn result_of(byte: u8) -> Result<Outcome, NotRead>
+fn result_of(byte: u8) -> Result<Outcome, DecodeError>
     ensures { Finds (λ r. r) result (result_of byte) }
 {
     match byte {
         1 => Ok(Outcome::Success),
         2 => Ok(Outcome::Failure),
         3 => Ok(Outcome::Cancelled),
-        _ => Err(NotRead::NoSpelling),
+        _ => Err(DecodeError::NoSpelling),
     }
 }
 
 /// The result at the front, and what stands behind it.
 #[tactic(auto, unfolding(crate::specs::ReadingCommands::result_at))]
-pub(crate) fn result_at(bytes: &[u8]) -> Result<(Outcome, &[u8]), NotRead>
+pub(crate) fn result_at(bytes: &[u8]) -> Result<(Outcome, &[u8]), DecodeError>
     ensures { Finds (λ f. (f.0, f.1.now)) result (result_at bytes.now) }
 {
     match bytes {
-        [] => Err(NotRead::NoSpelling),
+        [] => Err(DecodeError::NoSpelling),
         [byte, rest @ ..] => {
             let outcome = result_of(*byte)?;
             Ok((outcome, rest))

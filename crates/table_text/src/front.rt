@@ -1,25 +1,25 @@
 ghost use Rattle.table_text.specs.Reading.{Finds, byte_at, bytes_at, text_at, word_at};
 
-use crate::not_read::NotRead;
+use crate::decode_error::DecodeError;
 
 /// The byte at the front, and what stands behind it.
 #[tactic(auto, unfolding(crate::specs::Reading::byte_at))]
-pub(crate) fn byte_at(bytes: &[u8]) -> Result<(u8, &[u8]), NotRead>
+pub(crate) fn byte_at(bytes: &[u8]) -> Result<(u8, &[u8]), DecodeError>
     ensures { Finds (λ f. (f.0, f.1.now)) result (byte_at bytes.now) }
 {
     match bytes {
-        [] => Err(NotRead::NoSpelling),
+        [] => Err(DecodeError::NoSpelling),
         [byte, rest @ ..] => Ok((*byte, rest)),
     }
 }
 
 /// The number in the first four bytes, and what stands behind it.
 #[tactic(auto, unfolding(crate::specs::Reading::word_at))]
-pub(crate) fn word_at(bytes: &[u8]) -> Result<(u32, &[u8]), NotRead>
+pub(crate) fn word_at(bytes: &[u8]) -> Result<(u32, &[u8]), DecodeError>
     ensures { Finds (λ f. (f.0, f.1.now)) result (word_at bytes.now) }
 {
     if bytes.len() < 4 {
-        return Err(NotRead::NoSpelling);
+        return Err(DecodeError::NoSpelling);
     }
     let (front, rest) = bytes.split_at(4);
     let number = u32::from_be_bytes([front[0], front[1], front[2], front[3]]);
@@ -27,18 +27,18 @@ pub(crate) fn word_at(bytes: &[u8]) -> Result<(u32, &[u8]), NotRead>
 }
 
 /// The first bytes, so many of them, and what stands behind them.
-fn bytes_at(bytes: &[u8], count: usize) -> Result<(&[u8], &[u8]), NotRead>
+fn bytes_at(bytes: &[u8], count: usize) -> Result<(&[u8], &[u8]), DecodeError>
     ensures { Finds (λ f. (f.0.now, f.1.now)) result (bytes_at count bytes.now) }
 {
     if bytes.len() < count {
-        return Err(NotRead::NoSpelling);
+        return Err(DecodeError::NoSpelling);
     }
     Ok(bytes.split_at(count))
 }
 
 /// The bytes behind their length, and what stands behind them.
 #[tactic(auto, unfolding(crate::specs::Reading::text_at))]
-pub(crate) fn text_at(bytes: &[u8]) -> Result<(&[u8], &[u8]), NotRead>
+pub(crate) fn text_at(bytes: &[u8]) -> Result<(&[u8], &[u8]), DecodeError>
     ensures { Finds (λ f. (f.0.now, f.1.now)) result (text_at bytes.now) }
 {
     let (length, rest) = word_at(bytes)?;

@@ -3,7 +3,7 @@
 ghost use Rattle.table_text.specs.Reading.{Finds};
 ghost use Rattle.table_text.specs.ReadingTables.{kept_of};
 
-use crate::not_read::NotRead;
+use crate::decode_error::DecodeError;
 use run_plan::Number;
 
 /// What is kept of a reply.
@@ -18,13 +18,13 @@ pub(crate) enum Kept {
 }
 
 /// The kept reply that is stored as this byte and this lease.
-pub(crate) fn kept_of(reply: u8, lease: Option<Number>) -> Result<Kept, NotRead>
+pub(crate) fn kept_of(reply: u8, lease: Option<Number>) -> Result<Kept, DecodeError>
     ensures { Finds (λ k. k) result (kept_of (reply, lease)) }
 {
     match (reply, lease) {
         (0, None) => Ok(Kept::Nothing),
         (1, Some(given)) => Ok(Kept::Leased(given)),
         (2, None) => Ok(Kept::Done),
-        _ => Err(NotRead::NoSpelling),
+        _ => Err(DecodeError::NoSpelling),
     }
 }

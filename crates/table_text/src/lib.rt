@@ -2,13 +2,13 @@
 #![tactic(auto)]
 
 mod command_at;
+mod decode_error;
 mod fields;
 mod front;
 mod kept;
 pub mod laws;
 mod lengths;
 mod list_at;
-mod not_read;
 mod phases_at;
 mod push;
 mod push_list;

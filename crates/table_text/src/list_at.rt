@@ -3,7 +3,7 @@
 ghost use Rattle.std.specs.Prelude.{ℕ, List, Option};
 ghost use Rattle.table_text.specs.Reading.{Finds, items_at};
 
-use crate::not_read::NotRead;
+use crate::decode_error::DecodeError;
 use std::alloc::Global;
 
 /// What is read from the front of bytes.
@@ -11,7 +11,7 @@ pub(crate) trait ReadAt: Drop {
     ghost stands_at: { List ℕ → Option (Self × List ℕ) };
 
     /// The value at the front, and what stands behind it.
-    fn read_at(alloc: Global, bytes: &[u8]) -> Result<(Self, &[u8]), NotRead>
+    fn read_at(alloc: Global, bytes: &[u8]) -> Result<(Self, &[u8]), DecodeError>
         ensures { Finds (λ f. (f.0, f.1.now)) result (stands_at bytes.now) };
 }
 
@@ -20,7 +20,7 @@ pub(crate) fn list_at<T: ReadAt>(
     alloc: Global,
     count: usize,
     bytes: &[u8],
-) -> Result<(Vec<T>, &[u8]), NotRead>
+) -> Result<(Vec<T>, &[u8]), DecodeError>
     ensures { Finds (λ f. (f.0.items, f.1.now)) result (items_at T.stands_at count bytes.now) }
 {
     let mut values = Vec::new(alloc);

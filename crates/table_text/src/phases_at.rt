@@ -7,13 +7,13 @@ ghost use Rattle.table_text.specs.ReadingTables.{flag_at, flags, job_phase_at, j
 ghost use Rattle.table_text.specs.ReadingTables.{run_phases};
 ghost use Rattle.table_text.specs.Tables.{flag_byte, job_byte, leg_byte, run_byte};
 
+use crate::decode_error::DecodeError;
 use crate::front::byte_at;
-use crate::not_read::NotRead;
 use wf_value::{JobResult, Outcome};
 use workflow_runs::{JobPhase, LegPhase, RunPhase};
 
 /// The phase that a byte stands for.
-fn leg_phase_of(byte: u8) -> Result<LegPhase, NotRead>
+fn leg_phase_of(byte: u8) -> Result<LegPhase, DecodeError>
     ensures { Finds (λ p. p) result (of_byte leg_byte leg_phases byte) }
 {
     match byte {
@@ -25,21 +25,21 @@ fn leg_phase_of(byte: u8) -> Result<LegPhase, NotRead>
         5 => Ok(LegPhase::Ended(Outcome::Success)),
         6 => Ok(LegPhase::Ended(Outcome::Failure)),
         7 => Ok(LegPhase::Ended(Outcome::Cancelled)),
-        _ => Err(NotRead::NoSpelling),
+        _ => Err(DecodeError::NoSpelling),
     }
 }
 
 /// The phase, where it is not that of a new leg, which is not stored.
-fn old_phase(phase: LegPhase) -> Result<LegPhase, NotRead>
+fn old_phase(phase: LegPhase) -> Result<LegPhase, DecodeError>
     ensures { Finds (λ p. p) result (kept (λ p. not (is_new p)) phase) }
 {
     match phase {
-        LegPhase::New => Err(NotRead::NoSpelling),
+        LegPhase::New => Err(DecodeError::NoSpelling),
         old => Ok(old),
     }
 }
 
-fn job_phase_of(byte: u8) -> Result<JobPhase, NotRead>
+fn job_phase_of(byte: u8) -> Result<JobPhase, DecodeError>
     ensures { Finds (λ p. p) result (of_byte job_byte job_phases byte) }
 {
     match byte {
@@ -49,33 +49,33 @@ fn job_phase_of(byte: u8) -> Result<JobPhase, NotRead>
         3 => Ok(JobPhase::Settled(JobResult::Failure)),
         4 => Ok(JobPhase::Settled(JobResult::Cancelled)),
         5 => Ok(JobPhase::Settled(JobResult::Skipped)),
-        _ => Err(NotRead::NoSpelling),
+        _ => Err(DecodeError::NoSpelling),
     }
 }
 
-fn run_phase_of(byte: u8) -> Result<RunPhase, NotRead>
+fn run_phase_of(byte: u8) -> Result<RunPhase, DecodeError>
     ensures { Finds (λ p. p) result (of_byte run_byte run_phases byte) }
 {
     match byte {
         0 => Ok(RunPhase::Waiting),
         1 => Ok(RunPhase::Live),
         2 => Ok(RunPhase::Ended),
-        _ => Err(NotRead::NoSpelling),
+        _ => Err(DecodeError::NoSpelling),
     }
 }
 
-fn flag_of(byte: u8) -> Result<bool, NotRead>
+fn flag_of(byte: u8) -> Result<bool, DecodeError>
     ensures { Finds (λ b. b) result (of_byte flag_byte flags byte) }
 {
     match byte {
         0 => Ok(false),
         1 => Ok(true),
-        _ => Err(NotRead::NoSpelling),
+        _ => Err(DecodeError::NoSpelling),
     }
 }
 
 #[tactic(auto, unfolding(crate::specs::ReadingTables::leg_phase_at))]
-pub(crate) fn leg_phase_at(bytes: &[u8]) -> Result<(LegPhase, &[u8]), NotRead>
+pub(crate) fn leg_phase_at(bytes: &[u8]) -> Result<(LegPhase, &[u8]), DecodeError>
     ensures { Finds (λ f. (f.0, f.1.now)) result (leg_phase_at bytes.now) }
 {
     let (byte, rest) = byte_at(bytes)?;
@@ -85,7 +85,7 @@ pub(crate) fn leg_phase_at(bytes: &[u8]) -> Result<(LegPhase, &[u8]), NotRead>
 }
 
 #[tactic(auto, unfolding(crate::specs::ReadingTables::job_phase_at))]
-pub(crate) fn job_phase_at(bytes: &[u8]) -> Result<(JobPhase, &[u8]), NotRead>
+pub(crate) fn job_phase_at(bytes: &[u8]) -> Result<(JobPhase, &[u8]), DecodeError>
     ensures { Finds (λ f. (f.0, f.1.now)) result (job_phase_at bytes.now) }
 {
     let (byte, rest) = byte_at(bytes)?;
@@ -94,7 +94,7 @@ pub(crate) fn job_phase_at(bytes: &[u8]) -> Result<(JobPhase, &[u8]), NotRead>
 }
 
 #[tactic(auto, unfolding(crate::specs::ReadingTables::run_phase_at))]
-pub(crate) fn run_phase_at(bytes: &[u8]) -> Result<(RunPhase, &[u8]), NotRead>
+pub(crate) fn run_phase_at(bytes: &[u8]) -> Result<(RunPhase, &[u8]), DecodeError>
     ensures { Finds (λ f. (f.0, f.1.now)) result (run_phase_at bytes.now) }
 {
     let (byte, rest) = byte_at(bytes)?;
@@ -103,7 +103,7 @@ pub(crate) fn run_phase_at(bytes: &[u8]) -> Result<(RunPhase, &[u8]), NotRead>
 }
 
 #[tactic(auto, unfolding(crate::specs::ReadingTables::flag_at))]
-pub(crate) fn flag_at(bytes: &[u8]) -> Result<(bool, &[u8]), NotRead>
+pub(crate) fn flag_at(bytes: &[u8]) -> Result<(bool, &[u8]), DecodeError>
     ensures { Finds (λ f. (f.0, f.1.now)) result (flag_at bytes.now) }
 {
     let (byte, rest) = byte_at(bytes)?;

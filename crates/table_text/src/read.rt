@@ -7,7 +7,7 @@ ghost use Rattle.table_text.specs.Tables.{table};
 ghost use Rattle.table_text.specs.WholeTables.{whole_table};
 
 use crate::command_at::{batch_at, command_at};
-use crate::not_read::NotRead;
+use crate::decode_error::DecodeError;
 use crate::table_at::table_at;
 use run_plan::Command;
 use run_table::{Parts, Table};
@@ -22,8 +22,8 @@ pub fn read_command(alloc: Global, bytes: &[u8]) -> Result<Option<(Command, &[u8
 {
     match command_at(alloc, bytes) {
         Ok(found) => Ok(Some(found)),
-        Err(NotRead::NoSpelling) => Ok(None),
-        Err(NotRead::NoMemory) => Err(Refusal::Numbered(Code::NoMemory)),
+        Err(DecodeError::NoSpelling) => Ok(None),
+        Err(DecodeError::NoMemory) => Err(Refusal::Numbered(Code::NoMemory)),
     }
 }
 
@@ -35,8 +35,8 @@ pub fn read_batch(alloc: Global, bytes: &[u8]) -> Result<Option<(Vec<Command>, &
 {
     match batch_at(alloc, bytes) {
         Ok(found) => Ok(Some(found)),
-        Err(NotRead::NoSpelling) => Ok(None),
-        Err(NotRead::NoMemory) => Err(Refusal::Numbered(Code::NoMemory)),
+        Err(DecodeError::NoSpelling) => Ok(None),
+        Err(DecodeError::NoMemory) => Err(Refusal::Numbered(Code::NoMemory)),
     }
 }
 
@@ -48,8 +48,8 @@ pub fn read_parts(alloc: Global, bytes: &[u8]) -> Result<Option<(Parts, &[u8])>,
 {
     match table_at(alloc, bytes) {
         Ok(found) => Ok(Some(found)),
-        Err(NotRead::NoSpelling) => Ok(None),
-        Err(NotRead::NoMemory) => Err(Refusal::Numbered(Code::NoMemory)),
+        Err(DecodeError::NoSpelling) => Ok(None),
+        Err(DecodeError::NoMemory) => Err(Refusal::Numbered(Code::NoMemory)),
     }
 }
 

@@ -5,50 +5,50 @@ ghost use Rattle.table_text.specs.ReadingTables.{claim_with, kept_at, last_at, l
 ghost use Rattle.table_text.specs.Tables.{names_rise};
 
 use crate::command_at::command_at;
+use crate::decode_error::DecodeError;
 use crate::fields::{lease_at, lease_told, number_at, small_text_at};
 use crate::front::{byte_at, word_at};
 use crate::kept::{Kept, kept_of};
 use crate::list_at::{ReadAt, list_at};
-use crate::not_read::NotRead;
 use run_plan::{Claim, Command, Done, Number, RunnerForm};
 use run_table::{LastParts, RunnerParts, do_names_rise};
 use std::alloc::Global;
 
 /// A claim with what is kept of its reply.
-fn claim_with(claim: Claim, kept: Kept) -> Result<LastParts, NotRead>
+fn claim_with(claim: Claim, kept: Kept) -> Result<LastParts, DecodeError>
     ensures { Finds (λ l. l) result (claim_with claim kept) }
 {
     match kept {
         Kept::Nothing => Ok(LastParts::Claim(claim, None)),
         Kept::Leased(given) => Ok(LastParts::Claim(claim, Some(given))),
-        Kept::Done => Err(NotRead::NoSpelling),
+        Kept::Done => Err(DecodeError::NoSpelling),
     }
 }
 
 /// A report with what is kept of its reply.
-fn report_with(report: Done, kept: Kept) -> Result<LastParts, NotRead>
+fn report_with(report: Done, kept: Kept) -> Result<LastParts, DecodeError>
     ensures { Finds (λ l. l) result (report_with report kept) }
 {
     match kept {
         Kept::Done => Ok(LastParts::Done(report)),
-        Kept::Nothing | Kept::Leased(_) => Err(NotRead::NoSpelling),
+        Kept::Nothing | Kept::Leased(_) => Err(DecodeError::NoSpelling),
     }
 }
 
 /// A claim or a report with what is kept of its reply.
-fn last_with(command: Command, kept: Kept) -> Result<LastParts, NotRead>
+fn last_with(command: Command, kept: Kept) -> Result<LastParts, DecodeError>
     ensures { Finds (λ l. l) result (last_with command kept) }
 {
     match command {
         Command::Claim(claim) => claim_with(claim, kept),
         Command::Done(report) => report_with(report, kept),
-        _ => Err(NotRead::NoSpelling),
+        _ => Err(DecodeError::NoSpelling),
     }
 }
 
 /// What is kept of a reply, at the front, and what stands behind it.
 #[tactic(auto, unfolding(crate::specs::ReadingTables::kept_at))]
-fn kept_at(bytes: &[u8]) -> Result<(Kept, &[u8]), NotRead>
+fn kept_at(bytes: &[u8]) -> Result<(Kept, &[u8]), DecodeError>
     ensures { Finds (λ f. (f.0, f.1.now)) result (kept_at bytes.now) }
 {
     let (reply, rest) = byte_at(bytes)?;
@@ -59,7 +59,7 @@ fn kept_at(bytes: &[u8]) -> Result<(Kept, &[u8]), NotRead>
 
 /// The last command of a runner, with what is kept of its reply.
 #[tactic(auto, unfolding(crate::specs::ReadingTables::last_at))]
-fn last_at(alloc: Global, bytes: &[u8]) -> Result<(LastParts, &[u8]), NotRead>
+fn last_at(alloc: Global, bytes: &[u8]) -> Result<(LastParts, &[u8]), DecodeError>
     ensures { Finds (λ f. (f.0, f.1.now)) result (last_at bytes.now) }
 {
     let (command, rest) = command_at(alloc, bytes)?;
@@ -76,7 +76,7 @@ impl ReadAt for RunnerParts {
     ghost stands_at = { runner_at };
 
     #[tactic(auto, unfolding(crate::specs::ReadingTables::runner_at))]
-    fn read_at(alloc: Global, bytes: &[u8]) -> Result<(RunnerParts, &[u8]), NotRead> {
+    fn read_at(alloc: Global, bytes: &[u8]) -> Result<(RunnerParts, &[u8]), DecodeError> {
         let (name, rest) = small_text_at::<RunnerForm>(alloc, bytes)?;
         let (number, rest) = number_at(rest)?;
         let (last, rest) = last_at(alloc, rest)?;
@@ -92,18 +92,21 @@ impl ReadAt for RunnerParts {
 }
 
 /// The runners, where they stand in the order of their names.
-fn rising(runners: Vec<RunnerParts>) -> Result<Vec<RunnerParts>, NotRead>
+fn rising(runners: Vec<RunnerParts>) -> Result<Vec<RunnerParts>, DecodeError>
     ensures { Finds (λ r. r.items) result (kept names_rise runners.items) }
 {
     if do_names_rise(&runners) {
         return Ok(runners);
     }
-    Err(NotRead::NoSpelling)
+    Err(DecodeError::NoSpelling)
 }
 
 /// The runners behind their count, and what stands behind them.
 #[tactic(auto, unfolding(crate::specs::ReadingTables::runners_at))]
-pub(crate) fn runners_at(alloc: Global, bytes: &[u8]) -> Result<(Vec<RunnerParts>, &[u8]), NotRead>
+pub(crate) fn runners_at(
+    alloc: Global,
+    bytes: &[u8],
+) -> Result<(Vec<RunnerParts>, &[u8]), DecodeError>
     ensures { Finds (λ f. (f.0.items, f.1.now)) result (runners_at bytes.now) }
 {
     let (count, rest) = word_at(bytes)?;

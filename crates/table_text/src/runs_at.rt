@@ -6,19 +6,20 @@ ghost use Rattle.table_text.specs.ReadingTables.{job_at, leg_at, lease_told, run
 ghost use Rattle.table_text.specs.Tables.{jobs_planned};
 
 use crate::command_at::admit_at;
+use crate::decode_error::DecodeError;
 use crate::fields::{lease_at, lease_told};
 use crate::front::word_at;
 use crate::list_at::{ReadAt, list_at};
-use crate::not_read::NotRead;
 use crate::phases_at::{flag_at, job_phase_at, leg_phase_at, run_phase_at};
 use run_plan::Prepared;
 use std::alloc::Global;
 use wf_value::Sequence;
+use workflow_runs::runs::MOST_RUNS;
 use workflow_runs::{JobParts, Leg, LegPhase, RunParts};
 
 /// The leg at the front, its phase and the number of its lease, 0 where it has none, and what stands behind it.
 #[tactic(auto, unfolding(crate::specs::ReadingTables::leg_at))]
-fn leg_parts_at(bytes: &[u8]) -> Result<(LegPhase, u32, &[u8]), NotRead>
+fn leg_parts_at(bytes: &[u8]) -> Result<(LegPhase, u32, &[u8]), DecodeError>
     ensures gives { Finds (λ f. (record { phase = f.0; lease = lease_told f.1 }, f.2.now)) result (leg_at bytes.now) }
     ensures most { IfOk result (λ f. f.1 ≤ 999999999) }
 {
@@ -30,7 +31,7 @@ fn leg_parts_at(bytes: &[u8]) -> Result<(LegPhase, u32, &[u8]), NotRead>
 impl ReadAt for Leg {
     ghost stands_at = { leg_at };
 
-    fn read_at(_alloc: Global, bytes: &[u8]) -> Result<(Leg, &[u8]), NotRead> {
+    fn read_at(_alloc: Global, bytes: &[u8]) -> Result<(Leg, &[u8]), DecodeError> {
         let (phase, number, rest) = leg_parts_at(bytes)?;
         let lease = lease_told(number);
         Ok((Leg { phase, lease }, rest))
@@ -41,7 +42,7 @@ impl ReadAt for JobParts {
     ghost stands_at = { job_at };
 
     #[tactic(auto, unfolding(crate::specs::ReadingTables::job_at))]
-    fn read_at(alloc: Global, bytes: &[u8]) -> Result<(JobParts, &[u8]), NotRead> {
+    fn read_at(alloc: Global, bytes: &[u8]) -> Result<(JobParts, &[u8]), DecodeError> {
         let (phase, rest) = job_phase_at(bytes)?;
         let (count, rest) = word_at(rest)?;
         let (legs, rest) = list_at(alloc, count as usize, rest)?;
@@ -58,7 +59,7 @@ fn planned_jobs_at<'a>(
     alloc: Global,
     prepared: &Prepared,
     bytes: &'a [u8],
-) -> Result<(Vec<JobParts>, &'a [u8]), NotRead>
+) -> Result<(Vec<JobParts>, &'a [u8]), DecodeError>
     ensures { Finds (λ f. (f.0.items, f.1.now)) result (items_at job_at (jobs_planned prepared.now) bytes.now) }
 {
     let plan = prepared.plan().as_slice();
@@ -69,7 +70,7 @@ impl ReadAt for RunParts {
     ghost stands_at = { run_at };
 
     #[tactic(auto, unfolding(crate::specs::ReadingTables::run_at, crate::specs::ReadingTables::course_at))]
-    fn read_at(alloc: Global, bytes: &[u8]) -> Result<(RunParts, &[u8]), NotRead> {
+    fn read_at(alloc: Global, bytes: &[u8]) -> Result<(RunParts, &[u8]), DecodeError> {
         let (prepared, rest) = admit_at(alloc, bytes)?;
         let (phase, rest) = run_phase_at(rest)?;
         let (stopping, rest) = flag_at(rest)?;
@@ -84,17 +85,14 @@ impl ReadAt for RunParts {
     }
 }
 
-/// How many runs a table has at most.
-const MOST_RUNS: u32 = 100_000;
-
 /// The runs behind their count, and what stands behind them.
 #[tactic(auto, unfolding(crate::specs::ReadingTables::runs_at))]
-pub(crate) fn runs_at(alloc: Global, bytes: &[u8]) -> Result<(Vec<RunParts>, &[u8]), NotRead>
+pub(crate) fn runs_at(alloc: Global, bytes: &[u8]) -> Result<(Vec<RunParts>, &[u8]), DecodeError>
     ensures { Finds (λ f. (f.0.items, f.1.now)) result (runs_at bytes.now) }
 {
     let (count, rest) = word_at(bytes)?;
     if count > MOST_RUNS {
-        return Err(NotRead::NoSpelling);
+        return Err(DecodeError::NoSpelling);
     }
     list_at(alloc, count as usize, rest)
 }

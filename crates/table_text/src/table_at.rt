@@ -4,9 +4,9 @@ ghost use Rattle.table_text.specs.Reading.{Finds, kept};
 ghost use Rattle.table_text.specs.ReadingTables.{last_lease_at, table_at};
 ghost use Rattle.table_text.specs.Tables.{is_last_lease};
 
+use crate::decode_error::DecodeError;
 use crate::fields::MOST;
 use crate::front::word_at;
-use crate::not_read::NotRead;
 use crate::runners_at::runners_at;
 use crate::runs_at::runs_at;
 use run_table::Parts;
@@ -14,17 +14,17 @@ use std::alloc::Global;
 use wf_value::Sequence;
 
 /// The lease, where it is one that a table may have given last.
-fn last_lease_of(value: u32) -> Result<u32, NotRead>
+fn last_lease_of(value: u32) -> Result<u32, DecodeError>
     ensures { Finds (λ n. n) result (kept is_last_lease value) }
 {
     if value <= MOST {
         return Ok(value);
     }
-    Err(NotRead::NoSpelling)
+    Err(DecodeError::NoSpelling)
 }
 
 #[tactic(auto, unfolding(crate::specs::ReadingTables::last_lease_at))]
-fn last_lease_at(bytes: &[u8]) -> Result<(u32, &[u8]), NotRead>
+fn last_lease_at(bytes: &[u8]) -> Result<(u32, &[u8]), DecodeError>
     ensures { Finds (λ f. (f.0, f.1.now)) result (last_lease_at bytes.now) }
 {
     let (value, rest) = word_at(bytes)?;
@@ -34,7 +34,7 @@ fn last_lease_at(bytes: &[u8]) -> Result<(u32, &[u8]), NotRead>
 
 /// The parts of a table at the front, and what stands behind them.
 #[tactic(auto, unfolding(crate::specs::ReadingTables::table_at))]
-pub(crate) fn table_at(alloc: Global, bytes: &[u8]) -> Result<(Parts, &[u8]), NotRead>
+pub(crate) fn table_at(alloc: Global, bytes: &[u8]) -> Result<(Parts, &[u8]), DecodeError>
     ensures { Finds (λ f. (f.0, f.1.now)) result (table_at bytes.now) }
 {
     let (last_lease, rest) = last_lease_at(bytes)?;

@@ -11,15 +11,15 @@ use Rattle.workflow_runs.specs.FirstOf.{changed_at}
 use Rattle.workflow_runs.specs.GroupOf.{cancels_in_progress, group_at}
 use Rattle.workflow_runs.specs.GroupWords.{same_holder}
 use Rattle.workflow_runs.specs.Groups.{HasOneBeside, all_holders, is_pending_in, is_running_in, waits}
-use Rattle.workflow_runs.specs.Holders.{first_meant}
-use Rattle.workflow_runs.specs.Moves.{Holder, Moved, at_each, without_moves}
+use Rattle.workflow_runs.specs.Holders.{first_conflicting}
+use Rattle.workflow_runs.specs.Moves.{Holder, Transition, at_each, without_moves}
 use Rattle.workflow_runs.specs.SoundRuns.{RunsAreSound}
 use Rattle.workflow_runs.specs.StateWords.{leg_in_phase}
 use Rattle.workflow_runs.specs.StopMoves.{displace, stop_holder}
 use Rattle.workflow_runs.specs.Stops.{stopped, stopped_in, stopped_phase, stopped_run, told_to_stop}
 use Rattle.workflow_runs.specs.RunState.{LegState, JobState, RunState}
-use Rattle.workflow_runs.specs.declared.holder.Whom.{Whom}
-use Rattle.workflow_runs.specs.declared.holder.Whom.TheVariants.{OthersPending, Running}
+use Rattle.workflow_runs.specs.declared.holder.HolderFilter.{HolderFilter}
+use Rattle.workflow_runs.specs.declared.holder.HolderFilter.TheVariants.{OthersPending, Running}
 use Rattle.workflow_runs.specs.declared.phases.LegPhase.{LegPhase}
 use Rattle.workflow_runs.specs.declared.phases.LegPhase.TheVariants as leg
 use Rattle.workflow_runs.specs.declared.phases.RunPhase.{RunPhase}
@@ -69,7 +69,7 @@ stopped_twice (Holder.a_leg p) runs =
 
 -- ---- a change at all that pass a test is one at the first of them, where no two pass
 
-module _ (change : Holder → List RunState → Moved)
+module _ (change : Holder → List RunState → Transition)
     (twice : (h : Holder) (runs : List RunState) → (change h (change h runs).runs).runs ≡ (change h runs).runs) where
   at_one : (h : Holder) (hs : List Holder) (runs : List RunState) → AllByRecursion (λ k. k ≡ h) hs
       → (at_each change (h ∷ hs) runs).runs ≡ (change h runs).runs
@@ -117,7 +117,7 @@ module _ (runs : List RunState) (newcomer : Holder) (g : Group) (its : group_at 
       let of_k = and_parts (is_pending_in runs g k) (not (same_holder k newcomer)) f in
       one.pending g h k (no_other h newcomer of_h.1) (no_other k newcomer of_k.1) of_h.0 of_k.0
 
-  the_pending_one_stopped : option_map_or (λ h. (stop_holder h runs).runs) (first_meant runs newcomer OthersPending) runs
+  the_pending_one_stopped : option_map_or (λ h. (stop_holder h runs).runs) (first_conflicting runs newcomer OthersPending) runs
       ≡ (displaced g newcomer runs).runs
   the_pending_one_stopped =
       ap (λ o. option_map_or (λ h. (stop_holder h runs).runs)
@@ -126,7 +126,7 @@ module _ (runs : List RunState) (newcomer : Holder) (g : Group) (its : group_at 
       (all_holders runs) runs)
 
   the_running_one_stopped : let mid = (displaced g newcomer runs).runs in
-      option_map_or (λ h. (stop_holder h mid).runs) (first_meant mid newcomer Running) mid ≡ (in_progress_stopped g mid).runs
+      option_map_or (λ h. (stop_holder h mid).runs) (first_conflicting mid newcomer Running) mid ≡ (in_progress_stopped g mid).runs
   the_running_one_stopped =
       let mid = (displaced g newcomer runs).runs in
       ap (λ o. option_map_or (λ h. (stop_holder h mid).runs)
@@ -148,8 +148,8 @@ arrived_in runs newcomer g cancels its is =
 -- ---- where there is a group
 
 -- the first of those that are meant is stopped, if there is one
-abbrev pub first_stopped : List RunState → Holder → Whom → List RunState
-first_stopped runs newcomer whom = option_map_or (λ h. (stop_holder h runs).runs) (first_meant runs newcomer whom) runs
+abbrev pub first_stopped : List RunState → Holder → HolderFilter → List RunState
+first_stopped runs newcomer whom = option_map_or (λ h. (stop_holder h runs).runs) (first_conflicting runs newcomer whom) runs
 
 -- the newcomer has arrived once the pending one is stopped, and the running one too where it cancels what is in progress
 pub arrived_by_stops : (runs mid last : List RunState) (newcomer : Holder) (cancels : Bool) → is_some (group_at runs newcomer) ≡ true

@@ -25,8 +25,8 @@ use Rattle.workflow_runs.specs.Places.{LegPlace, run_at}
 use Rattle.workflow_runs.specs.RunNumber.{events, run_number}
 use Rattle.workflow_runs.specs.RunState.{RunState}
 use Rattle.workflow_runs.specs.Words.{is_set}
-use Rattle.workflow_runs.specs.declared.asks.JobAsks.{JobAsks}
-use Rattle.workflow_runs.specs.declared.asks.RunAsks.{RunAsks}
+use Rattle.workflow_runs.specs.declared.asks.JobBindings.{JobBindings}
+use Rattle.workflow_runs.specs.declared.asks.RunBindings.{RunBindings}
 use Rattle.workflow_runs.specs.declared.groups.Asked.{Asked}
 
 -- ---- one `concurrency`
@@ -114,22 +114,22 @@ abbrev pub flag_by : RunState → Option Asked → Bool
 flag_by x o = option_map_or (λ a. is_set_by (results_by_place x) a.cancels) o false
 
 -- that it says both of a holder, whose run this is
-abbrev pub SaysBoth : List RunState → Holder → RunState → RunAsks → Type 0
+abbrev pub SaysBoth : List RunState → Holder → RunState → RunBindings → Type 0
 SaysBoth runs h x k = (group_by x (asked_of k h) ≡ group_at runs h) × (flag_by x (asked_of k h) ≡ cancels_in_progress runs h)
 
-module _ (runs : List RunState) (kept : List RunAsks) (bound : AreBound runs kept) where
-  pub run_says : (r : ℕ) (x : RunState) (k : RunAsks) → run_at runs r ≡ Some x → slice_get kept r ≡ Some k
+module _ (runs : List RunState) (kept : List RunBindings) (bound : AreBound runs kept) where
+  pub run_says : (r : ℕ) (x : RunState) (k : RunBindings) → run_at runs r ≡ Some x → slice_get kept r ≡ Some k
       → RunSays (facts_of_run runs r x) k
   run_says r x k at is = bound.each r (facts_of_run runs r x) k (run_told runs r x at) is
 
 module _ (runs : List RunState) where
-  leg_says : (p : LegPlace) (x : RunState) (k : RunAsks) → run_at runs p.run ≡ Some x
+  leg_says : (p : LegPlace) (x : RunState) (k : RunBindings) → run_at runs p.run ≡ Some x
       → RunSays (facts_of_run runs p.run x) k → (o : Option PlannedJob) → slice_get (plan_of x.admitted.body) p.job ≡ o
       → group_by x (asked_of k (Holder.a_leg p)) ≡ option_and_then leg_group (facts_at runs p)
       × flag_by x (asked_of k (Holder.a_leg p)) ≡ option_map_or leg_cancels (facts_at runs p) false
   leg_says p x k at says None unplanned =
       let none : asked_of k (Holder.a_leg p) ≡ None =
-      ap (option_and_then (λ (job : JobAsks). slice_get job.groups p.leg))
+      ap (option_and_then (λ (job : JobBindings). slice_get job.groups p.leg))
       (as_short (plan_of x.admitted.body) k.jobs p.job says.as_many unplanned) in
       let untold = job_untold runs p x at unplanned in (
         ap (group_by x) none ∙ sym (ap (option_and_then leg_group) untold),
@@ -141,7 +141,7 @@ module _ (runs : List RunState) where
       let values : Results → Values = λ results. context_of (facts_by f p.job job p.leg results) in
       let asks = as_long (plan_of x.admitted.body) k.jobs p.job job run.as_many planned in
       let says = subst
-      (λ (o : Option JobAsks). SaysSo repo values (asked_of_leg job p.leg) (option_and_then (λ (a : JobAsks). slice_get a.groups p.leg) o))
+      (λ (o : Option JobBindings). SaysSo repo values (asked_of_leg job p.leg) (option_and_then (λ (a : JobBindings). slice_get a.groups p.leg) o))
       (sym asks.1) ((run.jobs p.job asks.0 asks.1 job planned).groups p.leg) in
       let told = leg_told runs p x job at planned in (
         says_group repo values (asked_of_leg job p.leg) (asked_of k (Holder.a_leg p)) says (results_by_place x)
@@ -150,7 +150,7 @@ module _ (runs : List RunState) where
             ∙ sym (ap (λ o. option_map_or leg_cancels o false) told),
       )
 
-  both_said : (h : Holder) (x : RunState) (k : RunAsks) → run_at runs (run_of h) ≡ Some x
+  both_said : (h : Holder) (x : RunState) (k : RunBindings) → run_at runs (run_of h) ≡ Some x
       → RunSays (facts_of_run runs (run_of h) x) k → SaysBoth runs h x k
   unfolding group_at cancels_in_progress
   both_said (Holder.a_run r) x k at says =
@@ -165,7 +165,7 @@ module _ (runs : List RunState) where
   both_said (Holder.a_leg p) x k at says = leg_says p x k at says (slice_get (plan_of x.admitted.body) p.job) refl
 
   -- both, by what is kept at the place of the holder's run
-  pub said_there : (h : Holder) (x : RunState) (k : RunAsks) (r : ℕ) → r ≡ run_of h → run_at runs (run_of h) ≡ Some x
+  pub said_there : (h : Holder) (x : RunState) (k : RunBindings) (r : ℕ) → r ≡ run_of h → run_at runs (run_of h) ≡ Some x
       → ((facts : RunFacts) → run_facts_at runs r ≡ Some facts → RunSays facts k)
       → SaysBoth runs h x k
   said_there h x k r is at says =

@@ -8,7 +8,7 @@ use Rattle.needs_graph.specs.Results.{conclusion_of}
 use Rattle.workflow_runs.specs.Arrivals.{arrived, is_in_group_of_run, started}
 use Rattle.workflow_runs.specs.Groups.{may_start}
 use Rattle.workflow_runs.specs.JobResults.{results_of}
-use Rattle.workflow_runs.specs.Moves.{Holder, Move, Moved, without_moves}
+use Rattle.workflow_runs.specs.Moves.{Holder, Move, Transition, without_moves}
 use Rattle.workflow_runs.specs.Places.{LegPlace, job_at, leg_at, run_at, with_job, with_run}
 use Rattle.workflow_runs.specs.Rules.{closing_rule, decided, leg_rule, leg_rule_in, newcomer_rule, opening_rule, result_at, rule_at}
 use Rattle.workflow_runs.specs.Rules.{whole_rule, whole_rule_in, with_leg_in}
@@ -24,14 +24,14 @@ use Rattle.workflow_runs.specs.declared.place.Place.TheVariants.{Opening, AtLeg,
 use Rattle.workflow_runs.proofs.Optional.{from_and_then, if_some}
 
 -- what a live run with all jobs settled is made
-abbrev pub run_ended : List RunState → ℕ → RunState → Moved
+abbrev pub run_ended : List RunState → ℕ → RunState → Transition
 run_ended runs r x = record {
   runs = with_run r (run_in_phase run.Ended) runs;
   moves = Move.end_with (conclusion_of (results_of x.jobs)) (Holder.a_run r) ∷ [];
 }
 
 -- It is so of what each rule makes of these runs, where it applies.
-pub record EachRule (runs : List RunState) (P : Place → Moved → Type 0) : Type 0 where
+pub record EachRule (runs : List RunState) (P : Place → Transition → Type 0) : Type 0 where
   pub job_opens : (r j : ℕ) (y : JobState) → job_at runs r j ≡ Some y → is_blocked y.phase ≡ true → needs_have_settled runs r j ≡ true
       → P (Opening r j) (without_moves (with_job r j (decided runs r j) runs))
   pub leg_is_cancelled : (p : LegPlace) (z : LegState) → leg_at runs p ≡ Some z → z.phase ≡ leg.New
@@ -48,12 +48,12 @@ pub record EachRule (runs : List RunState) (P : Place → Moved → Type 0) : Ty
       → P (Whole r) (run_ended runs r x)
 
 -- what is so of each of two is so of the one that is chosen
-either : (b : Bool) (x y : Moved) (P : Moved → Type 0) → P x → P y → P (if b then x else y)
+either : (b : Bool) (x y : Transition) (P : Transition → Type 0) → P x → P y → P (if b then x else y)
 either true x y P of_x of_y = of_x
 either false x y P of_x of_y = of_y
 
-module _ (runs : List RunState) (P : Place → Moved → Type 0) (each : EachRule runs P) where
-  at_leg : (m : Moved) (p : LegPlace) (z : LegState) (phase : LegPhase) → leg_at runs p ≡ Some z → z.phase ≡ phase
+module _ (runs : List RunState) (P : Place → Transition → Type 0) (each : EachRule runs P) where
+  at_leg : (m : Transition) (p : LegPlace) (z : LegState) (phase : LegPhase) → leg_at runs p ≡ Some z → z.phase ≡ phase
       → leg_rule_in phase runs p ≡ Some m → P (AtLeg p) m
   at_leg m p z leg.New was is h =
       let same : newcomer_rule runs p ≡ m = cc in
@@ -69,7 +69,7 @@ module _ (runs : List RunState) (P : Place → Moved → Type 0) (each : EachRul
   at_leg m p z leg.Stopping was is h = absurd (cc h)
   at_leg m p z (leg.Ended r) was is h = absurd (cc h)
 
-  at_run : (m : Moved) (r : ℕ) (x : RunState) (phase : RunPhase) → run_at runs r ≡ Some x → x.phase ≡ phase
+  at_run : (m : Transition) (r : ℕ) (x : RunState) (phase : RunPhase) → run_at runs r ≡ Some x → x.phase ≡ phase
       → whole_rule_in phase runs r x ≡ Some m → P (Whole r) m
   at_run m r x run.Waiting was is h =
       let taken = if_some (may_start runs (Holder.a_run r)) (started (Holder.a_run r) (with_run r (run_in_phase run.Live) runs)) m h in
@@ -79,7 +79,7 @@ module _ (runs : List RunState) (P : Place → Moved → Type 0) (each : EachRul
       subst (P (Whole r)) taken.1 (each.run_ends r x was is taken.0)
   at_run m r x run.Ended was is h = absurd (cc h)
 
-  pub by_rule : (m : Moved) (place : Place) → rule_at runs place ≡ Some m → P place m
+  pub by_rule : (m : Transition) (place : Place) → rule_at runs place ≡ Some m → P place m
   by_rule m (Opening r j) h =
       let made = from_and_then (opening_rule runs r j) (job_at runs r j) m h in
       let y = made.value in

@@ -8,7 +8,7 @@ use Rattle.std.proofs.lemmas.Option.{slice_get-map}
 use Rattle.wf_value.specs.declared.outcome.JobResult.TheVariants as result
 use Rattle.workflow_runs.specs.FirstOf.{changed_at, placed}
 use Rattle.workflow_runs.specs.Groups.{holds, leg_holds, leg_waits, run_waits, waits}
-use Rattle.workflow_runs.specs.Moves.{Holder, Moved, at_each}
+use Rattle.workflow_runs.specs.Moves.{Holder, Transition, at_each}
 use Rattle.workflow_runs.specs.Places.{LegPlace, job_at, leg_at, run_at, with_job, with_leg, with_run}
 use Rattle.workflow_runs.specs.RunConditions.{may_run_in}
 use Rattle.workflow_runs.specs.StateWords.{is_live, is_open, settled_as}
@@ -249,7 +249,7 @@ pub holder_stop_fades : (h : Holder) (runs : List RunState) → Fades runs (stop
 holder_stop_fades (Holder.a_run r) runs = run_stop_fades r runs
 holder_stop_fades (Holder.a_leg p) runs = leg_stop_fades p runs
 
-pub each_fades : (change : Holder → List RunState → Moved) → ((h : Holder) (runs : List RunState) → Fades runs (change h runs).runs)
+pub each_fades : (change : Holder → List RunState → Transition) → ((h : Holder) (runs : List RunState) → Fades runs (change h runs).runs)
     → (hs : List Holder) (runs : List RunState) → Fades runs (at_each change hs runs).runs
 each_fades change one [] runs = fades_not runs
 each_fades change one (h ∷ hs) runs =

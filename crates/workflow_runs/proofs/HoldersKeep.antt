@@ -6,7 +6,7 @@ use Rattle.group_name.specs.Group.{Group}
 use Rattle.workflow_runs.specs.Arrivals.{arrived, displaced, others_pending, room_made, stopped_where_asked}
 use Rattle.workflow_runs.specs.GroupOf.{cancels_in_progress, group_at}
 use Rattle.workflow_runs.specs.Groups.{running_in}
-use Rattle.workflow_runs.specs.Moves.{Holder, Moved, at_each, without_moves}
+use Rattle.workflow_runs.specs.Moves.{Holder, Transition, at_each, without_moves}
 use Rattle.workflow_runs.specs.Places.{LegPlace, leg_at, run_at, with_leg, with_run}
 use Rattle.workflow_runs.specs.StateWords.{has_ended, outcome_of}
 use Rattle.workflow_runs.specs.StopMoves.{displace, stop_holder}
@@ -15,7 +15,7 @@ use Rattle.workflow_runs.specs.RunState.{LegState, RunState}
 use Rattle.workflow_runs.specs.declared.phases.LegPhase.{LegPhase}
 use Rattle.workflow_runs.specs.declared.phases.LegPhase.TheVariants as leg
 use Rattle.workflow_runs.proofs.JobKeeps.{leg_in, leg_settles}
-use Rattle.workflow_runs.proofs.Moved.{changed_none, with_leg_none, with_leg_stays}
+use Rattle.workflow_runs.proofs.Transitions.{changed_none, with_leg_none, with_leg_stays}
 use Rattle.workflow_runs.proofs.RunFits.{RunsFit, leases_fit}
 use Rattle.workflow_runs.proofs.Settles.{Settles, settles_nothing, settles_on}
 use Rattle.workflow_runs.proofs.StopKeeps.{lease_still_fits, same_work, stopped_run_settles}
@@ -68,7 +68,7 @@ pub holder_stop_settles : (h : Holder) (runs : List RunState) → RunsFit runs �
 holder_stop_settles (Holder.a_run r) runs fit = run_stop_settles runs r fit
 holder_stop_settles (Holder.a_leg p) runs fit = leg_stop_settles runs p fit
 
-each_settles : (change : Holder → List RunState → Moved)
+each_settles : (change : Holder → List RunState → Transition)
     → ((h : Holder) (runs : List RunState) → RunsFit runs → Settles runs (change h runs).runs) → (hs : List Holder) (runs : List RunState)
     → RunsFit runs → Settles runs (at_each change hs runs).runs
 each_settles change one [] runs fit = settles_nothing runs fit

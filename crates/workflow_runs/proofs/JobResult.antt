@@ -12,7 +12,7 @@ use Rattle.workflow_runs.specs.FirstOf.{first_some, placed}
 use Rattle.workflow_runs.specs.Rules.{leg_end, outcome_of}
 use Rattle.workflow_runs.specs.RunState.{LegState, RunState}
 use Rattle.workflow_runs.specs.WithinRun.{failing, leg_place}
-use Rattle.workflow_runs.specs.Words.{passes_over}
+use Rattle.workflow_runs.specs.Words.{continues_on_error}
 
 -- ---- the legs that fail it
 
@@ -45,7 +45,7 @@ any_cancelled : (runs : List RunState) (r j n : ℕ) (xs : List LegState)
     ≡ list_any (λ leg. option_map_or is_cancelled (outcome_of leg.phase) false) xs
 any_cancelled runs r j n [] = refl
 any_cancelled runs r j n (x ∷ xs) =
-    one_cancelled (outcome_of x.phase) (passes_over runs (leg_place r j n)) (filter_map (leg_end runs r j) (enumerate_from (n + 1) xs))
+    one_cancelled (outcome_of x.phase) (continues_on_error runs (leg_place r j n)) (filter_map (leg_end runs r j) (enumerate_from (n + 1) xs))
     (list_any (λ leg. option_map_or is_cancelled (outcome_of leg.phase) false) xs) (any_cancelled runs r j (n + 1) xs)
 
 -- ---- the result

@@ -24,8 +24,8 @@ use Rattle.wf_expr.proofs.BoundLemmas.{text-when-bound}
 use Rattle.run_plan.specs.SmallText.{most_text_bytes}
 use Rattle.workflow_runs.specs.KnownLabels.{asks_nothing, has_no_need, is_known, kept_of, known_text, text_without_results}
 use Rattle.workflow_runs.specs.Words.{label_texts}
-use Rattle.workflow_runs.specs.declared.wanted.Wanted.{Wanted}
-use Rattle.workflow_runs.specs.declared.wanted.Wanted.TheVariants as wanted
+use Rattle.workflow_runs.specs.declared.resolved_labels.ResolvedLabels.{ResolvedLabels}
+use Rattle.workflow_runs.specs.declared.resolved_labels.ResolvedLabels.TheVariants as wanted
 
 -- ---- pieces that ask for no result
 
@@ -189,7 +189,7 @@ twice : (known : Values) (need_of : NeedOf) → with_results (with_results known
 twice known need_of = fun_ext (λ path. taken_twice (need_of path) (known path))
 
 -- what is kept by what the values are without results
-abbrev kept_seen : Values → NeedOf → List (List Piece) → Wanted
+abbrev kept_seen : Values → NeedOf → List (List Piece) → ResolvedLabels
 kept_seen values need_of labels =
     let text : List Piece → List ℕ = λ label. scalar_text (template_value values label) in
     if list_all (λ label. list_all asks_nothing (map (seen values need_of) label) && nat_le (length (text label)) most_text_bytes) labels

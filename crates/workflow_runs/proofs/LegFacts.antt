@@ -23,7 +23,7 @@ use Rattle.workflow_runs.specs.Places.{LegPlace, plan_at, run_at}
 use Rattle.workflow_runs.specs.Rules.{leg_end, outcome_of, result_at}
 use Rattle.workflow_runs.specs.RunNumber.{events, same_workflow}
 use Rattle.workflow_runs.specs.RunState.{LegState, JobState, RunState}
-use Rattle.workflow_runs.specs.Words.{all_have_results, is_set, label_texts, needs_have_settled, passes_over}
+use Rattle.workflow_runs.specs.Words.{all_have_results, is_set, label_texts, needs_have_settled, continues_on_error}
 use Rattle.workflow_runs.proofs.NeedsSettled.{KeepsResults, result_of_job}
 
 -- what is told of a leg: by its run's event, the events up to it, and the needs of its job
@@ -90,7 +90,7 @@ passes_by None = refl
 passes_by (Some f) = refl
 
 pub passes_told : (runs : List RunState) (p : LegPlace)
-    → passes_over runs p ≡ option_map_or (λ f. is_set (context_of f) f.job.continue_on_error) (facts_at runs p) false
+    → continues_on_error runs p ≡ option_map_or (λ f. is_set (context_of f) f.job.continue_on_error) (facts_at runs p) false
 unfolding context_at
 passes_told runs p =
     ap (λ o. option_map_or (λ planned. is_set (context_at runs p) planned.continue_on_error) o false) (plan_told runs p)
@@ -174,7 +174,7 @@ facts_stay runs next p same settled kept =
 
 passes_stay : (runs next : List RunState) (p : LegPlace) → SameUpTo p.run (events next) (events runs)
     → needs_have_settled runs p.run p.job ≡ true → KeepsResults runs next p.run
-    → passes_over next p ≡ passes_over runs p
+    → continues_on_error next p ≡ continues_on_error runs p
 passes_stay runs next p same settled kept =
     passes_told next p
     ∙ ap (λ o. option_map_or (λ f. is_set (context_of f) f.job.continue_on_error) o false) (facts_stay runs next p same settled kept)

@@ -29,7 +29,7 @@ pub mod LivePlaces
 pub mod LookedAgain
 pub mod Lowered
 pub mod Meant
-pub mod Moved
+pub mod Transitions
 pub mod NeedsSettled
 pub mod OneEach
 pub mod OneEachRules

@@ -12,8 +12,8 @@ use Rattle.wf_value.proofs.OptionOr.{or_nothing}
 use Rattle.needs_graph.specs.Ancestors.{dependents_of, needs_at}
 use Rattle.workflow_runs.specs.FirstOf.{changed_at, first_some, placed}
 use Rattle.workflow_runs.specs.JobResults.{needs_in, results_so_far, settled_result}
-use Rattle.workflow_runs.specs.LookAgain.{NoneBefore, RestBefore, frees, has_settled, job_again, look_again, look_near}
-use Rattle.workflow_runs.specs.Moves.{Holder, Moved}
+use Rattle.workflow_runs.specs.LookAgain.{NoneBefore, RestBefore, may_wake_others, has_settled, job_again, resume_point, look_near}
+use Rattle.workflow_runs.specs.Moves.{Holder, Transition}
 use Rattle.workflow_runs.specs.Places.{leg_at, run_at}
 use Rattle.workflow_runs.specs.Rules.{rule_at}
 use Rattle.workflow_runs.specs.Settling.{first_place}
@@ -342,8 +342,8 @@ again_at next r j y (Closing s k) at is =
     ∙ ap (λ o. record { run = r; job = option_map_or (λ run. job_again run j) o j }) is
 again_at next r j y (Whole s) at is = absurd at
 
-module _ (runs : List RunState) (m : Moved) (p : Place) (fit : RunsFit runs) (first : first_place runs ≡ Some p)
-    (is : rule_at runs p ≡ Some m) (quiet : frees runs p ≡ false) where
+module _ (runs : List RunState) (m : Transition) (p : Place) (fit : RunsFit runs) (first : first_place runs ≡ Some p)
+    (is : rule_at runs p ≡ Some m) (quiet : may_wake_others runs p ≡ false) where
   after_job : (r j : ℕ) (x : RunState) → IsAt r j p → run_at runs r ≡ Some x → NoneBefore (first_in_run runs) runs r
       → NoneBefore (first_in_job runs r x) x.jobs j → RestBefore m.runs (look_near m.runs p)
   after_job r j x at was before_run before =
@@ -381,10 +381,10 @@ module _ (runs : List RunState) (m : Moved) (p : Place) (fit : RunsFit runs) (fi
 pub rest_before_all : (runs : List RunState) → RestBefore runs (record { run = 0; job = 0 })
 rest_before_all runs = (λ k lt. absurd (omega (arith, lt)), λ run at live k lt. absurd (omega (arith, lt)))
 
-pub rest_after_rule : (runs : List RunState) (m : Moved) (p : Place) → RunsFit runs → first_place runs ≡ Some p → rule_at runs p ≡ Some m
-    → RestBefore m.runs (look_again (frees runs p) m.runs p)
+pub rest_after_rule : (runs : List RunState) (m : Transition) (p : Place) → RunsFit runs → first_place runs ≡ Some p → rule_at runs p ≡ Some m
+    → RestBefore m.runs (resume_point (may_wake_others runs p) m.runs p)
 rest_after_rule runs m p fit first is =
-    elim (frees runs p) as (λ b. frees runs p ≡ b → RestBefore m.runs (look_again b m.runs p)) [
+    elim (may_wake_others runs p) as (λ b. may_wake_others runs p ≡ b → RestBefore m.runs (resume_point b m.runs p)) [
       | true ↦ λ freed. rest_before_all m.runs
       | false ↦ λ quiet. after_quiet runs m p fit first is quiet
     ] refl

@@ -13,12 +13,12 @@ use Rattle.run_plan.specs.PlanOf.{plan_of}
 use Rattle.run_plan.specs.declared.planned.PlannedJob.{PlannedJob}
 use Rattle.workflow_runs.specs.FirstOf.{changed_at}
 use Rattle.workflow_runs.specs.Places.{LegPlace, run_at, job_at, leg_at, with_run, with_job}
-use Rattle.workflow_runs.specs.Moves.{Holder, Moved}
+use Rattle.workflow_runs.specs.Moves.{Holder, Transition}
 use Rattle.workflow_runs.specs.Rules.{decided, may_run, result_at, rule_at, with_leg_in}
 use Rattle.workflow_runs.specs.StateWords.{has_ended, is_blocked, is_done, is_open, leg_in_phase, new_leg, opened, run_in_phase}
 use Rattle.workflow_runs.specs.StateWords.{settled_as}
 use Rattle.workflow_runs.specs.Settling.{first_place, first_rule, leg_phases_left, leg_left, job_phases_left, job_left, legs_in_plan}
-use Rattle.workflow_runs.specs.Settling.{run_phases_left, run_left, left}
+use Rattle.workflow_runs.specs.Settling.{run_phases_left, run_left, remaining_phases}
 use Rattle.workflow_runs.specs.RunState.{LegState, JobState, RunState}
 use Rattle.workflow_runs.specs.Words.{is_stopping, planned_legs}
 use Rattle.workflow_runs.specs.declared.phases.LegPhase.{LegPhase}
@@ -94,7 +94,7 @@ job_lowers x j f y was less =
     omega (arith, sum, old, new, less)
 
 run_lowers : (runs : List RunState) (r : ℕ) (f : RunState → RunState) (x : RunState) → run_at runs r ≡ Some x → run_left (f x) < run_left x
-    → left (with_run r f runs) < left runs
+    → remaining_phases (with_run r f runs) < remaining_phases runs
 run_lowers runs r f x was less =
     let sum = sum_of_changed run_left runs r f x was in
     omega (arith, sum, less)
@@ -107,7 +107,7 @@ planned_in_run runs r j x e =
     (option_and_then (λ (run : RunState). slice_get (plan_of run.admitted.body) j) o) 0) e
 
 job_lowers_all : (runs : List RunState) (r j : ℕ) (f : JobState → JobState) (y : JobState) → JobIn runs r j y
-    → job_left (planned_legs runs r j) (f y) < job_left (planned_legs runs r j) y → left (with_job r j f runs) < left runs
+    → job_left (planned_legs runs r j) (f y) < job_left (planned_legs runs r j) y → remaining_phases (with_job r j f runs) < remaining_phases runs
 job_lowers_all runs r j f y at less =
     let less_in_run = subst (λ (n : ℕ). job_left n (f y) < job_left n y) (planned_in_run runs r j at.run at.run_is) less in
     run_lowers runs r (with_job_of j f) at.run at.run_is (job_lowers at.run j f y at.job_is less_in_run)
@@ -115,7 +115,7 @@ job_lowers_all runs r j f y at less =
 -- ---- the rules
 
 leg_goes_lower : (runs : List RunState) (p : LegPlace) (z : LegState) (to : LegPhase) → leg_at runs p ≡ Some z
-    → leg_phases_left to < leg_phases_left z.phase → left (with_leg_in to p runs) < left runs
+    → leg_phases_left to < leg_phases_left z.phase → remaining_phases (with_leg_in to p runs) < remaining_phases runs
 leg_goes_lower runs p z to was lower =
     let at = leg_in runs p z was in
     let less = leg_lowers (planned_legs runs p.run p.job) at.job p.leg (leg_in_phase to) z at.leg_is lower in
@@ -135,13 +135,13 @@ decided_lowered false planned stopping y blocked =
     omega (arith, before)
 
 opening_lowers : (runs : List RunState) (r j : ℕ) (y : JobState) → job_at runs r j ≡ Some y → is_blocked y.phase ≡ true
-    → left (with_job r j (decided runs r j) runs) < left runs
+    → remaining_phases (with_job r j (decided runs r j) runs) < remaining_phases runs
 opening_lowers runs r j y was blocked =
     job_lowers_all runs r j (decided runs r j) y (job_in runs r j y was)
     (decided_lowered (may_run runs r j) (planned_legs runs r j) (is_stopping runs r) y (is_blocked_blocked y.phase blocked))
 
 closing_lowers : (runs : List RunState) (r j : ℕ) (y : JobState) → job_at runs r j ≡ Some y → is_done y ≡ true
-    → left (with_job r j (settled_as (result_at runs r j y)) runs) < left runs
+    → remaining_phases (with_job r j (settled_as (result_at runs r j y)) runs) < remaining_phases runs
 closing_lowers runs r j y was done =
     let close = settled_as (result_at runs r j y) in
     let is_open = is_open_open y.phase (and_parts (is_open y.phase) (list_all has_ended y.legs) done).0 in
@@ -150,7 +150,7 @@ closing_lowers runs r j y was done =
     job_lowers_all runs r j close y (job_in runs r j y was) less
 
 run_goes_lower : (runs : List RunState) (r : ℕ) (x : RunState) (to : RunPhase) → run_at runs r ≡ Some x
-    → run_phases_left to < run_phases_left x.phase → left (with_run r (run_in_phase to) runs) < left runs
+    → run_phases_left to < run_phases_left x.phase → remaining_phases (with_run r (run_in_phase to) runs) < remaining_phases runs
 run_goes_lower runs r x to was lower =
     let less : run_left (run_in_phase to x) < run_left x = omega (arith, lower) in
     run_lowers runs r (run_in_phase to) x was less
@@ -158,7 +158,7 @@ run_goes_lower runs r x to was lower =
 run_left_by : (phase is : RunPhase) (to : ℕ) → phase ≡ is → to < run_phases_left is → to < run_phases_left phase
 run_left_by phase is to e less = subst (λ (v : RunPhase). to < run_phases_left v) (sym e) less
 
-each_lowers : (runs : List RunState) → EachRule runs (λ place m. left m.runs < left runs)
+each_lowers : (runs : List RunState) → EachRule runs (λ place m. remaining_phases m.runs < remaining_phases runs)
 each_lowers runs = record {
   job_opens = (λ r j y was blocked settled. opening_lowers runs r j y was blocked);
   leg_is_cancelled = (λ p z was is. leg_goes_lower runs p z (leg.Ended outcome.Cancelled) was (left_by z.phase leg.New 0 is (lit< tt)));
@@ -172,10 +172,10 @@ each_lowers runs = record {
   run_ends = (λ r x was is all. run_goes_lower runs r x run.Ended was (run_left_by x.phase run.Live 0 is (lit< tt)));
 }
 
-rule_lowers : (runs : List RunState) (m : Moved) (place : Place) → rule_at runs place ≡ Some m → left m.runs < left runs
-rule_lowers runs m place h = by_rule runs (λ at made. left made.runs < left runs) (each_lowers runs) m place h
+rule_lowers : (runs : List RunState) (m : Transition) (place : Place) → rule_at runs place ≡ Some m → remaining_phases m.runs < remaining_phases runs
+rule_lowers runs m place h = by_rule runs (λ at made. remaining_phases made.runs < remaining_phases runs) (each_lowers runs) m place h
 
-pub first_rule_lowers : (runs : List RunState) (m : Moved) → first_rule runs ≡ Some m → left m.runs < left runs
+pub first_rule_lowers : (runs : List RunState) (m : Transition) → first_rule runs ≡ Some m → remaining_phases m.runs < remaining_phases runs
 first_rule_lowers runs m h =
     let made = from_and_then (rule_at runs) (first_place runs) m h in
     rule_lowers runs m made.value made.gives

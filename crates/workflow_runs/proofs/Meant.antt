@@ -9,12 +9,12 @@ use Rattle.group_name.specs.Group.{Group}
 use Rattle.workflow_runs.specs.FirstOf.{first_some, placed}
 use Rattle.workflow_runs.specs.GroupOf.{group_at}
 use Rattle.workflow_runs.specs.Groups.{all_holders, is_running_in, is_taken, may_start}
-use Rattle.workflow_runs.specs.Holders.{first_meant, holder_in_words}
+use Rattle.workflow_runs.specs.Holders.{first_conflicting, holder_in_words}
 use Rattle.workflow_runs.specs.Moves.{Holder}
 use Rattle.workflow_runs.specs.Places.{LegPlace, job_at, leg_place, leg_places, leg_places_of_job, leg_places_of_run, run_at}
 use Rattle.workflow_runs.specs.RunState.{LegState, JobState, RunState}
 use Rattle.workflow_runs.specs.declared.holder.Holder.{Holder as HolderInCode}
-use Rattle.workflow_runs.specs.declared.holder.Whom.TheVariants.{Running}
+use Rattle.workflow_runs.specs.declared.holder.HolderFilter.TheVariants.{Running}
 use Rattle.workflow_runs.proofs.Firsts.{find-flat_map, find-map, found_at, none_found}
 
 -- ---- a search in what something has, where it is there
@@ -202,12 +202,12 @@ starts_by runs (Some g) = ap not (some_found (is_running_in runs g) (all_holders
 
 -- where the holder has a group, and this is what was found
 pub starts_where : (runs : List RunState) (h : Holder) (found : Option HolderInCode) (b : Bool) → is_some (group_at runs h) ≡ true
-    → option_map holder_in_words found ≡ first_meant runs h Running → b ≡ is_none found → b ≡ may_start runs h
+    → option_map holder_in_words found ≡ first_conflicting runs h Running → b ≡ is_none found → b ≡ may_start runs h
 starts_where runs h found b grouped is none =
     none
     ∙ ap not (found_in_words found)
     ∙ ap (λ o. not (is_some o)) is
-    ∙ ap (λ c. not c || not (is_some (first_meant runs h Running))) (sym grouped)
+    ∙ ap (λ c. not c || not (is_some (first_conflicting runs h Running))) (sym grouped)
     ∙ starts_by runs (group_at runs h)
   where
     found_in_words : (o : Option HolderInCode) → is_some o ≡ is_some (option_map holder_in_words o)

@@ -7,7 +7,7 @@ use Rattle.wf_value.specs.declared.outcome.JobResult.TheVariants as result
 use Rattle.wf_value.specs.declared.outcome.Outcome.TheVariants as outcome
 use Rattle.workflow_runs.specs.Arrivals.{arrived}
 use Rattle.workflow_runs.specs.Groups.{HasOneEach, holds, leg_holds, leg_waits, may_start, run_waits, waits}
-use Rattle.workflow_runs.specs.Moves.{Holder, Moved}
+use Rattle.workflow_runs.specs.Moves.{Holder, Transition}
 use Rattle.workflow_runs.specs.Places.{LegPlace, leg_at, run_at, with_job, with_leg, with_run}
 use Rattle.workflow_runs.specs.Rules.{decided, may_run, result_at, rule_at, with_leg_in}
 use Rattle.workflow_runs.specs.Settling.{first_rule, settled}
@@ -180,14 +180,14 @@ each_one_each runs fit =
           (ended_fades r runs) each);
     }
 
-pub rule_one_each : (runs : List RunState) (m : Moved) (place : Place) → RunsFit runs → LivePlace runs place → rule_at runs place ≡ Some m
+pub rule_one_each : (runs : List RunState) (m : Transition) (place : Place) → RunsFit runs → LivePlace runs place → rule_at runs place ≡ Some m
     → HasOneEach runs → HasOneEach m.runs
 rule_one_each runs m place fit live h each =
     by_rule runs (λ at made. LivePlace runs at → HasOneEach runs → HasOneEach made.runs) (each_one_each runs fit) m place h live each
 
 -- ---- settling
 
-pub first_rule_one_each : (runs : List RunState) (m : Moved) → RunsFit runs → first_rule runs ≡ Some m → HasOneEach runs → HasOneEach m.runs
+pub first_rule_one_each : (runs : List RunState) (m : Transition) → RunsFit runs → first_rule runs ≡ Some m → HasOneEach runs → HasOneEach m.runs
 first_rule_one_each = first_rule_keeps HasOneEach rule_one_each
 
 pub settled_one_each : (runs : List RunState) → RunsFit runs → HasOneEach runs → HasOneEach (settled runs)

@@ -8,8 +8,8 @@ use Rattle.group_name.specs.Group.{Group}
 use Rattle.workflow_runs.specs.Arrivals.{arrived, room_made}
 use Rattle.workflow_runs.specs.GroupOf.{cancels_in_progress, group_at}
 use Rattle.workflow_runs.specs.Groups.{holds, leg_holds}
-use Rattle.workflow_runs.specs.LookAgain.{frees, is_new_at}
-use Rattle.workflow_runs.specs.Moves.{Holder, Moved, without_moves}
+use Rattle.workflow_runs.specs.LookAgain.{may_wake_others, is_new_at}
+use Rattle.workflow_runs.specs.Moves.{Holder, Transition, without_moves}
 use Rattle.workflow_runs.specs.Places.{LegPlace, job_at, leg_at, with_job, with_run}
 use Rattle.workflow_runs.specs.Rules.{decided, result_at, rule_at, with_leg_in}
 use Rattle.workflow_runs.specs.Settling.{first_place}
@@ -55,7 +55,7 @@ room_for_none newcomer next o e =
 
 -- who waits in no group leaves all others as they are
 arrives_alone : (runs : List RunState) (p : LegPlace) (z : LegState) → RunsFit runs → leg_at runs p ≡ Some z → z.phase ≡ leg.New
-    → frees runs (AtLeg p) ≡ false → with_leg_in leg.Waiting p runs ≡ (arrived (Holder.a_leg p) (with_leg_in leg.Waiting p runs)).runs
+    → may_wake_others runs (AtLeg p) ≡ false → with_leg_in leg.Waiting p runs ≡ (arrived (Holder.a_leg p) (with_leg_in leg.Waiting p runs)).runs
 arrives_alone runs p z fit was is quiet =
     let next = with_leg_in leg.Waiting p runs in
     let new : is_new_at runs p ≡ true = ap (λ o. option_map_or (λ (l : LegState). is_new l.phase) o false) was ∙ ap is_new is in
@@ -79,7 +79,7 @@ ChangesThere runs next (AtLeg p) = ChangesJob runs next p.run p.job
 ChangesThere runs next (Closing r j) = ChangesJob runs next r j
 ChangesThere runs next (Whole r) = ChangesRun runs next r
 
-each_changes : (runs : List RunState) → RunsFit runs → EachRule runs (λ place m. frees runs place ≡ false → ChangesThere runs m.runs place)
+each_changes : (runs : List RunState) → RunsFit runs → EachRule runs (λ place m. may_wake_others runs place ≡ false → ChangesThere runs m.runs place)
 each_changes runs fit = record {
   job_opens = (λ r j y was blocked settled quiet. record { change = decided runs r j; is = refl });
   leg_is_cancelled = (λ p z was is quiet.
@@ -92,10 +92,10 @@ each_changes runs fit = record {
   run_ends = (λ r x was is all quiet. record { change = run_in_phase run.Ended; is = refl });
 }
 
-changes_there : (runs : List RunState) (m : Moved) (p : Place) → RunsFit runs → frees runs p ≡ false → rule_at runs p ≡ Some m
+changes_there : (runs : List RunState) (m : Transition) (p : Place) → RunsFit runs → may_wake_others runs p ≡ false → rule_at runs p ≡ Some m
     → ChangesThere runs m.runs p
 changes_there runs m p fit quiet is =
-    by_rule runs (λ at made. frees runs at ≡ false → ChangesThere runs made.runs at) (each_changes runs fit) m p is quiet
+    by_rule runs (λ at made. may_wake_others runs at ≡ false → ChangesThere runs made.runs at) (each_changes runs fit) m p is quiet
 
 at_this_job : (runs next : List RunState) (s k r j : ℕ) → s ≡ r → k ≡ j → ChangesJob runs next s k → ChangesJob runs next r j
 at_this_job runs next s k r j same_run same_job changes =
@@ -107,11 +107,11 @@ in_this_job runs next (AtLeg p) r j at changes = at_this_job runs next p.run p.j
 in_this_job runs next (Closing s k) r j at changes = at_this_job runs next s k r j at.0 at.1 changes
 in_this_job runs next (Whole s) r j at changes = absurd at
 
-pub quiet_at_job : (runs : List RunState) (m : Moved) (p : Place) (r j : ℕ) → RunsFit runs → IsAt r j p → frees runs p ≡ false
+pub quiet_at_job : (runs : List RunState) (m : Transition) (p : Place) (r j : ℕ) → RunsFit runs → IsAt r j p → may_wake_others runs p ≡ false
     → rule_at runs p ≡ Some m → ChangesJob runs m.runs r j
 quiet_at_job runs m p r j fit at quiet is = in_this_job runs m.runs p r j at (changes_there runs m p fit quiet is)
 
-pub quiet_in_run : (runs : List RunState) (m : Moved) (p : Place) (r : ℕ) → RunsFit runs → p ≡ Whole r → frees runs p ≡ false
+pub quiet_in_run : (runs : List RunState) (m : Transition) (p : Place) (r : ℕ) → RunsFit runs → p ≡ Whole r → may_wake_others runs p ≡ false
     → rule_at runs p ≡ Some m → ChangesRun runs m.runs r
 quiet_in_run runs m p r fit whole quiet is = subst (ChangesThere runs m.runs) whole (changes_there runs m p fit quiet is)
 
@@ -155,7 +155,7 @@ leg_goes_still : (runs : List RunState) (p : LegPlace) (z : LegState) (to : LegP
     → StillHold runs (with_leg_in to p runs)
 leg_goes_still runs p z to was held_not h g of e = leg_still_holds runs p z (leg_in_phase to) was held_not h e
 
-each_still_holds : (runs : List RunState) → RunsFit runs → EachRule runs (λ place m. frees runs place ≡ false → StillHold runs m.runs)
+each_still_holds : (runs : List RunState) → RunsFit runs → EachRule runs (λ place m. may_wake_others runs place ≡ false → StillHold runs m.runs)
 each_still_holds runs fit = record {
   job_opens = (λ r j y was blocked settled quiet h g of e. opening_holds runs r j y (decided runs r j) fit was blocked h e);
   leg_is_cancelled = (λ p z was is quiet. leg_goes_still runs p z (leg.Ended outcome.Cancelled) was (ap leg_holds is));
@@ -171,8 +171,8 @@ each_still_holds runs fit = record {
       ended_still_holds runs r (no_group (holds runs (Holder.a_run r)) (group_at runs (Holder.a_run r)) live quiet));
 }
 
-pub quiet_keeps_back : (runs : List RunState) (m : Moved) (p : Place) → RunsFit runs → first_place runs ≡ Some p → rule_at runs p ≡ Some m
-    → frees runs p ≡ false → KeepsBack runs m.runs
+pub quiet_keeps_back : (runs : List RunState) (m : Transition) (p : Place) → RunsFit runs → first_place runs ≡ Some p → rule_at runs p ≡ Some m
+    → may_wake_others runs p ≡ false → KeepsBack runs m.runs
 quiet_keeps_back runs m p fit first is quiet =
     kept_back runs m.runs (groups_stay runs m.runs fit (rule_settles runs m p fit (first_place_is_live runs p first) is).stay)
-    (by_rule runs (λ at made. frees runs at ≡ false → StillHold runs made.runs) (each_still_holds runs fit) m p is quiet)
+    (by_rule runs (λ at made. may_wake_others runs at ≡ false → StillHold runs made.runs) (each_still_holds runs fit) m p is quiet)

@@ -2,15 +2,15 @@
 use Rattle.std.specs.Prelude.{◌≡◌, ℕ, zero, suc, ◌≤◌, ◌++◌, List, Bool, true, is_some, Option, Some, None, option_and_then, refl}
 use Rattle.std.specs.Option.{option_map_or}
 use Rattle.std.proofs.Common.{arith, ap, sym, ◌∙◌}
-use Rattle.workflow_runs.specs.Moves.{Moved, and_then, without_moves}
+use Rattle.workflow_runs.specs.Moves.{Transition, and_then, without_moves}
 use Rattle.workflow_runs.specs.Rules.{rule_at}
-use Rattle.workflow_runs.specs.Settling.{applies, first_place, first_rule, left, settled_within, settled, settling}
+use Rattle.workflow_runs.specs.Settling.{applies, first_place, first_rule, remaining_phases, settled_within, settled, settling}
 use Rattle.workflow_runs.specs.RunState.{RunState}
 use Rattle.workflow_runs.proofs.LivePlaces.{first_place_applies}
 use Rattle.workflow_runs.proofs.Lowered.{first_rule_lowers}
 
 -- with nothing left there is no rule
-nothing_left : (runs : List RunState) → left runs ≤ 0 → first_rule runs ≡ None
+nothing_left : (runs : List RunState) → remaining_phases runs ≤ 0 → first_rule runs ≡ None
 nothing_left runs h =
     elim (first_rule runs) as (λ o. first_rule runs ≡ o → o ≡ None) [
       | None ↦ λ is. refl
@@ -18,18 +18,18 @@ nothing_left runs h =
     ] refl
 
 -- what a rule and the settling after it make
-abbrev going_on : ℕ → List RunState → Option Moved → Moved
+abbrev going_on : ℕ → List RunState → Option Transition → Transition
 going_on n runs o = option_map_or (λ m. and_then m (settled_within n)) o (without_moves runs)
 
 at_rest_already : (n : ℕ) (runs : List RunState) → first_rule runs ≡ None → settled_within n runs ≡ without_moves runs
 at_rest_already zero runs h = refl
 at_rest_already (suc n) runs h = ap (going_on n runs) h
 
-abbrev behind : Moved → Moved → Moved
+abbrev behind : Transition → Transition → Transition
 behind m rest = record { runs = rest.runs; moves = m.moves ++ rest.moves }
 
 -- two counts that suffice give the same
-pub settled_enough : (n m : ℕ) (runs : List RunState) → left runs ≤ n → left runs ≤ m → settled_within n runs ≡ settled_within m runs
+pub settled_enough : (n m : ℕ) (runs : List RunState) → remaining_phases runs ≤ n → remaining_phases runs ≤ m → settled_within n runs ≡ settled_within m runs
 settled_enough zero m runs hn hm = sym (at_rest_already m runs (nothing_left runs hn))
 settled_enough (suc n) zero runs hn hm = at_rest_already (suc n) runs (nothing_left runs hm)
 settled_enough (suc n) (suc k) runs hn hm =
@@ -41,25 +41,25 @@ settled_enough (suc n) (suc k) runs hn hm =
     ] refl
 
 -- the first rule, and then the settling of what it makes
-pub settling_by_rule : (runs : List RunState) (m : Moved) → first_rule runs ≡ Some m → settling runs ≡ and_then m settling
+pub settling_by_rule : (runs : List RunState) (m : Transition) → first_rule runs ≡ Some m → settling runs ≡ and_then m settling
 settling_by_rule runs m is =
     let lower = first_rule_lowers runs m is in
-    settled_enough (left runs) (suc (left runs)) runs (omega arith) (omega arith)
-    ∙ ap (going_on (left runs) runs) is
-    ∙ ap (behind m) (settled_enough (left runs) (left m.runs) m.runs (omega (arith, lower)) (omega arith))
+    settled_enough (remaining_phases runs) (suc (remaining_phases runs)) runs (omega arith) (omega arith)
+    ∙ ap (going_on (remaining_phases runs) runs) is
+    ∙ ap (behind m) (settled_enough (remaining_phases runs) (remaining_phases m.runs) m.runs (omega (arith, lower)) (omega arith))
 
 -- a rule more or less makes no difference
-pub settled_after_rule : (runs : List RunState) (m : Moved) → first_rule runs ≡ Some m → settled runs ≡ settled m.runs
-settled_after_rule runs m is = ap (λ (s : Moved). s.runs) (settling_by_rule runs m is)
+pub settled_after_rule : (runs : List RunState) (m : Transition) → first_rule runs ≡ Some m → settled runs ≡ settled m.runs
+settled_after_rule runs m is = ap (λ (s : Transition). s.runs) (settling_by_rule runs m is)
 
 -- where no rule applies, nothing changes
 pub settling_at_rest : (runs : List RunState) → first_rule runs ≡ None → settling runs ≡ without_moves runs
-settling_at_rest runs h = at_rest_already (left runs) runs h
+settling_at_rest runs h = at_rest_already (remaining_phases runs) runs h
 
 pub settled_at_rest : (runs : List RunState) → first_rule runs ≡ None → settled runs ≡ runs
-settled_at_rest runs h = ap (λ (s : Moved). s.runs) (settling_at_rest runs h)
+settled_at_rest runs h = ap (λ (s : Transition). s.runs) (settling_at_rest runs h)
 
-rests_within : (n : ℕ) (runs : List RunState) → left runs ≤ n → first_rule (settled_within n runs).runs ≡ None
+rests_within : (n : ℕ) (runs : List RunState) → remaining_phases runs ≤ n → first_rule (settled_within n runs).runs ≡ None
 rests_within zero runs h = nothing_left runs h
 rests_within (suc n) runs h =
     elim (first_rule runs) as (λ o. first_rule runs ≡ o → first_rule (going_on n runs o).runs ≡ None) [
@@ -69,7 +69,7 @@ rests_within (suc n) runs h =
 
 -- after settling no rule applies
 pub settled_rests : (runs : List RunState) → first_rule (settled runs) ≡ None
-settled_rests runs = rests_within (left runs) runs (omega arith)
+settled_rests runs = rests_within (remaining_phases runs) runs (omega arith)
 
 -- ---- at no place
 
@@ -82,7 +82,7 @@ no_place runs h =
     elim (first_place runs) as (λ o. first_place runs ≡ o → o ≡ None) [
       | None ↦ λ is. refl
       | Some place ↦ λ is.
-          absurd (some_rule (applies runs place) (first_place_applies runs place is) Moved (rule_at runs place) refl
+          absurd (some_rule (applies runs place) (first_place_applies runs place is) Transition (rule_at runs place) refl
           (sym (ap (option_and_then (rule_at runs)) is) ∙ h))
     ] refl
 

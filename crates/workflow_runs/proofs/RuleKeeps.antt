@@ -11,7 +11,7 @@ use Rattle.wf_value.specs.declared.outcome.Outcome.TheVariants as outcome
 use Rattle.workflow_runs.specs.FirstOf.{changed_at}
 use Rattle.workflow_runs.specs.Places.{LegPlace, run_at, job_at, leg_at, with_run, with_job}
 use Rattle.workflow_runs.specs.Arrivals.{arrived}
-use Rattle.workflow_runs.specs.Moves.{Holder, Moved}
+use Rattle.workflow_runs.specs.Moves.{Holder, Transition}
 use Rattle.workflow_runs.specs.Rules.{decided, may_run, result_at, rule_at, with_leg_in}
 use Rattle.workflow_runs.specs.StateWords.{has_ended, is_done, is_open, is_settled, leg_in_phase, new_leg, opened, outcome_of}
 use Rattle.workflow_runs.specs.StateWords.{run_in_phase}
@@ -205,7 +205,7 @@ each_settles runs fit = record {
   run_ends = (λ r x was is all live. phase_settles runs r x run.Ended fit was (λ j y at. each_passes is_settled x.jobs j y all at));
 }
 
-pub rule_settles : (runs : List RunState) (m : Moved) (place : Place) → RunsFit runs → LivePlace runs place → rule_at runs place ≡ Some m
+pub rule_settles : (runs : List RunState) (m : Transition) (place : Place) → RunsFit runs → LivePlace runs place → rule_at runs place ≡ Some m
     → Settles runs m.runs
 rule_settles runs m place fit live h =
     by_rule runs (λ at made. LivePlace runs at → Settles runs made.runs) (each_settles runs fit) m place h live

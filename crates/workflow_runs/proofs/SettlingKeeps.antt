@@ -1,9 +1,9 @@
 -- Settling keeps what each rule keeps.
 use Rattle.std.specs.Prelude.{◌≡◌, ℕ, zero, suc, List, Some, None, refl}
 use Rattle.std.specs.Option.{option_map_or}
-use Rattle.workflow_runs.specs.Moves.{Moved, and_then, without_moves}
+use Rattle.workflow_runs.specs.Moves.{Transition, and_then, without_moves}
 use Rattle.workflow_runs.specs.Rules.{rule_at}
-use Rattle.workflow_runs.specs.Settling.{first_place, first_rule, left, settled_within, settled}
+use Rattle.workflow_runs.specs.Settling.{first_place, first_rule, remaining_phases, settled_within, settled}
 use Rattle.workflow_runs.specs.RunState.{RunState}
 use Rattle.workflow_runs.specs.declared.place.Place.{Place}
 use Rattle.workflow_runs.proofs.LivePlaces.{LivePlace, first_place_is_live}
@@ -12,7 +12,7 @@ use Rattle.workflow_runs.proofs.RuleKeeps.{rule_settles}
 use Rattle.workflow_runs.proofs.RunFits.{RunsFit}
 use Rattle.workflow_runs.proofs.Settles.{Settles, settles_nothing, settles_on}
 
-pub first_rule_settles : (runs : List RunState) (m : Moved) → RunsFit runs → first_rule runs ≡ Some m → Settles runs m.runs
+pub first_rule_settles : (runs : List RunState) (m : Transition) → RunsFit runs → first_rule runs ≡ Some m → Settles runs m.runs
 first_rule_settles runs m fit h =
     let made = from_and_then (rule_at runs) (first_place runs) m h in
     rule_settles runs m made.value fit (first_place_is_live runs made.value made.is) made.gives
@@ -29,16 +29,16 @@ settles_within (suc n) runs fit =
     ] refl
 
 pub settling_settles : (runs : List RunState) → RunsFit runs → Settles runs (settled runs)
-settling_settles runs fit = settles_within (left runs) runs fit
+settling_settles runs fit = settles_within (remaining_phases runs) runs fit
 
 -- ---- what each rule keeps
 
 -- A rule that is taken at a live place keeps it.
 abbrev pub RulesKeep : (List RunState → Type 0) → Type 0
-RulesKeep Keeps = (runs : List RunState) (m : Moved) (place : Place) → RunsFit runs → LivePlace runs place → rule_at runs place ≡ Some m
+RulesKeep Keeps = (runs : List RunState) (m : Transition) (place : Place) → RunsFit runs → LivePlace runs place → rule_at runs place ≡ Some m
     → Keeps runs → Keeps m.runs
 
-pub first_rule_keeps : (Keeps : List RunState → Type 0) → RulesKeep Keeps → (runs : List RunState) (m : Moved) → RunsFit runs
+pub first_rule_keeps : (Keeps : List RunState → Type 0) → RulesKeep Keeps → (runs : List RunState) (m : Transition) → RunsFit runs
     → first_rule runs ≡ Some m
     → Keeps runs → Keeps m.runs
 first_rule_keeps Keeps each_rule runs m fit h kept =
@@ -59,4 +59,4 @@ keeps_within Keeps each_rule (suc n) runs fit kept =
 
 pub settling_keeps : (Keeps : List RunState → Type 0) → RulesKeep Keeps → (runs : List RunState) → RunsFit runs → Keeps runs
     → Keeps (settled runs)
-settling_keeps Keeps each_rule runs fit kept = keeps_within Keeps each_rule (left runs) runs fit kept
+settling_keeps Keeps each_rule runs fit kept = keeps_within Keeps each_rule (remaining_phases runs) runs fit kept

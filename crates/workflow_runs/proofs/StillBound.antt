@@ -13,7 +13,7 @@ use Rattle.workflow_runs.specs.GroupOf.{RunFacts, run_facts_at}
 use Rattle.workflow_runs.specs.RunNumber.{AreNumbered, events, number_of_next, numbers_after, run_number, same_workflow}
 use Rattle.workflow_runs.specs.RunState.{RunState}
 use Rattle.workflow_runs.specs.RunsKept.{RunsAreKept}
-use Rattle.workflow_runs.specs.declared.asks.RunAsks.{RunAsks}
+use Rattle.workflow_runs.specs.declared.asks.RunBindings.{RunBindings}
 use Rattle.workflow_runs.specs.declared.runs.index.Index.{Index}
 use Rattle.workflow_runs.proofs.Binding.{one_more as one_more_bound}
 use Rattle.workflow_runs.proofs.BoundSays.{run_told}
@@ -23,7 +23,7 @@ use Rattle.workflow_runs.proofs.RunNumbers.{events_kept, length_kept, number_at,
 facts_same : (runs next : List RunState) (r : ℕ) → events next ≡ events runs → run_facts_at next r ≡ run_facts_at runs r
 facts_same runs next r same = run_facts_stay runs next r (λ s le. ap (λ es. slice_get es s) same)
 
-still_bound : (xs : List RunState) (kept : List RunAsks) (r : ℕ) (x y : RunState) → r < length xs → x ≡ get_or xs r x
+still_bound : (xs : List RunState) (kept : List RunBindings) (r : ℕ) (x y : RunState) → r < length xs → x ≡ get_or xs r x
     → y.admitted ≡ x.admitted → AreBound xs kept → AreBound (slice_set xs r y) kept
 still_bound xs kept r x y lt is same are = record {
   as_many = omega (arith, length_kept xs r y, are.as_many);
@@ -32,7 +32,7 @@ still_bound xs kept r x y lt is same are = record {
 }
 
 -- a run is written of the event that stands at its place
-pub still_kept : (xs : List RunState) (numbers : List ℕ) (kept : List RunAsks) (index : Index) (r : ℕ) (x y : RunState) → r < length xs
+pub still_kept : (xs : List RunState) (numbers : List ℕ) (kept : List RunBindings) (index : Index) (r : ℕ) (x y : RunState) → r < length xs
     → x ≡ get_or xs r x → y.admitted ≡ x.admitted → RunsAreKept xs numbers kept index → RunsAreKept (slice_set xs r y) numbers kept index
 still_kept xs numbers kept index r x y lt is same are =
     let stay : events (slice_set xs r y) ≡ events xs = events_kept xs r x y lt is same in
@@ -44,7 +44,7 @@ still_kept xs numbers kept index r x y lt is same are =
     }
 
 -- the same runs, as the code sees them, in another index
-pub kept_in : (xs seen : List RunState) (numbers : List ℕ) (kept : List RunAsks) (old new : Index) → seen ≡ xs
+pub kept_in : (xs seen : List RunState) (numbers : List ℕ) (kept : List RunBindings) (old new : Index) → seen ≡ xs
     → RunsAreKept xs numbers kept old → FindsFirst (events seen) new.places.places → AreCounted (events seen) new.counts.counts
     → RunsAreKept xs numbers kept new
 kept_in xs seen numbers kept old new same are found counted = record {
@@ -94,7 +94,7 @@ module _ (runs : List RunState) (run : RunState) (numbers : List ℕ) (n : ℕ) 
       (sym (number_at (runs ++ run ∷ []) (numbers ++ n ∷ []) (length runs) are ∙ ap (option_map (run_number all (length runs))) event)
       ∙ at_end numbers n (length runs) (sym many))
 
-  added_bound : (kept : List RunAsks) (asked : RunAsks) → AreBound runs kept
+  added_bound : (kept : List RunBindings) (asked : RunBindings) → AreBound runs kept
       → RunSays (record { event = run.admitted; run_id = decimal (length runs + 1); run_number = decimal n }) asked
       → AreBound (runs ++ run ∷ []) (kept ++ asked ∷ [])
   added_bound kept asked bound says =
@@ -117,7 +117,7 @@ module _ (runs : List RunState) (run : RunState) (numbers : List ℕ) (n : ℕ) 
       }
 
 -- a run that is added with its number and with what it asks
-pub all_added : (runs : List RunState) (run : RunState) (numbers : List ℕ) (kept : List RunAsks) (number : ℕ) (asked : RunAsks)
+pub all_added : (runs : List RunState) (run : RunState) (numbers : List ℕ) (kept : List RunBindings) (number : ℕ) (asked : RunBindings)
     → length runs < 100000 → AreNumbered runs numbers × AreBound runs kept → number ≡ number_of_next runs run.admitted
     → RunSays (record { event = run.admitted; run_id = decimal (length runs + 1); run_number = decimal number }) asked
     → AreNumbered (runs ++ run ∷ []) (numbers ++ number ∷ []) × AreBound (runs ++ run ∷ []) (kept ++ asked ∷ [])

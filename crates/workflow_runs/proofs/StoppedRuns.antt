@@ -14,7 +14,7 @@ use Rattle.workflow_runs.specs.RunState.{JobState, RunState}
 use Rattle.workflow_runs.specs.WithinRun.{condition_in, may_run_in}
 use Rattle.workflow_runs.specs.JobResults.{needs_in, settled_result}
 use Rattle.workflow_runs.specs.declared.phases.RunPhase.TheVariants as run
-use Rattle.workflow_runs.proofs.Moved.{changed_none, changed_same}
+use Rattle.workflow_runs.proofs.Transitions.{changed_none, changed_same}
 use Rattle.workflow_runs.proofs.StopKeeps.{where_result}
 
 -- ---- the elements before a place changed

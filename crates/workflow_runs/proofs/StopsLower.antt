@@ -12,9 +12,9 @@ use Rattle.workflow_runs.specs.Arrivals.{arrived, displaced, others_pending, roo
 use Rattle.workflow_runs.specs.FirstOf.{changed_at}
 use Rattle.workflow_runs.specs.GroupOf.{cancels_in_progress, group_at}
 use Rattle.workflow_runs.specs.Groups.{running_in}
-use Rattle.workflow_runs.specs.Moves.{Holder, Moved, at_each, without_moves}
+use Rattle.workflow_runs.specs.Moves.{Holder, Transition, at_each, without_moves}
 use Rattle.workflow_runs.specs.RunConditions.{may_run_in}
-use Rattle.workflow_runs.specs.Settling.{job_left, leg_left, leg_phases_left, left, legs_in_plan, run_left}
+use Rattle.workflow_runs.specs.Settling.{job_left, leg_left, leg_phases_left, remaining_phases, legs_in_plan, run_left}
 use Rattle.workflow_runs.specs.StateWords.{is_open, settled_as}
 use Rattle.workflow_runs.specs.StopMoves.{displace, stop_holder}
 use Rattle.workflow_runs.specs.Stops.{cancelled, stopped, stopped_in, stopped_phase, stopped_run, stopped_where, told_to_stop}
@@ -157,13 +157,13 @@ one_leg_of_run j l x =
 
 -- ---- a holder
 
-pub stop_lowers : (h : Holder) (runs : List RunState) → left (stop_holder h runs).runs ≤ left runs
+pub stop_lowers : (h : Holder) (runs : List RunState) → remaining_phases (stop_holder h runs).runs ≤ remaining_phases runs
 stop_lowers (Holder.a_run r) runs = sum_of_one run_left stopped_run runs r (λ x. stopped_in_lowers x.phase x)
 stop_lowers (Holder.a_leg p) runs = sum_of_one run_left (with_job_of p.job (with_leg_of p.leg stopped)) runs p.run
     (one_leg_of_run p.job p.leg)
 
-each_lowers : (change : Holder → List RunState → Moved) → ((h : Holder) (runs : List RunState) → left (change h runs).runs ≤ left runs)
-    → (hs : List Holder) (runs : List RunState) → left (at_each change hs runs).runs ≤ left runs
+each_lowers : (change : Holder → List RunState → Transition) → ((h : Holder) (runs : List RunState) → remaining_phases (change h runs).runs ≤ remaining_phases runs)
+    → (hs : List Holder) (runs : List RunState) → remaining_phases (at_each change hs runs).runs ≤ remaining_phases runs
 each_lowers change less [] runs = omega arith
 each_lowers change less (h ∷ hs) runs =
     let first = less h runs in
@@ -172,24 +172,24 @@ each_lowers change less (h ∷ hs) runs =
 
 -- ---- an arrival
 
-displaced_lowers : (g : Group) (newcomer : Holder) (runs : List RunState) → left (displaced g newcomer runs).runs ≤ left runs
+displaced_lowers : (g : Group) (newcomer : Holder) (runs : List RunState) → remaining_phases (displaced g newcomer runs).runs ≤ remaining_phases runs
 displaced_lowers g newcomer runs = each_lowers displace stop_lowers (others_pending g newcomer runs) runs
 
-asked_lowers : (cancels : Bool) (g : Group) (runs : List RunState) → left (stopped_where_asked cancels g runs).runs ≤ left runs
+asked_lowers : (cancels : Bool) (g : Group) (runs : List RunState) → remaining_phases (stopped_where_asked cancels g runs).runs ≤ remaining_phases runs
 asked_lowers true g runs = each_lowers stop_holder stop_lowers (running_in runs g) runs
 asked_lowers false g runs = omega arith
 
 room_lowers : (cancels : Bool) (newcomer : Holder) (runs : List RunState) (g : Group)
-    → left (room_made cancels newcomer runs g).runs ≤ left runs
+    → remaining_phases (room_made cancels newcomer runs g).runs ≤ remaining_phases runs
 room_lowers cancels newcomer runs g =
     let first = displaced_lowers g newcomer runs in
     let rest = asked_lowers cancels g (displaced g newcomer runs).runs in
     omega (arith, first, rest)
 
-pub arrival_lowers : (newcomer : Holder) (runs : List RunState) → left (arrived newcomer runs).runs ≤ left runs
+pub arrival_lowers : (newcomer : Holder) (runs : List RunState) → remaining_phases (arrived newcomer runs).runs ≤ remaining_phases runs
 arrival_lowers newcomer runs =
     elim (group_at runs newcomer) as
-    (λ o. left (option_map_or (room_made (cancels_in_progress runs newcomer) newcomer runs) o (without_moves runs)).runs ≤ left runs) [
+    (λ o. remaining_phases (option_map_or (room_made (cancels_in_progress runs newcomer) newcomer runs) o (without_moves runs)).runs ≤ remaining_phases runs) [
       | None ↦ omega arith
       | Some g ↦ room_lowers (cancels_in_progress runs newcomer) newcomer runs g
     ]

@@ -8,7 +8,7 @@ use Rattle.group_name.specs.Group.{Group}
 use Rattle.workflow_runs.specs.GroupOf.{cancels_in_progress, group_at}
 use Rattle.workflow_runs.specs.GroupWords.{same_holder}
 use Rattle.workflow_runs.specs.Groups.{all_holders, is_in, is_pending_in, running_in}
-use Rattle.workflow_runs.specs.Moves.{Holder, Move, Moved, and_then, at_each, without_moves}
+use Rattle.workflow_runs.specs.Moves.{Holder, Move, Transition, and_then, at_each, without_moves}
 use Rattle.workflow_runs.specs.Places.{LegPlace}
 use Rattle.workflow_runs.specs.StopMoves.{displace, stop_holder}
 use Rattle.workflow_runs.specs.RunState.{RunState}
@@ -20,27 +20,27 @@ abbrev pub others_pending : Group → Holder → List RunState → List Holder
 others_pending g newcomer runs = filter (λ h. is_pending_in runs g h && not (same_holder h newcomer)) (all_holders runs)
 
 -- they end as cancelled
-abbrev pub displaced : Group → Holder → List RunState → Moved
+abbrev pub displaced : Group → Holder → List RunState → Transition
 displaced g newcomer runs = at_each displace (others_pending g newcomer runs) runs
 
 -- the running holder of the group is stopped
-abbrev pub in_progress_stopped : Group → List RunState → Moved
+abbrev pub in_progress_stopped : Group → List RunState → Transition
 in_progress_stopped g runs = at_each stop_holder (running_in runs g) runs
 
-abbrev pub stopped_where_asked : Bool → Group → List RunState → Moved
+abbrev pub stopped_where_asked : Bool → Group → List RunState → Transition
 stopped_where_asked cancels g runs = if cancels then in_progress_stopped g runs else without_moves runs
 
 -- whom the newcomer displaces and stops in a group
-abbrev pub room_made : Bool → Holder → List RunState → Group → Moved
+abbrev pub room_made : Bool → Holder → List RunState → Group → Transition
 room_made cancels newcomer runs g = and_then (displaced g newcomer runs) (stopped_where_asked cancels g)
 
 -- and in its own group, where it has one
-abbrev pub room_made_for : Holder → List RunState → Moved
+abbrev pub room_made_for : Holder → List RunState → Transition
 room_made_for newcomer runs =
     option_map_or (room_made (cancels_in_progress runs newcomer) newcomer runs) (group_at runs newcomer) (without_moves runs)
 
 -- A newcomer, which waits by now, has arrived.
-abbrev pub arrived : Holder → List RunState → Moved
+abbrev pub arrived : Holder → List RunState → Transition
 arrived newcomer runs =
     let made = room_made_for newcomer runs in record { runs = made.runs; moves = Move.arrive newcomer ∷ made.moves }
 
@@ -52,5 +52,5 @@ is_in_group_of_run runs p = option_map_or (λ g. is_in runs g (Holder.a_leg p)) 
 
 -- ---- the start
 
-abbrev pub started : Holder → List RunState → Moved
+abbrev pub started : Holder → List RunState → Transition
 started h runs = record { runs = runs; moves = Move.start h ∷ [] }

@@ -9,39 +9,39 @@ use Rattle.workflow_runs.specs.KnownLabels.{AreKept}
 use Rattle.workflow_runs.specs.LegContext.{context_of}
 use Rattle.workflow_runs.specs.Moves.{Holder}
 use Rattle.workflow_runs.specs.RunState.{RunState}
-use Rattle.workflow_runs.specs.declared.asks.JobAsks.{JobAsks}
-use Rattle.workflow_runs.specs.declared.asks.RunAsks.{RunAsks}
+use Rattle.workflow_runs.specs.declared.asks.JobBindings.{JobBindings}
+use Rattle.workflow_runs.specs.declared.asks.RunBindings.{RunBindings}
 use Rattle.workflow_runs.specs.declared.groups.Asked.{Asked}
-use Rattle.workflow_runs.specs.declared.wanted.Wanted.{Wanted}
+use Rattle.workflow_runs.specs.declared.resolved_labels.ResolvedLabels.{ResolvedLabels}
 
 -- ---- what is kept
 
 -- what the run itself asks of a group, or one of its legs
-abbrev pub asked_of : RunAsks → Holder → Option Asked
+abbrev pub asked_of : RunBindings → Holder → Option Asked
 asked_of kept (Holder.a_run r) = kept.own
 asked_of kept (Holder.a_leg p) = option_and_then (λ job. slice_get job.groups p.leg) (slice_get kept.jobs p.job)
 
 -- what is kept of the labels of a leg
-abbrev pub wanted_for : RunAsks → ℕ → ℕ → Option Wanted
+abbrev pub wanted_for : RunBindings → ℕ → ℕ → Option ResolvedLabels
 wanted_for kept j l = option_and_then (λ job. slice_get job.labels l) (slice_get kept.jobs j)
 
 -- ---- what it says
 
 -- by any results of the run's jobs, what the legs of a job ask
-pub record JobSays (run : RunFacts) (j : ℕ) (job : PlannedJob) (kept : JobAsks) : Type 0 where
+pub record JobSays (run : RunFacts) (j : ℕ) (job : PlannedJob) (kept : JobBindings) : Type 0 where
   pub groups : (l : ℕ)
       → SaysSo (event_of run.event.body).repo (λ results. context_of (facts_by run j job l results)) (asked_of_leg job l)
       (slice_get kept.groups l)
   pub labels : AreKept run j job kept.labels
 
 -- and what the run and its legs ask
-pub record RunSays (run : RunFacts) (kept : RunAsks) : Type 0 where
+pub record RunSays (run : RunFacts) (kept : RunBindings) : Type 0 where
   pub own : SaysSo (event_of run.event.body).repo (λ results. run_context run) (event_of run.event.body).workflow.concurrency kept.own
   pub as_many : length kept.jobs ≡ length (plan_of run.event.body)
-  pub jobs : (j : ℕ) (asks : JobAsks) → slice_get kept.jobs j ≡ Some asks → (job : PlannedJob)
+  pub jobs : (j : ℕ) (asks : JobBindings) → slice_get kept.jobs j ≡ Some asks → (job : PlannedJob)
       → slice_get (plan_of run.event.body) j ≡ Some job → JobSays run j job asks
 
 -- each run of a table is kept with what it asks
-pub record AreBound (runs : List RunState) (kept : List RunAsks) : Type 0 where
+pub record AreBound (runs : List RunState) (kept : List RunBindings) : Type 0 where
   pub as_many : length kept ≡ length runs
-  pub each : (r : ℕ) (run : RunFacts) (asks : RunAsks) → run_facts_at runs r ≡ Some run → slice_get kept r ≡ Some asks → RunSays run asks
+  pub each : (r : ℕ) (run : RunFacts) (asks : RunBindings) → run_facts_at runs r ≡ Some run → slice_get kept r ≡ Some asks → RunSays run asks

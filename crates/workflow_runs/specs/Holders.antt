@@ -8,8 +8,8 @@ use Rattle.workflow_runs.specs.Moves.{Holder as HolderOfGroup}
 use Rattle.workflow_runs.specs.RunState.{RunState}
 use Rattle.workflow_runs.specs.declared.holder.Holder.{Holder}
 use Rattle.workflow_runs.specs.declared.holder.Holder.TheVariants.{Run, Leg}
-use Rattle.workflow_runs.specs.declared.holder.Whom.{Whom}
-use Rattle.workflow_runs.specs.declared.holder.Whom.TheVariants.{OthersPending, Running}
+use Rattle.workflow_runs.specs.declared.holder.HolderFilter.{HolderFilter}
+use Rattle.workflow_runs.specs.declared.holder.HolderFilter.TheVariants.{OthersPending, Running}
 
 abbrev pub holder_in_words : Holder → HolderOfGroup
 holder_in_words (Run r) = HolderOfGroup.a_run r
@@ -23,10 +23,10 @@ run_of (HolderOfGroup.a_leg p) = p.run
 -- ---- whom of the group of a holder is meant
 
 -- whether one is: another that is pending there, or one that is running there
-abbrev pub is_meant : List RunState → HolderOfGroup → Whom → HolderOfGroup → Bool
-is_meant runs h OthersPending other = option_map_or (λ g. is_pending_in runs g other && not (same_holder other h)) (group_at runs h) false
-is_meant runs h Running other = option_map_or (λ g. is_running_in runs g other) (group_at runs h) false
+abbrev pub is_conflicting : List RunState → HolderOfGroup → HolderFilter → HolderOfGroup → Bool
+is_conflicting runs h OthersPending other = option_map_or (λ g. is_pending_in runs g other && not (same_holder other h)) (group_at runs h) false
+is_conflicting runs h Running other = option_map_or (λ g. is_running_in runs g other) (group_at runs h) false
 
 -- the first of them in the table
-abbrev pub first_meant : List RunState → HolderOfGroup → Whom → Option HolderOfGroup
-first_meant runs h whom = find (is_meant runs h whom) (all_holders runs)
+abbrev pub first_conflicting : List RunState → HolderOfGroup → HolderFilter → Option HolderOfGroup
+first_conflicting runs h whom = find (is_conflicting runs h whom) (all_holders runs)

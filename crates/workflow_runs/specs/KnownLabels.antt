@@ -16,8 +16,8 @@ use Rattle.run_plan.specs.declared.planned.PlannedJob.{PlannedJob}
 use Rattle.workflow_runs.specs.BoundGroups.{facts_by, need_of_job}
 use Rattle.workflow_runs.specs.GroupOf.{RunFacts}
 use Rattle.workflow_runs.specs.LegContext.{context_of}
-use Rattle.workflow_runs.specs.declared.wanted.Wanted.{Wanted}
-use Rattle.workflow_runs.specs.declared.wanted.Wanted.TheVariants as wanted
+use Rattle.workflow_runs.specs.declared.resolved_labels.ResolvedLabels.{ResolvedLabels}
+use Rattle.workflow_runs.specs.declared.resolved_labels.ResolvedLabels.TheVariants as wanted
 
 -- ---- which labels are known
 
@@ -59,17 +59,17 @@ are_kept labels = nat_le (length labels) most_labels && not (are_as_they_stand l
 -- ---- what is kept
 
 -- the texts where each label is known, and nothing where one is not
-abbrev pub kept_of : Values → NeedOf → List (List Piece) → Wanted
+abbrev pub kept_of : Values → NeedOf → List (List Piece) → ResolvedLabels
 kept_of known need_of labels =
     if list_all (is_known known need_of) labels
     then wanted.Known (map (text_without_results known need_of) labels)
     else wanted.LookedUp
 
 -- of a leg, in its context before any job has a result
-abbrev pub kept_of_leg : RunFacts → ℕ → PlannedJob → ℕ → Wanted
+abbrev pub kept_of_leg : RunFacts → ℕ → PlannedJob → ℕ → ResolvedLabels
 kept_of_leg run j job l = kept_of (context_of (facts_by run j job l no_results)) (need_of_job (plan_of run.event.body) j) job.labels
 
 -- of a job: of each leg where its labels are worth keeping, and else of none
-pub record AreKept (run : RunFacts) (j : ℕ) (job : PlannedJob) (kept : List Wanted) : Type 0 where
+pub record AreKept (run : RunFacts) (j : ℕ) (job : PlannedJob) (kept : List ResolvedLabels) : Type 0 where
   pub many : length kept ≡ (if are_kept job.labels then length job.legs else 0)
-  pub each : (l : ℕ) (wanted : Wanted) → slice_get kept l ≡ Some wanted → wanted ≡ kept_of_leg run j job l
+  pub each : (l : ℕ) (wanted : ResolvedLabels) → slice_get kept l ≡ Some wanted → wanted ≡ kept_of_leg run j job l

@@ -54,11 +54,11 @@ at_job_again runs r j = record { run = r; job = option_map_or (λ run. job_again
 
 -- Whether the rule there may set a holder of another run on its way: a leg arrives there in a group, and so may end or stop others, or a
 -- live run of a group ends.
-abbrev pub frees : List RunState → Place → Bool
-frees runs (Opening r j) = false
-frees runs (AtLeg p) = is_new_at runs p && is_some (group_at runs (Holder.a_leg p))
-frees runs (Closing r j) = false
-frees runs (Whole r) = holds runs (Holder.a_run r) && is_some (group_at runs (Holder.a_run r))
+abbrev pub may_wake_others : List RunState → Place → Bool
+may_wake_others runs (Opening r j) = false
+may_wake_others runs (AtLeg p) = is_new_at runs p && is_some (group_at runs (Holder.a_leg p))
+may_wake_others runs (Closing r j) = false
+may_wake_others runs (Whole r) = holds runs (Holder.a_run r) && is_some (group_at runs (Holder.a_run r))
 
 -- after a rule that does not, from the runs as it leaves them; after one of a run itself from its first job
 abbrev pub look_near : List RunState → Place → JobPlace
@@ -68,8 +68,8 @@ look_near runs (Closing r j) = at_job_again runs r j
 look_near runs (Whole r) = record { run = r; job = 0 }
 
 -- else from the first run
-abbrev pub look_again : Bool → List RunState → Place → JobPlace
-look_again freed runs place = if freed then record { run = 0; job = 0 } else look_near runs place
+abbrev pub resume_point : Bool → List RunState → Place → JobPlace
+resume_point freed runs place = if freed then record { run = 0; job = 0 } else look_near runs place
 
 -- Once a new run has arrived: from itself where it asks of no group, since it ends and stops nobody then; else from the first run.
 abbrev pub look_first : List RunState → ℕ → JobPlace

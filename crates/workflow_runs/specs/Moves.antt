@@ -19,18 +19,18 @@ pub data Move : Type 0 where
 -- ---- changes of runs
 
 -- the runs after a change, and the moves on the way
-pub record Moved : Type 0 where
+pub record Transition : Type 0 where
   pub runs : List RunState
   pub moves : List Move
 
-abbrev pub without_moves : List RunState → Moved
+abbrev pub without_moves : List RunState → Transition
 without_moves runs = record { runs = runs; moves = [] }
 
 -- the change, and then another
-abbrev pub and_then : Moved → (List RunState → Moved) → Moved
+abbrev pub and_then : Transition → (List RunState → Transition) → Transition
 and_then m change = record { runs = (change m.runs).runs; moves = m.moves ++ (change m.runs).moves }
 
 -- the same change at each of these holders, in order
-abbrev pub at_each : (Holder → List RunState → Moved) → List Holder → List RunState → Moved
+abbrev pub at_each : (Holder → List RunState → Transition) → List Holder → List RunState → Transition
 at_each change [] runs = without_moves runs
 at_each change (h ∷ hs) runs = and_then (change h runs) (at_each change hs)

@@ -14,12 +14,12 @@ use Rattle.workflow_runs.specs.Arrivals.{arrived, is_in_group_of_run, started}
 use Rattle.workflow_runs.specs.FirstOf.{placed}
 use Rattle.workflow_runs.specs.Groups.{may_start}
 use Rattle.workflow_runs.specs.JobResults.{results_of}
-use Rattle.workflow_runs.specs.Moves.{Holder, Move, Moved, without_moves}
+use Rattle.workflow_runs.specs.Moves.{Holder, Move, Transition, without_moves}
 use Rattle.workflow_runs.specs.Places.{LegPlace, run_at, job_at, leg_at, with_run, with_job, with_leg}
 pub use Rattle.workflow_runs.specs.StateWords.{has_ended, is_blocked, is_done, is_live, is_open, is_settled, leg_in_phase, new_leg, opened}
 pub use Rattle.workflow_runs.specs.StateWords.{outcome_of, run_in_phase, settled_as}
 use Rattle.workflow_runs.specs.RunState.{LegState, JobState, RunState}
-use Rattle.workflow_runs.specs.Words.{condition_of, ancestor_results, needs_have_settled, is_stopping, planned_legs, passes_over}
+use Rattle.workflow_runs.specs.Words.{condition_of, ancestor_results, needs_have_settled, is_stopping, planned_legs, continues_on_error}
 use Rattle.workflow_runs.specs.declared.place.Place.{Place}
 use Rattle.workflow_runs.specs.declared.place.Place.TheVariants.{Opening, AtLeg, Closing, Whole}
 use Rattle.workflow_runs.specs.declared.phases.LegPhase.{LegPhase}
@@ -56,7 +56,7 @@ decided runs r j =
     then opened (planned_legs runs r j)
     else settled_as (if is_stopping runs r then result.Cancelled else result.Skipped)
 
-abbrev pub opening_rule : List RunState → ℕ → ℕ → JobState → Option Moved
+abbrev pub opening_rule : List RunState → ℕ → ℕ → JobState → Option Transition
 opening_rule runs r j job =
     if is_blocked job.phase && needs_have_settled runs r j
     then Some (without_moves (with_job r j (decided runs r j) runs))
@@ -68,18 +68,18 @@ abbrev pub with_leg_in : LegPhase → LegPlace → List RunState → List RunSta
 with_leg_in phase p runs = with_leg p (leg_in_phase phase) runs
 
 -- A new leg arrives in its group and waits. One whose group is its own run's is cancelled instead (own).
-abbrev pub newcomer_rule : List RunState → LegPlace → Moved
+abbrev pub newcomer_rule : List RunState → LegPlace → Transition
 newcomer_rule runs p =
     if is_in_group_of_run runs p
     then without_moves (with_leg_in (leg.Ended outcome.Cancelled) p runs)
     else arrived (Holder.a_leg p) (with_leg_in leg.Waiting p runs)
 
 -- a waiting leg becomes ready, where nothing keeps it back
-abbrev pub waiting_leg_rule : List RunState → LegPlace → Option Moved
+abbrev pub waiting_leg_rule : List RunState → LegPlace → Option Transition
 waiting_leg_rule runs p =
     if may_start runs (Holder.a_leg p) then Some (started (Holder.a_leg p) (with_leg_in leg.Ready p runs)) else None
 
-abbrev pub leg_rule_in : LegPhase → List RunState → LegPlace → Option Moved
+abbrev pub leg_rule_in : LegPhase → List RunState → LegPlace → Option Transition
 leg_rule_in leg.New runs p = Some (newcomer_rule runs p)
 leg_rule_in leg.Waiting runs p = waiting_leg_rule runs p
 leg_rule_in leg.Ready runs p = None
@@ -87,14 +87,14 @@ leg_rule_in leg.Running runs p = None
 leg_rule_in leg.Stopping runs p = None
 leg_rule_in (leg.Ended r) runs p = None
 
-abbrev pub leg_rule : List RunState → LegPlace → LegState → Option Moved
+abbrev pub leg_rule : List RunState → LegPlace → LegState → Option Transition
 leg_rule runs p l = leg_rule_in l.phase runs p
 
 -- ---- a job settles
 
 abbrev pub leg_end : List RunState → ℕ → ℕ → ℕ × LegState → Option LegEnd
 leg_end runs r j l =
-    option_map (λ o. record { outcome = o; continue_on_error = passes_over runs (record { run = r; job = j; leg = l.0 }) })
+    option_map (λ o. record { outcome = o; continue_on_error = continues_on_error runs (record { run = r; job = j; leg = l.0 }) })
     (outcome_of l.1.phase)
 
 -- how the legs of a job ended that have
@@ -105,19 +105,19 @@ leg_ends runs r j job = filter_map (leg_end runs r j) (placed job.legs)
 abbrev pub result_at : List RunState → ℕ → ℕ → JobState → JobResult
 result_at runs r j job = gathered (leg_ends runs r j job)
 
-abbrev pub closing_rule : List RunState → ℕ → ℕ → JobState → Option Moved
+abbrev pub closing_rule : List RunState → ℕ → ℕ → JobState → Option Transition
 closing_rule runs r j job =
     if is_done job then Some (without_moves (with_job r j (settled_as (result_at runs r j job)) runs)) else None
 
 -- ---- a run goes on
 
 -- a waiting run becomes live, where nothing keeps it back
-abbrev pub waiting_run_rule : List RunState → ℕ → Option Moved
+abbrev pub waiting_run_rule : List RunState → ℕ → Option Transition
 waiting_run_rule runs r =
     if may_start runs (Holder.a_run r) then Some (started (Holder.a_run r) (with_run r (run_in_phase run.Live) runs)) else None
 
 -- a live run with all jobs settled ends, with its conclusion
-abbrev pub live_run_rule : List RunState → ℕ → RunState → Option Moved
+abbrev pub live_run_rule : List RunState → ℕ → RunState → Option Transition
 live_run_rule runs r x =
     if list_all is_settled x.jobs
     then Some (record {
@@ -126,18 +126,18 @@ live_run_rule runs r x =
     })
     else None
 
-abbrev pub whole_rule_in : RunPhase → List RunState → ℕ → RunState → Option Moved
+abbrev pub whole_rule_in : RunPhase → List RunState → ℕ → RunState → Option Transition
 whole_rule_in run.Waiting runs r x = waiting_run_rule runs r
 whole_rule_in run.Live runs r x = live_run_rule runs r x
 whole_rule_in run.Ended runs r x = None
 
-abbrev pub whole_rule : List RunState → ℕ → RunState → Option Moved
+abbrev pub whole_rule : List RunState → ℕ → RunState → Option Transition
 whole_rule runs r x = whole_rule_in x.phase runs r x
 
 -- ---- the rule at each place
 
 -- what the rule at a place makes of the runs, where one applies
-abbrev pub rule_at : List RunState → Place → Option Moved
+abbrev pub rule_at : List RunState → Place → Option Transition
 rule_at runs (Opening r j) = option_and_then (opening_rule runs r j) (job_at runs r j)
 rule_at runs (AtLeg p) = option_and_then (leg_rule runs p) (leg_at runs p)
 rule_at runs (Closing r j) = option_and_then (closing_rule runs r j) (job_at runs r j)

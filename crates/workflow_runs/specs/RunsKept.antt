@@ -5,10 +5,10 @@ use Rattle.workflow_runs.specs.Counted.{AreCounted}
 use Rattle.workflow_runs.specs.Delivered.{FindsFirst}
 use Rattle.workflow_runs.specs.RunNumber.{AreNumbered, events}
 use Rattle.workflow_runs.specs.RunState.{RunState}
-use Rattle.workflow_runs.specs.declared.asks.RunAsks.{RunAsks}
+use Rattle.workflow_runs.specs.declared.asks.RunBindings.{RunBindings}
 use Rattle.workflow_runs.specs.declared.runs.index.Index.{Index}
 
-pub record RunsAreKept (runs : List RunState) (numbers : List ℕ) (asks : List RunAsks) (index : Index) : Type 0 where
+pub record RunsAreKept (runs : List RunState) (numbers : List ℕ) (asks : List RunBindings) (index : Index) : Type 0 where
   pub numbered : AreNumbered runs numbers
   pub bound : AreBound runs asks
   pub found : FindsFirst (events runs) index.places.places

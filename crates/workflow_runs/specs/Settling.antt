@@ -4,7 +4,7 @@ use Rattle.std.specs.Option.{option_map_or}
 use Rattle.run_plan.specs.PlanOf.{plan_of}
 use Rattle.run_plan.specs.declared.planned.PlannedJob.{PlannedJob}
 use Rattle.workflow_runs.specs.FirstOf.{placed}
-use Rattle.workflow_runs.specs.Moves.{Move, Moved, and_then, without_moves}
+use Rattle.workflow_runs.specs.Moves.{Move, Transition, and_then, without_moves}
 use Rattle.workflow_runs.specs.Rules.{places, rule_at}
 use Rattle.workflow_runs.specs.declared.place.Place.{Place}
 use Rattle.workflow_runs.specs.RunState.{LegState, JobState, RunState}
@@ -23,7 +23,7 @@ abbrev pub first_place : List RunState → Option Place
 first_place runs = find (applies runs) (places runs)
 
 -- what the rule there makes of the runs
-abbrev pub first_rule : List RunState → Option Moved
+abbrev pub first_rule : List RunState → Option Transition
 first_rule runs = option_and_then (rule_at runs) (first_place runs)
 
 -- ---- how much is left: each rule lowers it
@@ -61,18 +61,18 @@ abbrev pub run_left : RunState → ℕ
 run_left r = run_phases_left r.phase + sum_by (λ j. job_left (legs_in_plan (plan_of r.admitted.body) j.0) j.1) (placed r.jobs)
 
 -- how many phases are before the runs, their jobs and their legs
-abbrev pub left : List RunState → ℕ
-left runs = sum_by run_left runs
+abbrev pub remaining_phases : List RunState → ℕ
+remaining_phases runs = sum_by run_left runs
 
 -- ---- again and again
 
 -- the rule taken at most so often
-abbrev pub settled_within : ℕ → List RunState → Moved
+abbrev pub settled_within : ℕ → List RunState → Transition
 settled_within zero runs = without_moves runs
 settled_within (suc n) runs = option_map_or (λ m. and_then m (settled_within n)) (first_rule runs) (without_moves runs)
 
-abbrev pub settling : List RunState → Moved
-settling runs = settled_within (left runs) runs
+abbrev pub settling : List RunState → Transition
+settling runs = settled_within (remaining_phases runs) runs
 
 abbrev pub settled : List RunState → List RunState
 settled runs = (settling runs).runs

@@ -6,7 +6,7 @@ use Rattle.std.specs.Option.{option_map_or}
 use Rattle.wf_value.specs.declared.outcome.Outcome.{Outcome}
 use Rattle.wf_value.specs.declared.outcome.Outcome.TheVariants.{Cancelled}
 use Rattle.workflow_runs.specs.FirstOf.{placed}
-use Rattle.workflow_runs.specs.Moves.{Holder, Move, Moved}
+use Rattle.workflow_runs.specs.Moves.{Holder, Move, Transition}
 use Rattle.workflow_runs.specs.Places.{LegPlace, job_at, leg_at, leg_place, run_at, with_leg, with_run}
 use Rattle.workflow_runs.specs.RunConditions.{may_run_in}
 use Rattle.workflow_runs.specs.StateWords.{is_open, leg_in_phase}
@@ -58,7 +58,7 @@ run_stop_moves r x = run_stop_moves_in x.phase r x
 
 -- ---- a run or a leg is stopped
 
-abbrev pub stop_holder : Holder → List RunState → Moved
+abbrev pub stop_holder : Holder → List RunState → Transition
 stop_holder (Holder.a_run r) runs =
     record { runs = with_run r stopped_run runs; moves = option_map_or (run_stop_moves r) (run_at runs r) [] }
 stop_holder (Holder.a_leg p) runs =
@@ -67,7 +67,7 @@ stop_holder (Holder.a_leg p) runs =
 -- ---- a pending holder is displaced
 
 -- It ends as cancelled, as one that waits does when it is stopped. Nobody told it to stop, so its end is its only move.
-abbrev pub displace : Holder → List RunState → Moved
+abbrev pub displace : Holder → List RunState → Transition
 displace h runs = record { runs = (stop_holder h runs).runs; moves = Move.end_with Cancelled h ∷ [] }
 
 -- ---- a leg ends

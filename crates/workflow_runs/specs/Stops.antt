@@ -13,7 +13,7 @@ use Rattle.workflow_runs.specs.Fitting.{is_told_to_stop}
 use Rattle.workflow_runs.specs.RunConditions.{may_run_in}
 use Rattle.workflow_runs.specs.StateWords.{is_open, leg_in_phase, settled_as}
 use Rattle.workflow_runs.specs.RunState.{LegState, JobState, RunState}
-use Rattle.workflow_runs.specs.Words.{passes_over}
+use Rattle.workflow_runs.specs.Words.{continues_on_error}
 use Rattle.workflow_runs.specs.declared.phases.LegPhase.{LegPhase}
 use Rattle.workflow_runs.specs.declared.phases.LegPhase.TheVariants as leg
 use Rattle.workflow_runs.specs.declared.phases.RunPhase.{RunPhase}
@@ -79,7 +79,7 @@ fails_fast runs r j = option_map_or (λ planned. planned.fail_fast) (plan_at run
 
 -- a failure that is not passed over stops the other legs of a job that fails fast
 abbrev pub stops_others : List RunState → LegPlace → Outcome → Bool
-stops_others runs p outcome = is_failure outcome && (fails_fast runs p.run p.job && not (passes_over runs p))
+stops_others runs p outcome = is_failure outcome && (fails_fast runs p.run p.job && not (continues_on_error runs p))
 
 -- the runs with the leg ended, and with the others of its job stopped where its end stops them
 abbrev pub after_end : LegPlace → Outcome → List RunState → List RunState

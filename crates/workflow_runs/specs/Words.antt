@@ -73,5 +73,5 @@ is_set values (flag.Fixed set) = set
 is_set values (flag.Template template) = sets_flag (template_value values template)
 
 -- whether a failure of the leg is passed over: whether its job's continue-on-error is set in its context
-abbrev pub passes_over : List RunState → LegPlace → Bool
-passes_over runs p = option_map_or (λ planned. is_set (context_at runs p) planned.continue_on_error) (plan_at runs p.run p.job) false
+abbrev pub continues_on_error : List RunState → LegPlace → Bool
+continues_on_error runs p = option_map_or (λ planned. is_set (context_at runs p) planned.continue_on_error) (plan_at runs p.run p.job) false

@@ -10,13 +10,13 @@ ghost use Rattle.run_plan.specs.declared.planned.PlannedJob.{PlannedJob as Plann
 ghost use Rattle.workflow_runs.specs.Asks.{JobSays, RunSays, asked_of, wanted_for};
 ghost use Rattle.workflow_runs.specs.BoundGroups.{ErrsOnlyByMemory};
 ghost use Rattle.workflow_runs.specs.Holders.{holder_in_words};
-ghost use Rattle.workflow_runs.specs.declared.asks.JobAsks.{JobAsks as AsksOfJob};
+ghost use Rattle.workflow_runs.specs.declared.asks.JobBindings.{JobBindings as AsksOfJob};
 
 use crate::groups::{Asked, bind_groups, bind_own};
 use crate::holder::Holder;
+use crate::resolved_labels::{ResolvedLabels, bind_labels};
 use crate::run::Run;
-use crate::told::Told;
-use crate::wanted::{Wanted, bind_labels};
+use crate::run_identity::RunIdentity;
 use itoa::Buffer;
 use run_plan::PlannedJob;
 use std::alloc::Global;
@@ -24,22 +24,22 @@ use wf_value::{Refusal, Sequence, TryCopy};
 
 /// What the legs of a job ask.
 #[derive(Drop)]
-pub struct JobAsks {
+pub struct JobBindings {
     /// What each asks of a concurrency group: nothing where the job has no `concurrency`.
     pub groups: Sequence<Asked>,
     /// The labels that each asks for, where they are worth keeping.
-    pub labels: Sequence<Wanted>,
+    pub labels: Sequence<ResolvedLabels>,
 }
 
 /// What a run asks, and what its legs ask, job by job.
 #[derive(Drop)]
-pub struct RunAsks {
+pub struct RunBindings {
     /// What the run itself asks of a concurrency group.
     pub own: Option<Asked>,
-    pub jobs: Sequence<JobAsks>,
+    pub jobs: Sequence<JobBindings>,
 }
 
-impl RunAsks {
+impl RunBindings {
     /// What the run itself asks of a group, or one of its legs.
     pub(crate) fn asked(&self, holder: &Holder) -> Option<&Asked>
         ensures { option_map (λ asked. asked.now) result ≡ asked_of self.now (holder_in_words holder.now) }
@@ -54,7 +54,7 @@ impl RunAsks {
     }
 
     /// What is kept of the labels of a leg.
-    pub(crate) fn wanted(&self, j: usize, l: usize) -> Option<&Wanted>
+    pub(crate) fn wanted(&self, j: usize, l: usize) -> Option<&ResolvedLabels>
         ensures { option_copied result ≡ wanted_for self.now j l }
     {
         let job = self.jobs.as_slice().get(j)?;
@@ -69,7 +69,7 @@ impl RunAsks {
     {
         let mut id_digits = Buffer::new();
         let mut number_digits = Buffer::new();
-        let told = Told {
+        let told = RunIdentity {
             run,
             run_id: id_digits.format(id),
             run_number: number_digits.format(number),
@@ -78,19 +78,19 @@ impl RunAsks {
     }
 }
 
-fn bind_told(alloc: Global, told: &Told<'_>) -> Result<RunAsks, Refusal>
+fn bind_told(alloc: Global, told: &RunIdentity<'_>) -> Result<RunBindings, Refusal>
     ensures err { ErrsOnlyByMemory result }
     ensures says { IfOk result (RunSays told.now) }
 {
     let own = bind_own(alloc, told)?;
     let jobs = bind_jobs(alloc, told)?;
-    Ok(RunAsks {
+    Ok(RunBindings {
         own,
         jobs: Sequence::new(jobs),
     })
 }
 
-fn bind_jobs(alloc: Global, told: &Told<'_>) -> Result<Vec<JobAsks>, Refusal>
+fn bind_jobs(alloc: Global, told: &RunIdentity<'_>) -> Result<Vec<JobBindings>, Refusal>
     ensures err { ErrsOnlyByMemory result }
     ensures many { IfOk result (λ jobs. length jobs.items ≡ length (plan_of told.now.event.body)) }
     ensures says { IfOk result (λ jobs. (j : ℕ) (asks : AsksOfJob) → slice_get jobs.items j ≡ Some asks → (job : Planned)
@@ -107,34 +107,34 @@ fn bind_jobs(alloc: Global, told: &Told<'_>) -> Result<Vec<JobAsks>, Refusal>
 
 fn bind_job<'x>(
     alloc: Global,
-    told: &'x Told<'_>,
+    told: &'x RunIdentity<'_>,
     j: usize,
     job: &'x PlannedJob,
-) -> Result<JobAsks, Refusal>
+) -> Result<JobBindings, Refusal>
     ensures err { ErrsOnlyByMemory result }
     ensures says { IfOk result (JobSays told.now j job.now) }
 {
     let groups = bind_groups(alloc, told, j, job)?;
     let labels = bind_labels(alloc, told, j, job)?;
-    Ok(JobAsks { groups, labels })
+    Ok(JobBindings { groups, labels })
 }
 
-impl TryCopy for JobAsks {
+impl TryCopy for JobBindings {
     fn copy(&self, alloc: Global) -> Result<Self, Refusal> {
-        Ok(JobAsks {
+        Ok(JobBindings {
             groups: self.groups.copy(alloc)?,
             labels: self.labels.copy(alloc)?,
         })
     }
 }
 
-impl TryCopy for RunAsks {
+impl TryCopy for RunBindings {
     fn copy(&self, alloc: Global) -> Result<Self, Refusal> {
         let own = match &self.own {
             Some(asked) => Some(asked.copy(alloc)?),
             None => None,
         };
-        Ok(RunAsks {
+        Ok(RunBindings {
             own,
             jobs: self.jobs.copy(alloc)?,
         })

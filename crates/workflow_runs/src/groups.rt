@@ -12,7 +12,7 @@ ghost use Rattle.workflow_runs.specs.Words.{is_set};
 ghost use Rattle.workflow_runs.specs.declared.groups.Asked.{Asked as AskedOfGroup};
 
 use crate::leg_needs::NoNeeds;
-use crate::told::Told;
+use crate::run_identity::RunIdentity;
 use group_name::BoundGroup;
 use run_plan::PlannedJob;
 use std::alloc::Global;
@@ -87,7 +87,7 @@ impl Asked {
     }
 }
 
-pub(crate) fn bind_own(alloc: Global, told: &Told<'_>) -> Result<Option<Asked>, Refusal>
+pub(crate) fn bind_own(alloc: Global, told: &RunIdentity<'_>) -> Result<Option<Asked>, Refusal>
     ensures err { ErrsOnlyByMemory result }
     ensures says { IfOk result (λ own. let event = event_of told.now.event.body in
         SaysSo event.repo (λ results. run_context told.now) event.workflow.concurrency own) }
@@ -107,7 +107,7 @@ pub(crate) fn bind_own(alloc: Global, told: &Told<'_>) -> Result<Option<Asked>, 
 /// What each leg of a job asks.
 pub(crate) fn bind_groups<'x>(
     alloc: Global,
-    told: &'x Told<'_>,
+    told: &'x RunIdentity<'_>,
     j: usize,
     job: &'x PlannedJob,
 ) -> Result<Sequence<Asked>, Refusal>
@@ -128,7 +128,7 @@ pub(crate) fn bind_groups<'x>(
 /// One for each leg of the job.
 fn bind_each<'x>(
     alloc: Global,
-    told: &'x Told<'_>,
+    told: &'x RunIdentity<'_>,
     j: usize,
     job: &'x PlannedJob,
     asked: &Concurrency,

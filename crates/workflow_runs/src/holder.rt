@@ -15,7 +15,7 @@ pub enum Holder {
 
 /// Which holders of a group are looked for.
 #[derive(Clone, Copy)]
-pub enum Whom {
+pub enum HolderFilter {
     /// The pending ones, other than the one whose group it is.
     OthersPending,
     Running,

@@ -96,7 +96,7 @@ impl<'a> LegView<'a> {
     }
 
     /// Whether a failure of the leg is passed over. It takes no memory.
-    pub(crate) fn passes_over(&self) -> bool
+    pub(crate) fn continues_on_error(&self) -> bool
         ensures { result ≡ is_set (context_of self.now) self.now.job.continue_on_error }
     {
         let mut digits = Digits::new();

@@ -16,12 +16,12 @@ mod leg_view;
 mod named_group;
 pub mod phases;
 pub mod place;
+mod resolved_labels;
 pub mod run;
 mod run_context;
+mod run_identity;
 pub mod run_parts;
 pub mod runs;
-mod told;
-mod wanted;
 
 pub use job::Job;
 pub use leg::Leg;

@@ -9,7 +9,7 @@ ghost use Rattle.workflow_runs.specs.Counted.{IsOf};
 ghost use Rattle.workflow_runs.specs.RunNumber.{events, run_number};
 ghost use Rattle.workflow_runs.specs.Parallel.{most_at_work};
 ghost use Rattle.workflow_runs.specs.NewRun.{is_delivered_as};
-ghost use Rattle.workflow_runs.specs.Words.{combo_at, job_id, passes_over};
+ghost use Rattle.workflow_runs.specs.Words.{combo_at, job_id, continues_on_error};
 
 mod changes;
 mod counts;
@@ -22,7 +22,7 @@ mod of;
 mod places;
 mod settling;
 
-use crate::asks::RunAsks;
+use crate::asks::RunBindings;
 use crate::job::Job;
 use crate::leg::Leg;
 use crate::leg_view::LegView;
@@ -36,7 +36,7 @@ use std::marker::Model;
 use wf_value::{Chars, Combo, Refusal, TryCopy, copy_items};
 
 /// The most runs of a table.
-pub const MOST_RUNS: usize = 100_000;
+pub const MOST_RUNS: u32 = 100_000;
 
 /// The runs of a table, in the order of their ids, which count from 1. A contract sees the list of them.
 #[derive(Drop)]
@@ -45,7 +45,7 @@ pub struct Runs {
     /// The number of each, among the runs of its workflow.
     numbers: Vec<usize>,
     /// What each, and its legs, ask of concurrency groups and of runners.
-    asks: Vec<RunAsks>,
+    asks: Vec<RunBindings>,
     index: Index,
 }
 
@@ -147,12 +147,12 @@ impl Runs {
     }
 
     /// Whether a failure of the leg is passed over. It takes no memory.
-    fn passes_over(&self, place: LegPlace) -> bool
+    fn continues_on_error(&self, place: LegPlace) -> bool
         requires leg { place.leg < 2 ^ 63 }
-        ensures { result ≡ passes_over self.now place }
+        ensures { result ≡ continues_on_error self.now place }
     {
         match self.leg_view(place) {
-            Some(leg) => leg.passes_over(),
+            Some(leg) => leg.continues_on_error(),
             None => false,
         }
     }
@@ -226,7 +226,7 @@ impl Runs {
         let number = self
             .index
             .make_room(alloc, runs, run.prepared(), &workflow, found)?;
-        let asked = RunAsks::bind(alloc, &run, self.runs.len() + 1, number)?;
+        let asked = RunBindings::bind(alloc, &run, self.runs.len() + 1, number)?;
         self.runs.reserve(1)?;
         self.numbers.reserve(1)?;
         self.asks.reserve(1)?;

@@ -38,7 +38,7 @@ impl Runs {
     {
         outcome == Outcome::Failure
             && self.fails_fast(place.run, place.job)
-            && !self.passes_over(place)
+            && !self.continues_on_error(place)
     }
 
     /// The leg at the place ends, and the others of its job are stopped where its end stops them.

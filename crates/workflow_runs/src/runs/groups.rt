@@ -9,23 +9,23 @@ ghost use Rattle.workflow_runs.specs.BoundGroups.{is_set_by, results_by_place};
 ghost use Rattle.workflow_runs.specs.FirstOf.{placed};
 ghost use Rattle.workflow_runs.specs.GroupOf.{RunFacts, cancels_in_progress, group_at, run_facts_at};
 ghost use Rattle.workflow_runs.specs.Groups.{HasOneBeside, holds, is_in, may_start, waits};
-ghost use Rattle.workflow_runs.specs.Holders.{first_meant, holder_in_words, is_meant};
+ghost use Rattle.workflow_runs.specs.Holders.{first_conflicting, holder_in_words, is_conflicting};
 ghost use Rattle.workflow_runs.specs.Moves.{Holder as HolderOfGroup};
 ghost use Rattle.workflow_runs.specs.Places.{job_at, leg_places, leg_places_of_job, leg_places_of_run, run_at, with_leg};
 ghost use Rattle.workflow_runs.specs.SoundRuns.{RunsAreSound};
 ghost use Rattle.workflow_runs.specs.StopMoves.{stop_holder};
 ghost use Rattle.workflow_runs.specs.Stops.{stopped};
 
-use crate::asks::RunAsks;
+use crate::asks::RunBindings;
 use crate::groups::Asked;
-use crate::holder::{Holder, Whom};
+use crate::holder::{Holder, HolderFilter};
 use crate::place::LegPlace;
 use crate::run::Run;
 use crate::runs::Runs;
 
 impl Runs {
     /// The run at a place, with what it and its legs ask.
-    fn with_asks(&self, r: usize) -> Option<(&Run, &RunAsks)>
+    fn with_asks(&self, r: usize) -> Option<(&Run, &RunBindings)>
         ensures run { option_map (λ it. it.0.now) result ≡ run_at self.now r }
         ensures says { IfSome result
             (λ it. (facts : RunFacts) → run_facts_at self.now r ≡ Some facts → RunSays facts it.1.now) }
@@ -120,50 +120,53 @@ impl Runs {
     pub(crate) fn may_start(&self, holder: &Holder) -> bool
         ensures { result ≡ may_start self.now (holder_in_words holder.now) }
     {
-        !self.has_group(holder) || self.first_meant(holder, Whom::Running).is_none()
+        !self.has_group(holder)
+            || self
+                .first_conflicting(holder, HolderFilter::Running)
+                .is_none()
     }
 
     // ---- over all runs and legs
 
     /// Whether the other one is in the group of `holder`, and pending or running there, as `whom` asks.
-    fn is_meant(&self, holder: &Holder, whom: Whom, other: &Holder) -> bool
-        ensures { result ≡ is_meant self.now (holder_in_words holder.now) whom (holder_in_words other.now) }
+    fn is_conflicting(&self, holder: &Holder, whom: HolderFilter, other: &Holder) -> bool
+        ensures { result ≡ is_conflicting self.now (holder_in_words holder.now) whom (holder_in_words other.now) }
     {
         match whom {
-            Whom::OthersPending => {
+            HolderFilter::OthersPending => {
                 self.waits(other) && !other.is(holder) && self.is_in_group_of(holder, other)
             }
-            Whom::Running => self.holds(other) && self.is_in_group_of(holder, other),
+            HolderFilter::Running => self.holds(other) && self.is_in_group_of(holder, other),
         }
     }
 
     /// The first run, else the first leg, that is in the group of `holder` and pending or running there, as `whom` asks.
-    pub(crate) fn first_meant(&self, holder: &Holder, whom: Whom) -> Option<Holder>
-        ensures { option_map holder_in_words result ≡ first_meant self.now (holder_in_words holder.now) whom }
+    pub(crate) fn first_conflicting(&self, holder: &Holder, whom: HolderFilter) -> Option<Holder>
+        ensures { option_map holder_in_words result ≡ first_conflicting self.now (holder_in_words holder.now) whom }
     {
-        match self.first_run_meant(holder, whom) {
+        match self.first_conflicting_run(holder, whom) {
             Some(r) => Some(Holder::Run(r)),
-            None => Some(Holder::Leg(self.first_leg_meant(holder, whom)?)),
+            None => Some(Holder::Leg(self.first_conflicting_leg(holder, whom)?)),
         }
     }
 
-    fn first_run_meant(&self, holder: &Holder, whom: Whom) -> Option<usize>
-        ensures { result ≡ find (λ r. is_meant self.now (holder_in_words holder.now) whom (HolderOfGroup.a_run r))
+    fn first_conflicting_run(&self, holder: &Holder, whom: HolderFilter) -> Option<usize>
+        ensures { result ≡ find (λ r. is_conflicting self.now (holder_in_words holder.now) whom (HolderOfGroup.a_run r))
             (map (λ r. r.0) (placed self.now)) }
     {
         for r in 0..self.len() {
-            if self.is_meant(holder, whom, &Holder::Run(r)) {
+            if self.is_conflicting(holder, whom, &Holder::Run(r)) {
                 return Some(r);
             }
         }
         None
     }
 
-    fn first_leg_meant(&self, holder: &Holder, whom: Whom) -> Option<LegPlace>
-        ensures { result ≡ find (λ p. is_meant self.now (holder_in_words holder.now) whom (HolderOfGroup.a_leg p)) (leg_places self.now) }
+    fn first_conflicting_leg(&self, holder: &Holder, whom: HolderFilter) -> Option<LegPlace>
+        ensures { result ≡ find (λ p. is_conflicting self.now (holder_in_words holder.now) whom (HolderOfGroup.a_leg p)) (leg_places self.now) }
     {
         for r in 0..self.len() {
-            let leg = self.first_leg_meant_of_run(holder, whom, r);
+            let leg = self.first_conflicting_leg_of_run(holder, whom, r);
             if leg.is_some() {
                 return leg;
             }
@@ -171,13 +174,18 @@ impl Runs {
         None
     }
 
-    fn first_leg_meant_of_run(&self, holder: &Holder, whom: Whom, r: usize) -> Option<LegPlace>
+    fn first_conflicting_leg_of_run(
+        &self,
+        holder: &Holder,
+        whom: HolderFilter,
+        r: usize,
+    ) -> Option<LegPlace>
         ensures { result ≡ option_and_then
-            (λ run. find (λ p. is_meant self.now (holder_in_words holder.now) whom (HolderOfGroup.a_leg p)) (leg_places_of_run (r, run)))
+            (λ run. find (λ p. is_conflicting self.now (holder_in_words holder.now) whom (HolderOfGroup.a_leg p)) (leg_places_of_run (r, run)))
             (run_at self.now r) }
     {
         for j in 0..self.job_count(r) {
-            let leg = self.first_leg_meant_of_job(holder, whom, r, j);
+            let leg = self.first_conflicting_leg_of_job(holder, whom, r, j);
             if leg.is_some() {
                 return leg;
             }
@@ -185,20 +193,20 @@ impl Runs {
         None
     }
 
-    fn first_leg_meant_of_job(
+    fn first_conflicting_leg_of_job(
         &self,
         holder: &Holder,
-        whom: Whom,
+        whom: HolderFilter,
         r: usize,
         j: usize,
     ) -> Option<LegPlace>
         ensures { result ≡ option_and_then
-            (λ job. find (λ p. is_meant self.now (holder_in_words holder.now) whom (HolderOfGroup.a_leg p)) (leg_places_of_job r (j, job)))
+            (λ job. find (λ p. is_conflicting self.now (holder_in_words holder.now) whom (HolderOfGroup.a_leg p)) (leg_places_of_job r (j, job)))
             (job_at self.now r j) }
     {
         for l in 0..self.leg_count(r, j) {
             let leg = LegPlace::new(r, j, l);
-            if self.is_meant(holder, whom, &Holder::Leg(leg)) {
+            if self.is_conflicting(holder, whom, &Holder::Leg(leg)) {
                 return Some(leg);
             }
         }
@@ -237,18 +245,18 @@ impl Runs {
             return;
         }
         let cancels = self.cancels_in_progress(newcomer);
-        self.stop_meant(newcomer, Whom::OthersPending);
+        self.stop_conflicting(newcomer, HolderFilter::OthersPending);
         if cancels {
-            self.stop_meant(newcomer, Whom::Running);
+            self.stop_conflicting(newcomer, HolderFilter::Running);
         }
     }
 
     /// Stops the first that is found so, if there is one.
-    fn stop_meant(&mut self, newcomer: &Holder, whom: Whom)
+    fn stop_conflicting(&mut self, newcomer: &Holder, whom: HolderFilter)
         ensures { self.new ≡ option_map_or (λ h. (stop_holder h self.old).runs)
-            (first_meant self.old (holder_in_words newcomer.now) whom) self.old }
+            (first_conflicting self.old (holder_in_words newcomer.now) whom) self.old }
     {
-        if let Some(other) = self.first_meant(newcomer, whom) {
+        if let Some(other) = self.first_conflicting(newcomer, whom) {
             self.stop_holder(&other);
         }
     }

@@ -5,8 +5,8 @@ ghost use Rattle.workflow_runs.specs.Fitting.{has_label, has_labels, is_served};
 ghost use Rattle.workflow_runs.specs.Words.{labels_at};
 
 use crate::place::LegPlace;
+use crate::resolved_labels::ResolvedLabels;
 use crate::runs::Runs;
-use crate::wanted::Wanted;
 use run_plan::Label;
 use wf_value::Chars;
 
@@ -29,8 +29,8 @@ impl Runs {
         let _planned = self.planned(place.run, place.job)?;
         let asks = self.asks.get(place.run)?;
         match asks.wanted(place.job, place.leg)? {
-            Wanted::Known(texts) => Some(texts.as_slice()),
-            Wanted::LookedUp => None,
+            ResolvedLabels::Known(texts) => Some(texts.as_slice()),
+            ResolvedLabels::LookedUp => None,
         }
     }
 

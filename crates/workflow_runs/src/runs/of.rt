@@ -17,7 +17,7 @@ impl Runs {
         ensures of { IfOk result (λ found. MatchOption found (AreAsPlanned parts.now → ⊥)
             (λ runs. (runs ≡ parts.now) × AreAsPlanned parts.now)) }
     {
-        if parts.len() > MOST_RUNS {
+        if parts.len() > MOST_RUNS as usize {
             return Ok(None);
         }
         let mut runs = Runs::new(alloc);

@@ -6,7 +6,7 @@ ghost use Rattle.std.specs.List.{list_any};
 ghost use Rattle.std.specs.Option.{option_map_or};
 ghost use Rattle.needs_graph.specs.Results.{fails_job, gathered, is_cancelled};
 ghost use Rattle.workflow_runs.specs.FirstOf.{first_some, placed};
-ghost use Rattle.workflow_runs.specs.LookAgain.{RestBefore, at_job_again, frees, is_new_at, look_again, look_first};
+ghost use Rattle.workflow_runs.specs.LookAgain.{RestBefore, at_job_again, may_wake_others, is_new_at, resume_point, look_first};
 ghost use Rattle.workflow_runs.specs.Groups.{HasOneEach};
 ghost use Rattle.workflow_runs.specs.Places.{job_at, leg_at, run_at, with_job};
 ghost use Rattle.workflow_runs.specs.Rules.{closing_rule, decided, leg_end, leg_rule, may_run, newcomer_rule, rule_at, whole_rule};
@@ -58,17 +58,17 @@ impl Runs {
     {
         match first_place(self, from) {
             Some(place) => {
-                let frees = self.frees(&place);
+                let may_wake_others = self.may_wake_others(&place);
                 self.take_rule(place);
-                Some(self.look_again(&place, frees))
+                Some(self.resume_point(&place, may_wake_others))
             }
             None => None,
         }
     }
 
     /// From where to look for the next rule, after the one at the place: none has become due before.
-    fn look_again(&self, place: &Place, freed: bool) -> JobPlace
-        ensures { result ≡ look_again freed self.now place.now }
+    fn resume_point(&self, place: &Place, freed: bool) -> JobPlace
+        ensures { result ≡ resume_point freed self.now place.now }
     {
         if freed {
             return JobPlace { run: 0, job: 0 };
@@ -95,8 +95,8 @@ impl Runs {
 
     /// Whether the rule there may set a run or a leg of another run on its way: a leg arrives there in a group, and so may end or stop
     /// others, or a live run of a group ends.
-    fn frees(&self, place: &Place) -> bool
-        ensures { result ≡ frees self.now place.now }
+    fn may_wake_others(&self, place: &Place) -> bool
+        ensures { result ≡ may_wake_others self.now place.now }
     {
         match place {
             Place::AtLeg(leg) => self.is_new(*leg) && self.has_group(&Holder::Leg(*leg)),
@@ -236,7 +236,7 @@ impl Runs {
         requires leg { place.leg < 2 ^ 63 }
         ensures { result ≡ option_map_or fails_job (leg_end self.now place.run place.job (place.leg, leg.now)) false }
     {
-        leg.has_failed() && !self.passes_over(place)
+        leg.has_failed() && !self.continues_on_error(place)
     }
 
     /// The first leg that fails its job.

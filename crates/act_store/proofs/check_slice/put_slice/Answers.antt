@@ -1,4 +1,4 @@
-use Rattle.std.proofs.Common.{rules, arith, ◌≡◌, ◌+◌, ◌≤◌, length, take, subst, length-take-le}
+use Rattle.std.proofs.Common.{rules, arith, ◌+◌, ◌≤◌, take, subst, length-take-le}
 use Rattle.act_disk.specs.Images.{Holds}
 use Rattle.gated_journal.specs.TwoAreas.{other, start_of}
 use Rattle.act_store.proofs.Snapshots.{slice_on}

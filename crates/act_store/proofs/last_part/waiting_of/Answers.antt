@@ -1,4 +1,4 @@
-use Rattle.std.proofs.Common.{◌≡◌, ◌+◌, arith, ap, length}
+use Rattle.std.proofs.Common.{arith, ap, length}
 use Rattle.act_store.specs.Waiting.{Waits}
 use Rattle.act_store.proofs.LastPart.{spelled_within}
 use Rattle.act_store.proofs.last_part.waiting_of.Goals as goal

@@ -1,5 +1,3 @@
-use Rattle.std.proofs.Common.{refl}
-use Rattle.std.specs.Prelude.{Err}
 use Rattle.act_store.proofs.Refused.{apply_refused}
 use Rattle.act_store.proofs.playing.take_apply.Goals as goal
 

@@ -1,17 +1,30 @@
-use Rattle.std.proofs.Common.{List, ap, arith, filter, length, sym, ◌∙◌, Ok}
+use Rattle.std.proofs.Common.{◌≡◌, Bool, List, ap, arith, filter, length, refl, slice_get, sym, ◌∙◌, Ok}
+use Rattle.std.specs.Prelude.{Option, Some, None, option_and_then, option_map}
 use Rattle.std.specs.Option.{is_some}
-use Rattle.run_table.specs.Turns.{is_below, runner_named}
+use Rattle.run_table.specs.Turns.{is_below, kept_named, runner_named}
 use Rattle.run_table.specs.TableState.{RunnerState}
-use Rattle.run_table.proofs.RunnerOrder.{place_in_range, place_within, put_between, put_over}
+use Rattle.run_table.proofs.RunnerOrder.{found_there, place_in_range, place_within, put_between, put_over}
 use Rattle.run_table.proofs.runners.put_in.Goals as goal
+
+mapped : {X : Type 0} (now : X → RunnerState) (o : Option X) → is_some (option_map now o) ≡ is_some o
+mapped now None = refl
+mapped now (Some x) = refl
+
+-- whether the runner at the place has the name is whether one has it
+known_by : {X : Type 0} (now : X → RunnerState) (o : Option X) (found : Option RunnerState) (b : Bool) → option_map now o ≡ found
+    → b ≡ is_some o → is_some found ≡ b
+known_by now o found b there is = ap (λ (r : Option RunnerState). is_some r) (sym there) ∙ mapped now o ∙ sym is
 
 pub replace-requires : goal.replace-requires
 replace-requires c =
+    let items = c.args.runners.now.items in
     let name = c.runner.inside.name in
+    let place = c.count_below-place.result in
     let at = c.count_below-place.ensures ∙ ap (λ (xs : List RunnerState). length (filter (is_below name) xs)) c.deref.ensures.value in
-    let known = ap (λ (xs : List RunnerState). is_some (runner_named xs name)) (sym c.deref-2.ensures.value)
-    ∙ sym c.is_known.ensures ∙ c.if-is_known.true in
-    place_within c.args.runners.now.items name c.requires c.count_below-place.result at known
+    let there = c.named_at.ensures ∙ ap (λ (xs : List RunnerState). option_and_then (kept_named name) (slice_get xs place)) c.deref-2.ensures.value
+    ∙ found_there items name c.requires place at in
+    place_within items name c.requires place at
+    (known_by (λ r. r.now) c.named_at.result (runner_named items name) c.is_some.result there c.is_some.ensures ∙ c.if-is_some.true)
 
 pub insert-requires : goal.insert-requires
 insert-requires c =
@@ -24,22 +37,26 @@ insert-requires c =
       ap length c.deref.ensures.value,
     )
 
-pub returns-then-is_known-clause-put : goal.returns-then-is_known-clause-put
-returns-then-is_known-clause-put c =
+pub returns-then-is_some-clause-put : goal.returns-then-is_some-clause-put
+returns-then-is_some-clause-put c =
+    let items = c.args.runners.now.items in
     let name = c.runner.inside.name in
+    let place = c.count_below-place.result in
     let at = c.count_below-place.ensures ∙ ap (λ (xs : List RunnerState). length (filter (is_below name) xs)) c.deref.ensures.value in
-    let known = ap (λ (xs : List RunnerState). is_some (runner_named xs name)) (sym c.deref-2.ensures.value)
-    ∙ sym c.is_known.ensures ∙ c.if-is_known.true in
+    let there = c.named_at.ensures ∙ ap (λ (xs : List RunnerState). option_and_then (kept_named name) (slice_get xs place)) c.deref-2.ensures.value
+    ∙ found_there items name c.requires place at in
+    let known = known_by (λ r. r.now) c.named_at.result (runner_named items name) c.is_some.result there c.is_some.ensures ∙ c.if-is_some.true in
     ap Ok (sym (c.replace.ensures
-    ∙ put_over c.args.runners.now.items name c.requires c.count_below-place.result at c.args.runner known
-    (sym (ap (λ (r : RunnerState). r.name) c.runner.view_is))))
+    ∙ put_over items name c.requires place at c.args.runner known (sym (ap (λ (r : RunnerState). r.name) c.runner.view_is))))
 
 pub returns-clause-put : goal.returns-clause-put
 returns-clause-put c =
+    let items = c.args.runners.now.items in
     let name = c.runner.inside.name in
+    let place = c.count_below-place.result in
     let at = c.count_below-place.ensures ∙ ap (λ (xs : List RunnerState). length (filter (is_below name) xs)) c.deref.ensures.value in
-    let unknown = ap (λ (xs : List RunnerState). is_some (runner_named xs name)) (sym c.deref-2.ensures.value)
-    ∙ sym c.is_known.ensures ∙ c.if-is_known.false in
+    let there = c.named_at.ensures ∙ ap (λ (xs : List RunnerState). option_and_then (kept_named name) (slice_get xs place)) c.deref-2.ensures.value
+    ∙ found_there items name c.requires place at in
+    let unknown = known_by (λ r. r.now) c.named_at.result (runner_named items name) c.is_some.result there c.is_some.ensures ∙ c.if-is_some.false in
     ap Ok (sym (c.in_ok-insert.ensures.items
-    ∙ put_between c.args.runners.now.items name c.requires c.count_below-place.result at c.args.runner unknown
-    (sym (ap (λ (r : RunnerState). r.name) c.runner.view_is))))
+    ∙ put_between items name c.requires place at c.args.runner unknown (sym (ap (λ (r : RunnerState). r.name) c.runner.view_is))))

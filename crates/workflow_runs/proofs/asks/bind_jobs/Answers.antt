@@ -4,7 +4,7 @@ use Rattle.std.proofs.lemmas.Option.{same_Some, slice_get_read}
 use Rattle.run_plan.specs.PlanOf.{plan_of}
 use Rattle.run_plan.specs.declared.planned.PlannedJob.{PlannedJob}
 use Rattle.workflow_runs.specs.Asks.{JobSays}
-use Rattle.workflow_runs.specs.declared.asks.JobAsks.{JobAsks}
+use Rattle.workflow_runs.specs.declared.asks.JobBindings.{JobBindings}
 use Rattle.workflow_runs.proofs.Binding.{one_pushed}
 use Rattle.workflow_runs.proofs.asks.bind_jobs.Goals as goal
 
@@ -13,7 +13,7 @@ loop-j-preserved c =
     let asks = c.in_ok-asks.asks in
     let told = c.args.told.now in
     let plan = c.as_slice-plan.result.now in
-    let said : ℕ → JobAsks → Type 0 = λ k kept. (job : PlannedJob) → slice_get (plan_of told.event.body) k ≡ Some job
+    let said : ℕ → JobBindings → Type 0 = λ k kept. (job : PlannedJob) → slice_get (plan_of told.event.body) k ≡ Some job
     → JobSays told k job kept in
     let is_plan : plan ≡ plan_of told.event.body =
     c.as_slice-plan.ensures ∙ c.plan.ensures ∙ ap (λ a. plan_of a.body) c.prepared.ensures in

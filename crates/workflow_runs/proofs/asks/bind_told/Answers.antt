@@ -1,6 +1,6 @@
 use Rattle.std.proofs.Common.{ap, sym, ◌∙◌, List}
 use Rattle.std.specs.Prelude.{length, slice_get}
-use Rattle.workflow_runs.specs.declared.asks.JobAsks.{JobAsks}
+use Rattle.workflow_runs.specs.declared.asks.JobBindings.{JobBindings}
 use Rattle.workflow_runs.proofs.asks.bind_told.Goals as goal
 
 pub returns-clause-says : goal.returns-clause-says
@@ -8,5 +8,5 @@ returns-clause-says c = record {
   own = c.in_ok-own.ensures.says;
   as_many = ap length c.new.ensures ∙ c.in_ok-jobs.ensures.many;
   jobs = λ j asks at job planned.
-      c.in_ok-jobs.ensures.says j asks (ap (λ (kept : List JobAsks). slice_get kept j) (sym c.new.ensures) ∙ at) job planned;
+      c.in_ok-jobs.ensures.says j asks (ap (λ (kept : List JobBindings). slice_get kept j) (sym c.new.ensures) ∙ at) job planned;
 }

@@ -79,8 +79,8 @@ invariant_of-self-in-Ok g c =
     let used = 1 + c.len.result + c.len-in-Ok.result - 1 in
     let all : covered ≡ length s.history.items = search rules in
     let here : used ≡ at + length bytes - 1 = search (rules, arith) in
-    let left = c.keep.new.self in
-    let nothing : left ≡ waits_of [] = none_left left c.keep.ensures.count c.keep.ensures.spelled in
+    let left = c.truncate.new.self in
+    let nothing : left ≡ waits_of [] = none_left left c.truncate.ensures.count c.truncate.ensures.spelled in
     let turned : c.other.result ≡ other s.areas.side = c.other.ensures in (
       counted_finished disk.honest disk.images disk.seen s at bytes f d1 covered used all here left nothing,
       (λ _. search (rules, arith)),

@@ -1,4 +1,4 @@
-use Rattle.std.proofs.Common.{rules, arith, ◌≡◌, ◌≤◌, ◌+◌, length, true, refl, subst, sym}
+use Rattle.std.proofs.Common.{rules, arith, ◌≡◌, ◌≤◌, length, true, refl, subst, sym}
 use Rattle.std.specs.Prelude.{Some}
 use Rattle.gated_journal.specs.Whole.{StandsWhole}
 use Rattle.gated_journal.specs.declared.gate.Gate.TheVariants.{Closed}

@@ -75,7 +75,7 @@ invariant_of-self g c =
     )
 
 -- the counts are those after a commit
-is_committed : (g : Over) (c : goal.After-keep g)
+is_committed : (g : Over) (c : goal.After-truncate g)
     → committed (as_kept c.self.inside) c.grow.new.disk
     ≡ record (as_kept c.self.inside) {
       disk = c.grow.new.disk;
@@ -92,7 +92,7 @@ is_committed g c =
     (ap (λ (l : List ℕ). length l) (c.as_slice-bytes.ensures.bytes some) ∙ length_record (body_of s.waiting)))
 
 -- all images are settled at all entries
-settled : (g : Over) (c : goal.After-keep g) → g.D.Disk.honest c.grow.new.disk
+settled : (g : Over) (c : goal.After-truncate g) → g.D.Disk.honest c.grow.new.disk
     → IsSettled c.self.inside.areas.len c.self.inside.areas.side c.self.inside.other c.self.inside.generation
     (used_after (as_kept c.self.inside)) (table_of (as_kept c.self.inside)) (g.D.Disk.images c.grow.new.disk)
 settled g c honest1 =
@@ -109,11 +109,11 @@ invariant_of-self-in-Ok g c =
     let counted = c.self.invariant.0 in
     let d1 = c.grow.new.disk in
     let before = c.grow.ensures.honest.0 in
-    let three = subst (λ (v : Kept g.row.D.Denot). IsCounted v s.table c.keep.new.self
+    let three = subst (λ (v : Kept g.row.D.Denot). IsCounted v s.table c.truncate.new.self
     × (v.failed ≡ false → disk.fault_count v.disk < 2 ^ 64 - 1)
     × (disk.honest v.disk → IsStanding disk.images s.areas.side s.other v))
     (is_committed g c) (
-      counted_committed k s.table s.waiting counted (search (rules, arith)) d1 c.keep.new.self c.keep.ensures.count c.keep.ensures.spelled,
+      counted_committed k s.table s.waiting counted (search (rules, arith)) d1 c.truncate.new.self c.truncate.ensures.count c.truncate.ensures.spelled,
       (λ _. search (rules, arith)),
       λ honest1. standing_fresh disk.images s.areas.side s.other k counted.size d1 (settled g c honest1),
     ) in (

@@ -1,14 +1,10 @@
-use Rattle.std.proofs.Common.{ap}
-use Rattle.run_table.specs.TableState.{TableState}
-use Rattle.run_table.proofs.BeforeSettling.{so_settles, table_settles}
+use Rattle.std.proofs.Common.{ap, Ok}
+use Rattle.wf_value.proofs.PassedOn.{same_Ok}
+use Rattle.run_table.proofs.ServedNothing.{served_nothing}
 use Rattle.run_table.proofs.content.Content.serve_nothing.Goals as goal
 
-pub settle-requires-clause-sound : goal.settle-requires-clause-sound
-settle-requires-clause-sound c =
-    (so_settles c.args.self.now.runs c.self.inside.runs (ap (λ (t : TableState). t.runs) c.self.view_is)
-    (table_settles c.args.self.now c.requires)).sound
-
-pub settle-requires-clause-one_each : goal.settle-requires-clause-one_each
-settle-requires-clause-one_each c =
-    (so_settles c.args.self.now.runs c.self.inside.runs (ap (λ (t : TableState). t.runs) c.self.view_is)
-    (table_settles c.args.self.now c.requires)).one_each
+pub returns-clause-step : goal.returns-clause-step
+returns-clause-step c =
+    ap Ok
+    (served_nothing c.args.self.now c.args.claim.now c.self.inside.last_lease c.self.inside.runs c.self.inside.runners c.put.new.self
+    c.in_ok-runner.runner c.requires c.self.view_is (same_Ok _ _ c.in_ok-runner.ensures) (same_Ok _ _ c.in_ok-put.ensures.put))

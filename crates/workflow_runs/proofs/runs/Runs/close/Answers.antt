@@ -4,7 +4,7 @@ use Rattle.needs_graph.specs.Results.{gathered}
 use Rattle.workflow_runs.specs.FirstOf.{placed}
 use Rattle.workflow_runs.specs.Places.{with_job}
 use Rattle.workflow_runs.specs.Rules.{leg_end, settled_as}
-use Rattle.workflow_runs.proofs.Moved.{job_closed}
+use Rattle.workflow_runs.proofs.Transitions.{job_closed}
 use Rattle.workflow_runs.proofs.runs.Runs.close.Goals as goal
 
 pub returns-in-Some : goal.returns-in-Some

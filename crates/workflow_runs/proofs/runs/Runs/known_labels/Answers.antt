@@ -3,7 +3,7 @@ use Rattle.std.proofs.Common.{ap, sym, ◌∙◌, rules}
 use Rattle.workflow_runs.specs.Asks.{wanted_for}
 use Rattle.workflow_runs.specs.Places.{plan_at}
 use Rattle.workflow_runs.specs.Words.{labels_at}
-use Rattle.workflow_runs.specs.declared.wanted.Wanted.TheVariants as wanted
+use Rattle.workflow_runs.specs.declared.resolved_labels.ResolvedLabels.TheVariants as wanted
 use Rattle.workflow_runs.proofs.KnownSays.{known_there}
 use Rattle.workflow_runs.proofs.ReadThere.{read_there}
 use Rattle.workflow_runs.proofs.runs.Runs.known_labels.Goals as goal

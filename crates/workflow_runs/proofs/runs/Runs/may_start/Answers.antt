@@ -9,5 +9,5 @@ pub returns-else-not-has_group : goal.returns-else-not-has_group
 returns-else-not-has_group c =
     let h = holder_in_words c.args.holder.now in
     let grouped : is_some (group_at c.args.self.now h) ≡ true = search rules in
-    let none : c.is_none.result ≡ is_none c.first_meant.result = search rules in
-    starts_where c.args.self.now h c.first_meant.result c.is_none.result grouped c.first_meant.ensures none
+    let none : c.is_none.result ≡ is_none c.first_conflicting.result = search rules in
+    starts_where c.args.self.now h c.first_conflicting.result c.is_none.result grouped c.first_conflicting.ensures none

@@ -2,8 +2,8 @@ use Rattle.std.specs.Prelude.{◌≡◌, ◌<◌, List, Option, Some, None, IfSo
 use Rattle.std.proofs.Common.{ap, subst, sym, refl, ◌∙◌}
 use Rattle.workflow_runs.specs.Groups.{HasOneEach}
 use Rattle.workflow_runs.specs.LookAgain.{RestBefore}
-use Rattle.workflow_runs.specs.Moves.{Moved}
-use Rattle.workflow_runs.specs.Settling.{first_rule, left, settled}
+use Rattle.workflow_runs.specs.Moves.{Transition}
+use Rattle.workflow_runs.specs.Settling.{first_rule, remaining_phases, settled}
 use Rattle.workflow_runs.specs.SoundRuns.{RunsAreSound}
 use Rattle.workflow_runs.specs.RunState.{RunState}
 use Rattle.workflow_runs.specs.declared.place.JobPlace.{JobPlace}
@@ -16,15 +16,15 @@ use Rattle.workflow_runs.proofs.SoundRuns.{runs_that_fit, sound_runs}
 use Rattle.workflow_runs.proofs.runs.Runs.settle_from.Goals as goal
 use Rattle.workflow_runs.proofs.runs.Runs.settle_from.Invariants.{Settling}
 
-taken_lowers : (runs new : List RunState) → option_map (λ (m : Moved). m.runs) (first_rule runs) ≡ Some new → left new < left runs
+taken_lowers : (runs new : List RunState) → option_map (λ (m : Transition). m.runs) (first_rule runs) ≡ Some new → remaining_phases new < remaining_phases runs
 taken_lowers runs new took =
-    let rule = from_map (λ (m : Moved). m.runs) (first_rule runs) new took in
-    subst (λ (xs : List RunState). left xs < left runs) rule.gives (first_rule_lowers runs rule.value rule.is)
+    let rule = from_map (λ (m : Transition). m.runs) (first_rule runs) new took in
+    subst (λ (xs : List RunState). remaining_phases xs < remaining_phases runs) rule.gives (first_rule_lowers runs rule.value rule.is)
 
 taken_goes_on : (start runs new : List RunState) (from again : JobPlace) → Settling start runs from
-    → option_map (λ (m : Moved). m.runs) (first_rule runs) ≡ Some new → RestBefore new again → Settling start new again
+    → option_map (λ (m : Transition). m.runs) (first_rule runs) ≡ Some new → RestBefore new again → Settling start new again
 taken_goes_on start runs new from again so_far took rest =
-    let rule = from_map (λ (m : Moved). m.runs) (first_rule runs) new took in
+    let rule = from_map (λ (m : Transition). m.runs) (first_rule runs) new took in
     let fit = runs_that_fit runs so_far.sound in
     record {
       same_end = ap settled (sym rule.gives) ∙ sym (settled_after_rule runs rule.value rule.is) ∙ so_far.same_end;
@@ -33,12 +33,12 @@ taken_goes_on start runs new from again so_far took rest =
       rest = rest;
     }
 
-no_rule_left : (o : Option Moved) → option_map (λ (m : Moved). m.runs) o ≡ None → o ≡ None
+no_rule_left : (o : Option Transition) → option_map (λ (m : Transition). m.runs) o ≡ None → o ≡ None
 no_rule_left None e = refl
 no_rule_left (Some m) e = cc
 
 none_ends : (start runs new : List RunState) (from : JobPlace) → Settling start runs from
-    → option_map (λ (m : Moved). m.runs) (first_rule runs) ≡ None → new ≡ runs → new ≡ settled start
+    → option_map (λ (m : Transition). m.runs) (first_rule runs) ≡ None → new ≡ runs → new ≡ settled start
 none_ends start runs new from so_far none same = same ∙ sym (settled_at_rest runs (no_rule_left (first_rule runs) none)) ∙ so_far.same_end
 
 pub loop-next-init : goal.loop-next-init

@@ -1,7 +1,7 @@
 use Rattle.std.proofs.Common.{◌≡◌, List}
 use Rattle.workflow_runs.specs.Groups.{HasOneEach}
 use Rattle.workflow_runs.specs.LookAgain.{RestBefore}
-use Rattle.workflow_runs.specs.Settling.{settled, left}
+use Rattle.workflow_runs.specs.Settling.{settled, remaining_phases}
 use Rattle.workflow_runs.specs.SoundRuns.{RunsAreSound}
 use Rattle.workflow_runs.specs.RunState.{RunState}
 use Rattle.workflow_runs.specs.declared.place.JobPlace.{JobPlace}
@@ -18,4 +18,4 @@ abbrev pub invariant-loop-next : goal.invariant-loop-next
 invariant-loop-next l = Settling l.fn.self l.self l.from
 
 abbrev pub decreases-loop-next : goal.decreases-loop-next
-decreases-loop-next l = left l.self
+decreases-loop-next l = remaining_phases l.self

@@ -1,0 +1,33 @@
+-- A claim that no leg fits leaves the runs of a sound table as they are: no rule applies, so they are settled already.
+use Rattle.std.proofs.Common.{◌≡◌, ℕ, List, None, ap, sym, ◌∙◌}
+use Rattle.std.specs.Prelude.{option_and_then}
+use Rattle.run_plan.specs.declared.command.Claim.{Claim as Claimed}
+use Rattle.run_plan.specs.declared.last_command.ClaimReply.TheVariants as given
+use Rattle.run_plan.specs.declared.reply.Reply.{Reply}
+use Rattle.run_plan.specs.declared.reply.Reply.TheVariants as reply
+use Rattle.workflow_runs.specs.Rules.{rule_at}
+use Rattle.workflow_runs.specs.RunState.{RunState}
+use Rattle.workflow_runs.specs.Settling.{settled}
+use Rattle.workflow_runs.proofs.Rests.{settled_at_rest}
+use Rattle.run_table.specs.Sound.{IsSound}
+use Rattle.run_table.specs.Step.{claiming_runner, outcome, serving_nothing}
+use Rattle.run_table.specs.TableState.{RunnerState, TableState}
+use Rattle.run_table.specs.Turns.{with_runner}
+
+abbrev table_of : ℕ → List RunState → List RunnerState → TableState
+table_of last runs runners = record { last_lease = last; runs = runs; runners = runners }
+
+abbrev answer_with : ℕ → List RunState → List RunnerState → TableState × Reply
+answer_with last runs runners = (table_of last runs runners, reply.Nothing)
+
+pub served_nothing : (t : TableState) (claim : Claimed) (last : ℕ) (runs : List RunState) (runners new : List RunnerState)
+    (runner : RunnerState) → IsSound t → table_of last runs runners ≡ t
+    → claiming_runner claim None given.Nothing ≡ runner → with_runner runners runner ≡ new
+    → outcome (serving_nothing t claim) ≡ answer_with last runs new
+served_nothing t claim last runs runners new runner sound view is put =
+    let kept = claiming_runner claim None given.Nothing in
+    let rests : settled t.runs ≡ t.runs = settled_at_rest t.runs (ap (option_and_then (rule_at t.runs)) sound.no_rule_applies) in
+    ap (λ (u : List RunState). answer_with t.last_lease u (with_runner t.runners kept)) rests
+    ∙ ap (λ (x : TableState). answer_with x.last_lease x.runs (with_runner x.runners kept)) (sym view)
+    ∙ ap (λ (x : RunnerState). answer_with last runs (with_runner runners x)) is
+    ∙ ap (λ (l : List RunnerState). answer_with last runs l) put

@@ -1,0 +1,32 @@
+use std::alloc::{AllocError, AllocFailed};
+
+/// Why no value was read.
+#[derive(Drop)]
+pub(crate) enum DecodeError {
+    /// Memory was refused, and nothing is known.
+    NoMemory,
+    /// No front of the bytes is a spelling.
+    NoSpelling,
+}
+
+impl From<AllocError> for DecodeError {
+    ghost use Rattle.std.specs.Prelude.{◌≡◌};
+    ghost use Rattle.table_text.specs.declared.decode_error.DecodeError.TheVariants.{NoMemory};
+
+    ghost from_gives = { λ _ e. e ≡ NoMemory };
+
+    fn from(_e: AllocError) -> DecodeError {
+        DecodeError::NoMemory
+    }
+}
+
+impl<T: Drop> From<AllocFailed<T>> for DecodeError {
+    ghost use Rattle.std.specs.Prelude.{◌≡◌};
+    ghost use Rattle.table_text.specs.declared.decode_error.DecodeError.TheVariants.{NoMemory};
+
+    ghost from_gives = { λ _ e. e ≡ NoMemory };
+
+    fn from(_e: AllocFailed<T>) -> DecodeError {
+        DecodeError::NoMemory
+    }
+}

@@ -1,8 +1,0 @@
-use Rattle.std.proofs.Common.{◌≡◌, ℕ, ◌<◌, false}
-use Rattle.workflow_runs.specs.Holders.{holder_in_words, is_meant}
-use Rattle.workflow_runs.specs.Moves.{Holder}
-use Rattle.workflow_runs.proofs.runs.Runs.first_run_meant.Given as goal
-
--- none so far is meant
-abbrev pub invariant-loop-r : goal.invariant-loop-r
-invariant-loop-r l = (k : ℕ) → k < l.r → is_meant l.self (holder_in_words l.holder) l.whom (Holder.a_run k) ≡ false

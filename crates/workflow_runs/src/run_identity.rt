@@ -1,0 +1,80 @@
+//! What the templates of a run are told when it is admitted: its event, its id and its number. No job of it has a result yet.
+
+ghost use Rattle.std.specs.Prelude.{◌≡◌, ◌<◌, ◌^◌};
+ghost use Rattle.wf_expr.specs.Bound.{HasResults, Results};
+ghost use Rattle.run_plan.specs.PlanOf.{plan_of};
+ghost use Rattle.workflow_runs.specs.BoundGroups.{facts_by, need_of_job};
+ghost use Rattle.workflow_runs.specs.LegContext.{context_of};
+
+use crate::leg_context::LegContext;
+use crate::leg_needs::LegNeeds;
+use crate::run::Run;
+use crate::run_context::RunContext;
+use run_plan::{PlannedJob, Prepared};
+use std::marker::Model;
+
+/// A run with its id and its number among the runs of its workflow, in decimal.
+#[derive(Drop)]
+pub(crate) struct RunIdentity<'a> {
+    pub run: &'a Run,
+    pub run_id: &'a str,
+    pub run_number: &'a str,
+}
+
+impl<'a> Model for RunIdentity<'a> {
+    ghost use Rattle.workflow_runs.specs.GroupOf.{RunFacts};
+
+    ghost Value = { RunFacts };
+
+    ghost view = { λ t. record { event = t.run.now.admitted; run_id = t.run_id.now; run_number = t.run_number.now } };
+}
+
+impl<'a> RunIdentity<'a> {
+    pub(crate) fn prepared(&self) -> &Prepared
+        ensures { result.now ≡ self.now.event }
+    {
+        self.run.prepared()
+    }
+
+    pub(crate) fn run_context(&self) -> RunContext<'_>
+        ensures { result ≡ self.now }
+    {
+        RunContext {
+            event: self.run.prepared(),
+            run_id: self.run_id,
+            run_number: self.run_number,
+        }
+    }
+
+    /// The context of a leg of the job at a place, which lacks the results of the job's needs alone.
+    pub(crate) fn leg_context<'b>(
+        &'b self,
+        place: usize,
+        job: &'b PlannedJob,
+        leg: usize,
+    ) -> LegContext<'b>
+        requires leg { leg < 2 ^ 63 }
+        ensures { (results : Results) → HasResults (context_of result) (need_of_job (plan_of self.now.event.body) place) results
+            (context_of (facts_by self.now place job.now leg results)) }
+    {
+        LegContext {
+            run: self.run,
+            run_id: self.run_id,
+            run_number: self.run_number,
+            job,
+            place,
+            leg,
+        }
+    }
+
+    /// The needs of the job at a place.
+    pub(crate) fn leg_needs(&self, place: usize) -> LegNeeds<'_>
+        ensures event { result.0.admitted ≡ self.now.event }
+        ensures place { result.1 ≡ place }
+    {
+        LegNeeds {
+            run: self.run,
+            place,
+        }
+    }
+}
