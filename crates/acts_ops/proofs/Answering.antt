@@ -1,12 +1,11 @@
 -- A step of a store is answered as a line of a script is.
-use Rattle.std.proofs.Common.{◌≡◌, ◌⊎◌, inl, inr, ⊎_elim, ℕ, ◌<◌, ◌≤◌, List, length, refl, sym, ◌∙◌, ap, subst, arith}
+use Rattle.std.proofs.Common.{◌≡◌, ◌⊎◌, inl, inr, ⊎_elim, ℕ, length, refl, sym, ◌∙◌, ap, subst}
 use Rattle.std.proofs.Common.{Bool, true, false, Result, Ok, Err}
 use Rattle.std.proofs.lemmas.Bool.{cases_Bool, ltb-false, ltb-true}
 use Rattle.std.specs.Prelude.{IsSomeAnd, Option, Some, None, nat_lt, if◌then◌else◌}
 use Rattle.wf_value.specs.Gives.{no_memory}
 use Rattle.wf_value.specs.RefusalText.{refusal_text}
 use Rattle.wf_value.specs.declared.refusal.Refusal.{Refusal}
-use Rattle.run_plan.specs.ReplyText.{reply_text}
 use Rattle.run_plan.specs.declared.reply.Reply.{Reply}
 use Rattle.act_store.specs.Checkpoints.{dropped, finished, left_of}
 use Rattle.act_store.specs.Kept.{Checkpoint, Kept}

@@ -8,7 +8,7 @@ use Rattle.std.specs.Str.Lines.{lines}
 use Rattle.std.proofs.lemmas.List.Elements.{All-head, All-tail}
 use Rattle.wf_value.specs.Gives.{no_memory}
 use Rattle.wf_value.specs.declared.refusal.Refusal.{Refusal}
-use Rattle.act_disk.specs.Failed.{device_failed, stream_failed}
+use Rattle.act_disk.specs.Failed.{stream_failed}
 use Rattle.acts_ops.specs.Answers.{has_bytes, script_lines, answer_of, after_line, answers_from, printed}
 use Rattle.acts_ops.specs.Input.{RefusesInput}
 use Rattle.acts_ops.specs.PlainStore.{PlainStore}
@@ -94,12 +94,6 @@ pub ends_after : {U : Type 0} (script out : List ℕ) (r : Result U Refusal) →
     → IfErr r (λ e. e ≡ stream_failed) → Ends script out r
 ends_after script out (Ok u) fits h why = (fits, h)
 ends_after script out (Err e) fits h why = inr (inr (inl why, inr (fits, [], subst (Plays script) (sym (append-nil out)) h)))
-
--- the store was not made
-pub not_made : {U : Type 0} (script : List ℕ) (r : Result U Refusal) (e : Refusal) → IsErrAnd r (λ f. f ≡ e) → e ≡ device_failed
-    → Ends script [] r
-not_made script (Ok u) e is why = absurd is
-not_made script (Err f) e is why = inr (inl (is ∙ why, refl))
 
 -- the script was not read
 pub unread_ends : {U : Type 0} (script : List ℕ) (r : Result U Refusal) (e : Refusal) → IsErrAnd r (λ f. f ≡ e)

@@ -12,7 +12,7 @@ use Rattle.run_table.specs.TableState.{TableState}
 use Rattle.workflow_runs.specs.RunState.{RunState}
 use Rattle.run_table.specs.ViewText.{Seen}
 use Rattle.act_store.specs.Entries.{table_after}
-use Rattle.act_store.specs.Images.{StandsFor}
+use Rattle.act_store.specs.Images.{HasNoArea, StandsFor}
 use Rattle.act_store.specs.Kept.{Kept, table_of}
 use Rattle.act_store.specs.declared.entry.Entry.{Entry}
 use Rattle.acts_ops.specs.Show.{Shows, lines_from, shown, view_line}
@@ -66,6 +66,11 @@ past_last t out all place past h =
 -- the table of a store that was just opened is its base
 pub opened_table : {D : Type 0} (s : Kept D) → s.history ≡ [] → s.base ≡ table_of s
 opened_table s begun = ap (λ (h : List Entry). table_after s.base h) (sym begun)
+
+-- where a table stands, an area is open
+pub stands_somewhere : (t : TableState) (image : List ℕ) → StandsFor t image → HasNoArea image → ⊥
+stands_somewhere t image stands none =
+    let clash : None ≡ Some stands.side = sym (none stands.len stands.long stands.size) ∙ stands.spells.stands in cc
 
 -- what a showing wrote of a table, all or a front
 pub shows_told : {U : Type 0} (image : List ℕ) (t : TableState) (old new : Option (List ℕ)) (r : Result U Refusal) → StandsFor t image

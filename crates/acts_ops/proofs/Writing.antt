@@ -6,7 +6,8 @@ use Rattle.std.specs.Prelude.{IsErrAnd}
 use Rattle.std.proofs.KnownBytes.{Appends-nil, Appends-kept, Appends-trans}
 use Rattle.wf_value.specs.Gives.{no_memory}
 use Rattle.wf_value.specs.declared.refusal.Refusal.{Refusal}
-use Rattle.act_disk.specs.Failed.{stream_failed}
+use Rattle.act_disk.specs.Failed.{device_failed, stream_failed}
+use Rattle.act_store.specs.Told.{TellsFault}
 use Rattle.acts_ops.specs.Writes.{FrontWritten, Writes}
 
 -- one part more has been written whole
@@ -53,6 +54,16 @@ pub flushed : {U : Type 0} (old mid new : Option (List ℕ)) (lines : List ℕ) 
     → Keeps mid new → IfErr r (λ e. e ≡ stream_failed) → Writes old new lines r
 flushed old mid new lines (Ok u) all kept why = Appends-kept old mid new lines all kept
 flushed old mid new lines (Err e) all kept why = (inl why, (lines, [], Appends-kept old mid new lines all kept, append-nil lines))
+
+-- a failed stream and want of memory are no fault of the device
+pub no_fault : (e : Refusal) → (e ≡ stream_failed) ⊎ (e ≡ no_memory) → e ≡ device_failed → ⊥
+no_fault e (inl stream) device = let clash : stream_failed ≡ device_failed = sym stream ∙ device in cc
+no_fault e (inr memory) device = let clash : no_memory ≡ device_failed = sym memory ∙ device in cc
+
+pub written_faults : {U : Type 0} (old new : Option (List ℕ)) (lines : List ℕ) (r : Result U Refusal) (before after : ℕ)
+    → Writes old new lines r → after ≡ before → TellsFault r before after
+written_faults old new lines (Ok u) before after writes same = same
+written_faults old new lines (Err e) before after writes same = inr (no_fault e writes.0, same)
 
 -- want of memory alone refuses what nothing else does
 pub memory_alone : {X : Type 0} (e : Refusal) (x : X) → (e ≡ no_memory) ⊎ (◌≡◌ {A = Result X Refusal} (Ok x) (Err e))

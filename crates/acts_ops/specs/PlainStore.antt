@@ -1,6 +1,6 @@
 -- The plain store that a script is played over: what a store keeps, without its disk; and what a step of it is answered, with memory and a
 -- device that answer. Own: there is no public source.
-use Rattle.std.specs.Prelude.{ℕ, ◌+◌, length, nat_lt, List, Option, Some, None, if◌then◌else◌}
+use Rattle.std.specs.Prelude.{ℕ, ◌+◌, length, nat_lt, Option, Some, None, if◌then◌else◌}
 use Rattle.wf_value.specs.declared.refusal.Refusal.{Refusal}
 use Rattle.run_table.specs.Step.{stepped}
 use Rattle.act_store.specs.Checkpoints.{begun_at, finished, left_of, sliced, text_length}

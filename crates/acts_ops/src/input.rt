@@ -1,7 +1,7 @@
-ghost use Rattle.std.specs.Prelude.{◌≡◌, ◌≤◌, ◌<◌, ◌⊎◌, vec_len, IfOk, IfErr, IfSome};
+ghost use Rattle.std.specs.Prelude.{◌≡◌, ◌≢◌, ◌≤◌, ◌<◌, ◌⊎◌, vec_len, IfOk, IfErr, IfSome};
 ghost use Rattle.std.specs.Io.KnownBytes.{Consumes, IsAtEnd};
 ghost use Rattle.wf_value.specs.Gives.{no_memory};
-ghost use Rattle.act_disk.specs.Failed.{stream_failed};
+ghost use Rattle.act_disk.specs.Failed.{device_failed, stream_failed};
 ghost use Rattle.acts_ops.specs.Input.{IsReadAs, ReadsAtMost, RefusesInput};
 
 use byte_streams::read_some;
@@ -42,6 +42,7 @@ pub fn read_input<R: Read>(alloc: Global, reader: &mut R) -> Result<Vec<u8>, Ref
     ensures read { ReadsAtMost 1048577 (R.remaining reader.old) (R.remaining reader.new) }
     ensures whole { IfOk result (λ v. IfSome (R.remaining reader.old) (IsReadAs v.items)) }
     ensures refused { IfErr result (λ e. IfSome (R.remaining reader.old) (RefusesInput e)) }
+    ensures no_fault { IfErr result (λ e. e ≢ device_failed) }
 {
     let input = read_at_most(alloc, reader, MOST_BYTES + 1)?;
     if input.len() > MOST_BYTES {

@@ -1,4 +1,4 @@
-ghost use Rattle.std.specs.Prelude.{◌≡◌, ◌⊎◌, ◌++◌, ◌∷◌, [], ℕ, List, take, IfErr, IfOk, IfSome, OnOk};
+ghost use Rattle.std.specs.Prelude.{◌≡◌, ◌≢◌, ◌⊎◌, ◌<◌, ◌+◌, ◌++◌, ◌∷◌, [], ℕ, List, take, IfErr, IfSome, OnOk};
 ghost use Rattle.std.specs.Io.KnownBytes.{Appends};
 ghost use Rattle.wf_value.specs.Gives.{no_memory};
 ghost use Rattle.act_disk.specs.Failed.{device_failed, stream_failed};
@@ -9,7 +9,7 @@ ghost use Rattle.acts_ops.specs.Play.{IsAnswer, PlaysFrom, Ends};
 use crate::answer::{answer_line, answer_to};
 use crate::input::read_input;
 use crate::lines::first_line;
-use act_disk::{Disk, MemoryDisk};
+use act_disk::Disk;
 use act_store::Store;
 use byte_streams::{flush, write_whole};
 use std::alloc::Global;
@@ -18,17 +18,6 @@ use wf_value::Refusal;
 
 /// How long each of the two areas of a script's store is, in bytes.
 const AREA: u64 = 8_388_608;
-
-/// An empty store in memory.
-fn store_in_memory(alloc: Global) -> Result<Store<MemoryDisk>, Refusal>
-    ensures made { IfOk result (λ s. without_disk s ≡ start) }
-    ensures refused { IfErr result (λ e. e ≡ device_failed) }
-{
-    match Store::init(alloc, MemoryDisk::new(alloc), AREA) {
-        Ok(store) => Ok(store),
-        Err((_, refusal)) => Err(refusal),
-    }
-}
 
 fn play_line<D: Disk, W: Write>(
     alloc: Global,
@@ -78,6 +67,7 @@ fn play_input<D: Disk, R: Read, W: Write>(
     writer: &mut W,
 ) -> Result<(), Refusal>
     requires { without_disk store.old ≡ start }
+    ensures no_fault { IfErr result (λ e. e ≢ device_failed) }
     ensures read { ReadsAtMost 1048577 (R.remaining reader.old) (R.remaining reader.new) }
     ensures written { IfSome (R.remaining reader.old) (λ script. (out : List ℕ)
         × Appends (W.contents writer.old) (W.contents writer.new) out × Ends script out result) }
@@ -89,21 +79,32 @@ fn play_input<D: Disk, R: Read, W: Write>(
     }
 }
 
-/// Plays a script over a store in memory, which begins empty: reads it, and writes one answer and a line feed
-/// for each line that is not empty. A script over 1,048,576 bytes is refused 76 with nothing written, and no
-/// more than 1,048,577 bytes are read. A failed read or write is 61. Where memory is refused for a line's
-/// command, or for a checkpoint, the line is answered `refused 50` and the store is as it was; refused to the disk in
-/// memory it is answered 51 in a commit or a step of a checkpoint, after which each step is answered 52, and ends the call with 51, before anything is
-/// read, as the store is made; refused elsewhere it ends the call with 50.
-pub fn run_script<R: Read, W: Write>(
+/// Plays a script over a store that is made on an empty disk: reads it, and writes one answer and a line feed
+/// for each line that is not empty. The disk is given back as it is then, with how the call ended. A script over
+/// 1,048,576 bytes is refused 76 with nothing written, and no more than 1,048,577 bytes are read. A failed read or
+/// write is 61. Where memory is refused for a line's command, or for a checkpoint, the line is answered
+/// `refused 50` and the store is as it was. Where the disk fails, which one in memory does where memory is refused
+/// to it, a commit or a step of a checkpoint is answered 51, after which each step is answered 52; as the store is
+/// made, that ends the call with 51, before anything is read. Memory that is refused elsewhere ends it with 50.
+pub fn run_script<D: Disk, R: Read, W: Write>(
     alloc: Global,
+    disk: D,
     reader: &mut R,
     writer: &mut W,
-) -> Result<(), Refusal>
+) -> (D, Result<(), Refusal>)
+    requires empty { D.size disk ≡ 0 }
+    requires countable { D.fault_count disk < u64.MAX }
     ensures read { ReadsAtMost 1048577 (R.remaining reader.old) (R.remaining reader.new) }
     ensures written { IfSome (R.remaining reader.old) (λ script. (out : List ℕ)
-        × Appends (W.contents writer.old) (W.contents writer.new) out × Ends script out result) }
+        × Appends (W.contents writer.old) (W.contents writer.new) out × Ends script out result.1) }
+    // The call ends with 51 only where a call of the disk failed.
+    ensures faults { IfErr result.1 (λ e. e ≡ device_failed → D.fault_count result.0 ≡ D.fault_count disk + 1) }
 {
-    let mut store = store_in_memory(alloc)?;
-    play_input(alloc, &mut store, reader, writer)
+    match Store::init(alloc, disk, AREA) {
+        Ok(mut store) => {
+            let ended = play_input(alloc, &mut store, reader, writer);
+            (store.into_disk(), ended)
+        }
+        Err((disk, refusal)) => (disk, Err(refusal)),
+    }
 }

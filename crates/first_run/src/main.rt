@@ -2,12 +2,15 @@
 //! whose trial takes as long as half of the rest.
 #![tactic(auto)]
 
+use act_disk::MemoryDisk;
 use acts_ops::run_script;
 use std::io;
 use std::process::ExitCode;
 
 fn main(rt: HostRuntime) -> ExitCode {
-    match run_script(rt.alloc(), &mut rt.reader(), &mut io::writer(&rt)) {
+    let disk = MemoryDisk::new(rt.alloc());
+    let (_, ended) = run_script(rt.alloc(), disk, &mut rt.reader(), &mut io::writer(&rt));
+    match ended {
         Ok(()) => ExitCode::from(0),
         Err(refusal) => {
             let _ = rt.eprintln(format_args!("first_run: {refusal}"));

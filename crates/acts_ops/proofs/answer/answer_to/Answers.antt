@@ -1,7 +1,7 @@
-use Rattle.std.proofs.Common.{◌≡◌, List, Result, Ok, sym, subst}
+use Rattle.std.proofs.Common.{Result, Ok, sym, subst}
 use Rattle.wf_value.specs.declared.refusal.Refusal.{Refusal}
 use Rattle.act_store.specs.declared.step.Step.{Step}
-use Rattle.acts_ops.specs.Answers.{counted_as, played_text}
+use Rattle.acts_ops.specs.Answers.{played_text}
 use Rattle.acts_ops.specs.PlainStore.{without_disk}
 use Rattle.acts_ops.specs.Play.{IsAnswerOf}
 use Rattle.acts_ops.proofs.Answering.{answers_as, refused_line}

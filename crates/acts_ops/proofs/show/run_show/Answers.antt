@@ -1,29 +1,34 @@
-use Rattle.std.proofs.Common.{[], refl, subst, inl}
+use Rattle.std.proofs.Common.{[], ap, refl, subst, inl, ◌∙◌}
 use Rattle.std.proofs.KnownBytes.{Appends-nil}
 use Rattle.run_table.specs.TableState.{TableState}
 use Rattle.act_store.specs.Images.{StandsFor}
 use Rattle.act_store.specs.Kept.{table_of}
-use Rattle.acts_ops.proofs.Showing.{opened_table, shows_told}
+use Rattle.acts_ops.specs.Show.{shown}
+use Rattle.acts_ops.proofs.Showing.{opened_table, shows_told, stands_somewhere}
+use Rattle.acts_ops.proofs.Writing.{written_faults}
 use Rattle.acts_ops.proofs.show.run_show.Goals as goal
 
-pub returns : goal.returns
-returns g c = (
-  c.in-Err.field-0-0,
-  λ honest. (
-    [],
-    Appends-nil (g.W.Write.contents c.args.writer.now),
-    inl (refl, (c.in-Err.ensures.refused, λ is. c.in-Err.ensures.no_area is honest, λ is. c.in-Err.ensures.no_table is honest)),
-  ),
+pub returns-in-Err-clause-written : goal.returns-in-Err-clause-written
+returns-in-Err-clause-written g c = λ honest. (
+  [],
+  Appends-nil (g.W.Write.contents c.args.writer.now),
+  inl (refl, (c.in-Err.ensures.refused, λ is. c.in-Err.ensures.no_area is honest, λ is. c.in-Err.ensures.no_table is honest)),
 )
 
-pub returns-in-Ok : goal.returns-in-Ok
-returns-in-Ok g c =
+pub returns-in-Ok-clause-written : goal.returns-in-Ok-clause-written
+returns-in-Ok-clause-written g c = λ honest.
     let s = c.in-Ok.store in
-    let image = g.D.Disk.seen c.args.disk in (
-      s.disk,
-      λ honest.
-          let stands : StandsFor (table_of s) image =
-          subst (λ (t : TableState). StandsFor t image) (opened_table s c.in-Ok.ensures.begun.0) (c.in-Ok.ensures.base honest) in
-          shows_told image (table_of s) (g.W.Write.contents c.args.writer.now) (g.W.Write.contents c.show_store.new.writer)
-          c.show_store.result stands c.show_store.ensures,
-    )
+    let image = g.D.Disk.seen c.args.disk in
+    let stands : StandsFor (table_of s) image =
+    subst (λ (t : TableState). StandsFor t image) (opened_table s c.in-Ok.ensures.begun.0) (c.in-Ok.ensures.base (subst g.D.Disk.honest c.into_disk.ensures honest)) in
+    shows_told image (table_of s) (g.W.Write.contents c.args.writer.now) (g.W.Write.contents c.show_store-ended.new.writer)
+    c.show_store-ended.result stands c.show_store-ended.ensures
+
+pub returns-in-Ok-clause-faults : goal.returns-in-Ok-clause-faults
+returns-in-Ok-clause-faults g c =
+    written_faults _ _ (shown (table_of c.in-Ok.store)) c.show_store-ended.result _ _ c.show_store-ended.ensures
+    (ap g.D.Disk.fault_count c.into_disk.ensures ∙ c.in-Ok.ensures.faults)
+
+pub returns-in-Ok-clause-nothing_stands : goal.returns-in-Ok-clause-nothing_stands
+returns-in-Ok-clause-nothing_stands g c = λ honest none.
+    absurd (stands_somewhere c.in-Ok.store.base (g.D.Disk.seen c.args.disk) (c.in-Ok.ensures.base (subst g.D.Disk.honest c.into_disk.ensures honest)) none)
