@@ -2,7 +2,6 @@
 -- and seen by its bytes, and all that holds one, it does not find, so their parts are named here.
 use denote.Param.Send.{IsSend, IsSync, sendable, view_send, view_sync}
 use Rattle.std.proofs.Crossing as crossing
-use Rattle.std.proofs.MapsCrossing as maps
 use Rattle.std.proofs.sync.Arc.TheSendSync as arc
 use Rattle.std.proofs.alloc.Global.TheSendSync as heap
 use Rattle.std.proofs.vec.Vec.TheSendSync as vec
@@ -17,8 +16,6 @@ use Rattle.serde_json.proofs.value.Value.TheLaws.TheKnot as knot
 use Rattle.serde_json.specs.contracts.value.Value.{the_row as value}
 use Rattle.wf_reader.specs.contracts.contexts.Contexts.{the_row as contexts}
 use Rattle.wf_reader.specs.contracts.contexts.Contexts.TheInside.{the_row as contexts_inside}
-use Rattle.run_plan.proofs.form.DeliveryForm.TheSendSync as delivery
-use Rattle.run_plan.proofs.form.EventForm.TheSendSync as event
 use denote.Param.SendFields.{declared_send, declared_sync, variants_send}
 use Rattle.run_plan.specs.contracts.prepared.Admission.{the_row as admission, the_type as admission_type}
 use Rattle.run_plan.specs.contracts.prepared.Origin.{the_row as origin}
@@ -34,7 +31,7 @@ use Rattle.run_plan.proofs.command.Beat.TheSendSync as beat
 use Rattle.act_sessions.proofs.transcript.Ending.TheSendSync as ending
 use Rattle.workflow_runs.proofs.phases.RunPhase.TheSendSync as phase
 use Rattle.workflow_runs.proofs.job.Job.TheSendSync as job
-use Rattle.workflow_runs.proofs.asks.RunAsks.TheSendSync as asks
+use Rattle.workflow_runs.proofs.asks.RunBindings.TheSendSync as asks
 use Rattle.workflow_runs.proofs.runs.index.Index.TheSendSync as index
 use Rattle.run_table.proofs.runners.Runners.TheSendSync as runners
 use Rattle.run_plan.specs.contracts.command.Command.{the_row as command, enum as command_variants}

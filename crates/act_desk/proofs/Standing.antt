@@ -1,5 +1,5 @@
 -- A reply that stands in what was seen at the entry stands in what a seat has seen since.
-use Rattle.std.proofs.Common.{◌≡◌, ℕ, ◌-◌, List, Some, Result, Ok, Err, slice_get, ap, ◌∙◌}
+use Rattle.std.proofs.Common.{◌≡◌, ℕ, ◌-◌, List, Some, Result, Ok, Err, slice_get}
 use Rattle.std.specs.Prelude.{IfOk}
 use mathlib.Core.List.{IsPrefix}
 use Rattle.wf_value.specs.declared.refusal.Refusal.{Refusal}

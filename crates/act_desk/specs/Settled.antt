@@ -2,7 +2,6 @@
 use Rattle.std.specs.Prelude.{◌≡◌, ◌≢◌, ◌⊎◌, ◌==◌, ◌||◌, ◌<◌, ℕ, Bool, true, false, List, [], ◌∷◌, ◌++◌, filter, flat_map, length, get_or, Result, Ok, Err, Option, Some, None, IfSome, All}
 use Rattle.wf_value.specs.RefusalText.{refusal_number}
 use Rattle.wf_value.specs.declared.refusal.Refusal.{Refusal}
-use Rattle.run_plan.specs.declared.command.Command.{Command}
 use Rattle.run_plan.specs.declared.reply.Reply.{Reply}
 use Rattle.act_sessions.specs.declared.transcript.Ending.TheVariants.{Broken, Memory}
 use Rattle.act_sessions.specs.declared.transcript.Transcript.{Transcript}

@@ -8,6 +8,7 @@ ghost use Rattle.act_desk.specs.Begins.{Stands};
 ghost use Rattle.act_desk.specs.Shown.{IsReplyTo, StandsIn};
 
 use crate::desked::Desked;
+use crate::flush::Flush;
 use crate::front::{Front, Head};
 use crate::ledgers::Ledgers;
 use crate::line::{Line, Turn};
@@ -213,6 +214,22 @@ impl<D: Disk, E: Named, T: Ledger> Desk<D, E, T> {
         if *moving == 0 {
             self.still.notify_one();
         }
+    }
+
+    /// Calls the store at most once, under the lock, for a flusher. It answers whether the store did what it was asked.
+    ///
+    /// Entries that this covers are found covered by who waits for them: their leader commits what is not, and wakes all.
+    pub(crate) fn flush(
+        &self,
+        rt: &impl Wait,
+        alloc: Global,
+        flush: &mut Flush,
+    ) -> Result<bool, Refusal>
+        ensures { IfErr result (λ e. (e ≡ device_failed) ⊎ (e ≡ failed_earlier)) }
+    {
+        let mut guard = self.line.lock(rt);
+        let line = &mut *guard;
+        flush.round(alloc, &mut line.desked)
     }
 
     /// Enters a command, and gives its reply once its entry is covered.

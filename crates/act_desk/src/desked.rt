@@ -1,13 +1,16 @@
-ghost use Rattle.std.specs.Prelude.{◌≡◌, ◌⊎◌, ◌+◌, ◌-◌, ◌<◌, ◌≤◌, ◌^◌, ℕ, List, [], ◌∷◌, ◌++◌, length, true, false, Err, IfErr, IfOk, IfSome, OnErr, OnOk, Some};
+ghost use Rattle.std.specs.Prelude.{◌≡◌, ◌⊎◌, ◌+◌, ◌-◌, ◌*◌, ◌<◌, ◌≤◌, ◌^◌, ℕ, List, [], ◌∷◌, ◌++◌, length, true, false, Err, IfErr, IfOk, IfSome, OnErr, OnOk, Some};
 ghost use mathlib.Core.List.{IsPrefix};
 ghost use Rattle.wf_value.specs.Gives.{no_memory};
 ghost use Rattle.act_disk.specs.Failed.{device_failed};
+ghost use Rattle.act_disk.specs.Images.{EachSince};
+ghost use Rattle.act_store.specs.Checkpoints.{IsFinished, begun_at, dropped, left_of, refusal_of_begin, refusal_of_finish, refusal_of_slice, sliced};
 ghost use Rattle.act_store.specs.Entries.{IsLegal};
 ghost use Rattle.act_store.specs.GroupsOfHistory.{KeepsGroups};
-ghost use Rattle.act_store.specs.Kept.{StandsForEither};
+ghost use Rattle.act_store.specs.Images.{StandsFor};
+ghost use Rattle.act_store.specs.Kept.{StandsForEither, table_of};
 ghost use Rattle.act_store.specs.declared.entry.Entry.{Entry};
 ghost use Rattle.act_desk.specs.Answered.{unsettled};
-ghost use Rattle.act_store.specs.Plain.{area_full, entered, entry_of, failed_earlier, history_full, refusal_of_apply};
+ghost use Rattle.act_store.specs.Plain.{area_full, broken, entered, entry_of, failed_earlier, history_full, refusal_of_apply};
 ghost use Rattle.act_desk.specs.Shown.{IsKnown, IsReplyTo, StandsIn};
 
 use crate::front::{Front, Head};
@@ -97,6 +100,64 @@ impl<D: Disk, E: Named, T: Ledger> Desked<D, E, T> {
         ensures told { self.now.told ≤ self.now.store.covered }
     {
         self.store.covered()
+    }
+
+    /// Whether less than half of an area is left for the next record.
+    pub fn is_pressed(&self) -> bool
+        ensures pressed { result ≡ true → 2 * (self.now.store.area - self.now.store.used - 6) < self.now.store.area }
+        ensures free { result ≡ false → self.now.store.area ≤ 2 * (self.now.store.area - self.now.store.used - 6) }
+    {
+        let (area, room) = (self.store.area(), self.store.room());
+        room < area - room
+    }
+
+    /// Begins a checkpoint of the store, as `Store::check_begin` does. Nothing is entered, and nothing told.
+    pub fn check_begin(&mut self, alloc: Global) -> Result<u64, Refusal>
+        ensures any_moment { D.honest self.old.store.disk
+            → EachSince D.moment D.images_since self.old.store.disk self.new.store.disk (StandsForEither self.old.store) }
+        ensures begun { OnOk result (self.new.store ≡ begun_at self.old.store self.new.store.disk) }
+        ensures refused { IfSome (refusal_of_begin self.old.store) (λ refusal. result ≡ Err refusal) }
+        ensures cause { IfErr result (λ e. (e ≡ no_memory) ⊎ (e ≡ device_failed) ⊎ (refusal_of_begin self.old.store ≡ Some e)) }
+        ensures broken { result ≡ Err device_failed → self.new.store ≡ broken self.old.store self.new.store.disk }
+        ensures unchanged { IfErr result (λ e. (e ≡ device_failed → ⊥) → self.new ≡ self.old) }
+        ensures same { self.new ≡ record self.old { store = self.new.store } }
+        ensures history { (self.new.store.history ≡ self.old.store.history) × (self.new.store.base ≡ self.old.store.base) }
+    {
+        self.store.check_begin(alloc)
+    }
+
+    /// Writes a slice of the checkpoint that was begun, as `Store::check_slice` does.
+    pub fn check_slice(&mut self) -> Result<u64, Refusal>
+        ensures any_moment { D.honest self.old.store.disk
+            → EachSince D.moment D.images_since self.old.store.disk self.new.store.disk (StandsForEither self.old.store) }
+        ensures sliced { OnOk result (self.new.store ≡ sliced self.old.store self.new.store.disk) }
+        ensures left { IfOk result (λ left. left ≡ left_of self.new.store.begun) }
+        ensures refused { IfSome (refusal_of_slice self.old.store) (λ refusal. (result ≡ Err refusal) × (self.new ≡ self.old)) }
+        ensures cause { IfErr result (λ e. (e ≡ device_failed) ⊎ (refusal_of_slice self.old.store ≡ Some e)) }
+        ensures broken { result ≡ Err device_failed → self.new.store ≡ broken self.old.store self.new.store.disk }
+        ensures same { self.new ≡ record self.old { store = self.new.store } }
+        ensures history { (self.new.store.history ≡ self.old.store.history) × (self.new.store.base ≡ self.old.store.base) }
+    {
+        self.store.check_slice()
+    }
+
+    /// Finishes the checkpoint that was begun, as `Store::check_finish` does. The entries that it covers wait for their replies as before.
+    pub fn check_finish(&mut self, alloc: Global) -> Result<u64, Refusal>
+        ensures any_moment { D.honest self.old.store.disk
+            → EachSince D.moment D.images_since self.old.store.disk self.new.store.disk (StandsForEither self.old.store) }
+        ensures stands { OnOk result (D.honest self.new.store.disk → (c : List ℕ) → D.images self.new.store.disk c → StandsFor (table_of self.old.store) c) }
+        ensures finished { OnOk result (IsFinished self.old.store self.new.store) }
+        ensures covered { OnOk result (self.new.store.covered ≡ length self.old.store.history) }
+        ensures refused { IfSome (refusal_of_finish self.old.store) (λ refusal. result ≡ Err refusal) }
+        ensures dropped { result ≡ Err area_full → self.new.store ≡ dropped self.old.store }
+        ensures broken { result ≡ Err device_failed → self.new.store ≡ broken self.old.store self.new.store.disk }
+        ensures unchanged { IfErr result (λ e. (e ≡ device_failed → ⊥) → (e ≡ area_full → ⊥) → self.new ≡ self.old) }
+        ensures cause { IfErr result (λ e. (e ≡ no_memory) ⊎ (e ≡ device_failed) ⊎ (refusal_of_finish self.old.store ≡ Some e)) }
+        ensures same { self.new ≡ record self.old { store = self.new.store } }
+        ensures history { (self.new.store.history ≡ self.old.store.history) × (self.new.store.base ≡ self.old.store.base) }
+    {
+        let _covered = self.store.covered();
+        self.store.check_finish(alloc)
     }
 
     /// Enters a command for a seat, and keeps its reply back. No device is called.

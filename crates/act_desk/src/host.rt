@@ -1,5 +1,6 @@
 ghost use Rattle.act_desk.specs.Settled.{HasEnded};
 
+use crate::checkpoints::flusher;
 use crate::desk::Desk;
 use crate::ended::Ended;
 use crate::gate::Gate;
@@ -9,8 +10,9 @@ use crate::seated::hold;
 use act_disk::Disk;
 use act_sessions::Work;
 use std::alloc::Global;
-use std::sync::Wait;
 use std::sync::ledger::Ledger;
+use std::sync::{Mutex, Wait};
+use std::time::Clock;
 
 /// What holds sessions at seats, whichever thread asks it.
 pub(crate) trait Host<S> {
@@ -20,18 +22,21 @@ pub(crate) trait Host<S> {
     /// Holds a session at a seat, to its end.
     fn hold<W: Work>(&self, seat: S, work: W) -> Ended
         ensures { HasEnded (W.ends work) result.transcript };
+
+    /// Makes checkpoints beside the sessions, until it is told to stop.
+    fn flush(&self, stop: &Mutex<bool>);
 }
 
 /// A desk, with what a session at it needs.
 #[derive(Drop)]
-pub(crate) struct Table<'a, D: Disk, E: Named, T: Ledger, G: Gate, R: Wait> {
+pub(crate) struct Table<'a, D: Disk, E: Named, T: Ledger, G: Gate, R: Wait + Clock> {
     pub(crate) rt: &'a R,
     pub(crate) alloc: Global,
     pub(crate) desk: &'a Desk<D, E, T>,
     pub(crate) gate: &'a G,
 }
 
-impl<'a, D: Disk, E: Named, T: Ledger, G: Gate, R: Wait> Host<Seat<E, T>>
+impl<'a, D: Disk, E: Named, T: Ledger, G: Gate, R: Wait + Clock> Host<Seat<E, T>>
     for Table<'a, D, E, T, G, R> {
     fn seat(&self) -> Option<Seat<E, T>> {
         self.desk.seat(self.rt)
@@ -41,5 +46,10 @@ impl<'a, D: Disk, E: Named, T: Ledger, G: Gate, R: Wait> Host<Seat<E, T>>
         Ended {
             transcript: hold(self.rt, self.alloc, self.desk, self.gate, seat, work),
         }
+    }
+
+    /// A device fault ends it, and shows in the answers of the sessions.
+    fn flush(&self, stop: &Mutex<bool>) {
+        let _ = flusher(self.rt, self.alloc, self.desk, stop);
     }
 }

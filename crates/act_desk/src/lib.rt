@@ -4,9 +4,11 @@
 
 mod alone;
 mod book_rules;
+mod checkpoints;
 mod desk;
 mod desked;
 mod ended;
+mod flush;
 mod front;
 mod gate;
 mod host;
@@ -24,6 +26,7 @@ mod settled;
 mod starting;
 
 pub use alone::Alone;
+pub use checkpoints::flusher;
 pub use desk::Desk;
 pub use desked::Desked;
 pub use front::{Front, Head, Unnamed};

@@ -19,9 +19,11 @@ use std::marker::Brand;
 use std::sync::Wait;
 use std::sync::ledger::Ledger;
 use std::thread::Threads;
+use std::time::Clock;
 
 /// Holds 1 to 64 sessions over one store whose history is empty, each in a thread of its own, and compares the history with what they
-/// asked. The session with the number `k`, counted from 0, has the seat `k`.
+/// asked. The session with the number `k`, counted from 0, has the seat `k`. A flusher is beside them (`flusher`), unless no thread can be
+/// started for it: the area then fills as it would without.
 ///
 /// After `Ok` each session has ended as its bytes say, or, where no thread could be started for it, with `Ending::Memory` and nothing
 /// read; and the part of each seat in the history is what the session of that number asked, in order, each command once, with the
@@ -30,7 +32,7 @@ use std::thread::Threads;
 ///
 /// It is refused with 50 only before a session is started, and then gives all back; with 60 where that comparison fails; and with 61,
 /// once all have ended and it holds, where a session was ended by its reader or its writer.
-pub fn serve_all<D: Disk + Send, W: Work + Send, G: Gate + Sync, R: Threads + Wait + Sync>(
+pub fn serve_all<D: Disk + Send, W: Work + Send, G: Gate + Sync, R: Threads + Wait + Clock + Sync>(
     rt: &R,
     alloc: Global,
     store: Store<D>,
@@ -70,7 +72,7 @@ fn hold_named<
     T: Ledger + Send + Sync,
     W: Work + Send,
     G: Gate + Sync,
-    R: Threads + Wait + Sync,
+    R: Threads + Wait + Clock + Sync,
 >(
     rt: &R,
     alloc: Global,

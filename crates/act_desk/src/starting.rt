@@ -5,8 +5,8 @@ use crate::host::Host;
 use crate::running::Running;
 use act_sessions::{Transcript, Work};
 use std::alloc::Global;
-use std::sync::Wait;
-use std::thread::{self, Scope, Threads};
+use std::sync::{Mutex, Wait};
+use std::thread::{self, JoinHandle, Scope, Threads};
 
 /// Starts the sessions, in order. It takes no memory: there is room for all.
 fn start_all<'s, 'e, S: Send + Drop + 's, H: Host<S> + Sync + 's, W: Work + Send + 's>(
@@ -43,7 +43,16 @@ fn join_all<W: Work>(
     transcripts
 }
 
-/// Holds all sessions at the seats of a host, each in a thread of its own, to their ends.
+/// Tells the flusher to stop, and waits until it has, where its thread was started.
+fn end_flusher(rt: &(impl Threads + Wait), stop: &Mutex<bool>, flushing: Option<JoinHandle<()>>) {
+    *stop.lock(rt) = true;
+    if let Some(handle) = flushing {
+        handle.join(rt);
+    }
+}
+
+/// Holds all sessions at the seats of a host, each in a thread of its own, to their ends. A flusher is beside them, where a thread for it
+/// can be started.
 pub(crate) fn hold_all<S: Send + Drop, H: Host<S> + Sync, W: Work + Send, R: Threads + Wait + Sync>(
     rt: &R,
     alloc: Global,
@@ -56,6 +65,8 @@ pub(crate) fn hold_all<S: Send + Drop, H: Host<S> + Sync, W: Work + Send, R: Thr
     requires transcripts { (transcripts.items ≡ []) × (vec_len works ≤ vec_capacity transcripts) }
     ensures { HaveEnded W.ends works.items result.items }
 {
+    let stop = Mutex::new(false);
+    let shared = &stop;
     thread::scope(
         thread::scope_env(),
         rt,
@@ -64,8 +75,11 @@ pub(crate) fn hold_all<S: Send + Drop, H: Host<S> + Sync, W: Work + Send, R: Thr
             requires transcripts { (transcripts.items ≡ []) × (vec_len works ≤ vec_capacity transcripts) }
             ensures { HaveEnded W.ends works.items result.items }
         {
+            let flushing = scope.spawn(move || host.flush(shared)).ok();
             let started = start_all(scope, host, works, running);
-            join_all(rt, alloc, started, transcripts)
+            let ended = join_all(rt, alloc, started, transcripts);
+            end_flusher(rt, shared, flushing);
+            ended
         },
     )
 }

@@ -1,4 +1,4 @@
-use Rattle.std.specs.Prelude.{◌≡◌, ◌≤◌, ◌++◌, ℕ, take, length, IfSome}
+use Rattle.std.specs.Prelude.{◌≡◌, ◌≤◌, ◌++◌, take, length, IfSome}
 use Rattle.act_sessions.specs.Told.{told_in}
 use Rattle.act_desk.specs.Settled.{IsOfLast, entries_of, if_any, part_of}
 use Rattle.act_desk.proofs.settle.agrees.Given as goal

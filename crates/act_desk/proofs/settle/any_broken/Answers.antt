@@ -1,4 +1,4 @@
-use Rattle.std.proofs.Common.{◌≡◌, ◌∙◌, ap, sym}
+use Rattle.std.proofs.Common.{◌∙◌, ap, sym}
 use Rattle.act_sessions.specs.declared.transcript.Transcript.{Transcript}
 use Rattle.act_desk.proofs.settle.any_broken.Goals as goal
 

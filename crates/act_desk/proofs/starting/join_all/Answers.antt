@@ -1,4 +1,4 @@
-use Rattle.std.proofs.Common.{◌≡◌, ℕ, ◌+◌, ◌<◌, rules, arith, get_or, length, subst}
+use Rattle.std.proofs.Common.{◌≡◌, ◌+◌, rules, get_or, subst}
 use Rattle.std.specs.Prelude.{vec_items, vec_len}
 use Rattle.act_sessions.specs.declared.transcript.Transcript.{Transcript}
 use Rattle.act_desk.specs.Settled.{HasEnded}

@@ -1,4 +1,4 @@
-use Rattle.std.proofs.Common.{◌≡◌, ℕ, ◌+◌, ◌<◌, rules, ◌∙◌, get_or}
+use Rattle.std.proofs.Common.{◌≡◌, ◌+◌, rules, ◌∙◌, get_or}
 use Rattle.std.specs.Prelude.{vec_items, vec_len}
 use Rattle.act_desk.proofs.Lists.{pushed_each}
 use Rattle.act_desk.proofs.starting.start_all.Goals as goal

@@ -1,4 +1,4 @@
-use Rattle.std.proofs.Common.{◌⊎◌, inl, inr}
+use Rattle.std.proofs.Common.{inl, inr}
 use Rattle.act_desk.proofs.alone.AloneAnswer.ask.Goals as goal
 
 pub returns-clause-survives : goal.returns-clause-survives
