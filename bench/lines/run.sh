@@ -2,29 +2,36 @@
 # Plays made-up sessions of runner lines over a store in memory, in random pieces, and compares what is written with what another program
 # says. MAKE prints a script for a seed and a number of lines (`MAKE SEED LINES`), and the bytes of a session over a store that took a
 # script (`MAKE SEED LINES --what lines --preload SCRIPT`); SAY what a session over those bytes writes (`SAY lines AREA --preload SCRIPT`, the
-# bytes on standard input). The script that is taken first has `admit` lines alone; in every second session no line is one.
-# Usage: bench/lines/run.sh MAKE SAY [COUNT [FIRST]]. It is a trial run, so nothing is proved.
+# bytes on standard input). The script that is taken first has `admit` lines alone; in every second session no line is one. CASES=FOLDER
+# keeps the sessions there, and takes those that stand there.
+# Usage: bench/lines/run.sh MAKE SAY [COUNT [FIRST]]
 set -eu
 . "$(dirname "$0")/../copy.sh"
 make=$1 say=$2 count=${3:-1000} first=${4:-1}
-cases=$scratch/cases
-mkdir "$cases"
-one() { # SEED
-    local taken=$cases/$1.taken bytes=$cases/$1.bytes
-    python3 "$make" "$1" 24 | grep -a '^admit ' | head -n 6 > "$taken" || true
-    python3 "$make" "$1" $((1 + $1 % 90)) --what lines --preload "$taken" > "$bytes"
-    [ $(($1 % 2)) = 1 ] || sed -i '/^admit /d' "$bytes"
-    python3 "$say" lines 8388608 --preload "$taken" < "$bytes" > "$cases/$1.stdout"
-    cat "$taken" "$bytes" > "$cases/$1"
-    printf '%s\n%s\n' "$1" "$(wc -l < "$taken")" > "$cases/$1.args"
-    rm "$taken" "$bytes"
-}
-export -f one
-export make say cases
-seq "$first" $((first + count - 1)) | xargs -P 2 -I{} bash -c 'one {}'
+cases=${CASES:-$scratch/cases}
+mkdir -p "$cases"
 copy_for lines_bench main.rt.txt wf_value run_plan act_disk act_store act_desk act_sessions command_lines runner_sessions anyhow
-cd "$scratch/crates/lines_bench"
-rt fmt > /dev/null
-rt try --seconds 600 --cases "$cases" > "$scratch/said" || true
-tail -n 1 "$scratch/said"
-grep -v ': ok' "$scratch/said" | head -n 20
+build lines_bench
+
+one() { # SEED
+    python3 "$make" "$1" 24 | grep -a '^admit ' | head -n 6 > "$scratch/taken" || true
+    python3 "$make" "$1" $((1 + $1 % 90)) --what lines --preload "$scratch/taken" > "$scratch/bytes"
+    [ $(($1 % 2)) = 1 ] || sed -i '/^admit /d' "$scratch/bytes"
+    cat "$scratch/taken" "$scratch/bytes" > "$cases/$1"
+    printf '%s\n%s\n' "$1" "$(wc -l < "$scratch/taken")" > "$cases/$1.args"
+    python3 "$say" lines 8388608 --preload "$scratch/taken" < "$scratch/bytes" > "$cases/$1.saying"
+    mv "$cases/$1.saying" "$cases/$1.said"
+}
+
+differ=0
+for seed in $(seq "$first" $((first + count - 1))); do
+    [ -e "$cases/$seed.said" ] || one "$seed"
+    mapfile -t words < "$cases/$seed.args"
+    "$built" "${words[@]}" < "$cases/$seed" > "$scratch/written" || true
+    if ! cmp -s "$scratch/written" "$cases/$seed.said"; then
+        differ=$((differ + 1))
+        echo "seed $seed: other bytes"
+    fi
+done
+echo "$count sessions, $differ differ"
+[ "$differ" = 0 ]

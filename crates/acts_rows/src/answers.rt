@@ -1,6 +1,8 @@
 //! What the product answers a row.
 
 use crate::kind::Kind;
+use crate::sessions::{Setting, written_at_each_cut};
+use act_disk::MemoryDisk;
 use acts_ops::{run_check, run_script};
 use std::alloc::{AllocError, Global};
 use wf_value::Refusal;
@@ -20,7 +22,7 @@ fn push_refusal(
 
 fn push_played(alloc: Global, answers: &mut Vec<u8>, script: &[u8]) -> Result<(), AllocError> {
     let mut reader = script;
-    let ended = run_script(alloc, &mut reader, answers);
+    let (_, ended) = run_script(alloc, MemoryDisk::new(alloc), &mut reader, answers);
     push_refusal(alloc, answers, ended)
 }
 
@@ -43,13 +45,38 @@ fn push_all_checked(
     Ok(())
 }
 
-/// What is answered to the bytes of a row.
-pub fn answers_to(alloc: Global, kind: Kind, given: &[u8]) -> Result<Vec<u8>, AllocError> {
+/// What the session of a row writes, wherever its input is cut.
+fn push_session(
+    alloc: Global,
+    answers: &mut Vec<u8>,
+    setting: Setting<'_>,
+    row: &Row<'_>,
+) -> Result<(), AllocError> {
+    match written_at_each_cut(alloc, setting, row.given, row.wanted) {
+        Ok(written) => answers.extend_from_slice(&written),
+        Err(refusal) => push_refusal(alloc, answers, Err(refusal)),
+    }
+}
+
+/// The bytes of a row, those that have to answer it, and those of a session before it, of which most have none.
+#[derive(Clone, Copy)]
+pub struct Row<'a> {
+    pub given: &'a [u8],
+    pub wanted: &'a [u8],
+    pub before: &'a [u8],
+}
+
+/// What a row is answered.
+pub fn answers_to(alloc: Global, kind: Kind, row: &Row<'_>) -> Result<Vec<u8>, AllocError> {
     let mut answers = Vec::new(alloc);
+    let before = row.before;
     match kind {
-        Kind::Script => push_played(alloc, &mut answers, given)?,
-        Kind::Workflow => push_checked(alloc, &mut answers, given)?,
-        Kind::Workflows => push_all_checked(alloc, &mut answers, given)?,
+        Kind::Script => push_played(alloc, &mut answers, row.given)?,
+        Kind::Workflow => push_checked(alloc, &mut answers, row.given)?,
+        Kind::Workflows => push_all_checked(alloc, &mut answers, row.given)?,
+        Kind::Session(protocol) => {
+            push_session(alloc, &mut answers, Setting { protocol, before }, row)?;
+        }
     }
     Ok(answers)
 }

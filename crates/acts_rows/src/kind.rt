@@ -1,5 +1,7 @@
 //! The kinds of rows, by the last part of a file's name.
 
+use crate::sessions::Protocol;
+
 /// What a row plays.
 #[derive(Clone, Copy)]
 pub enum Kind {
@@ -9,6 +11,8 @@ pub enum Kind {
     Workflow,
     /// Workflows that are checked, each in a line.
     Workflows,
+    /// A session.
+    Session(Protocol),
 }
 
 /// Each kind, with how the names of its files end, and how those of its answers do.
@@ -16,6 +20,8 @@ const ENDINGS: &[(Kind, &str, &str)] = &[
     (Kind::Script, ".script", ".answers"),
     (Kind::Workflow, ".workflow", ".lines"),
     (Kind::Workflows, ".workflows", ".lines"),
+    (Kind::Session(Protocol::Http), ".http", ".reply"),
+    (Kind::Session(Protocol::Lines), ".runner", ".replies"),
 ];
 
 impl Kind {

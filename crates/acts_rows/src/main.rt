@@ -4,6 +4,8 @@
 //! - `NAME.script`, the bytes of a script, has to be answered by those of `NAME.answers`.
 //! - `NAME.workflow`, the bytes of a workflow that is checked, by those of `NAME.lines`: the lines of its legs, or its refusal.
 //! - `NAME.workflows`, a workflow in each line, by the same of each in turn.
+//! - `NAME.http` and `NAME.runner`, the bytes that come into a session of HTTP and of runner lines, by those of `NAME.reply` and `NAME.replies`,
+//!   wherever the input is cut in two. The session is over a store in memory, and `NAME.before` is what came into one of HTTP before it.
 //!
 //! A row is named by its topic and its name, as `groups/jobs_have_groups`. A call that is refused ends its answers by a line with the refusal.
 #![tactic(auto)]
@@ -13,6 +15,7 @@ mod difference;
 mod folder;
 mod kind;
 mod row;
+mod sessions;
 
 use folder::names_in;
 use row::play_file;

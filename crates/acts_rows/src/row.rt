@@ -1,9 +1,10 @@
 //! Plays one row, and says how it came out.
 
-use crate::answers::answers_to;
+use crate::answers::{Row, answers_to};
 use crate::difference::{Difference, first_difference};
 use crate::kind::Kind;
 use std::fs::Files;
+use std::io::ErrorKind;
 use std::{fs, io};
 
 /// A part of a line that is not as wanted, on a line of its own.
@@ -24,6 +25,14 @@ fn print_difference<R: Print>(rt: &R, row: &str, difference: &Difference<'_>) ->
     print_part(rt, "  wanted: ", difference.wanted)
 }
 
+/// The bytes of a file, and none where there is no such file.
+fn bytes_or_none<R: Files + AllocGlobal>(rt: &R, path: String) -> io::Result<Vec<u8>> {
+    match fs::read(rt, path) {
+        Err(e) if e.kind() == ErrorKind::NotFound => Ok(Vec::new(rt.alloc())),
+        read => read,
+    }
+}
+
 /// Plays the row of a file, where it plays one.
 pub fn play_file<R>(rt: &R, topic: &str, file: &str) -> io::Result<()>
 where
@@ -35,7 +44,16 @@ where
     let row = format!(in rt.alloc(); "{topic}/{name}")?;
     let given = fs::read(rt, format!(in rt.alloc(); "{topic}/{file}")?)?;
     let wanted = fs::read(rt, format!(in rt.alloc(); "{row}{ending}")?)?;
-    let found = answers_to(rt.alloc(), kind, &given)?;
+    let before = bytes_or_none(rt, format!(in rt.alloc(); "{row}.before")?)?;
+    let found = answers_to(
+        rt.alloc(),
+        kind,
+        &Row {
+            given: &given,
+            wanted: &wanted,
+            before: &before,
+        },
+    )?;
     match first_difference(&found, &wanted) {
         None => println!(rt; "{row} same"),
         Some(difference) => print_difference(rt, &row, &difference),

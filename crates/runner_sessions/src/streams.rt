@@ -1,9 +1,11 @@
-ghost use Rattle.std.specs.Prelude.{IfErr, IfOk};
+ghost use Rattle.std.specs.Prelude.{◌≡◌, ◌≢◌, IfErr, IfOk};
+ghost use Rattle.act_sessions.specs.Ends.{Ends};
 ghost use Rattle.act_sessions.specs.Session.{moment, start, IsCut, IsDone};
+ghost use Rattle.act_sessions.specs.Told.{AreAsked, told_by};
 ghost use Rattle.runner_sessions.specs.Line.{runner_rules};
 
 use crate::protocol::RunnerLines;
-use act_sessions::{Answer, SessionFault, Transcript, Work};
+use act_sessions::{Answer, Ending, SessionFault, Transcript, Work};
 use std::alloc::Global;
 use std::io::{Read, Write};
 
@@ -21,10 +23,17 @@ impl Session {
         writer: &mut W,
         answerer: &mut A,
     ) -> Result<Transcript, SessionFault>
+        // It went to its end: what was asked and written is what the bytes and the answers say.
         ensures ok { IfOk result (λ t. IsDone runner_rules (R.remaining reader.old) (R.remaining reader.new)
             (start (W.contents writer.old) (A.asked answerer.old)) (moment (W.contents writer.new) (A.asked answerer.new) t)) }
+        // A read or a write failed, or memory was wanting: a front of that was written.
         ensures err { IfErr result (λ f. IsCut runner_rules f.transcript.ending (R.remaining reader.old) (R.remaining reader.new)
             (start (W.contents writer.old) (A.asked answerer.old)) (moment (W.contents writer.new) (A.asked answerer.new) f.transcript)) }
+        // What follows for whoever knows the reader's bytes alone.
+        ensures ended { IfOk result (λ t. (t.ending ≡ Ending.Done) × Ends runner_rules (R.remaining reader.old) t
+            × AreAsked (A.asked answerer.old) (A.asked answerer.new) (told_by t)) }
+        ensures stopped { IfErr result (λ f. (f.transcript.ending ≢ Ending.Done) × Ends runner_rules (R.remaining reader.old) f.transcript
+            × AreAsked (A.asked answerer.old) (A.asked answerer.new) (told_by f.transcript)) }
     {
         act_sessions::run::<RunnerLines, R, W, A>(alloc, reader, writer, answerer)
     }

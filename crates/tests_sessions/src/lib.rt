@@ -2,8 +2,20 @@
 #![tactic(auto)]
 
 #[cfg(test)]
+mod runner_fake;
+#[cfg(test)]
+mod runner_faults;
+#[cfg(test)]
+mod runner_plain;
+#[cfg(test)]
+mod runner_rows;
+#[cfg(test)]
 mod webhook_fakes;
 #[cfg(test)]
 mod webhook_faults;
+#[cfg(test)]
+mod webhook_over_a_store;
+#[cfg(test)]
+mod webhook_plain;
 #[cfg(test)]
 mod webhook_rows;

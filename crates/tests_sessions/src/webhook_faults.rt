@@ -1,7 +1,9 @@
 //! Webhook sessions whose reader or writer fails at each byte.
 
 use crate::webhook_fakes::{Bounded, Fake, Pieces};
-use crate::webhook_rows::{CREATED, EVENT};
+use crate::webhook_rows::{
+    CREATED, EVENT, FETCHED, GET_ALONE, LOOK, NO_PATH, NO_RUN, SEEN, TOO_LONG,
+};
 use act_sessions::{Ending, Transcript};
 use std::alloc::Global;
 use std::process::Abort;
@@ -82,5 +84,58 @@ fn fails_with_its_writer(rt: HostRuntime) {
             "{taken}"
         );
         expect_held(&rt, &transcript, written.as_slice(), asked);
+    }
+}
+
+/// Each worked request by itself: its bytes, its answer, and how many commands it asks.
+const WORKED: &[(&str, &str, usize)] = &[
+    (EVENT, CREATED, 1),
+    (
+        concat!(
+            "POST /events HTTP/1.1\r\n",
+            "Host: x\r\n",
+            "X-GitHub-Delivery: d1\r\n",
+            "X-GitHub-Event: push\r\n",
+            "Content-Length: 65537\r\n",
+            "\r\n",
+        ),
+        TOO_LONG,
+        0,
+    ),
+    (LOOK, SEEN, 1),
+    ("GET /runs/1/body HTTP/1.1\r\n\r\n", FETCHED, 1),
+    ("POST /runs/1 HTTP/1.1\r\n\r\n", GET_ALONE, 0),
+    ("GET /runs/0 HTTP/1.1\r\n\r\n", NO_PATH, 0),
+    ("POST /runs/9/cancel HTTP/1.1\r\n\r\n", NO_RUN, 1),
+];
+
+/// That nothing is asked or written where the reader fails within a request.
+fn expect_unasked(rt: &impl Abort, alloc: Global, input: &str) {
+    for given in 0..input.len() {
+        let reader = Pieces::failing(input.as_bytes(), 50, given);
+        let (transcript, written, count) = broken(rt, alloc, reader, usize::MAX);
+        assert!(rt; count == 0 && written.is_empty(), "{given}");
+        expect_held(rt, &transcript, written.as_slice(), 0);
+    }
+}
+
+/// That a front of the answer is written where the writer fails within it, and that the command was asked once.
+fn expect_front(rt: &impl Abort, alloc: Global, input: &str, output: &[u8], asked: usize) {
+    for taken in 0..output.len() {
+        let reader = Pieces::new(input.as_bytes(), 50);
+        let (transcript, written, count) = broken(rt, alloc, reader, taken);
+        assert!(rt;
+            count == asked && written.as_slice() == &output[..taken],
+            "{taken}"
+        );
+        expect_held(rt, &transcript, written.as_slice(), asked);
+    }
+}
+
+#[test]
+fn fails_within_each_worked_request(rt: HostRuntime) {
+    for &(input, output, asked) in WORKED {
+        expect_unasked(&rt, rt.alloc(), input);
+        expect_front(&rt, rt.alloc(), input, output.as_bytes(), asked);
     }
 }

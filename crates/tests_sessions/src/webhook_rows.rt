@@ -92,7 +92,7 @@ const BAD_LENGTH: &str = refused!("400 Bad Request", "71", "Connection: close");
 
 const NO_LENGTH: &str = refused!("411 Length Required", "71", "Connection: close");
 
-const TOO_LONG: &str = refused!("413 Payload Too Large", "24", "Connection: close");
+pub const TOO_LONG: &str = refused!("413 Payload Too Large", "24", "Connection: close");
 
 const EVENT_HEADER: &str = refused!("400 Bad Request", "74", "Connection: close");
 
@@ -104,7 +104,7 @@ macro_rules! event {
 }
 
 /// Requests, what answers them, and how many commands they ask.
-const ROWS: &[(&str, &str, usize)] = &[
+pub const ROWS: &[(&str, &str, usize)] = &[
     ("", "", 0),
     (EVENT, CREATED, 1),
     (LOOK, SEEN, 1),
@@ -359,7 +359,7 @@ const ROWS: &[(&str, &str, usize)] = &[
 ];
 
 /// Holds a session over the fake, and compares what was written, asked and counted.
-fn expect_answered(
+pub fn expect_answered(
     rt: &impl Abort,
     alloc: Global,
     reader: Pieces<'_>,
@@ -420,13 +420,13 @@ fn answers_an_event_that_is_cut(rt: HostRuntime) {
 }
 
 /// The pieces of an input, each with how often it stands there, and the same of what answers it; and how many commands it asks.
-type Long = (
+pub type Long = (
     &'static [(&'static str, usize)],
     &'static [(&'static str, usize)],
     usize,
 );
 
-const LONG: &[Long] = &[
+pub const LONG: &[Long] = &[
     // A head of 8,192 bytes without an end, one that ends there, and one that is a byte longer.
     (
         &[("GET /runs/1 HTTP/1.1\r\nx:", 1), ("y", 8_167)],
@@ -488,7 +488,7 @@ const LONG: &[Long] = &[
 ];
 
 /// The pieces in a row, each so many times.
-fn spelled(rt: &impl Abort, alloc: Global, pieces: &[(&str, usize)]) -> Vec<u8> {
+pub fn spelled(rt: &impl Abort, alloc: Global, pieces: &[(&str, usize)]) -> Vec<u8> {
     let mut bytes = Vec::new(alloc);
     for &(piece, times) in pieces {
         for _ in 0..times {

@@ -1,0 +1,100 @@
+//! Sessions of runners whose reader or writer fails at each byte.
+
+use crate::runner_fake::Service;
+use crate::runner_rows::{ANSWERS, LINES};
+use crate::webhook_fakes::{Bounded, Pieces};
+use act_sessions::{Ending, Transcript};
+use runner_sessions::Session;
+use std::alloc::Global;
+use std::process::Abort;
+
+/// Where each answer begins, and how many commands were asked once it is due: a faulty line asks none.
+const ANSWERED: [(usize, usize); 5] = [(0, 1), (21, 2), (32, 3), (38, 3), (49, 4)];
+
+/// Where each line ends, where its answer ends, and how many commands were asked by then.
+const ENDS: [(usize, usize, usize); 5] = [
+    (17, 21, 1),
+    (34, 32, 2),
+    (44, 38, 3),
+    (50, 49, 3),
+    (70, 52, 4),
+];
+
+/// A session that broke: its transcript, what was written, and how often the service was asked.
+fn broken(
+    rt: &impl Abort,
+    alloc: Global,
+    reader: Pieces<'_>,
+    taken: usize,
+) -> (Transcript, Vec<u8>, usize) {
+    let mut reader = reader;
+    let mut writer = Bounded::new(alloc, taken);
+    let mut service = Service::new(alloc);
+    match Session::run(alloc, &mut reader, &mut writer, &mut service) {
+        Ok(_) => panic!(rt; "it broke"),
+        Err(fault) => {
+            assert!(rt; fault.transcript.ending == Ending::Broken);
+            assert!(rt; fault.refusal().number() == 61);
+            (fault.transcript, writer.bytes, service.count())
+        }
+    }
+}
+
+/// That a transcript holds what was asked and counts what was written.
+fn expect_held(rt: &impl Abort, transcript: &Transcript, written: &[u8], asked: usize) {
+    assert!(rt; transcript.asked.len() == asked);
+    assert!(rt; transcript.written == written.len() as u64);
+}
+
+/// How many bytes of the answers are written, and how many commands asked, once so many bytes of the lines were read.
+fn due(given: usize) -> (usize, usize) {
+    let mut due = (0, 0);
+    for (read, written, asked) in ENDS {
+        if read <= given {
+            due = (written, asked);
+        }
+    }
+    due
+}
+
+#[test]
+fn fails_with_its_reader_of_lines(rt: HostRuntime) {
+    for given in 0..=LINES.len() {
+        let reader = Pieces::failing(LINES.as_bytes(), 9, given);
+        let (transcript, written, asked) = broken(&rt, rt.alloc(), reader, usize::MAX);
+        let (length, count) = due(given);
+        assert!(rt; asked == count, "{given}");
+        assert!(rt;
+            ANSWERS.as_bytes().starts_with(written.as_slice()),
+            "{given}"
+        );
+        assert!(rt; written.len() == length, "{given}");
+        expect_held(&rt, &transcript, written.as_slice(), asked);
+    }
+}
+
+/// How many commands were asked before the answer that so many bytes begin, or cut.
+fn asked_by(taken: usize) -> usize {
+    let mut asked = 0;
+    for (begins, count) in ANSWERED {
+        if begins <= taken {
+            asked = count;
+        }
+    }
+    asked
+}
+
+#[test]
+fn fails_with_its_writer_of_lines(rt: HostRuntime) {
+    for taken in 0..ANSWERS.len() {
+        let reader = Pieces::new(LINES.as_bytes(), 9);
+        let (transcript, written, asked) = broken(&rt, rt.alloc(), reader, taken);
+        assert!(rt; asked == asked_by(taken), "{taken}");
+        assert!(rt;
+            ANSWERS.as_bytes().starts_with(written.as_slice()),
+            "{taken}"
+        );
+        assert!(rt; written.len() == taken, "{taken}");
+        expect_held(&rt, &transcript, written.as_slice(), asked);
+    }
+}

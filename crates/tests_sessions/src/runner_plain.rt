@@ -1,0 +1,138 @@
+//! A session of runner lines as a plain program over all of its bytes, without a buffer and without pieces; and sessions that write the same.
+
+use crate::runner_fake::Service;
+use crate::runner_rows::{LONG, ROWS, expect_answered, spelled};
+use crate::webhook_fakes::Pieces;
+use act_sessions::Answer;
+use run_plan::{Command, Reply};
+use std::alloc::Global;
+use std::process::Abort;
+use tests_common::commands::{Words, command_of};
+use wf_value::{Code, Outcome, Refusal};
+
+/// The most bytes of a line with its line feed, and the most lines.
+const MOST_LINE: usize = 512;
+
+const MOST_LINES: usize = 1_024;
+
+/// The answers after which a session ends.
+const LAST: [u64; 7] = [46, 47, 48, 50, 51, 52, 60];
+
+fn outcome_of(word: &str) -> Result<Outcome, Refusal> {
+    match word {
+        "success" => Ok(Outcome::Success),
+        "failure" => Ok(Outcome::Failure),
+        "cancelled" => Ok(Outcome::Cancelled),
+        _ => Err(Refusal::Numbered(Code::Line)),
+    }
+}
+
+/// The command of a line; another is refused 75.
+fn command_in(alloc: Global, line: &str) -> Result<Command, Refusal> {
+    let mut words = line.split(' ');
+    let first = (words.next(), words.next(), words.next());
+    let more = (words.next(), words.next(), words.next());
+    match (first, more) {
+        ((Some("CLAIM"), Some(runner), Some(number)), (Some(labels), None, None)) => {
+            command_of(alloc, &Words::Claim(runner, number, labels))
+        }
+        ((Some("DONE"), Some(runner), Some(number)), (Some(lease), Some(result), None)) => {
+            command_of(
+                alloc,
+                &Words::Done(runner, number, lease, outcome_of(result)?),
+            )
+        }
+        ((Some("BEAT"), Some(runner), Some(lease)), (None, None, None)) => {
+            command_of(alloc, &Words::Beat(runner, lease))
+        }
+        ((Some("FETCH"), Some(run), None), (None, None, None)) => {
+            command_of(alloc, &Words::Fetch(run))
+        }
+        _ => Err(Refusal::Numbered(Code::Line)),
+    }
+}
+
+/// What a line is answered.
+fn answer_to(alloc: Global, line: &[u8], service: &mut Service) -> Result<Reply, Refusal> {
+    match str::from_utf8(line) {
+        Ok(text) => service.ask(command_in(alloc, text.strip_suffix('\r').unwrap_or(text))?),
+        Err(_) => Err(Refusal::Numbered(Code::Line)),
+    }
+}
+
+fn push_answer(
+    alloc: Global,
+    written: &mut Vec<u8>,
+    answer: &Result<Reply, Refusal>,
+) -> Result<(), Refusal> {
+    let text = match answer {
+        Ok(reply) => reply.text(alloc)?,
+        Err(refusal) => refusal.text(alloc)?,
+    };
+    written.extend_from_slice(text.as_str().as_bytes())?;
+    written.push(b'\n')?;
+    Ok(())
+}
+
+fn is_last(answer: &Result<Reply, Refusal>) -> bool {
+    match answer {
+        Ok(Reply::Refused(refusal)) => LAST.contains(&refusal.number()),
+        Ok(_) => false,
+        Err(refusal) => LAST.contains(&refusal.number()),
+    }
+}
+
+/// The first line and what is behind it, where it is short enough.
+fn first_line(bytes: &[u8]) -> Option<(&[u8], &[u8])> {
+    match bytes.iter().position(|byte| *byte == b'\n') {
+        Some(place) if place < MOST_LINE && place < bytes.len() => {
+            Some((&bytes[..place], &bytes[place + 1..]))
+        }
+        _ => None,
+    }
+}
+
+/// What a session writes over all of its bytes, and how many commands it asks.
+fn written_over(alloc: Global, input: &[u8]) -> Result<(Vec<u8>, usize), Refusal> {
+    let mut service = Service::new(alloc);
+    let mut written = Vec::new(alloc);
+    let mut rest = input;
+    for _ in 0..MOST_LINES {
+        let Some((line, behind)) = first_line(rest) else {
+            if rest.len() >= MOST_LINE {
+                written.extend_from_slice(b"refused 75\n")?;
+            }
+            break;
+        };
+        let answer = answer_to(alloc, line, &mut service);
+        push_answer(alloc, &mut written, &answer)?;
+        if is_last(&answer) {
+            break;
+        }
+        rest = behind;
+    }
+    Ok((written, service.count()))
+}
+
+/// That sessions over the bytes do what the plain program does, whatever the pieces.
+fn expect_plain(rt: &impl Abort, alloc: Global, input: &[u8]) {
+    let (written, asked) = written_over(alloc, input).expect(rt, "memory");
+    for piece in [3, 100_000] {
+        let reader = Pieces::new(input, piece);
+        expect_answered(rt, alloc, reader, written.as_slice(), asked);
+    }
+}
+
+#[test]
+fn answers_lines_as_the_plain_program(rt: HostRuntime) {
+    for &(one, _, _) in ROWS {
+        for &(other, _, _) in ROWS {
+            let input = spelled(&rt, rt.alloc(), &[(one, 1), (other, 1)]);
+            expect_plain(&rt, rt.alloc(), input.as_slice());
+        }
+    }
+    for &(pieces, _, _) in LONG {
+        let input = spelled(&rt, rt.alloc(), pieces);
+        expect_plain(&rt, rt.alloc(), input.as_slice());
+    }
+}

@@ -1,0 +1,209 @@
+//! Lines of runners, and the lines that answer them.
+
+use crate::runner_fake::Service;
+use crate::webhook_fakes::Pieces;
+use act_sessions::{Ending, Transcript};
+use runner_sessions::Session;
+use std::alloc::Global;
+use std::io;
+use std::io::Read;
+use std::process::Abort;
+
+pub const LINES: &str =
+    "CLAIM r1 1 linux\nCLAIM r1 2 linux\nBEAT r1 1\nclaim\nDONE r1 2 1 success\n";
+
+pub const ANSWERS: &str = "lease 1 1 build 0 {}\nrefused 42\ngo on\nrefused 75\nok\n";
+
+/// Lines, what answers them, and how many commands they ask.
+pub const ROWS: &[(&str, &str, usize)] = &[
+    ("", "", 0),
+    (LINES, ANSWERS, 4),
+    ("FETCH 1\n", "body 2\n{}\n", 1),
+    ("BEAT r1 2\n", "stop\n", 1),
+    ("CLAIM idle 7 a,b\n", "nothing\n", 1),
+    ("CLAIM r1 3 linux\n", "refused 43 1\n", 1),
+    // One carriage return is dropped, and empty lines are lines.
+    ("FETCH 9\r\nFETCH 9\r\r\n", "refused 40\nrefused 75\n", 1),
+    ("\n\r\n", "refused 75\nrefused 75\n", 0),
+    // What is no line of a runner: the session goes on behind it.
+    (
+        "fetch 9\nLOOK 1\nFETCH 9\n",
+        "refused 75\nrefused 75\nrefused 40\n",
+        1,
+    ),
+    (
+        "FETCH  9\nFETCH 9 \n FETCH 9\nFETCH\nFETCH \n",
+        "refused 75\nrefused 75\nrefused 75\nrefused 75\nrefused 75\n",
+        0,
+    ),
+    (
+        "FETCH 0\nFETCH 09\nFETCH 1000000000\nFETCH +9\nFETCH 999999999\n",
+        "refused 75\nrefused 75\nrefused 75\nrefused 75\nrefused 40\n",
+        1,
+    ),
+    (
+        "CLAIM r1 1 linux,\nCLAIM r/1 1 linux\nDONE r1 2 1 ok\nDONE r1 2 1\nBEAT r1 1 1\n",
+        "refused 75\nrefused 75\nrefused 75\nrefused 75\nrefused 75\n",
+        0,
+    ),
+    // An unfinished line at the end of the input.
+    ("FETCH 9", "", 0),
+    ("FETCH 9\nFETCH 9", "refused 40\n", 1),
+    // Answers that end a session.
+    ("FETCH 46\nFETCH 9\n", "refused 46\n", 1),
+    ("FETCH 47\nFETCH 9\n", "refused 47\n", 1),
+    ("FETCH 48\nFETCH 9\n", "refused 48\n", 1),
+    ("FETCH 50\nFETCH 9\n", "refused 50\n", 1),
+    ("FETCH 51\nFETCH 9\n", "refused 51\n", 1),
+    ("FETCH 52\nFETCH 9\n", "refused 52\n", 1),
+    ("FETCH 60\nFETCH 9\n", "refused 60\n", 1),
+];
+
+/// Holds a session over the fake, and compares what was written, asked and counted.
+pub fn expect_answered<R: Read + Drop>(
+    rt: &impl Abort,
+    alloc: Global,
+    reader: R,
+    output: &[u8],
+    asked: usize,
+) {
+    let mut reader = reader;
+    let mut written = Vec::new(alloc);
+    let mut service = Service::new(alloc);
+    let transcript = match Session::run(alloc, &mut reader, &mut written, &mut service) {
+        Ok(transcript) => transcript,
+        Err(fault) => fault.transcript,
+    };
+    assert!(rt;
+        written.as_slice() == output,
+        "{:?} in place of {:?}",
+        written,
+        output
+    );
+    expect_told(rt, &transcript, output.len(), asked);
+    assert!(rt; service.count() == asked);
+}
+
+/// That a session ended well, and counts what it wrote and asked.
+fn expect_told(rt: &impl Abort, transcript: &Transcript, written: usize, asked: usize) {
+    assert!(rt; transcript.ending == Ending::Done);
+    assert!(rt; transcript.written == written as u64);
+    assert!(rt; transcript.asked.len() == asked);
+}
+
+/// How many bytes a reader gives at a time.
+const PIECES: [usize; 3] = [1, 7, 100_000];
+
+#[test]
+fn answers_lines_in_any_pieces(rt: HostRuntime) {
+    for piece in PIECES {
+        for &(input, output, asked) in ROWS {
+            let reader = Pieces::new(input.as_bytes(), piece);
+            expect_answered(&rt, rt.alloc(), reader, output.as_bytes(), asked);
+        }
+    }
+    for cut in 1..=LINES.len() {
+        let reader = Pieces::cut(LINES.as_bytes(), cut);
+        expect_answered(&rt, rt.alloc(), reader, ANSWERS.as_bytes(), 4);
+    }
+}
+
+/// The pieces of an input, each with how often it stands there, and the same of what answers it; and how many commands it asks.
+pub type Long = (
+    &'static [(&'static str, usize)],
+    &'static [(&'static str, usize)],
+    usize,
+);
+
+/// A comma, and a label as long as it may be.
+const SIXTY_FOUR: &str = ",bbbbbbbbbbbbbbbbbbbbbbbbbbbbbbbbbbbbbbbbbbbbbbbbbbbbbbbbbbbbbbbb";
+
+pub const LONG: &[Long] = &[
+    // The longest line, with its line feed, and one that is a byte longer.
+    (
+        &[
+            ("CLAIM idle 1 a", 1),
+            ("a", 63),
+            (SIXTY_FOUR, 6),
+            (",", 1),
+            ("c", 43),
+            ("\nFETCH 9\n", 1),
+        ],
+        &[("nothing\nrefused 40\n", 1)],
+        2,
+    ),
+    (
+        &[
+            ("CLAIM idle 1 a", 1),
+            ("a", 63),
+            (SIXTY_FOUR, 6),
+            (",", 1),
+            ("c", 44),
+            ("\nFETCH 9\n", 1),
+        ],
+        &[("refused 75\n", 1)],
+        0,
+    ),
+    (&[("x", 511), ("\n", 1)], &[("refused 75\n", 1)], 0),
+    (
+        &[("x", 511), ("\nFETCH 9\n", 1)],
+        &[("refused 75\nrefused 40\n", 1)],
+        1,
+    ),
+    (&[("x", 512), ("\nFETCH 9\n", 1)], &[("refused 75\n", 1)], 0),
+    (&[("x", 511)], &[("", 0)], 0),
+    (&[("x", 512)], &[("refused 75\n", 1)], 0),
+    (
+        &[("FETCH 9\n", 1), ("x", 512)],
+        &[("refused 40\nrefused 75\n", 1)],
+        1,
+    ),
+    (&[("x", 510), ("\r\n", 1)], &[("refused 75\n", 1)], 0),
+    // 1,024 lines, and one more.
+    (&[("FETCH 9\n", 1_025)], &[("refused 40\n", 1_024)], 1_024),
+    (
+        &[("\n", 1_023), ("FETCH 9\nFETCH 9\n", 1)],
+        &[("refused 75\n", 1_023), ("refused 40\n", 1)],
+        1,
+    ),
+];
+
+/// The pieces in a row, each so many times.
+pub fn spelled(rt: &impl Abort, alloc: Global, pieces: &[(&str, usize)]) -> Vec<u8> {
+    let mut bytes = Vec::new(alloc);
+    for &(piece, times) in pieces {
+        for _ in 0..times {
+            bytes
+                .extend_from_slice(piece.as_bytes())
+                .expect(rt, "memory");
+        }
+    }
+    bytes
+}
+
+/// Line feeds without end.
+#[derive(Drop)]
+struct Endless;
+
+impl Read for Endless {
+    fn read(&mut self, buffer: &mut [u8]) -> io::Result<usize> {
+        for byte in buffer.iter_mut() {
+            *byte = b'\n';
+        }
+        Ok(buffer.len())
+    }
+}
+
+#[test]
+fn bounds_a_session_of_lines(rt: HostRuntime) {
+    for &(input, output, asked) in LONG {
+        let input = spelled(&rt, rt.alloc(), input);
+        let output = spelled(&rt, rt.alloc(), output);
+        for piece in [5, 100_000] {
+            let reader = Pieces::new(input.as_slice(), piece);
+            expect_answered(&rt, rt.alloc(), reader, output.as_slice(), asked);
+        }
+    }
+    let output = spelled(&rt, rt.alloc(), &[("refused 75\n", 1_024)]);
+    expect_answered(&rt, rt.alloc(), Endless, output.as_slice(), 0);
+}

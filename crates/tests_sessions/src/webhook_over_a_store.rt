@@ -1,0 +1,100 @@
+//! Webhook sessions over a store that nobody else asks.
+
+use crate::webhook_fakes::{Bounded, Pieces};
+use crate::webhook_rows::{CREATED, EVENT};
+use act_desk::Alone;
+use act_disk::MemoryDisk;
+use act_sessions::{Ending, SessionFault, Transcript};
+use act_store::Store;
+use std::alloc::Global;
+use std::process::Abort;
+use webhook_sessions::Session;
+
+type Lone = Alone<MemoryDisk>;
+
+fn empty_store(rt: &impl Abort, alloc: Global) -> Lone {
+    match Store::init(alloc, MemoryDisk::new(alloc), 65_536) {
+        Ok(store) => Alone::new(alloc, store),
+        Err(_) => panic!(rt; "a store is made"),
+    }
+}
+
+/// Holds a session over a store, with a writer that takes so many bytes, and gives what was written.
+fn held(
+    alloc: Global,
+    alone: &mut Lone,
+    input: &str,
+    taken: usize,
+) -> (Result<Transcript, SessionFault>, Vec<u8>) {
+    let mut reader = Pieces::new(input.as_bytes(), 50);
+    let mut writer = Bounded::new(alloc, taken);
+    let ended = Session::run(alloc, &mut reader, &mut writer, alone);
+    (ended, writer.bytes)
+}
+
+/// An event, and then a look, a body, a wrong method, no path and no run.
+const REQUESTS: &str = concat!(
+    "POST /events HTTP/1.1\r\n",
+    "Host: x\r\n",
+    "X-GitHub-Delivery: d1\r\n",
+    "X-GitHub-Event: push\r\n",
+    "Content-Length: 81\r\n",
+    "\r\n",
+    "{\"repo\":\"o/r\",\"path\":\"ci.json\",\"workflow\":{\"jobs\":{\"build\":{\"runs-on\":\"linux\"}}}}",
+    "GET /runs/1 HTTP/1.1\r\n\r\n",
+    "GET /runs/1/body HTTP/1.1\r\n\r\n",
+    "POST /runs/1 HTTP/1.1\r\n\r\n",
+    "GET /runs/0 HTTP/1.1\r\n\r\n",
+    "POST /runs/9/cancel HTTP/1.1\r\n\r\n",
+);
+
+const ANSWERS: &str = concat!(
+    "HTTP/1.1 201 Created\r\nContent-Type: text/plain\r\nContent-Length: 10\r\n\r\ncreated 1\n",
+    "HTTP/1.1 200 OK\r\nContent-Type: text/plain\r\nContent-Length: 35\r\n\r\nrun 1 1 queued - build:open(ready)\n",
+    "HTTP/1.1 200 OK\r\nContent-Type: application/json\r\nContent-Length: 81\r\n\r\n",
+    "{\"repo\":\"o/r\",\"path\":\"ci.json\",\"workflow\":{\"jobs\":{\"build\":{\"runs-on\":\"linux\"}}}}",
+    "HTTP/1.1 405 Method Not Allowed\r\nContent-Type: text/plain\r\nContent-Length: 11\r\nAllow: GET\r\n\r\nrefused 73\n",
+    "HTTP/1.1 404 Not Found\r\nContent-Type: text/plain\r\nContent-Length: 11\r\n\r\nrefused 72\n",
+    "HTTP/1.1 404 Not Found\r\nContent-Type: text/plain\r\nContent-Length: 11\r\n\r\nrefused 40\n",
+);
+
+#[test]
+fn answers_from_a_store(rt: HostRuntime) {
+    let mut alone = empty_store(&rt, rt.alloc());
+    let (ended, written) = held(rt.alloc(), &mut alone, REQUESTS, usize::MAX);
+    assert!(rt; ended.is_ok());
+    assert!(rt; written.as_slice() == ANSWERS.as_bytes(), "{written:?}");
+    // The wrong method and the path that names nothing were not asked.
+    assert!(rt; alone.into_store().entries() == 4);
+}
+
+/// That the writer failed after what was written, with one command asked.
+fn expect_broken(rt: &impl Abort, ended: Result<Transcript, SessionFault>) {
+    match ended {
+        Ok(_) => panic!(rt; "the writer fails"),
+        Err(fault) => {
+            assert!(rt; fault.transcript.ending == Ending::Broken);
+            assert!(rt; fault.transcript.written == 7 && fault.transcript.asked.len() == 1);
+        }
+    }
+}
+
+#[test]
+fn answers_an_event_again_whose_answer_was_lost(rt: HostRuntime) {
+    let mut alone = empty_store(&rt, rt.alloc());
+    let (ended, written) = held(rt.alloc(), &mut alone, EVENT, 7);
+    assert!(rt; written.as_slice() == b"HTTP/1.".as_slice());
+    expect_broken(&rt, ended);
+    let store = alone.into_store();
+    assert!(rt; store.entries() == 1 && store.covered() == 1);
+
+    let mut again = Alone::new(rt.alloc(), store);
+    let (ended, written) = held(rt.alloc(), &mut again, EVENT, usize::MAX);
+    assert!(rt; ended.is_ok() && written.as_slice() == CREATED.as_bytes());
+    let store = again.into_store();
+    assert!(rt; store.entries() == 2 && store.covered() == 2);
+    assert!(rt;
+        store.look(run_plan::Number::new(2)).is_none(),
+        "the table is as it was"
+    );
+}
