@@ -1,0 +1,257 @@
+//! Checkpoints beside seats and sessions.
+ghost use Rattle.std.specs.Prelude.{◌≡◌, []};
+
+use crate::holds::holds;
+use crate::lines::{Session, session, settled};
+use crate::stores::{command, expect_answer, made_in_memory};
+use act_desk::{Desk, Free, Ledgers, Named, Pending, Seat, Settled, flusher, serve_all};
+use act_disk::MemoryDisk;
+use act_sessions::{Ending, Transcript};
+use act_store::Store;
+use std::alloc::Global;
+use std::marker::Brand;
+use std::process::Abort;
+use std::sync::ledger::Ledger;
+use std::sync::{Mutex, Wait};
+use std::thread::Threads;
+use std::time::Clock;
+use tests_common::commands::Words;
+
+/// The gate of an area that is open, and where the second one's is in areas of 4,096 bytes.
+const OPEN: u8 = 0xA5;
+
+const SECOND: usize = 4_096;
+
+/// What a session asks of a run that is not there, as a line, and what it is answered.
+const FETCH: &str = "FETCH 9\n";
+
+const REFUSED: &str = "refused 40\n";
+
+fn enter<E: Named, T: Ledger>(
+    rt: &(impl Wait + Abort),
+    alloc: Global,
+    desk: &Desk<MemoryDisk, E, T>,
+    seat: &mut Seat<E, T>,
+) -> Pending<E> {
+    let look = command(rt, alloc, &Words::Look("1"));
+    desk.enter(rt, alloc, seat, look).expect(rt, "entered")
+}
+
+/// Enters a look-up of a run that is not there, and covers it.
+fn look<E: Named, T: Ledger>(
+    rt: &(impl Wait + Abort),
+    alloc: Global,
+    desk: &Desk<MemoryDisk, E, T>,
+    seat: &mut Seat<E, T>,
+) {
+    let pending = enter(rt, alloc, desk, seat);
+    let answer = desk.cover(rt, seat, pending);
+    expect_answer(rt, alloc, &answer, "refused 40");
+}
+
+/// A seat that makes so many look-ups.
+fn looked<E: Named, T: Ledger>(
+    rt: &(impl Wait + Abort),
+    alloc: Global,
+    desk: &Desk<MemoryDisk, E, T>,
+    count: u64,
+) -> Seat<E, T> {
+    let mut seat = desk.seat(rt).expect(rt, "a seat");
+    for _ in 0..count {
+        look(rt, alloc, desk, &mut seat);
+    }
+    seat
+}
+
+/// How many checkpoints a flusher finishes that is told to stop from the start.
+fn flushed<E: Named, T: Ledger>(
+    rt: &(impl Wait + Clock + Abort),
+    alloc: Global,
+    desk: &Desk<MemoryDisk, E, T>,
+) -> u64 {
+    flusher(rt, alloc, desk, &Mutex::new(true)).expect(rt, "no fault")
+}
+
+/// That the gate of the second area is open, or that it is not.
+fn expect_second(rt: &impl Abort, store: Store<MemoryDisk>, open: bool) {
+    let disk = store.into_disk();
+    let bytes = disk.bytes();
+    holds!(rt; bytes.len() == 2 * SECOND);
+    holds!(rt; (bytes[SECOND] == OPEN) == open);
+}
+
+/// A full area: a flusher that may begin one checkpoint finishes it, and the next one finds room.
+fn stops_at_once<E: Named, T: Ledger, R: Wait + Clock + Abort>(
+    rt: &R,
+    alloc: Global,
+    ledgers: Ledgers,
+)
+    requires entries { (ledgers.entries.name ≡ E.name) × (E.parts ≡ 64) }
+    requires replies { (ledgers.replies.name ≡ T.name) × (T.parts ≡ 64) }
+    requires history { ledgers.history.seen.book ≡ E.book }
+{
+    let desk: Desk<MemoryDisk, E, T> = Desk::new(made_in_memory(rt, alloc), ledgers);
+    let seat = looked(rt, alloc, &desk, 282);
+    holds!(rt; flushed(rt, alloc, &desk) == 1);
+    holds!(rt; flushed(rt, alloc, &desk) == 0);
+    holds!(rt; desk.give_back(seat) == (282, 282));
+    let store = desk.into_store();
+    holds!(rt; store.entries() == 282 && store.covered() == 282);
+    expect_second(rt, store, true);
+}
+
+#[test]
+fn a_flusher_finishes_one_checkpoint_of_a_full_area(rt: HostRuntime) {
+    stops_at_once::<Brand, Brand, HostRuntime>(&rt, rt.alloc(), Ledgers::new());
+}
+
+/// More than half of the area is left: no checkpoint is begun. 144 look-ups leave 2,044 bytes of 4,096 for the next record, 143 leave 2,058.
+fn begins_at_half<E: Named, T: Ledger, R: Wait + Clock + Abort>(
+    rt: &R,
+    alloc: Global,
+    ledgers: Ledgers,
+)
+    requires entries { (ledgers.entries.name ≡ E.name) × (E.parts ≡ 64) }
+    requires replies { (ledgers.replies.name ≡ T.name) × (T.parts ≡ 64) }
+    requires history { ledgers.history.seen.book ≡ E.book }
+{
+    let desk: Desk<MemoryDisk, E, T> = Desk::new(made_in_memory(rt, alloc), ledgers);
+    let mut seat = looked(rt, alloc, &desk, 143);
+    holds!(rt; flushed(rt, alloc, &desk) == 0);
+    look(rt, alloc, &desk, &mut seat);
+    holds!(rt; flushed(rt, alloc, &desk) == 1);
+    holds!(rt; desk.give_back(seat) == (144, 144));
+    let _store = desk.into_store();
+}
+
+#[test]
+fn a_flusher_begins_at_half_of_the_area(rt: HostRuntime) {
+    begins_at_half::<Brand, Brand, HostRuntime>(&rt, rt.alloc(), Ledgers::new());
+}
+
+/// A checkpoint covers an entry that waits for its reply, which is then given without a call of the disk.
+fn covers_what_waits<E: Named, T: Ledger, R: Wait + Clock + Abort>(
+    rt: &R,
+    alloc: Global,
+    ledgers: Ledgers,
+) -> MemoryDisk
+    requires entries { (ledgers.entries.name ≡ E.name) × (E.parts ≡ 64) }
+    requires replies { (ledgers.replies.name ≡ T.name) × (T.parts ≡ 64) }
+    requires history { ledgers.history.seen.book ≡ E.book }
+{
+    let desk: Desk<MemoryDisk, E, T> = Desk::new(made_in_memory(rt, alloc), ledgers);
+    let mut seat = looked(rt, alloc, &desk, 150);
+    let pending = enter(rt, alloc, &desk, &mut seat);
+    holds!(rt; flushed(rt, alloc, &desk) == 1);
+    let answer = desk.cover(rt, &mut seat, pending);
+    expect_answer(rt, alloc, &answer, "refused 40");
+    holds!(rt; desk.give_back(seat) == (151, 151));
+    let store = desk.into_store();
+    holds!(rt; store.covered() == 151);
+    store.into_disk()
+}
+
+/// The calls of the making, of 150 commits of four calls each, and of the checkpoint: its slice, its last record with a sync, its gate, and a
+/// sync. The other gate was closed.
+#[test]
+fn a_flusher_covers_what_waits(rt: HostRuntime) {
+    let alloc = rt.alloc();
+    let made = made_in_memory(&rt, alloc).into_disk().calls().len();
+    let disk = covers_what_waits::<Brand, Brand, HostRuntime>(&rt, alloc, Ledgers::new());
+    let calls = disk.calls().len();
+    holds!(rt; made <= calls);
+    holds!(rt; calls - made == 150 * 4 + 1 + 4);
+}
+
+/// So many lines that ask for a run which is not there.
+fn fetches(rt: &impl Abort, alloc: Global, count: u64) -> Vec<u8> {
+    let mut bytes = Vec::new(alloc);
+    for _ in 0..count {
+        bytes
+            .extend_from_slice(FETCH.as_bytes())
+            .expect(rt, "memory");
+    }
+    bytes
+}
+
+/// So many sessions, each of these lines.
+fn sessions<'a>(rt: &impl Abort, alloc: Global, count: u64, lines: &'a [u8]) -> Vec<Session<'a>> {
+    let mut works = Vec::new(alloc);
+    for _ in 0..count {
+        works.push(session(alloc, lines)).expect(rt, "memory");
+    }
+    works
+}
+
+/// That a session has ended, with so many answers, each that there is no such run.
+fn expect_refused(rt: &impl Abort, alloc: Global, transcript: &Transcript, count: u64) {
+    holds!(rt; transcript.ending == Ending::Done);
+    holds!(rt; transcript.asked.len() as u64 == count);
+    holds!(rt; transcript.written / REFUSED.len() as u64 == count);
+    for one in transcript.asked.iter() {
+        expect_answer(rt, alloc, &one.answer, "refused 40");
+    }
+}
+
+/// That each of so many sessions, of so many lines each, is answered whole. It gives the settled store.
+fn serve<R: Threads + Wait + Clock + Abort + Sync>(
+    rt: &R,
+    alloc: Global,
+    store: Store<MemoryDisk>,
+    count: u64,
+    lines: u64,
+) -> Store<MemoryDisk>
+    requires empty { store.history ≡ [] }
+{
+    let bytes = fetches(rt, alloc, lines);
+    let works = sessions(rt, alloc, count, bytes.as_slice());
+    holds!(rt; !works.is_empty() && works.len() <= 64);
+    let Settled { store, transcripts } = settled(rt, serve_all(rt, alloc, store, works, &Free));
+    holds!(rt; transcripts.len() as u64 == count);
+    for transcript in transcripts.iter() {
+        expect_refused(rt, alloc, transcript, lines);
+    }
+    store
+}
+
+/// A service begins a checkpoint beside its sessions, and finishes it before it settles.
+#[test]
+fn a_service_has_a_flusher(rt: HostRuntime) {
+    let alloc = rt.alloc();
+    let store = serve(&rt, alloc, made_in_memory(&rt, alloc), 1, 200);
+    holds!(rt; store.entries() == 200 && store.covered() == 200);
+    expect_second(&rt, store, true);
+}
+
+/// Sessions and a flusher at one desk: all are answered, whoever covers what.
+#[test]
+fn sessions_share_a_desk_with_a_flusher(rt: HostRuntime) {
+    let alloc = rt.alloc();
+    let store = serve(&rt, alloc, made_in_memory(&rt, alloc), 8, 34);
+    holds!(rt; store.entries() == 272 && store.covered() == 272);
+    let _disk = store.into_disk();
+}
+
+/// A settled store whose history begins anew.
+fn turned_over(rt: &impl Abort, alloc: Global, store: Store<MemoryDisk>) -> Store<MemoryDisk>
+    ensures { result.history ≡ [] }
+{
+    let mut store = store;
+    match store.turn_over(alloc) {
+        Ok(()) => store,
+        Err(refusal) => panic!(rt; "not turned over: {refusal}"),
+    }
+}
+
+/// A settled store turns over: its history is empty, and it is served again.
+#[test]
+fn a_settled_store_is_served_again(rt: HostRuntime) {
+    let alloc = rt.alloc();
+    let store = serve(&rt, alloc, made_in_memory(&rt, alloc), 2, 100);
+    holds!(rt; store.entries() == 200);
+    let store = turned_over(&rt, alloc, store);
+    holds!(rt; store.entries() == 0 && store.covered() == 0);
+    let store = serve(&rt, alloc, store, 2, 100);
+    holds!(rt; store.entries() == 200 && store.covered() == 200);
+    expect_second(&rt, store, true);
+}

@@ -1,0 +1,19 @@
+//! Tests of the desk: seats that share a store, and sessions in threads. Nothing stands on this crate.
+#![tactic(auto)]
+
+#[cfg(test)]
+mod alone;
+#[cfg(test)]
+mod flusher;
+#[cfg(test)]
+mod gates;
+#[cfg(test)]
+mod holds;
+#[cfg(test)]
+mod lines;
+#[cfg(test)]
+mod seats;
+#[cfg(test)]
+mod sessions;
+#[cfg(test)]
+mod stores;

@@ -1,0 +1,81 @@
+//! Sessions in threads.
+
+use crate::gates::Meeting;
+use crate::holds::holds;
+use crate::lines::{Session, session, settled};
+use crate::stores::{expect_answer, expect_entry, made, made_in_memory};
+use act_desk::serve_all;
+use act_disk::{FuseDisk, MemoryDisk};
+use act_sessions::{Ending, Transcript};
+use std::alloc::Global;
+use std::process::Abort;
+
+/// A session of each of these lines.
+fn works<'a>(rt: &impl Abort, alloc: Global, lines: &[&'a str]) -> Vec<Session<'a>> {
+    let mut works = Vec::new(alloc);
+    for line in lines {
+        works
+            .push(session(alloc, line.as_bytes()))
+            .expect(rt, "memory");
+    }
+    works
+}
+
+/// The number of the one answer of a session, and 0 for a reply.
+fn number_of(rt: &impl Abort, transcript: &Transcript) -> u64 {
+    holds!(rt; transcript.asked.len() == 1);
+    match &transcript.asked[0].answer {
+        Ok(_) => 0,
+        Err(refusal) => refusal.number(),
+    }
+}
+
+/// Both first calls are held until both sessions have come, and that of the first until the second was answered: sessions are not served one
+/// after another, and no lock is held while one waits.
+#[test]
+fn sessions_overlap(rt: HostRuntime) {
+    let alloc = rt.alloc();
+    let works = works(&rt, alloc, &["CLAIM r1 1 linux\n", "FETCH 9\n"]);
+    let gate = Meeting::new(&rt, 2, true);
+    holds!(rt; works.len() == 2);
+    let store = made_in_memory(&rt, alloc);
+    let settled = settled(&rt, serve_all(&rt, alloc, store, works, &gate));
+    holds!(rt; gate.was_held());
+    holds!(rt; settled.transcripts.len() == 2);
+    for (place, want) in [(0, "nothing"), (1, "refused 40")] {
+        let transcript = &settled.transcripts[place];
+        holds!(rt; transcript.ending == Ending::Done && transcript.asked.len() == 1);
+        expect_answer(&rt, alloc, &transcript.asked[0].answer, want);
+    }
+    holds!(rt; settled.store.entries() == 2 && settled.store.covered() == 2);
+    expect_entry(&rt, alloc, &settled.store, 1, (1, "refused 40"));
+    expect_entry(&rt, alloc, &settled.store, 2, (0, "nothing"));
+}
+
+/// How many calls of the disk the making of a store takes.
+const CALLS_OF_MAKING: u64 = 6;
+
+/// The first write of a commit fails. Who led it is refused with 51, and each other session with 52, also one that slept until then.
+#[test]
+fn sleepers_wake_when_their_leader_is_refused(rt: HostRuntime) {
+    let alloc = rt.alloc();
+    let works = works(&rt, alloc, &["FETCH 1\n", "FETCH 2\n", "FETCH 3\n"]);
+    let gate = Meeting::new(&rt, 3, false);
+    holds!(rt; works.len() == 3);
+    let disk = FuseDisk::once(MemoryDisk::new(alloc), CALLS_OF_MAKING);
+    let store = made(&rt, alloc, disk);
+    let settled = settled(&rt, serve_all(&rt, alloc, store, works, &gate));
+    holds!(rt; gate.was_held());
+    let mut led: u64 = 0;
+    let mut others: u64 = 0;
+    for transcript in settled.transcripts.iter() {
+        match number_of(&rt, transcript) {
+            51 => led = led.saturating_add(1),
+            52 => others = others.saturating_add(1),
+            _ => {}
+        }
+    }
+    holds!(rt; led == 1 && others == 2);
+    holds!(rt; settled.store.covered() == 0);
+    let _disk = settled.store.into_disk();
+}

@@ -1,0 +1,60 @@
+//! Stores of the tests, and what they are asked.
+ghost use Rattle.std.specs.Prelude.{◌≡◌, []};
+
+use crate::holds::{expect_text, holds};
+use act_disk::{Disk, MemoryDisk};
+use act_store::Store;
+use run_plan::{Command, Reply};
+use std::alloc::Global;
+use std::process::Abort;
+use tests_common::commands::{Words, command_of};
+use wf_value::Refusal;
+
+/// The body of an event of one job, `build`.
+pub const BUILD: &str =
+    "{\"repo\":\"o/r\",\"path\":\"ci.json\",\"workflow\":{\"jobs\":{\"build\":{\"runs-on\":\"linux\"}}}}";
+
+/// A new store on a disk, in areas of 4,096 bytes.
+pub fn made<D: Disk>(rt: &impl Abort, alloc: Global, disk: D) -> Store<D>
+    ensures { result.history ≡ [] }
+{
+    holds!(rt; disk.faults() < u64::MAX);
+    match Store::init(alloc, disk, 4_096) {
+        Ok(store) => store,
+        Err((_disk, refusal)) => panic!(rt; "not made: {refusal}"),
+    }
+}
+
+/// A new store in memory.
+pub fn made_in_memory(rt: &impl Abort, alloc: Global) -> Store<MemoryDisk>
+    ensures { result.history ≡ [] }
+{
+    made(rt, alloc, MemoryDisk::new(alloc))
+}
+
+pub fn command(rt: &impl Abort, alloc: Global, words: &Words<'_>) -> Command {
+    command_of(alloc, words).expect(rt, "a command")
+}
+
+/// That an answer prints so.
+pub fn expect_answer(rt: &impl Abort, alloc: Global, answer: &Result<Reply, Refusal>, want: &str) {
+    let text = match answer {
+        Ok(reply) => reply.text(alloc),
+        Err(refusal) => refusal.text(alloc),
+    };
+    expect_text(rt, text.expect(rt, "memory").as_str(), want);
+}
+
+/// That the entry at a place is of a seat, with a reply that prints so.
+pub fn expect_entry<D: Disk>(
+    rt: &impl Abort,
+    alloc: Global,
+    store: &Store<D>,
+    place: u64,
+    (seat, want): (u64, &str),
+) {
+    let entry = store.entry(place).expect(rt, "an entry");
+    holds!(rt; entry.seat == seat, place);
+    let text = entry.reply.text(alloc).expect(rt, "memory");
+    expect_text(rt, text.as_str(), want);
+}
