@@ -3,7 +3,7 @@
 ACTS := crates/acts/out/acts
 FIRST := crates/first_run
 
-.PHONY: first-run test build example bench gate sweep wrong-bodies definitions
+.PHONY: first-run test build example serve-example bench gate sweep wrong-bodies tested-bodies definitions
 
 # Plays the example by a trial run, and prints each line of the script with its answer. A trial interprets the program first, which ends
 # without an answer where this one reads; so that takes one step here in place of some seconds, and the compiled program answers as before.
@@ -21,13 +21,20 @@ build:
 example: build
 	$(ACTS) play < examples/fan_out_fan_in.script | diff - examples/fan_out_fan_in.answers
 
-# The merge gate: every proof, but for what an earlier run on this machine has passed; the must-fail edits, the tests and the stored runs.
-# By itself `rt ci` keeps memory free for a check by the length of its crate, more than it takes, and so a processor waits. Here each
-# processor has a check, as far as there are 5 GB for it. CRATES="NAME .." tries these alone, with those below them.
+# The quick start by a trial run, on free ports of this machine: an event is posted by curl, two runners work, and what is printed is
+# compared. Needs bash, curl and jq, and says so where they are not here. `examples/serve_example $(ACTS)` plays it with the proved program.
+serve-example:
+	examples/serve_example
+
+# The merge gate: every proof, but for what an earlier run on this machine has passed; the must-fail edits, the tests and the stored runs;
+# and then the quick start, by a trial run. By itself `rt ci` keeps memory free for a check by the length of its crate, more than it takes,
+# and so a processor waits. Here each processor has a check, as far as there are 5 GB for it. CRATES="NAME .." tries these alone, with
+# those below them.
 LANES ?= $(shell awk -v most="$$(nproc)" '/^MemAvailable/ { held = int($$2 / 5000000); print held < 1 ? 1 : held < most ? held : most }' /proc/meminfo)
 
 test:
 	RT_JOBS=$(LANES) rt ci $(CRATES)
+	$(if $(CRATES),,examples/serve_example)
 
 # Commands per second over growing tables.
 bench: build
@@ -40,6 +47,10 @@ sweep: build
 # The wrong bodies beyond those of the gate: of each crate, of CRATE, or the one of CRATE=NAME/EDIT.
 wrong-bodies:
 	sweeps/wrong_bodies/run $(CRATE)
+
+# The wrong bodies that no contract can refuse: the tests have to. Of the tests of CRATE, or the one of CRATE=NAME/EDIT.
+tested-bodies:
+	sweeps/tested_bodies/run $(CRATE)
 
 # The changed definitions that a law or a row has to refuse; of CRATE, or the one of CRATE=NAME/EDIT.
 definitions:

@@ -4,5 +4,5 @@
 use std::process::ExitCode;
 
 fn main(rt: HostRuntime) -> ExitCode {
-    acts_cli::run(&rt)
+    acts_cli::run(&rt, &rt)
 }

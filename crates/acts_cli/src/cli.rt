@@ -1,16 +1,22 @@
-ghost use Rattle.std.specs.Prelude.{◌≤◌};
+ghost use Rattle.std.specs.Prelude.{◌≡◌, ◌<◌, ◌≤◌, [], IfOk};
 
 use crate::explain::{Explanation, explanation_of, numbers};
-use act_disk::{Empty, FileDisk, HostFile};
+use act_disk::{Empty, FileDisk, HostFile, MemoryDisk};
+use act_store::Store;
 use acts_ops::{run_check, run_init, run_script, run_show};
+use acts_serve::serve_rounds;
 use clap::builder::ValueParser;
 use clap::error::ErrorKind;
 use clap::{Arg, ArgMatches, Command, Error};
 use std::alloc::{AllocError, Global};
 use std::fs::{File, Files};
 use std::io::{BufWriter, Printer};
+use std::net::{Net, TcpListener, TcpStream};
 use std::process::ExitCode;
 use std::rt::Env;
+use std::sync::Wait;
+use std::thread::Threads;
+use std::time::Clock;
 use std::{env, io};
 use wf_value::{Code, Refusal};
 
@@ -25,6 +31,12 @@ const MOST_AREA: u64 = 1_073_741_824;
 /// A disk over a file of the system. `Empty` stands for what the file held when it was opened, of which only clauses could
 /// speak: nothing here does.
 type RealDisk = FileDisk<HostFile<Empty>>;
+
+/// The last port.
+const MOST_PORT: u64 = 65_535;
+
+/// The most sessions of a port.
+const MOST_SESSIONS: u64 = 32;
 
 /// How long each area of a new store is to be, in bytes.
 #[derive(Drop)]
@@ -43,6 +55,33 @@ impl AreaLength {
     }
 }
 
+/// How many sessions each port of a service takes.
+#[derive(Drop)]
+struct Sessions {
+    count: u64,
+    ghost some: { 0 < count },
+    ghost most: { count ≤ 32 },
+}
+
+impl Sessions {
+    fn of(count: u64) -> Option<Self> {
+        if count == 0 || count > MOST_SESSIONS {
+            return None;
+        }
+        Some(Sessions { count })
+    }
+}
+
+/// A store's file, the ports on which it is served, how many sessions each of them takes in a round, and how many rounds there are.
+#[derive(Drop)]
+struct Serving<'a> {
+    file: &'a str,
+    hook_port: u16,
+    runner_port: u16,
+    sessions: Sessions,
+    rounds: u64,
+}
+
 /// What the command line asks for.
 #[derive(Drop)]
 enum Request<'a> {
@@ -52,6 +91,7 @@ enum Request<'a> {
     Init(&'a str, AreaLength),
     /// The runs of the store in this file.
     Show(&'a str),
+    Serve(Serving<'a>),
     Explain(&'static Explanation),
 }
 
@@ -75,6 +115,43 @@ fn show_command<'a>(alloc: Global) -> Result<Command<'a>, AllocError> {
     Command::new(alloc, "show")
         .about("Prints the view of each run of the store in FILE")
         .arg(file)
+}
+
+/// A port of this machine, from 1 to 65,535.
+fn port_option<'a>(alloc: Global, name: &'a str) -> Arg<'a> {
+    Arg::new(alloc, name)
+        .long(name)
+        .required(true)
+        .value_name("PORT")
+        .value_parser(ValueParser::unsigned(1, MOST_PORT))
+}
+
+/// How many rounds of sessions there are: one, where nothing is said.
+fn rounds_option<'a>(alloc: Global) -> Arg<'a> {
+    Arg::new(alloc, "rounds")
+        .long("rounds")
+        .value_name("ROUNDS")
+        .default_value("1")
+        .value_parser(ValueParser::unsigned(1, u64::MAX))
+}
+
+/// `acts serve FILE --hook-port PORT --runner-port PORT --sessions COUNT`, and `--rounds ROUNDS` where it is wanted.
+fn serve_command<'a>(alloc: Global) -> Result<Command<'a>, AllocError> {
+    let file = Arg::new(alloc, "FILE").required(true);
+    let sessions = Arg::new(alloc, "sessions")
+        .long("sessions")
+        .required(true)
+        .value_name("COUNT")
+        .value_parser(ValueParser::unsigned(1, MOST_SESSIONS));
+    Command::new(alloc, "serve")
+        .about(
+            "Serves the store in FILE on 127.0.0.1: in each round COUNT sessions of HTTP on one port, and as many of runner lines on the other",
+        )
+        .arg(file)?
+        .arg(port_option(alloc, "hook-port"))?
+        .arg(port_option(alloc, "runner-port"))?
+        .arg(sessions)?
+        .arg(rounds_option(alloc))
 }
 
 /// `acts play`.
@@ -110,7 +187,8 @@ fn with_readers<'a>(alloc: Global, acts: Command<'a>) -> Result<Command<'a>, All
 /// Adds the subcommands over a store in a file.
 fn with_stores<'a>(alloc: Global, acts: Command<'a>) -> Result<Command<'a>, AllocError> {
     let acts = acts.subcommand(init_command(alloc)?)?;
-    acts.subcommand(show_command(alloc)?)
+    let acts = acts.subcommand(show_command(alloc)?)?;
+    acts.subcommand(serve_command(alloc)?)
 }
 
 /// Adds the subcommand that explains a refusal of one of these numbers.
@@ -150,6 +228,22 @@ fn show_of<'a>(matches: &ArgMatches<'a>) -> Option<Request<'a>> {
     Some(Request::Show(file))
 }
 
+/// The port that an option names.
+fn port_of(matches: &ArgMatches<'_>, name: &str) -> Option<u16> {
+    u16::try_from(matches.get_one::<u64>(name)?).ok()
+}
+
+/// What the words of `acts serve` ask for.
+fn serve_of<'a>(matches: &ArgMatches<'a>) -> Option<Request<'a>> {
+    Some(Request::Serve(Serving {
+        file: matches.get_str("FILE")?,
+        hook_port: port_of(matches, "hook-port")?,
+        runner_port: port_of(matches, "runner-port")?,
+        sessions: Sessions::of(matches.get_one::<u64>("sessions")?)?,
+        rounds: matches.get_one::<u64>("rounds")?,
+    }))
+}
+
 /// What the words of `acts explain` ask for.
 fn explain_of<'a>(matches: &ArgMatches<'a>) -> Option<Request<'a>> {
     let explanation = explanation_of(matches.get_str("NUMBER")?)?;
@@ -163,6 +257,7 @@ fn request_of<'a>(matches: &ArgMatches<'a>) -> Option<Request<'a>> {
         Some(("check", _)) => Some(Request::Check),
         Some(("init", matches)) => init_of(matches),
         Some(("show", matches)) => show_of(matches),
+        Some(("serve", matches)) => serve_of(matches),
         Some(("explain", matches)) => explain_of(matches),
         _ => None,
     }
@@ -199,7 +294,8 @@ fn output<R: Print + AllocGlobal>(rt: &R) -> Result<BufWriter<Printer<'_, R>>, R
 
 /// Plays the script on standard input to standard output.
 fn play<R: Input + Print + AllocGlobal>(rt: &R) -> Result<(), Refusal> {
-    run_script(rt.alloc(), &mut rt.reader(), &mut output(rt)?)
+    let disk = MemoryDisk::new(rt.alloc());
+    run_script(rt.alloc(), disk, &mut rt.reader(), &mut output(rt)?).1
 }
 
 /// Checks the workflow on standard input, and prints its legs to standard output.
@@ -214,13 +310,60 @@ fn init<R: Print + Files<File = File> + AllocGlobal>(
     area: AreaLength,
 ) -> Result<(), Refusal> {
     let disk: RealDisk = FileDisk::create(rt, file)?;
-    run_init(rt.alloc(), disk, area.bytes, &mut output(rt)?)
+    run_init(rt.alloc(), disk, area.bytes, &mut output(rt)?).1
 }
 
 /// Shows the runs of the store in a file.
 fn show<R: Print + Files<File = File> + AllocGlobal>(rt: &R, file: &str) -> Result<(), Refusal> {
     let disk: RealDisk = FileDisk::open(rt, file)?;
-    run_show(rt.alloc(), disk, &mut output(rt)?)
+    run_show(rt.alloc(), disk, &mut output(rt)?).1
+}
+
+/// The store in a file.
+fn opened<R: Files<File = File> + AllocGlobal>(
+    rt: &R,
+    file: &str,
+) -> Result<Store<RealDisk>, Refusal>
+    ensures { IfOk result (λ store. store.history ≡ []) }
+{
+    let disk: RealDisk = FileDisk::open(rt, file)?;
+    match Store::open(rt.alloc(), disk) {
+        Ok(store) => Ok(store),
+        Err((_, refusal)) => Err(refusal),
+    }
+}
+
+/// A listener on a port of this machine alone. One that can't be had is 61.
+fn listener<S: Net<Listener = TcpListener, Stream = TcpStream>>(
+    system: &S,
+    port: u16,
+) -> Result<TcpListener, Refusal> {
+    TcpListener::bind(system, ("127.0.0.1", port)).map_err(|_| Refusal::Numbered(
+        Code::StreamFailed,
+    ))
+}
+
+/// Serves the store in a file on two ports.
+fn serve<
+    R: Print + Files<File = File> + AllocGlobal,
+    S: Threads + Wait + Clock + Sync + Net<Listener = TcpListener, Stream = TcpStream>,
+>(rt: &R, system: &S, serving: &Serving<'_>) -> Result<(), Refusal> {
+    let store = opened(rt, serving.file)?;
+    let hooks = listener(system, serving.hook_port)?;
+    let runners = listener(system, serving.runner_port)?;
+    let mut out = output(rt)?;
+    let sessions = serving.sessions.count;
+    serve_rounds(
+        system,
+        rt.alloc(),
+        store,
+        &hooks,
+        &runners,
+        sessions,
+        serving.rounds,
+        &mut out,
+    )?;
+    Ok(())
 }
 
 /// Prints the text of `clap`, and gives its status: 0 for a help text, and 2 for a fault.
@@ -239,9 +382,10 @@ fn print_line<R: Print>(rt: &R, explanation: &Explanation) -> Result<(), Refusal
         .map_err(|_| Refusal::Numbered(Code::StreamFailed))
 }
 
-fn obey<R: Input + Print + Eprint + Env + Files<File = File> + AllocGlobal>(
-    rt: &R,
-) -> Result<u8, Refusal> {
+fn obey<
+    R: Input + Print + Eprint + Env + Files<File = File> + AllocGlobal,
+    S: Threads + Wait + Clock + Sync + Net<Listener = TcpListener, Stream = TcpStream>,
+>(rt: &R, system: &S) -> Result<u8, Refusal> {
     let words = words(rt)?;
     let numbers = numbers(rt.alloc())?;
     match parse(rt.alloc(), numbers.as_slice(), words.as_slice()) {
@@ -249,16 +393,21 @@ fn obey<R: Input + Print + Eprint + Env + Files<File = File> + AllocGlobal>(
         Ok(Request::Check) => check(rt)?,
         Ok(Request::Init(file, area)) => init(rt, file, area)?,
         Ok(Request::Show(file)) => show(rt, file)?,
+        Ok(Request::Serve(serving)) => serve(rt, system, &serving)?,
         Ok(Request::Explain(explanation)) => print_line(rt, explanation)?,
         Err(error) => return tell(rt, &error),
     }
     Ok(0)
 }
 
-/// Does what the command line asks. The status is 0, also after a help text; 1 after a refusal, which
-/// stands on standard error as `acts: refused N`; and 2 after a fault of the command line there.
-pub fn run<R: Input + Print + Eprint + Env + Files<File = File> + AllocGlobal>(rt: &R) -> ExitCode {
-    match obey(rt) {
+/// Does what the command line asks: its words, streams and files are those of `rt`, its threads and ports those of `system`. The
+/// status is 0, also after a help text; 1 after a refusal, which stands on standard error as `acts: refused N`; and 2 after a fault of
+/// the command line there.
+pub fn run<
+    R: Input + Print + Eprint + Env + Files<File = File> + AllocGlobal,
+    S: Threads + Wait + Clock + Sync + Net<Listener = TcpListener, Stream = TcpStream>,
+>(rt: &R, system: &S) -> ExitCode {
+    match obey(rt, system) {
         Ok(status) => ExitCode::from(status),
         Err(refusal) => {
             let _ = rt.eprintln(format_args!("acts: {refusal}"));

@@ -132,7 +132,7 @@ static OF_WORKFLOWS: [Explanation; 17] = [
 ];
 
 /// What the run table refuses a command for.
-static OF_COMMANDS: [Explanation; 8] = [
+static OF_COMMANDS: [Explanation; 9] = [
     Explanation {
         number: "40",
         meaning: "there is no run with this id",
@@ -174,8 +174,16 @@ static OF_COMMANDS: [Explanation; 8] = [
     Explanation {
         number: "46",
         meaning: "the history has 100,000 entries; refused commands and look-ups are entries too",
-        input: "the 100,001st command of a script",
-        remedy: "part the script in two",
+        input: "the 100,001st command of a script, or of a round of a service",
+        remedy: "part the script in two; a client of a service opens a new session in the next round, and sends the same \
+            again",
+    },
+    Explanation {
+        number: "47",
+        meaning: "the record of the command does not fit the area of the store's file",
+        input: "look 1 and commit, 283 times each, and then an admit, over areas of 4,096 bytes",
+        remedy: "make a new store with larger areas by acts init; a client opens a new session once the service runs over it, and \
+            sends the same again",
     },
     Explanation {
         number: "48",
@@ -191,20 +199,23 @@ static OF_STORES: [Explanation; 6] = [
         number: "50",
         meaning: "memory was refused, and what was asked was not done",
         input: "any, on a machine that has no memory left",
-        remedy: "free memory, and ask again: the table is as it was",
+        remedy: "free memory, and ask again: the table is as it was; a client of a service opens a new session, and sends \
+            the same again: a delivery makes one run, and a runner's last number gets its reply again",
     },
     Explanation {
         number: "51",
         meaning: "a read, a write or a sync of the disk failed in this call",
         input: "acts init FILE 4096, on a file system that is full",
         remedy: "see what is wrong with the disk; that of a script is in memory, and fails where memory is \
-            refused to it",
+            refused to it. A client of a service does not know whether its command stands: once the service has been started \
+            again it opens a new session, and sends the same again",
     },
     Explanation {
         number: "52",
         meaning: "the disk failed in an earlier call, and nothing is known of what it took",
         input: "any command of a script, after a commit was answered 51",
-        remedy: "free memory, and play the script again: its store is in memory, and ends with it",
+        remedy: "free memory, and play the script again: its store is in memory, and ends with it. A service is started again, which \
+            opens its file anew; then a client opens a new session, and sends the same again",
     },
     Explanation {
         number: "53",
@@ -226,21 +237,68 @@ static OF_STORES: [Explanation; 6] = [
     },
 ];
 
-/// What the program's input and output are refused for.
-static OF_INPUT: [Explanation; 3] = [
+/// What streams, files and ports, and what is answered on them, fail with.
+static OF_STREAMS: [Explanation; 2] = [
     Explanation {
-        number: "61",
-        meaning: "an input or an output failed",
-        input: "acts play < script > /dev/full",
-        remedy: "see whether the disk is full, or the other end of a pipe has gone; a part of the \
-            answers may have been written",
+        number: "60",
+        meaning: "what the sessions were answered is not what the history holds, or an answer had to be held back for that",
+        input: "none that is known: it would be a fault of the program",
+        remedy: "keep the file as it is, and start the service again, which opens it: a client opens a new session and sends the \
+            same again",
     },
     Explanation {
+        number: "61",
+        meaning: "an input, an output, a file, a port or a stream failed",
+        input: "acts play < script > /dev/full",
+        remedy: "see whether the disk is full, the other end of a pipe or stream has gone, the file is there, or another program \
+            has the port; a part of the answers may have been written",
+    },
+];
+
+/// What a service refuses a request of HTTP for before it is a command.
+static OF_REQUESTS: [Explanation; 5] = [
+    Explanation {
+        number: "70",
+        meaning: "the bytes are no head of an HTTP/1.1 request, or the head has over 64 headers or over 8,192 bytes",
+        input: "a request whose first byte is 00",
+        remedy: "send fewer and shorter headers; the session has ended, so open a new one for the next request",
+    },
+    Explanation {
+        number: "71",
+        meaning: "the length of the body is not told: Content-Length is missing for POST /events, comes twice or is no number of 1 \
+            to 9 digits, or there is a Transfer-Encoding",
+        input: "POST /events with Content-Length: +1",
+        remedy: "send one Content-Length in decimal digits, and the body in one piece; the session has ended, so open a new one",
+    },
+    Explanation {
+        number: "72",
+        meaning: "there is nothing at this path",
+        input: "GET /runs/01",
+        remedy: "write the path letter by letter, without a query, and a run's id without leading zeros",
+    },
+    Explanation {
+        number: "73",
+        meaning: "the path is there, and not for this method; the header Allow names the one that it takes",
+        input: "POST /runs/1",
+        remedy: "use the method that Allow names, in capitals",
+    },
+    Explanation {
+        number: "74",
+        meaning: "X-GitHub-Delivery or X-GitHub-Event is missing, comes twice, or is not of its form",
+        input: "POST /events without X-GitHub-Event",
+        remedy: "send each once: an id of 1 to 64 letters, digits and -, and a name of 1 to 64 small letters, digits and _; the \
+            session has ended, so open a new one",
+    },
+];
+
+/// What the lines and the length of an input are refused for.
+static OF_INPUT: [Explanation; 2] = [
+    Explanation {
         number: "75",
-        meaning: "a line of a script is no command",
+        meaning: "a line of a script, or of a runner, is no command; a runner's line has 512 bytes at most",
         input: "the line: look 01",
         remedy: "part the fields by one space, write numbers without leading zeros, and compare names \
-            with the forms of docs/FORMATS.md",
+            with the forms of docs/FORMATS.md; a runner's session goes on, but for a line that is too long",
     },
     Explanation {
         number: "76",
@@ -276,13 +334,28 @@ fn of_stores() -> &'static [Explanation] {
     &OF_STORES
 }
 
+fn of_streams() -> &'static [Explanation] {
+    &OF_STREAMS
+}
+
+fn of_requests() -> &'static [Explanation] {
+    &OF_REQUESTS
+}
+
 fn of_input() -> &'static [Explanation] {
     &OF_INPUT
 }
 
 /// The refusals that can be met, in the order of their numbers. docs/FORMATS.md repeats them.
-fn explanations() -> [&'static [Explanation]; 4] {
-    [of_workflows(), of_commands(), of_stores(), of_input()]
+fn explanations() -> [&'static [Explanation]; 6] {
+    [
+        of_workflows(),
+        of_commands(),
+        of_stores(),
+        of_streams(),
+        of_requests(),
+        of_input(),
+    ]
 }
 
 fn push_numbers(

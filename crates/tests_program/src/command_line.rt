@@ -6,7 +6,11 @@ use crate::process::{Page, Process};
 use acts_cli::run;
 use acts_ops::MOST_BYTES;
 use std::alloc::Global;
+use std::net::{Net, TcpListener, TcpStream};
 use std::process::{Abort, ExitCode};
+use std::sync::Wait;
+use std::thread::Threads;
+use std::time::Clock;
 use tests_common::given::spelled;
 
 /// The status, and what is printed on standard output and on standard error, where `None` stands for any
@@ -14,14 +18,9 @@ use tests_common::given::spelled;
 type Ended<'a> = (u8, Option<&'a str>, Option<&'a str>);
 
 /// Runs `acts` with these words and this input, with room for so many bytes on standard output.
-fn expect(
-    rt: &impl Abort,
-    alloc: Global,
-    words: &[&str],
-    input: &str,
-    room: usize,
-    ended: Ended<'_>,
-) {
+fn expect<
+    S: Abort + Threads + Wait + Clock + Sync + Net<Listener = TcpListener, Stream = TcpStream>,
+>(rt: &S, alloc: Global, words: &[&str], input: &str, room: usize, ended: Ended<'_>) {
     let process = Process {
         alloc,
         words,
@@ -30,7 +29,7 @@ fn expect(
         err: Page::new(alloc, 10_000),
     };
     let (status, out, err) = ended;
-    holds!(rt; run(&process) == ExitCode::from(status), status);
+    holds!(rt; run(&process, rt) == ExitCode::from(status), status);
     let Process {
         out: printed,
         err: told,
@@ -53,6 +52,34 @@ const PLAY: &[&str] = &["acts", "play"];
 const HELP: &[&str] = &["acts", "--help"];
 
 const CHECK: &[&str] = &["acts", "check"];
+
+/// The most that each number may be.
+const SERVE: &[&str] = &[
+    "acts",
+    "serve",
+    "store",
+    "--hook-port",
+    "65535",
+    "--runner-port",
+    "1",
+    "--sessions",
+    "32",
+];
+
+/// The same for the last round.
+const ROUNDS: &[&str] = &[
+    "acts",
+    "serve",
+    "store",
+    "--hook-port",
+    "8080",
+    "--runner-port",
+    "8081",
+    "--sessions",
+    "1",
+    "--rounds",
+    "18446744073709551615",
+];
 
 /// A refusal's number is explained with an input that gets it.
 const EXPLAINED: &str = concat!(
@@ -80,6 +107,8 @@ const ROWS: &[(&[&str], usize, Ended<'static>)] = &[
     (&["acts", "init", "store", "4096"], 10_000, FULL),
     (&["acts", "init", "store", "1073741824"], 10_000, FULL),
     (&["acts", "show", "store"], 10_000, FULL),
+    (SERVE, 10_000, FULL),
+    (ROUNDS, 10_000, FULL),
 ];
 
 /// Words that are no command line of `acts`.
@@ -98,6 +127,64 @@ const FAULTS: &[&[&str]] = &[
     &["acts", "init", "store", "1073741825"],
     &["acts", "init", "store"],
     &["acts", "show"],
+    &["acts", "serve", "store", "--hook-port", "8080"],
+    &[
+        "acts",
+        "serve",
+        "store",
+        "--hook-port",
+        "0",
+        "--runner-port",
+        "8081",
+        "--sessions",
+        "1",
+    ],
+    &[
+        "acts",
+        "serve",
+        "store",
+        "--hook-port",
+        "8080",
+        "--runner-port",
+        "65536",
+        "--sessions",
+        "1",
+    ],
+    &[
+        "acts",
+        "serve",
+        "store",
+        "--hook-port",
+        "8080",
+        "--runner-port",
+        "8081",
+        "--sessions",
+        "0",
+    ],
+    &[
+        "acts",
+        "serve",
+        "store",
+        "--hook-port",
+        "8080",
+        "--runner-port",
+        "8081",
+        "--sessions",
+        "33",
+    ],
+    &[
+        "acts",
+        "serve",
+        "store",
+        "--hook-port",
+        "8080",
+        "--runner-port",
+        "8081",
+        "--sessions",
+        "1",
+        "--rounds",
+        "0",
+    ],
 ];
 
 /// 1 after a refusal, which stands on standard error: of a page that is full, and of a file that can't be opened, as none can here.
@@ -142,8 +229,8 @@ fn ends_a_check_with_its_status(rt: HostRuntime) {
 /// The numbers that can be met.
 const NUMBERS: &[&str] = &[
     "10", "11", "12", "13", "14", "15", "16", "17", "18", "19", "20", "21", "22", "23", "24", "25",
-    "26", "40", "41", "42", "43", "44", "45", "46", "48", "50", "51", "52", "53", "54", "55", "61",
-    "75", "76",
+    "26", "40", "41", "42", "43", "44", "45", "46", "47", "48", "50", "51", "52", "53", "54", "55",
+    "60", "61", "70", "71", "72", "73", "74", "75", "76",
 ];
 
 #[test]

@@ -1,5 +1,6 @@
 //! The first script, a workflow, and what is printed of each.
 
+use act_disk::MemoryDisk;
 use acts_ops::{run_check, run_script};
 use std::alloc::Global;
 use std::io::{Read, Write};
@@ -38,7 +39,7 @@ pub fn number_of<R: Read, W: Write>(
     writer: &mut W,
 ) -> u64 {
     let ended = match call {
-        Call::Play => run_script(alloc, reader, writer),
+        Call::Play => run_script(alloc, MemoryDisk::new(alloc), reader, writer).1,
         Call::Check => run_check(alloc, reader, writer),
     };
     match ended {

@@ -34,7 +34,8 @@ fn expect_making<D: Disk + Drop>(
 ) {
     holds!(rt; disk.faults() < u64::MAX);
     let mut text = Vec::new(alloc);
-    holds!(rt; number_of(run_init(alloc, disk, LEAST, &mut text)) == number, number);
+    let (_, ended) = run_init(alloc, disk, LEAST, &mut text);
+    holds!(rt; number_of(ended) == number, number);
     holds!(rt; text.as_slice() == printed.as_bytes(), number);
 }
 
@@ -63,7 +64,8 @@ fn expect_showing<D: Disk + Drop>(
 ) {
     holds!(rt; disk.faults() < u64::MAX);
     let mut text = Vec::new(alloc);
-    holds!(rt; number_of(run_show(alloc, disk, &mut text)) == number, number);
+    let (_, ended) = run_show(alloc, disk, &mut text);
+    holds!(rt; number_of(ended) == number, number);
     holds!(rt; text.as_slice() == printed.as_bytes(), printed);
 }
 

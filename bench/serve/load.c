@@ -1,0 +1,92 @@
+/* Pairs of one session of HTTP and one of runner lines, each pair in a thread, in lockstep: an event is posted, its leg claimed and
+ * reported done, and the run looked at, over and over. Prints the lifecycles and the seconds from the first request to the last answer.
+ * Arguments: HOOK_PORT RUNNER_PORT PAIRS LIFECYCLES; a session takes 64 requests, so LIFECYCLES is 32 at most. */
+#define _GNU_SOURCE
+#include <arpa/inet.h>
+#include <netinet/tcp.h>
+#include <pthread.h>
+#include <stdio.h>
+#include <stdlib.h>
+#include <string.h>
+#include <sys/socket.h>
+#include <time.h>
+#include <unistd.h>
+
+#define MOST_PAIRS 32
+#define BODY "{\"repo\":\"o/r\",\"path\":\"ci.json\",\"workflow\":{\"jobs\":{\"build\":{\"runs-on\":\"l%ld\"}}}}"
+
+static int ports[2];
+static long lifecycles;
+static pthread_barrier_t begin;
+
+static void fail(const char *what) {
+    perror(what);
+    exit(1);
+}
+
+static int join_port(int port) {
+    struct sockaddr_in to = {.sin_family = AF_INET, .sin_port = htons(port), .sin_addr.s_addr = htonl(INADDR_LOOPBACK)};
+    int on = 1, stream = socket(AF_INET, SOCK_STREAM, 0);
+    if (stream < 0 || connect(stream, (struct sockaddr *)&to, sizeof to) != 0) fail("connect");
+    setsockopt(stream, IPPROTO_TCP, TCP_NODELAY, &on, sizeof on);
+    return stream;
+}
+
+/* Sends a text, and reads until an answer is whole: a line, or what a Content-Length tells. */
+static void ask(int stream, const char *text, char *answer, size_t room, int is_http) {
+    size_t size = strlen(text), have = 0;
+    if (write(stream, text, size) != (ssize_t)size) fail("write");
+    for (;;) {
+        ssize_t more = read(stream, answer + have, room - 1 - have);
+        if (more <= 0) fail("read");
+        answer[have += more] = 0;
+        if (!is_http && answer[have - 1] == '\n') return;
+        char *end = strstr(answer, "\r\n\r\n"), *length = strstr(answer, "Content-Length: ");
+        if (is_http && end && length && answer + have >= end + 4 + atol(length + 16)) return;
+    }
+}
+
+static void *work(void *given) {
+    long pair = (long)given;
+    int hook = join_port(ports[0]), runner = join_port(ports[1]);
+    char text[1024], body[256], answer[4096];
+    pthread_barrier_wait(&begin);
+    for (long i = 0; i < lifecycles; i++) {
+        long run, lease;
+        snprintf(body, sizeof body, BODY, pair);
+        snprintf(text, sizeof text, "POST /events HTTP/1.1\r\nX-GitHub-Delivery: d%ld-%ld\r\nX-GitHub-Event: push\r\nContent-Length: %zu\r\n\r\n%s", pair, i, strlen(body), body);
+        ask(hook, text, answer, sizeof answer, 1);
+        if (sscanf(strstr(answer, "\r\n\r\n"), " created %ld", &run) != 1) fail(answer);
+        snprintf(text, sizeof text, "CLAIM r%ld %ld l%ld\n", pair, 2 * i + 1, pair);
+        ask(runner, text, answer, sizeof answer, 0);
+        if (sscanf(answer, "lease %ld", &lease) != 1) fail(answer);
+        snprintf(text, sizeof text, "DONE r%ld %ld %ld success\n", pair, 2 * i + 2, lease);
+        ask(runner, text, answer, sizeof answer, 0);
+        if (strcmp(answer, "ok\n") != 0) fail(answer);
+        snprintf(text, sizeof text, "GET /runs/%ld HTTP/1.1\r\n\r\n", run);
+        ask(hook, text, answer, sizeof answer, 1);
+        if (strstr(answer, " 200 OK\r\n") == NULL) fail(answer);
+    }
+    close(hook);
+    close(runner);
+    return NULL;
+}
+
+int main(int argc, char **argv) {
+    pthread_t threads[MOST_PAIRS];
+    struct timespec start, end;
+    if (argc != 5) return 2;
+    ports[0] = atoi(argv[1]);
+    ports[1] = atoi(argv[2]);
+    long pairs = atol(argv[3]);
+    lifecycles = atol(argv[4]);
+    if (pairs < 1 || pairs > MOST_PAIRS) return 2;
+    pthread_barrier_init(&begin, NULL, pairs + 1);
+    for (long i = 0; i < pairs; i++) pthread_create(&threads[i], NULL, work, (void *)i);
+    pthread_barrier_wait(&begin);
+    clock_gettime(CLOCK_MONOTONIC, &start);
+    for (long i = 0; i < pairs; i++) pthread_join(threads[i], NULL);
+    clock_gettime(CLOCK_MONOTONIC, &end);
+    printf("%ld %.6f\n", pairs * lifecycles, (end.tv_sec - start.tv_sec) + (end.tv_nsec - start.tv_nsec) / 1e9);
+    return 0;
+}

@@ -1,0 +1,136 @@
+ghost use Rattle.std.specs.Prelude.{◌≡◌, ◌<◌, ◌≤◌, [], length, IfOk};
+
+use crate::visit::Visit;
+use act_desk::{Fault, Free, Settled, serve_all};
+use act_disk::Disk;
+use act_store::Store;
+use byte_streams::{flush, write_whole};
+use std::alloc::Global;
+use std::io::Write;
+use std::net::TcpListener;
+use std::sync::Wait;
+use std::thread::Threads;
+use std::time::Clock;
+use wf_value::{Code, Refusal};
+
+/// The sessions of a service, as many on each port, the ports by turns.
+fn visits<'a>(
+    alloc: Global,
+    hooks: &'a TcpListener,
+    runners: &'a TcpListener,
+    sessions: u64,
+) -> Result<Vec<Visit<'a>>, Refusal>
+    requires { (0 < sessions) × (sessions ≤ 32) }
+    ensures { IfOk result (λ v. (0 < length v.items) × (length v.items ≤ 64)) }
+{
+    let mut visits = Vec::new(alloc);
+    for _ in 0..sessions {
+        visits.push(Visit::Hook(hooks))?;
+        visits.push(Visit::Runner(runners))?;
+    }
+    Ok(visits)
+}
+
+/// Writes a text to where the service tells how it is, and sends it on. A failure is 61.
+fn tell<O: Write>(out: &mut O, text: &[u8]) -> Result<(), Refusal> {
+    write_whole(out, text)?;
+    flush(out)
+}
+
+/// Tells how many entries the history of a settled store has.
+fn tell_settled<D: Disk, O: Write>(
+    alloc: Global,
+    settled: &Settled<D>,
+    out: &mut O,
+) -> Result<(), Refusal> {
+    let count = settled.store.entries();
+    let line = format!(in alloc; "settled {count}\n")?;
+    tell(out, line.as_bytes())
+}
+
+/// Holds sessions over a store that has no entries yet, each in a thread of its own and at the same time, and tells how many entries
+/// they made. It gives the settled store.
+fn serve_round<'a, D: Disk + Drop + Send, R: Threads + Wait + Clock + Sync, O: Write>(
+    rt: &R,
+    alloc: Global,
+    store: Store<D>,
+    visits: Vec<Visit<'a>>,
+    out: &mut O,
+) -> Result<Store<D>, Refusal>
+    requires fresh { store.history ≡ [] }
+    requires visits { (0 < length visits.items) × (length visits.items ≤ 64) }
+{
+    match serve_all(rt, alloc, store, visits, &Free) {
+        Ok(settled) => {
+            tell_settled(alloc, &settled, out)?;
+            Ok(settled.store)
+        }
+        Err(Fault::Broken(settled)) => {
+            tell_settled(alloc, &settled, out)?;
+            Err(Refusal::Numbered(Code::StreamFailed))
+        }
+        Err(Fault::Unsettled(_)) => Err(Refusal::Numbered(Code::Unsettled)),
+        Err(Fault::Memory(..)) => Err(Refusal::Numbered(Code::NoMemory)),
+    }
+}
+
+/// A settled store whose history begins anew.
+fn turned_over<D: Disk + Drop>(alloc: Global, store: Store<D>) -> Result<Store<D>, Refusal>
+    ensures { IfOk result (λ anew. anew.history ≡ []) }
+{
+    let mut store = store;
+    store.turn_over(alloc)?;
+    Ok(store)
+}
+
+/// Serves a store that has no entries yet: holds so many sessions on each of two ports, each in a thread of its own and at the same time,
+/// those of HTTP on the one and those of runner lines on the other. It writes `ready` before the first, and once all have ended
+/// `settled COUNT`, COUNT the number of the history's entries, and hands that on.
+///
+/// What each session was answered is compared with the history: where they differ that is 60, and no line `settled` is written. Where a
+/// stream failed or could not be accepted it is 61, behind that line, and so it is where nothing can be written here. Want of memory
+/// before the first session is 50; later on it ends a session.
+pub fn serve_on<D: Disk + Drop + Send, R: Threads + Wait + Clock + Sync, O: Write>(
+    rt: &R,
+    alloc: Global,
+    store: Store<D>,
+    hooks: &TcpListener,
+    runners: &TcpListener,
+    sessions: u64,
+    out: &mut O,
+) -> Result<u64, Refusal>
+    requires fresh { store.history ≡ [] }
+    requires sessions { (0 < sessions) × (sessions ≤ 32) }
+{
+    let store = serve_rounds(rt, alloc, store, hooks, runners, sessions, 1, out)?;
+    Ok(store.entries())
+}
+
+/// Serves a store as `serve_on` does, in so many rounds, one at least: once all sessions of a round have ended, and `settled COUNT` is
+/// written for it, the history begins anew at the table that they left, and the next round holds as many sessions on the same ports.
+///
+/// `ready` is written once. What refuses a round ends the service, and so does the store where its history cannot begin anew: with 52
+/// where the device has failed, with 50 for want of memory, and with 56 where that was wanting to end a checkpoint.
+pub fn serve_rounds<D: Disk + Drop + Send, R: Threads + Wait + Clock + Sync, O: Write>(
+    rt: &R,
+    alloc: Global,
+    store: Store<D>,
+    hooks: &TcpListener,
+    runners: &TcpListener,
+    sessions: u64,
+    rounds: u64,
+    out: &mut O,
+) -> Result<Store<D>, Refusal>
+    requires fresh { store.history ≡ [] }
+    requires sessions { (0 < sessions) × (sessions ≤ 32) }
+{
+    let first = visits(alloc, hooks, runners, sessions)?;
+    tell(out, b"ready\n")?;
+    let mut settled = serve_round(rt, alloc, store, first, out)?;
+    for _ in 1..rounds {
+        let next = visits(alloc, hooks, runners, sessions)?;
+        let anew = turned_over(alloc, settled)?;
+        settled = serve_round(rt, alloc, anew, next, out)?;
+    }
+    Ok(settled)
+}

@@ -1,0 +1,9 @@
+//! Tests of the service over loopback.
+#![tactic(auto)]
+
+#[cfg(test)]
+mod clients;
+#[cfg(test)]
+mod loopback;
+#[cfg(test)]
+mod rounds;

@@ -1,0 +1,88 @@
+//! One client of each port, in threads of the test's own process, that take turns.
+
+use crate::clients::{BODY, CREATED, POST, is_answered};
+use act_disk::MemoryDisk;
+use act_store::Store;
+use acts_serve::serve_on;
+use crossbeam_channel::{Receiver, Sender};
+use std::alloc::Global;
+use std::net::{Net, SocketAddr, TcpListener, TcpStream};
+use std::sync::Wait;
+use std::test::Fail;
+use std::thread::Threads;
+use std::time::Clock;
+use std::{io, thread};
+
+const LOOK: &str = "GET /runs/1 HTTP/1.1\r\n\r\n";
+
+const SEEN: &str =
+    "HTTP/1.1 200 OK\r\nContent-Type: text/plain\r\nContent-Length: 49\r\n\r\nrun 1 1 completed success build:success(success)\n";
+
+/// Posts an event, lets the runner work, and looks at the run.
+fn hook<R: Net<Stream = TcpStream> + Wait>(
+    rt: &R,
+    to: SocketAddr,
+    next: &Sender<u8>,
+    turn: &Receiver<u8>,
+) -> io::Result<bool> {
+    let stream = TcpStream::connect(rt, to)?;
+    let created = is_answered(&stream, &[POST, BODY], CREATED)?;
+    let _ = next.send(rt, 1);
+    let _ = turn.recv(rt);
+    let seen = is_answered(&stream, &[LOOK], SEEN)?;
+    Ok(created && seen)
+}
+
+/// Claims the leg and reports it, once the event is posted.
+fn runner<R: Net<Stream = TcpStream> + Wait>(
+    rt: &R,
+    to: SocketAddr,
+    next: &Sender<u8>,
+    turn: &Receiver<u8>,
+) -> io::Result<bool> {
+    let stream = TcpStream::connect(rt, to)?;
+    let _ = turn.recv(rt);
+    let leased = is_answered(&stream, &["CLAIM r1 1 linux\n"], "lease 1 1 build 0 {}\n")?;
+    let ended = is_answered(&stream, &["DONE r1 2 1 success\n"], "ok\n")?;
+    drop(stream);
+    let _ = next.send(rt, 1);
+    Ok(leased && ended)
+}
+
+/// Serves a new store, and hands on how many entries it has then.
+fn serve<R: Threads + Wait + Clock + Sync>(
+    rt: &R,
+    alloc: Global,
+    hooks: &TcpListener,
+    runners: &TcpListener,
+    out: &mut Vec<u8>,
+) -> Option<u64> {
+    let Ok(store) = Store::init(alloc, MemoryDisk::new(alloc), 4096) else {
+        return None;
+    };
+    serve_on(rt, alloc, store, hooks, runners, 1, out).ok()
+}
+
+#[test]
+fn serves_one_client_on_each_port(rt: HostRuntime) -> Result<(), Fail> {
+    let alloc: Global = rt.alloc();
+    let hooks = TcpListener::bind(&rt, "127.0.0.1:0")?;
+    let runners = TcpListener::bind(&rt, "127.0.0.1:0")?;
+    let to_hooks = hooks.local_addr()?;
+    let to_runners = runners.local_addr()?;
+    let (to_runner, runner_turn) = crossbeam_channel::bounded(alloc, 1)?;
+    let (to_hook, hook_turn) = crossbeam_channel::bounded(alloc, 1)?;
+    let mut out: Vec<u8> = Vec::new(alloc);
+    let rt = &rt;
+    let ended = thread::scope(thread::scope_env(), rt, |scope| {
+        let one = scope.spawn(|| hook(rt, to_hooks, &to_runner, &hook_turn));
+        let two = scope.spawn(|| runner(rt, to_runners, &to_hook, &runner_turn));
+        let served = serve(rt, alloc, &hooks, &runners, &mut out);
+        let one = one.is_ok_and(|handle| handle.join(rt).unwrap_or(false));
+        let two = two.is_ok_and(|handle| handle.join(rt).unwrap_or(false));
+        (served == Some(4), one, two)
+    });
+    assert_eq!(rt; ended, (true, true, true));
+    assert_eq!(rt; out.as_slice(), b"ready\nsettled 4\n".as_slice());
+    Ok(())
+}

@@ -1,0 +1,74 @@
+//! Two rounds of sessions over loopback: the second one goes on at the table that the first has left.
+
+use crate::clients::{BODY, CREATED, POST, is_answered};
+use act_disk::MemoryDisk;
+use act_store::Store;
+use acts_serve::serve_rounds;
+use std::alloc::Global;
+use std::net::{Net, SocketAddr, TcpListener, TcpStream};
+use std::sync::Wait;
+use std::test::Fail;
+use std::thread::Threads;
+use std::time::Clock;
+use std::{io, thread};
+
+/// One stream for each of two texts, one after the other, and whether each was answered so.
+fn visits<R: Net<Stream = TcpStream>>(
+    rt: &R,
+    to: SocketAddr,
+    rounds: &[(&[&str], &str)],
+) -> io::Result<bool> {
+    for (text, answer) in rounds {
+        let stream = TcpStream::connect(rt, to)?;
+        if !is_answered(&stream, text, answer)? {
+            return Ok(false);
+        }
+    }
+    Ok(true)
+}
+
+/// The same delivery in each round: it makes one run.
+const HOOK: &[(&[&str], &str)] = &[(&[POST, BODY], CREATED), (&[POST, BODY], CREATED)];
+
+/// What is asked of a run that is not there, and then the leg of the first round's run.
+const RUNNER: &[(&[&str], &str)] = &[
+    (&["FETCH 9\n"], "refused 40\n"),
+    (&["CLAIM r1 1 linux\n"], "lease 1 1 build 0 {}\n"),
+];
+
+/// Serves a new store in two rounds, and tells how many entries the second one has.
+fn serve<R: Threads + Wait + Clock + Sync>(
+    rt: &R,
+    alloc: Global,
+    hooks: &TcpListener,
+    runners: &TcpListener,
+    out: &mut Vec<u8>,
+) -> Option<u64> {
+    let Ok(store) = Store::init(alloc, MemoryDisk::new(alloc), 4096) else {
+        return None;
+    };
+    let settled = serve_rounds(rt, alloc, store, hooks, runners, 1, 2, out).ok()?;
+    Some(settled.entries())
+}
+
+#[test]
+fn serves_two_rounds(rt: HostRuntime) -> Result<(), Fail> {
+    let alloc: Global = rt.alloc();
+    let hooks = TcpListener::bind(&rt, "127.0.0.1:0")?;
+    let runners = TcpListener::bind(&rt, "127.0.0.1:0")?;
+    let to_hooks = hooks.local_addr()?;
+    let to_runners = runners.local_addr()?;
+    let mut out: Vec<u8> = Vec::new(alloc);
+    let rt = &rt;
+    let ended = thread::scope(thread::scope_env(), rt, |scope| {
+        let one = scope.spawn(|| visits(rt, to_hooks, HOOK));
+        let two = scope.spawn(|| visits(rt, to_runners, RUNNER));
+        let served = serve(rt, alloc, &hooks, &runners, &mut out);
+        let one = one.is_ok_and(|handle| handle.join(rt).unwrap_or(false));
+        let two = two.is_ok_and(|handle| handle.join(rt).unwrap_or(false));
+        (served == Some(2), one, two)
+    });
+    assert_eq!(rt; ended, (true, true, true));
+    assert_eq!(rt; out.as_slice(), b"ready\nsettled 2\nsettled 2\n".as_slice());
+    Ok(())
+}
