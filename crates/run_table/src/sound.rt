@@ -4,7 +4,7 @@ ghost use Rattle.std.specs.BTreeMap.{get};
 ghost use Rattle.std.specs.Bool.{Decides};
 ghost use Rattle.std.specs.Ordering.{nat_cmp};
 ghost use Rattle.std.specs.Prelude.{◌≡◌, ℕ, IfOk, true};
-ghost use Rattle.workflow_runs.specs.BoundGroups.{ErrsOnlyByMemory};
+ghost use Rattle.wf_value.specs.Gives.{ErrsOnlyByMemory};
 ghost use Rattle.run_table.specs.ByLease.{lease_of_leg, lease_of_runner};
 ghost use Rattle.run_table.specs.ByNumber.{Finds};
 ghost use Rattle.run_table.specs.Sound.{IsSound, KeptLeasesAreLegs};

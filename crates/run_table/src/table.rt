@@ -1,6 +1,5 @@
 ghost use Rattle.std.specs.Prelude.{◌≡◌, ◌≤◌, true, IfOk, MatchOption, Ok, OnErr, IsOk};
-ghost use Rattle.wf_value.specs.Gives.{Gives};
-ghost use Rattle.workflow_runs.specs.BoundGroups.{ErrsOnlyByMemory};
+ghost use Rattle.wf_value.specs.Gives.{ErrsOnlyByMemory, Gives};
 ghost use Rattle.run_table.specs.Sound.{IsSound};
 ghost use Rattle.run_table.specs.Stored.{IsStorable};
 ghost use Rattle.run_table.specs.Step.{answered, empty, is_free, seen, step};

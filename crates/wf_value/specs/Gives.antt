@@ -1,5 +1,5 @@
 -- The one word for a call that may be refused.
-use Rattle.std.specs.Prelude.{◌≡◌, ◌⊎◌, Result, Ok, Err}
+use Rattle.std.specs.Prelude.{◌≡◌, ◌⊎◌, Result, Ok, Err, true}
 use Rattle.wf_value.specs.declared.code.Code.TheVariants.{NoMemory}
 use Rattle.wf_value.specs.declared.refusal.Refusal.{Refusal}
 use Rattle.wf_value.specs.declared.refusal.Refusal.TheVariants.{Numbered}
@@ -12,3 +12,7 @@ no_memory = Numbered NoMemory
 abbrev pub Gives : {X Y : Type 0} → (X → Y) → Result X Refusal → Result Y Refusal → Type 0
 Gives view (Ok x) defined = defined ≡ Ok (view x)
 Gives view (Err e) defined = (e ≡ no_memory) ⊎ (defined ≡ Err e)
+
+-- the call errs by want of memory alone
+abbrev pub ErrsOnlyByMemory : {X : Type 0} → Result X Refusal → Type 0
+ErrsOnlyByMemory result = Gives (λ _. true) result (Ok true)

@@ -2,11 +2,9 @@
 -- results of the jobs that a leg's job needs. What was bound says, by any results, the group and the flag that the templates say. From
 -- then on groups are compared without memory (own).
 use Rattle.std.specs.Prelude.{◌≡◌, ℕ, ◌&&◌, List, [], ◌∷◌, filter_map, find, Bool, codes, Option, Some, None, option_map}
-use Rattle.std.specs.Prelude.{Result, Ok, true, slice_get, if◌then◌else◌}
+use Rattle.std.specs.Prelude.{slice_get, if◌then◌else◌}
 use Rattle.std.specs.List.{slice_index_or}
 use Rattle.std.specs.Str.{bytes_eq}
-use Rattle.wf_value.specs.Gives.{Gives}
-use Rattle.wf_value.specs.declared.refusal.Refusal.{Refusal}
 use Rattle.wf_expr.specs.Bound.{NeedOf, Results, bound_text}
 use Rattle.wf_expr.specs.ContextValue.{Values}
 use Rattle.wf_reader.specs.declared.concurrency.Concurrency.{Concurrency}
@@ -22,10 +20,6 @@ use Rattle.workflow_runs.specs.Words.{is_set}
 use Rattle.workflow_runs.specs.declared.groups.Asked.{Asked}
 use Rattle.workflow_runs.specs.declared.groups.BoundFlag.{BoundFlag}
 use Rattle.workflow_runs.specs.declared.groups.BoundFlag.TheVariants as bound
-
--- the call errs by want of memory alone
-abbrev pub ErrsOnlyByMemory : {X : Type 0} → Result X Refusal → Type 0
-ErrsOnlyByMemory result = Gives (λ _. true) result (Ok true)
 
 -- ---- which paths wait for results
 

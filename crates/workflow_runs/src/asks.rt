@@ -5,10 +5,10 @@
 ghost use Rattle.std.specs.Prelude.{◌≡◌, ℕ, IfOk, Some, length, option_map, slice_get};
 ghost use Rattle.std.specs.Fmt.{decimal};
 ghost use Rattle.std.specs.Option.{option_copied};
+ghost use Rattle.wf_value.specs.Gives.{ErrsOnlyByMemory};
 ghost use Rattle.run_plan.specs.PlanOf.{plan_of};
 ghost use Rattle.run_plan.specs.declared.planned.PlannedJob.{PlannedJob as Planned};
 ghost use Rattle.workflow_runs.specs.Asks.{JobSays, RunSays, asked_of, wanted_for};
-ghost use Rattle.workflow_runs.specs.BoundGroups.{ErrsOnlyByMemory};
 ghost use Rattle.workflow_runs.specs.Holders.{holder_in_words};
 ghost use Rattle.workflow_runs.specs.declared.asks.JobBindings.{JobBindings as AsksOfJob};
 

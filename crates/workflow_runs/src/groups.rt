@@ -2,10 +2,11 @@
 //! jobs".
 
 ghost use Rattle.std.specs.Prelude.{◌≡◌, ℕ, IfOk, Some, length, slice_get};
+ghost use Rattle.wf_value.specs.Gives.{ErrsOnlyByMemory};
 ghost use Rattle.wf_expr.specs.Bound.{HasResults, Results};
 ghost use Rattle.wf_expr.specs.ContextValue.{Values};
 ghost use Rattle.wf_reader.specs.Event.{event_of};
-ghost use Rattle.workflow_runs.specs.BoundGroups.{ErrsOnlyByMemory, Says, SaysSo, facts_by, is_set_by};
+ghost use Rattle.workflow_runs.specs.BoundGroups.{Says, SaysSo, facts_by, is_set_by};
 ghost use Rattle.workflow_runs.specs.GroupOf.{asked_of_leg, run_context};
 ghost use Rattle.workflow_runs.specs.LegContext.{context_of};
 ghost use Rattle.workflow_runs.specs.Words.{is_set};

@@ -4,8 +4,7 @@
 ghost use Rattle.std.specs.Prelude.{◌≡◌, ℕ, IfOk, Ok, Some, length, slice_get};
 ghost use Rattle.std.specs.List.{flat_map, list_all};
 ghost use Rattle.wf_expr.specs.Bound.{bound_of};
-ghost use Rattle.wf_value.specs.Gives.{Gives};
-ghost use Rattle.workflow_runs.specs.BoundGroups.{ErrsOnlyByMemory};
+ghost use Rattle.wf_value.specs.Gives.{ErrsOnlyByMemory, Gives};
 ghost use Rattle.workflow_runs.specs.KnownLabels.{AreKept, are_as_they_stand, are_kept, asks_nothing};
 ghost use Rattle.workflow_runs.specs.KnownLabels.{is_as_it_stands, kept_of, kept_of_leg, known_text};
 ghost use Rattle.workflow_runs.specs.declared.resolved_labels.ResolvedLabels.{ResolvedLabels as WantedLabels};

@@ -1,7 +1,7 @@
 //! Makes what a table holds from the parts as which it is stored.
 
 ghost use Rattle.std.specs.Prelude.{IfOk, MatchOption};
-ghost use Rattle.workflow_runs.specs.BoundGroups.{ErrsOnlyByMemory};
+ghost use Rattle.wf_value.specs.Gives.{ErrsOnlyByMemory};
 ghost use Rattle.run_table.specs.TableOf.{IsNoTable, IsStoredAs};
 
 use crate::content::Content;

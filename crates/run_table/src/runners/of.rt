@@ -3,7 +3,7 @@
 ghost use Rattle.std.specs.BTreeMap.{get};
 ghost use Rattle.std.specs.Ordering.{nat_cmp};
 ghost use Rattle.std.specs.Prelude.{◌≡◌, IfOk, List, MatchOption, true};
-ghost use Rattle.workflow_runs.specs.BoundGroups.{ErrsOnlyByMemory};
+ghost use Rattle.wf_value.specs.Gives.{ErrsOnlyByMemory};
 ghost use Rattle.run_table.specs.ByLease.{FindsLegs};
 ghost use Rattle.run_table.specs.TableOf.{AreRunnersAs, IsLastAs, IsReplyAs, IsRunnerAs};
 ghost use Rattle.run_table.specs.TableState.{RunnerState};

@@ -3,9 +3,9 @@
 ghost use Rattle.std.specs.BTreeMap.{is_at};
 ghost use Rattle.std.specs.List.{list_any};
 ghost use Rattle.std.specs.Prelude.{◌≡◌, ◌||◌, [], IfOk, OnOk, not};
+ghost use Rattle.wf_value.specs.Gives.{ErrsOnlyByMemory};
 ghost use Rattle.group_name.specs.Group.{Group, same_group};
 ghost use Rattle.group_name.specs.Order.{group_cmp};
-ghost use Rattle.workflow_runs.specs.BoundGroups.{ErrsOnlyByMemory};
 ghost use Rattle.run_table.specs.GroupSets.{has_group};
 
 use group_name::GroupKey;

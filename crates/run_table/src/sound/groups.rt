@@ -1,8 +1,7 @@
 //! That each group has at most one pending and one running holder: their groups are gathered, and no two are one.
 
 ghost use Rattle.std.specs.Prelude.{◌≡◌, IfOk, MatchOption, Ok};
-ghost use Rattle.wf_value.specs.Gives.{Gives};
-ghost use Rattle.workflow_runs.specs.BoundGroups.{ErrsOnlyByMemory};
+ghost use Rattle.wf_value.specs.Gives.{ErrsOnlyByMemory, Gives};
 ghost use Rattle.run_table.specs.GroupSets.{AddsEach, AreGroupsOf, AreTaken, DifferInGroup, IsALegOfJob, IsALegOfRun, IsAny, IsOfRun};
 ghost use Rattle.run_table.specs.GroupSets.{group_as, stands};
 ghost use Rattle.workflow_runs.specs.Groups.{HasOneEach};

@@ -3,7 +3,7 @@
 ghost use Rattle.std.specs.BTreeMap.{get};
 ghost use Rattle.std.specs.Ordering.{nat_cmp};
 ghost use Rattle.std.specs.Prelude.{◌≡◌, ℕ, IfOk, OnOk, Some};
-ghost use Rattle.workflow_runs.specs.BoundGroups.{ErrsOnlyByMemory};
+ghost use Rattle.wf_value.specs.Gives.{ErrsOnlyByMemory};
 ghost use Rattle.run_table.specs.ByLease.{HasInJob, HasInRun, lease_of_leg, lease_of_runner};
 ghost use Rattle.run_table.specs.ByNumber.{Adds, Finds};
 ghost use Rattle.workflow_runs.specs.Cells.{states};

@@ -2,7 +2,7 @@
 
 ghost use Rattle.std.specs.Bool.{Decides};
 ghost use Rattle.std.specs.Prelude.{◌≡◌, ◌&&◌, IfOk, None, not};
-ghost use Rattle.workflow_runs.specs.BoundGroups.{ErrsOnlyByMemory};
+ghost use Rattle.wf_value.specs.Gives.{ErrsOnlyByMemory};
 ghost use Rattle.workflow_runs.specs.Cells.{states};
 ghost use Rattle.workflow_runs.specs.Groups.{may_start};
 ghost use Rattle.run_table.specs.GroupSets.{AreTaken};

@@ -1,8 +1,8 @@
 //! Makes a run from the parts as which it is stored.
 
 ghost use Rattle.std.specs.Prelude.{◌≡◌, IfOk, MatchOption, length};
+ghost use Rattle.wf_value.specs.Gives.{ErrsOnlyByMemory};
 ghost use Rattle.run_plan.specs.PlanOf.{plan_of};
-ghost use Rattle.workflow_runs.specs.BoundGroups.{ErrsOnlyByMemory};
 ghost use Rattle.workflow_runs.specs.Cells.{legs_planned, rooms, states};
 ghost use Rattle.workflow_runs.specs.AsPlanned.{HaveRoom, IsAsPlanned};
 

@@ -1,9 +1,8 @@
 //! How many runs there are of each workflow, so that the number of the next is known without a look at them.
 
 ghost use Rattle.std.specs.Prelude.{◌≡◌, ◌+◌, IfOk, Ok, OnOk, false, if◌then◌else◌, string_bytes, true};
-ghost use Rattle.wf_value.specs.Gives.{Gives};
+ghost use Rattle.wf_value.specs.Gives.{ErrsOnlyByMemory, Gives};
 ghost use Rattle.run_plan.specs.Admitted.{Admitted};
-ghost use Rattle.workflow_runs.specs.BoundGroups.{ErrsOnlyByMemory};
 ghost use Rattle.workflow_runs.specs.Counted.{IsOf, count_of, has_count, is_counted, texts_of};
 ghost use Rattle.workflow_runs.specs.RunNumber.{same_workflow};
 

@@ -1,7 +1,7 @@
 //! Makes the runs of a table from the parts as which they are stored.
 
 ghost use Rattle.std.specs.Prelude.{◌≡◌, IfOk, MatchOption};
-ghost use Rattle.workflow_runs.specs.BoundGroups.{ErrsOnlyByMemory};
+ghost use Rattle.wf_value.specs.Gives.{ErrsOnlyByMemory};
 ghost use Rattle.workflow_runs.specs.AsPlanned.{AreAsPlanned};
 
 use crate::run::Run;

@@ -3,7 +3,7 @@
 ghost use Rattle.std.specs.BTreeMap.{get_by_text};
 ghost use Rattle.std.specs.Prelude.{◌≡◌, ◌&&◌, ℕ, IfOk, List, None, OnErr, OnOk, Some, if◌then◌else◌, is_none};
 ghost use Rattle.std.specs.Str.{bytes_eq};
-ghost use Rattle.workflow_runs.specs.BoundGroups.{ErrsOnlyByMemory};
+ghost use Rattle.wf_value.specs.Gives.{ErrsOnlyByMemory};
 
 use crate::runs::counts::string_of;
 use run_plan::DeliveryId;
