@@ -194,7 +194,7 @@ static OF_COMMANDS: [Explanation; 9] = [
 ];
 
 /// What memory and a store's file fail with.
-static OF_STORES: [Explanation; 6] = [
+static OF_STORES: [Explanation; 7] = [
     Explanation {
         number: "50",
         meaning: "memory was refused, and what was asked was not done",
@@ -234,6 +234,13 @@ static OF_STORES: [Explanation; 6] = [
         meaning: "the file is not empty, so no new store is made in it",
         input: "acts init FILE 4096, a second time",
         remedy: "name another file, or move this one away",
+    },
+    Explanation {
+        number: "56",
+        meaning: "a step of a checkpoint is out of its turn: a begin while one is begun, a slice where nothing is left to \
+            write, or a finish where none is begun or something is left",
+        input: "the line: finish, before any begin",
+        remedy: "write begin, then slice until it answers left 0, then finish; a service makes its checkpoints by itself",
     },
 ];
 
