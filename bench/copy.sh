@@ -34,7 +34,8 @@ build() { # PROGRAM: proves and builds it, and what is below it and not proved y
     built=$scratch/crates/$1/out/$1
     # It is run at once, without the arguments that it may want: what counts is that it is there.
     (cd "$scratch/crates/$1" && rt fmt && rt run --jobs 1) < /dev/null > "$scratch/log" 2>&1 || [ -x "$built" ] && return
-    tail -n 40 "$scratch/log" >&2
+    # What was loaded says nothing of why it is not proved.
+    grep -v '^\(statements\|library\|rt: .*: begins with\|fn .*: proved\)' "$scratch/log" | tail -n 60 >&2
     exit 1
 }
 

@@ -1,55 +1,88 @@
 #!/bin/bash
 # Lifecycles a second (an event posted, its leg claimed and reported done, the run looked at) over `acts serve` on loopback and a file, at
 # 1, 8 and 32 pairs of a session of HTTP and one of runner lines, as it is and with 1 ms more at each sync, beside a loop in C that makes
-# the same system calls (`plain.c`). Prints the medians, and their ratios to one pair and to the loop. Needs a C compiler.
-# Usage: bench/serve/run.sh ACTS [FOLDER [ROUNDS]]; FOLDER lies on the file system to be measured.
-set -eu
+# the same system calls (`plain.c`). Prints the medians, their ratios to one pair and to the loop, how many processors the service and its
+# clients had in the mean, and how many entries a commit of the service has. Needs a C compiler.
+# Usage: bench/serve/run.sh ACTS [FOLDER [ROUNDS]]; FOLDER lies on the file system to be measured. LIMIT=SECONDS bounds each server and
+# each load.
+set -euo pipefail
+export LC_ALL=C
 here=$(cd "$(dirname "$0")" && pwd)
 acts=$(realpath "$1")
 folder=${2:-$here/out}
 rounds=${3:-5}
+limit=${LIMIT:-120}
 hooks=${HOOK_PORT:-20480}
 runners=$((hooks + 1))
 mkdir -p "$folder"
 scratch=$(mktemp -d)
-trap 'rm -rf "$scratch"' EXIT
+server=
+# `timeout` hands the signal on to the server that it started.
+trap '[ -z "$server" ] || kill "$server" 2> /dev/null || true; rm -rf "$scratch"' EXIT
 cc -O2 -pthread -o "$scratch/load" "$here/load.c"
 cc -O2 -pthread -o "$scratch/plain" "$here/plain.c"
 cc -O2 -shared -fPIC -o "$scratch/slow_sync.so" "$here/slow_sync.c" -ldl
 
-served_by() { # PROGRAM PAIRS: starts a server, which ends with its sessions
-    if [ "$1" = acts ]; then
-        "$acts" serve "$folder/store" --hook-port "$hooks" --runner-port "$runners" --sessions "$2"
-    else
-        "$scratch/plain" "$folder/store" "$hooks" "$runners" "$2"
-    fi
+fail() { # WHAT
+    echo "bench/serve: $1" >&2
+    exit 1
 }
 
-one() { # PROGRAM EXTRA PAIRS: the lifecycles a second of one run
-    local server
+start() { # PROGRAM EXTRA PAIRS: starts a server, which ends with its sessions, and waits until it listens
+    local words=("$scratch/plain" "$folder/store" "$hooks" "$runners" "$3")
+    [ "$1" = plain ] || words=("$acts" serve "$folder/store" --hook-port "$hooks" --runner-port "$runners" --sessions "$3")
+    # What the server before has said is gone before this one is started: its `ready` is not this one's.
+    : > "$scratch/said"
+    rm -f "$scratch/syncs"
+    timeout "$limit" env SYNCS="$scratch/syncs" SLOW_SYNC="$2" LD_PRELOAD="$scratch/slow_sync.so" "${words[@]}" >> "$scratch/said" &
+    server=$!
+    until grep -q ready "$scratch/said"; do
+        kill -0 "$server" 2> /dev/null || fail "$1 ended before it was ready"
+        sleep 0.02
+    done
+}
+
+ticks() { # the processor time of all processes that were waited for, in seconds
+    times > "$scratch/times"
+    tail -n 1 "$scratch/times" | sed 's/[ms]/ /g' | awk '{ print 60 * ($1 + $3) + $2 + $4 }'
+}
+
+one() { # PROGRAM EXTRA PAIRS: one run; adds its lifecycles a second, the processors that it had, and its entries a commit, to a file of the program's
+    local before after from
     rm -f "$folder/store"
     "$acts" init "$folder/store" 8388608 > /dev/null
-    SLOW_SYNC=$2 LD_PRELOAD=$scratch/slow_sync.so served_by "$1" "$3" > "$scratch/said" &
-    server=$!
-    until grep -q ready "$scratch/said"; do sleep 0.02; done
-    "$scratch/load" "$hooks" "$runners" "$3" 32 | awk '{ print $1 / $2 }'
-    wait "$server" || echo "bench/serve: the server ended with status $?" >&2
+    ticks > "$scratch/before"
+    from=$EPOCHREALTIME
+    start "$@"
+    timeout "$limit" "$scratch/load" "$hooks" "$runners" "$3" 32 > "$scratch/took" || fail "the clients of $1 at $3 pairs ended with status $?"
+    wait "$server" || fail "$1 at $3 pairs ended with status $?"
+    server=
+    ticks > "$scratch/after"
+    read -r before < "$scratch/before"
+    read -r after < "$scratch/after"
+    # A lifecycle has four entries. The opening syncs once, and a commit twice.
+    awk -v b="$before" -v a="$after" -v f="$from" -v t="$EPOCHREALTIME" -v s="$(od -An -td8 -N8 "$scratch/syncs")" \
+        '{ print $1 / $2, (a - b) / (t - f), 4 * $1 / ((s - 1) / 2) }' "$scratch/took" >> "$scratch/of_$1"
 }
 
-median() { sort -n | awk '{ v[NR] = $1 } END { print v[int((NR + 1) / 2)] }'; }
+median() { # PROGRAM FIELD
+    sort -n -k "$2,$2" "$scratch/of_$1" | awk -v f="$2" '{ v[NR] = $f } END { print v[int((NR + 1) / 2)] }'
+}
 
+echo "rounds $rounds, $(nproc) processors, load $(cut -d ' ' -f 1 /proc/loadavg), folder $(df -T "$folder" | awk 'NR == 2 { print $2 }')"
 for extra in 0 1000; do
     single=
     for pairs in 1 8 32; do
-        : > "$scratch/acts"; : > "$scratch/plain.out"
+        : > "$scratch/of_acts"
+        : > "$scratch/of_plain"
         for _ in $(seq "$rounds"); do
-            one acts "$extra" "$pairs" >> "$scratch/acts"
-            one plain "$extra" "$pairs" >> "$scratch/plain.out"
+            one acts "$extra" "$pairs"
+            one plain "$extra" "$pairs"
         done
-        ours=$(median < "$scratch/acts")
+        ours=$(median acts 1)
         single=${single:-$ours}
-        awk -v p="$pairs" -v e="$extra" -v a="$ours" -v c="$(median < "$scratch/plain.out")" -v s="$single" \
-            'BEGIN { printf "%4d us more a sync, %2d pairs: %.0f lifecycles a second, %.2f of one pair, %.2f of the plain loop\n", e, p, a, a / s, a / c }'
+        awk -v p="$pairs" -v e="$extra" -v a="$ours" -v c="$(median plain 1)" -v s="$single" -v b="$(median acts 2)" -v d="$(median plain 2)" -v n="$(median acts 3)" \
+            'BEGIN { printf "%4d us more a sync, %2d pairs: %.0f lifecycles a second, %.2f of one pair, %.2f of the plain loop; %.2f processors, the loop %.2f; %.2f entries a commit\n", e, p, a, a / s, a / c, b, d, n }'
     done
 done
 rm -f "$folder/store"

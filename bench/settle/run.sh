@@ -3,11 +3,14 @@
 # in a file. Each run has to settle, and what another program says of the history, played as a script, has to be the replies that stand in it.
 # MAKE prints a script for a seed and a number of lines (`MAKE SEED LINES`), and the bytes of a session (`MAKE SEED REQUESTS --what hook`, `MAKE
 # SEED LINES --what lines --preload SCRIPT`); SAY what a script is answered (`SAY play`, the script on standard input). The runners of every
-# second session of lines have names that no other session has.
+# second session of lines have names that no other session has. CASES=FOLDER keeps the bytes of the sessions there, and takes those that
+# stand there.
 # Usage: bench/settle/run.sh MAKE SAY [COUNT [FIRST]]. COUNT runs are of each kind.
 set -eu
 . "$(dirname "$0")/../copy.sh"
 make=$1 say=$2 count=${3:-50} first=${4:-1}
+cases=${CASES:-$scratch/cases}
+mkdir -p "$cases"
 copy_for settle_bench main.rt.txt act_desk act_disk act_sessions act_store webhook_sessions runner_sessions run_plan wf_value anyhow
 build settle_bench
 
@@ -26,15 +29,16 @@ made() { # SEED: the bytes of 32 sessions, behind a line of their lengths
         lengths+="${lengths:+ }$(wc -c < "$scratch/one")"
         cat "$scratch/one" >> "$scratch/bytes"
     done
-    { echo "$lengths"; cat "$scratch/bytes"; } > "$scratch/input"
+    { echo "$lengths"; cat "$scratch/bytes"; } > "$cases/$1.making"
+    mv "$cases/$1.making" "$cases/$1"
 }
 
 differ=0 entries=0
 for seed in $(seq "$first" $((first + count - 1))); do
-    made "$seed"
+    [ -e "$cases/$seed" ] || made "$seed"
     for file in '' "$scratch/store"; do
         rm -f "$scratch/store"
-        if ! "$built" "$seed" 16 ${file:+"$file"} < "$scratch/input" > "$scratch/history"; then
+        if ! "$built" "$seed" 16 ${file:+"$file"} < "$cases/$seed" > "$scratch/history"; then
             differ=$((differ + 1))
             echo "seed $seed ${file:+in a file}: not settled"
             continue
