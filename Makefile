@@ -3,7 +3,7 @@
 ACTS := crates/acts/out/acts
 FIRST := crates/first_run
 
-.PHONY: first-run test build example serve-example bench gate sweep wrong-bodies tested-bodies definitions
+.PHONY: first-run test build example serve-example bench gate sweep hostile wrong-bodies tested-bodies definitions
 
 # Plays the example by a trial run, and prints each line of the script with its answer. A trial interprets the program first, which ends
 # without an answer where this one reads; so that takes one step here in place of some seconds, and the compiled program answers as before.
@@ -40,9 +40,19 @@ test:
 bench: build
 	python3 bench/play $(ACTS)
 
-# The stored run with each growth of memory refused in turn. Needs a C compiler.
+# The stored run and some rows with each growth of memory refused in turn. Needs a C compiler.
 sweep: build
 	sweeps/refused_growth/run $(ACTS)
+
+# Stops, failing calls, want of memory, hostile clients and damaged files, all of it with the proved program. Needs a C compiler.
+hostile: build
+	sweeps/stops/run.sh
+	sweeps/stops/served $(ACTS)
+	sweeps/refused_growth/served $(ACTS)
+	sweeps/little_memory/run $(ACTS)
+	sweeps/clients/run $(ACTS)
+	sweeps/crowd/run $(ACTS)
+	sweeps/damaged_files/run.sh $(ACTS)
 
 # The wrong bodies beyond those of the gate: of each crate, of CRATE, or the one of CRATE=NAME/EDIT.
 wrong-bodies:

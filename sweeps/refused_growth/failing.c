@@ -1,10 +1,11 @@
 // Refuses one growth: the one whose number stands in FAIL_AT, counting from 1. Says on descriptor 9 that it did.
 #define _GNU_SOURCE
 #include <dlfcn.h>
+#include <stdatomic.h>
 #include <stdlib.h>
 #include <unistd.h>
 
-static long count;
+static atomic_long count;
 
 static int refused(void) {
     static long at = -1;

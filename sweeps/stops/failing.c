@@ -1,0 +1,37 @@
+// For LD_PRELOAD: fails the write or sync of a file whose number stands in FAIL_AT, counting from 1, and where FAIL_AFTER is set all behind
+// it too. Where FAIL_HALF is set, half of the bytes of a write that fails are written. Says on descriptor 9 that it did.
+#define _GNU_SOURCE
+#include <dlfcn.h>
+#include <errno.h>
+#include <stdatomic.h>
+#include <stdlib.h>
+#include <unistd.h>
+
+static atomic_long count;
+
+static int fails(void) {
+    const char *text = getenv("FAIL_AT");
+    long at = text ? atol(text) : 0, now = ++count;
+    if (at == 0 || now < at || (now > at && !getenv("FAIL_AFTER"))) return 0;
+    if (now == at && write(9, "x", 1) != 1) _exit(9);
+    return 1;
+}
+
+ssize_t pwrite(int file, const void *bytes, size_t length, off_t at) {
+    static ssize_t (*real)(int, const void *, size_t, off_t);
+    if (!real) real = (ssize_t (*)(int, const void *, size_t, off_t))dlsym(RTLD_NEXT, "pwrite");
+    if (!fails()) return real(file, bytes, length, at);
+    if (getenv("FAIL_HALF") && length > 1 && real(file, bytes, length / 2, at) < 0) _exit(9);
+    errno = EIO;
+    return -1;
+}
+
+ssize_t pwrite64(int file, const void *bytes, size_t length, off_t at) { return pwrite(file, bytes, length, at); }
+
+int fdatasync(int file) {
+    static int (*real)(int);
+    if (!real) real = (int (*)(int))dlsym(RTLD_NEXT, "fdatasync");
+    if (!fails()) return real(file);
+    errno = EIO;
+    return -1;
+}
