@@ -1,0 +1,14 @@
+use Rattle.std.proofs.Common.{ap, ◌∙◌, ◌/◌, ◌%◌}
+use Rattle.std.proofs.lemmas.List.{get_or-set_other, get_or-set_same}
+use Rattle.std.specs.Prelude.{false, slice_set}
+use Rattle.run_marks.specs.Bits.{word_has}
+use Rattle.run_marks.proofs.Rows.{row_puts}
+use Rattle.run_marks.proofs.row.clear_bit.Goals as goal
+
+pub returns-clause-puts : goal.returns-clause-puts
+returns-clause-puts c =
+    let here = get_or-set_same c.args.words.now (c.args.k / 64) c.without_bit-word.result 0 c.requires in
+    row_puts false c.args.k c.args.words.now (slice_set c.args.words.now (c.args.k / 64) c.without_bit-word.result)
+    (λ u other. get_or-set_other c.args.words.now (c.args.k / 64) u c.without_bit-word.result 0 other)
+    (ap (λ w. word_has w (c.args.k % 64)) here ∙ c.without_bit-word.ensures.clear)
+    (λ b small other. ap (λ w. word_has w b) here ∙ c.without_bit-word.ensures.others b small other)

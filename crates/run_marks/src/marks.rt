@@ -1,0 +1,89 @@
+ghost use Rattle.std.specs.Prelude.{◌≡◌, ◌≤◌, ◌+◌, ℕ, length, true, false, IfOk, OnOk};
+ghost use Rattle.run_marks.specs.Bits.{Puts};
+ghost use Rattle.run_marks.specs.First.{IsFirstFrom};
+ghost use Rattle.run_marks.specs.Marked.{Covers, SameMarks, is_marked};
+
+use crate::levels::first_marked;
+use crate::row::{clear_bit, grow, set_bit};
+use std::alloc::{AllocError, Global};
+use std::marker::Model;
+
+/// A set of numbers. A contract sees which are in it (`is_marked`), and below which bound there is room (`Covers`).
+#[derive(Drop)]
+pub struct Marks {
+    /// A bit for each number, set where it is in the set.
+    words: Vec<u64>,
+    /// A bit for each word, set where the word is not 0.
+    tops: Vec<u64>,
+}
+
+impl Model for Marks {
+    ghost use Rattle.std.specs.Prelude.{ℕ, List};
+    ghost use Rattle.run_marks.specs.Bits.{IsTopOf};
+
+    ghost Value = { List ℕ };
+
+    ghost view = { λ m. m.words.items };
+
+    ghost invariant = { λ m. IsTopOf m.words.items m.tops.items };
+}
+
+impl Marks {
+    /// A set without numbers, with room for none.
+    pub fn new(alloc: Global) -> Self
+        ensures { (i : ℕ) → is_marked result i ≡ false }
+    {
+        Marks {
+            words: Vec::new(alloc),
+            tops: Vec::new(alloc),
+        }
+    }
+
+    /// The same set, with the same room.
+    pub fn copy(&self) -> Result<Self, AllocError>
+        ensures { IfOk result (λ m. m ≡ self.now) }
+    {
+        Ok(Marks {
+            words: self.words.clone()?,
+            tops: self.tops.clone()?,
+        })
+    }
+
+    /// Makes room for all numbers below the bound: the one call besides a copy that takes memory. The set stays.
+    pub fn cover(&mut self, bound: usize) -> Result<(), AllocError>
+        ensures marks { SameMarks self.old self.new }
+        ensures covers { OnOk result (Covers self.new bound) }
+        ensures keeps { length self.old ≤ length self.new }
+    {
+        let words = bound.div_ceil(64);
+        grow(&mut self.tops, words.div_ceil(64))?;
+        grow(&mut self.words, words)
+    }
+
+    pub fn mark(&mut self, i: usize)
+        requires { Covers self.old (i + 1) }
+        ensures puts { Puts true i self.old self.new }
+        ensures keeps { length self.new ≡ length self.old }
+    {
+        set_bit(&mut self.words, i);
+        set_bit(&mut self.tops, i / 64);
+    }
+
+    pub fn unmark(&mut self, i: usize)
+        requires { Covers self.old (i + 1) }
+        ensures puts { Puts false i self.old self.new }
+        ensures keeps { length self.new ≡ length self.old }
+    {
+        let is_empty = clear_bit(&mut self.words, i);
+        if is_empty {
+            clear_bit(&mut self.tops, i / 64);
+        }
+    }
+
+    /// The first number of the set at or after one.
+    pub fn first_from(&self, from: usize) -> Option<usize>
+        ensures { IsFirstFrom (is_marked self.now) from result }
+    {
+        first_marked(&self.words, &self.tops, from)
+    }
+}

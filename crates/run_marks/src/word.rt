@@ -1,0 +1,45 @@
+//! A word of 64 bits.
+
+ghost use Rattle.std.specs.Prelude.{◌≡◌, ◌≢◌, ℕ, ◌<◌, true, false, Some, IfSome};
+ghost use Rattle.run_marks.specs.Bits.{word_has};
+ghost use Rattle.run_marks.specs.First.{IsFirstFrom};
+
+pub(crate) fn with_bit(word: u64, k: usize) -> u64
+    requires { k < 64 }
+    ensures set { word_has result k ≡ true }
+    ensures others { (i : ℕ) → i ≢ k → word_has result i ≡ word_has word i }
+{
+    word | (1 << k)
+}
+
+pub(crate) fn without_bit(word: u64, k: usize) -> u64
+    requires { k < 64 }
+    ensures clear { word_has result k ≡ false }
+    ensures zero { word ≡ 0 → result ≡ 0 }
+    ensures others { (i : ℕ) → i < 64 → i ≢ k → word_has result i ≡ word_has word i }
+{
+    word & !(1 << k)
+}
+
+/// The place of the first bit that is set, at or after a place.
+pub(crate) fn first_bit(word: u64, from: usize) -> Option<usize>
+    requires { from < 64 }
+    ensures first { IsFirstFrom (word_has word) from result }
+    ensures small { IfSome result (λ i. i < 64) }
+{
+    let rest = word & (u64::MAX << from);
+    if rest == 0 {
+        None
+    } else {
+        Some(rest.trailing_zeros() as usize)
+    }
+}
+
+/// The place of the first bit that is set, in a word that has one.
+pub(crate) fn lowest_bit(word: u64) -> usize
+    requires { word ≢ 0 }
+    ensures first { IsFirstFrom (word_has word) 0 (Some result) }
+    ensures small { result < 64 }
+{
+    word.trailing_zeros() as usize
+}
