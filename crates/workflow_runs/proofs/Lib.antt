@@ -7,6 +7,7 @@ pub mod Changed
 pub mod Counting
 pub mod Digits
 pub mod DirectNeeds
+pub mod DueRuns
 pub mod EachRule
 pub mod Doors
 pub mod Firsts
@@ -28,9 +29,11 @@ pub mod LegReads
 pub mod LivePlaces
 pub mod LookedAgain
 pub mod Lowered
+pub mod MarkedRuns
 pub mod Meant
 pub mod Transitions
 pub mod NeedsSettled
+pub mod NoneReady
 pub mod OneEach
 pub mod OneEachRules
 pub mod Optional
@@ -44,6 +47,7 @@ pub mod Settles
 pub mod SettlingKeeps
 pub mod SoundRuns
 pub mod Sought
+pub mod Stays
 pub mod StillBound
 pub mod StopKeeps
 pub mod StoppedRuns

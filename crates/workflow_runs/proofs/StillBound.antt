@@ -1,5 +1,5 @@
 -- A run that changes is still kept with its number and with what it asks of groups.
-use Rattle.std.specs.Prelude.{◌≡◌, ℕ, zero, suc, ◌+◌, ◌<◌, List, [], ◌∷◌, ◌++◌, length, count_by, Some, option_map, slice_get, slice_set}
+use Rattle.std.specs.Prelude.{◌≡◌, ℕ, zero, suc, ◌+◌, ◌<◌, List, [], ◌∷◌, ◌++◌, length, count_by, Some, option_map, slice_get, slice_set, true}
 use Rattle.std.specs.Prelude.{refl}
 use Rattle.std.specs.Fmt.{decimal}
 use Rattle.std.proofs.Common.{arith, ap, sym, subst, ◌∙◌, get_or}
@@ -10,14 +10,17 @@ use Rattle.workflow_runs.specs.Asks.{AreBound, RunSays}
 use Rattle.workflow_runs.specs.Counted.{AreCounted}
 use Rattle.workflow_runs.specs.Delivered.{FindsFirst}
 use Rattle.workflow_runs.specs.GroupOf.{RunFacts, run_facts_at}
+use Rattle.workflow_runs.specs.MarkedRuns.{Stirs}
 use Rattle.workflow_runs.specs.RunNumber.{AreNumbered, events, number_of_next, numbers_after, run_number, same_workflow}
 use Rattle.workflow_runs.specs.RunState.{RunState}
 use Rattle.workflow_runs.specs.RunsKept.{RunsAreKept}
 use Rattle.workflow_runs.specs.declared.asks.RunBindings.{RunBindings}
 use Rattle.workflow_runs.specs.declared.runs.index.Index.{Index}
+use Rattle.workflow_runs.specs.declared.runs.marks.RunMarks.{RunMarks}
 use Rattle.workflow_runs.proofs.Binding.{one_more as one_more_bound}
 use Rattle.workflow_runs.proofs.BoundSays.{run_told}
 use Rattle.workflow_runs.proofs.GroupStays.{run_facts_stay}
+use Rattle.workflow_runs.proofs.MarkedRuns.{marks_after}
 use Rattle.workflow_runs.proofs.RunNumbers.{events_kept, length_kept, number_at, one_more, still_numbered}
 
 facts_same : (runs next : List RunState) (r : ℕ) → events next ≡ events runs → run_facts_at next r ≡ run_facts_at runs r
@@ -32,26 +35,29 @@ still_bound xs kept r x y lt is same are = record {
 }
 
 -- a run is written of the event that stands at its place
-pub still_kept : (xs : List RunState) (numbers : List ℕ) (kept : List RunBindings) (index : Index) (r : ℕ) (x y : RunState) → r < length xs
-    → x ≡ get_or xs r x → y.admitted ≡ x.admitted → RunsAreKept xs numbers kept index → RunsAreKept (slice_set xs r y) numbers kept index
-still_kept xs numbers kept index r x y lt is same are =
+pub still_kept : (xs : List RunState) (numbers : List ℕ) (kept : List RunBindings) (index : Index) (marks marks' : RunMarks) (r : ℕ)
+    (x y : RunState) → r < length xs → x ≡ get_or xs r x → y.admitted ≡ x.admitted → Stirs r (length xs) marks marks'
+    → RunsAreKept xs numbers kept index marks → RunsAreKept (slice_set xs r y) numbers kept index marks'
+still_kept xs numbers kept index marks marks' r x y lt is same stirs are =
     let stay : events (slice_set xs r y) ≡ events xs = events_kept xs r x y lt is same in
     record {
       numbered = still_numbered xs numbers r x y lt is same are.numbered;
       bound = still_bound xs kept r x y lt is same are.bound;
       found = subst (λ (es : List Admitted). FindsFirst es index.places.places) (sym stay) are.found;
       counted = subst (λ (es : List Admitted). AreCounted es index.counts.counts) (sym stay) are.counted;
+      marked = marks_after xs y marks marks' r stirs are.marked;
     }
 
 -- the same runs, as the code sees them, in another index
-pub kept_in : (xs seen : List RunState) (numbers : List ℕ) (kept : List RunBindings) (old new : Index) → seen ≡ xs
-    → RunsAreKept xs numbers kept old → FindsFirst (events seen) new.places.places → AreCounted (events seen) new.counts.counts
-    → RunsAreKept xs numbers kept new
-kept_in xs seen numbers kept old new same are found counted = record {
+pub kept_in : (xs seen : List RunState) (numbers : List ℕ) (kept : List RunBindings) (old new : Index) (marks : RunMarks) → seen ≡ xs
+    → RunsAreKept xs numbers kept old marks → FindsFirst (events seen) new.places.places → AreCounted (events seen) new.counts.counts
+    → RunsAreKept xs numbers kept new marks
+kept_in xs seen numbers kept old new marks same are found counted = record {
   numbered = are.numbered;
   bound = are.bound;
   found = subst (λ (rs : List RunState). FindsFirst (events rs) new.places.places) same found;
   counted = subst (λ (rs : List RunState). AreCounted (events rs) new.counts.counts) same counted;
+  marked = are.marked;
 }
 
 -- ---- one run more

@@ -1,7 +1,7 @@
 -- Looking runs up by their deliveries. Own.
 use Rattle.std.specs.Prelude.{◌≡◌, ℕ, ◌<◌, List, String, Option, Some, option_map, slice_get}
-use Rattle.std.specs.BTreeMap.{BTreeMap, get_by_text}
 use Rattle.std.specs.declared.alloc.Global.{Global}
+use Rattle.indexmap.specs.IndexMap.{IndexMap, get_by_text}
 use Rattle.run_plan.specs.Admitted.{Admitted}
 
 -- the delivery of the event at a place
@@ -14,5 +14,5 @@ pub record IsFirst (events : List Admitted) (delivery : List ℕ) (r : ℕ) : Ty
   pub first : (s : ℕ) → s < r → delivery_at events s ≡ Some delivery → ⊥
 
 -- where the first event of a delivery stands, the place is kept for it
-abbrev pub FindsFirst : List Admitted → BTreeMap (String Global) ℕ → Type 0
+abbrev pub FindsFirst : {S : Type 0} → List Admitted → IndexMap (String Global) ℕ S → Type 0
 FindsFirst events places = (delivery : List ℕ) (r : ℕ) → IsFirst events delivery r → get_by_text places delivery ≡ Some r

@@ -2,6 +2,7 @@ pub mod Arrivals
 pub mod Asks
 pub mod BoundGroups
 pub mod Cells
+pub mod Changes
 pub mod Counted
 pub mod Delivered
 pub mod FirstOf
@@ -14,6 +15,7 @@ pub mod JobResults
 pub mod KnownLabels
 pub mod LegContext
 pub mod LookAgain
+pub mod MarkedRuns
 pub mod Moves
 pub mod Parallel
 pub mod Places

@@ -90,12 +90,14 @@ pub fn first_fit(labels: &[Label], runs: &Runs) -> Option<LegPlace>
     ensures run { IfSome result (λ p. p.run < 100000) }
 {
     let all = runs.as_slice();
-    for r in 0..all.len() {
+    let mut from = 0;
+    while let Some(r) = runs.next_ready(from) {
         let run = &all[r];
         let place = fit_in_run(labels, runs, r, run);
         if place.is_some() {
             return place;
         }
+        from = r + 1;
     }
     None
 }

@@ -3,6 +3,7 @@ ghost use Rattle.std.specs.List.{list_all};
 ghost use Rattle.wf_value.specs.Gives.{Gives};
 ghost use Rattle.workflow_runs.specs.Cells.{in_state};
 ghost use Rattle.workflow_runs.specs.FirstOf.{changed_at};
+ghost use Rattle.workflow_runs.specs.MarkedRuns.{has_ready_leg, has_waiting_leg};
 ghost use Rattle.workflow_runs.specs.Parallel.{is_at_work, legs_at_work};
 ghost use Rattle.workflow_runs.specs.Rules.{has_ended, is_done, is_settled, opened, settled_as};
 ghost use Rattle.workflow_runs.specs.NewRun.{blocked_job};
@@ -57,6 +58,20 @@ impl Job {
     {
         let count = if self.has_legs { self.room.len() } else { 0 };
         &self.room[..count]
+    }
+
+    /// Whether a leg of it is ready.
+    pub(crate) fn has_ready_leg(&self) -> bool
+        ensures { result ≡ has_ready_leg self.now.state }
+    {
+        self.legs().iter().any(|leg| leg.is_ready())
+    }
+
+    /// Whether a leg of it waits for its group.
+    pub(crate) fn has_waiting_leg(&self) -> bool
+        ensures { result ≡ has_waiting_leg self.now.state }
+    {
+        self.legs().iter().any(|leg| leg.phase.waits())
     }
 
     /// The job opens: all its legs are there, new.

@@ -2,6 +2,7 @@
 #![tactic(auto)]
 
 mod asks;
+mod change;
 mod direct_needs;
 pub mod first_place;
 pub mod fit;

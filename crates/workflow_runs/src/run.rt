@@ -1,10 +1,12 @@
 ghost use Rattle.std.specs.Prelude.{◌≡◌, ◌&&◌, None, Ok, is_some, length, map, not, option_map, slice_get, true};
-ghost use Rattle.std.specs.List.{slice_index_or};
+ghost use Rattle.std.specs.List.{list_any, slice_index_or};
 ghost use Rattle.wf_value.specs.Gives.{Gives};
 ghost use Rattle.run_plan.specs.PlanOf.{plan_of};
 ghost use Rattle.workflow_runs.specs.Cells.{blocked_cells, states};
+ghost use Rattle.workflow_runs.specs.Changes.{changed};
 ghost use Rattle.workflow_runs.specs.FirstOf.{changed_at};
 ghost use Rattle.workflow_runs.specs.LookAgain.{job_again};
+ghost use Rattle.workflow_runs.specs.MarkedRuns.{has_ready_leg, has_waiting_leg, offers_legs, someone_waits};
 ghost use Rattle.workflow_runs.specs.Rules.{opened, settled_as, run_in_phase};
 ghost use Rattle.workflow_runs.specs.Settling.{legs_in_plan};
 ghost use Rattle.workflow_runs.specs.NewRun.{is_delivered_as, new_run};
@@ -16,6 +18,7 @@ ghost use Rattle.workflow_runs.specs.Words.{all_have_results};
 
 mod of;
 
+use crate::change::Change;
 use crate::job::Job;
 use crate::leg::Leg;
 use crate::phases::RunPhase;
@@ -148,7 +151,35 @@ impl Run {
         graph.decide(j, condition, self.jobs(), self.stopping)
     }
 
+    /// Whether a leg of it is ready.
+    pub(crate) fn offers_legs(&self) -> bool
+        ensures { result ≡ offers_legs self.now }
+    {
+        have_ready_leg(self.jobs())
+    }
+
+    /// Whether it waits for its group, or a leg of it does for its own.
+    pub(crate) fn someone_waits(&self) -> bool
+        ensures { result ≡ someone_waits self.now }
+    {
+        self.phase.waits() || have_waiting_leg(self.jobs())
+    }
+
     // ---- the changes of a run
+
+    /// The run changes.
+    pub(crate) fn change(&mut self, change: Change)
+        ensures { self.new ≡ changed change self.old }
+    {
+        match change {
+            Change::Phase(phase) => self.set_phase(phase),
+            Change::Open(j) => self.open_job(j),
+            Change::Settle(j, settled) => self.settle_job(j, settled),
+            Change::Stop => self.stop(),
+            Change::StopLegs(j) => self.stop_legs(j),
+            Change::PutLeg(j, l, leg) => self.set_leg(j, l, leg),
+        }
+    }
 
     pub(crate) fn set_phase(&mut self, phase: RunPhase)
         ensures { self.new ≡ run_in_phase phase self.old }
@@ -305,6 +336,18 @@ fn blocked_jobs(alloc: Global, plan: &[PlannedJob]) -> Result<Vec<Job>, Refusal>
         jobs.push(Job::blocked(alloc, planned.legs.as_slice().len())?)?;
     }
     Ok(jobs)
+}
+
+fn have_ready_leg(jobs: &[Job]) -> bool
+    ensures { result ≡ list_any (λ job. has_ready_leg job.state) jobs.now }
+{
+    jobs.iter().any(|job| job.has_ready_leg())
+}
+
+fn have_waiting_leg(jobs: &[Job]) -> bool
+    ensures { result ≡ list_any (λ job. has_waiting_leg job.state) jobs.now }
+{
+    jobs.iter().any(|job| job.has_waiting_leg())
 }
 
 /// Whether the jobs at these places have all settled.

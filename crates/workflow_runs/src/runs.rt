@@ -18,6 +18,8 @@ mod group_keys;
 mod groups;
 mod index;
 mod labels;
+mod looks;
+mod marks;
 mod of;
 mod places;
 mod settling;
@@ -30,6 +32,7 @@ use crate::place::LegPlace;
 use crate::run::Run;
 use crate::runs::counts::{Workflow, workflow_of};
 use crate::runs::index::Index;
+use crate::runs::marks::RunMarks;
 use run_plan::{DeliveryId, PlannedJob};
 use std::alloc::Global;
 use std::marker::Model;
@@ -39,7 +42,6 @@ use wf_value::{Chars, Combo, Refusal, TryCopy, copy_items};
 pub const MOST_RUNS: u32 = 100_000;
 
 /// The runs of a table, in the order of their ids, which count from 1. A contract sees the list of them.
-#[derive(Drop)]
 pub struct Runs {
     runs: Vec<Run>,
     /// The number of each, among the runs of its workflow.
@@ -47,6 +49,9 @@ pub struct Runs {
     /// What each, and its legs, ask of concurrency groups and of runners.
     asks: Vec<RunBindings>,
     index: Index,
+    marks: RunMarks,
+    /// How often settling has tried a rule at a place, since it was last set to 0.
+    tries: u64,
 }
 
 impl Model for Runs {
@@ -58,7 +63,7 @@ impl Model for Runs {
 
     ghost view = { λ r. r.runs.items };
 
-    ghost invariant = { λ r. RunsAreKept r.runs.items r.numbers.items r.asks.items r.index };
+    ghost invariant = { λ r. RunsAreKept r.runs.items r.numbers.items r.asks.items r.index r.marks };
 }
 
 impl Runs {
@@ -70,6 +75,8 @@ impl Runs {
             numbers: Vec::new(alloc),
             asks: Vec::new(alloc),
             index: Index::new(alloc),
+            marks: RunMarks::new(alloc),
+            tries: 0,
         }
     }
 
@@ -230,11 +237,29 @@ impl Runs {
         self.runs.reserve(1)?;
         self.numbers.reserve(1)?;
         self.asks.reserve(1)?;
+        let r = self.runs.len();
+        self.marks.cover(r + 1)?;
+        self.marks.stir(r, r);
         self.runs.push_reserved(run);
         self.numbers.push_reserved(number);
         self.asks.push_reserved(asked);
         self.index.counts.add(workflow, number);
+        self.look_again(r);
         Ok(())
+    }
+}
+
+/// As it is derived. Written out, it is one call in the proof of each caller that lets runs go, in place of the drop of every part.
+impl Drop for Runs {
+    fn drop(self) {
+        let Self {
+            runs: _,
+            numbers: _,
+            asks: _,
+            index: _,
+            marks: _,
+            tries: _,
+        } = self;
     }
 }
 
@@ -245,6 +270,8 @@ impl TryCopy for Runs {
             numbers: Vec::from_slice(alloc, self.numbers.as_slice())?,
             asks: copy_items(alloc, &self.asks)?,
             index: self.index.copy()?,
+            marks: self.marks.copy()?,
+            tries: self.tries,
         })
     }
 }

@@ -2,11 +2,13 @@
 #![tactic(auto, using(crate::proofs::Doors::written))]
 
 ghost use Rattle.std.specs.Prelude.{◌≡◌};
+ghost use Rattle.workflow_runs.specs.Changes.{changed};
 ghost use Rattle.workflow_runs.specs.Places.{with_job, with_leg, with_run};
 ghost use Rattle.workflow_runs.specs.Rules.{opened, run_in_phase, settled_as, with_leg_in};
 ghost use Rattle.workflow_runs.specs.Stops.{stopped_run, with_stopped_legs};
 ghost use Rattle.workflow_runs.specs.Words.{planned_legs};
 
+use crate::change::Change;
 use crate::leg::Leg;
 use crate::phases::{LegPhase, RunPhase};
 use crate::place::LegPlace;
@@ -14,62 +16,57 @@ use crate::runs::Runs;
 use wf_value::JobResult;
 
 impl Runs {
+    /// Changes the run at a place, if there is one. Every change of a run comes here.
+    fn change(&mut self, r: usize, change: Change)
+        ensures { self.new ≡ with_run r (changed change) self.old }
+    {
+        let count = self.runs.len();
+        if r < count {
+            self.marks.stir(r, count);
+            let run = &mut self.runs[r];
+            run.change(change);
+            self.look_again(r);
+        }
+    }
+
     pub(crate) fn set_run_phase(&mut self, r: usize, phase: RunPhase)
         ensures { self.new ≡ with_run r (run_in_phase phase) self.old }
     {
-        if r < self.runs.len() {
-            let run = &mut self.runs[r];
-            run.set_phase(phase);
-        }
+        self.change(r, Change::Phase(phase));
     }
 
     /// The job opens, with all legs of its plan.
     pub(crate) fn open_job(&mut self, r: usize, j: usize)
         ensures { self.new ≡ with_job r j (opened (planned_legs self.old r j)) self.old }
     {
-        if r < self.runs.len() {
-            let run = &mut self.runs[r];
-            run.open_job(j);
-        }
+        self.change(r, Change::Open(j));
     }
 
     pub(crate) fn settle_job(&mut self, r: usize, j: usize, settled: JobResult)
         ensures { self.new ≡ with_job r j (settled_as settled) self.old }
     {
-        if r < self.runs.len() {
-            let run = &mut self.runs[r];
-            run.settle_job(j, settled);
-        }
+        self.change(r, Change::Settle(j, settled));
     }
 
     /// The run is stopped, if there is one at the place.
     pub fn stop(&mut self, r: usize)
         ensures { self.new ≡ with_run r stopped_run self.old }
     {
-        if r < self.runs.len() {
-            let run = &mut self.runs[r];
-            run.stop();
-        }
+        self.change(r, Change::Stop);
     }
 
     /// All legs of the job are stopped.
     pub(crate) fn stop_legs(&mut self, r: usize, j: usize)
         ensures { self.new ≡ with_job r j with_stopped_legs self.old }
     {
-        if r < self.runs.len() {
-            let run = &mut self.runs[r];
-            run.stop_legs(j);
-        }
+        self.change(r, Change::StopLegs(j));
     }
 
     /// Puts the leg in the place of the one that is there, if one is.
     pub fn set_leg(&mut self, place: LegPlace, leg: Leg)
         ensures { self.new ≡ with_leg place (λ _. leg) self.old }
     {
-        if place.run < self.runs.len() {
-            let run = &mut self.runs[place.run];
-            run.set_leg(place.job, place.leg, leg);
-        }
+        self.change(place.run, Change::PutLeg(place.job, place.leg, leg));
     }
 
     /// The leg changes to the phase, if there is one at the place.

@@ -1,20 +1,20 @@
 //! Where the run of each delivery stands, so that a delivery that comes again is found without a look at all runs.
 
-ghost use Rattle.std.specs.BTreeMap.{get_by_text};
 ghost use Rattle.std.specs.Prelude.{◌≡◌, ◌&&◌, ℕ, IfOk, List, None, OnErr, OnOk, Some, if◌then◌else◌, is_none};
 ghost use Rattle.std.specs.Str.{bytes_eq};
+ghost use Rattle.indexmap.specs.IndexMap.{get_by_text};
 ghost use Rattle.wf_value.specs.Gives.{ErrsOnlyByMemory};
 
 use crate::runs::counts::string_of;
+use indexmap::IndexMap;
 use run_plan::DeliveryId;
 use std::alloc::Global;
-use std::collections::BTreeMap;
 use wf_value::Refusal;
 
 /// A place for each delivery. One may be kept where its run could not be added, so whoever asks looks whether the run stands there.
 #[derive(Drop)]
 pub(crate) struct Places {
-    pub places: BTreeMap<String, usize>,
+    pub places: IndexMap<String, usize>,
 }
 
 impl Places {
@@ -22,7 +22,7 @@ impl Places {
         ensures { (delivery : List ℕ) → get_by_text result.places delivery ≡ None }
     {
         Places {
-            places: BTreeMap::new(alloc),
+            places: IndexMap::new(alloc),
         }
     }
 

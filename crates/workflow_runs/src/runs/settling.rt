@@ -10,13 +10,12 @@ ghost use Rattle.workflow_runs.specs.LookAgain.{RestBefore, at_job_again, may_wa
 ghost use Rattle.workflow_runs.specs.Groups.{HasOneEach};
 ghost use Rattle.workflow_runs.specs.Places.{job_at, leg_at, run_at, with_job};
 ghost use Rattle.workflow_runs.specs.Rules.{closing_rule, decided, leg_end, leg_rule, may_run, newcomer_rule, rule_at, whole_rule};
-ghost use Rattle.workflow_runs.specs.Settling.{first_rule, settled};
+ghost use Rattle.workflow_runs.specs.Settling.{first_place, first_rule, settled};
 ghost use Rattle.workflow_runs.specs.SoundRuns.{RunsAreSound};
 ghost use Rattle.workflow_runs.specs.StateWords.{outcome_of};
 ghost use Rattle.workflow_runs.specs.WithinRun.{failing};
 ghost use Rattle.workflow_runs.specs.Words.{is_stopping};
 
-use crate::first_place::first_place;
 use crate::holder::Holder;
 use crate::leg::Leg;
 use crate::phases::{LegPhase, RunPhase};
@@ -56,14 +55,23 @@ impl Runs {
         ensures kept { is_some result ≡ false → self.new ≡ self.old }
         ensures rest { IfSome result (λ next. RestBefore self.new next) }
     {
-        match first_place(self, from) {
-            Some(place) => {
-                let may_wake_others = self.may_wake_others(&place);
-                self.take_rule(place);
-                Some(self.resume_point(&place, may_wake_others))
-            }
+        match self.first_place(from) {
+            Some(place) => Some(self.take_first_rule_at(place)),
             None => None,
         }
+    }
+
+    /// Takes the rule at the place, the first where one applies, and says from where the next is to be looked for.
+    fn take_first_rule_at(&mut self, place: Place) -> JobPlace
+        requires sound { RunsAreSound self.old }
+        requires one_each { HasOneEach self.old }
+        requires first { first_place self.old ≡ Some place }
+        ensures took { option_map (λ next. next.runs) (first_rule self.old) ≡ Some self.new }
+        ensures rest { RestBefore self.new result }
+    {
+        let may_wake_others = self.may_wake_others(&place);
+        self.take_rule(place);
+        self.resume_point(&place, may_wake_others)
     }
 
     /// From where to look for the next rule, after the one at the place: none has become due before.

@@ -1,28 +1,33 @@
-use Rattle.std.proofs.Common.{sym, ◌∙◌, below_more, ◌≡◌, ℕ, true, false, rules}
+use Rattle.std.proofs.Common.{arith, sym, ◌∙◌, below_more, ◌≡◌, length, true, false, rules}
 use Rattle.std.specs.Prelude.{is_some}
-use Rattle.workflow_runs.specs.RunState.{RunState}
-use Rattle.workflow_runs.specs.WithinRun.{fit_in_jobs}
 use Rattle.workflow_runs.proofs.Firsts.{answer_found, answer_passed, none_found}
+use Rattle.workflow_runs.proofs.NoneReady.{fit_of, none_before}
 use Rattle.workflow_runs.proofs.Sought.{first_fit_by_run}
 use Rattle.workflow_runs.proofs.fit.first_fit.Goals as goal
 
 pub returns-then-is_some-clause-found : goal.returns-then-is_some-clause-found
 returns-then-is_some-clause-found c =
+    let labels = c.args.labels.now in
+    let runs = c.args.runs.now in
     let some : is_some c.fit_in_run-place.result ≡ true = search rules in
-    sym (first_fit_by_run c.args.labels.now c.args.runs.now
-    ∙ answer_found
-    (λ (r : ℕ) (run : RunState). fit_in_jobs c.args.labels.now c.args.runs.now r run.jobs) c.args.runs.now c.loop-r.r c.index-all-r.result
-    c.fit_in_run-place.result c.loop-r.invariant (search rules) (search rules) c.fit_in_run-place.ensures.found some)
+    sym (first_fit_by_run labels runs
+    ∙ answer_found (fit_of labels runs) runs c.in-Some.r c.index-all-r.result c.fit_in_run-place.result
+    (none_before labels runs c.loop-r.from c.in-Some.r c.loop-r.invariant c.in-Some.ensures.between) (search rules) (search rules)
+    c.fit_in_run-place.ensures.found some)
 
 pub loop-r-preserved : goal.loop-r-preserved
 loop-r-preserved c =
+    let labels = c.args.labels.now in
+    let runs = c.args.runs.now in
     let none : is_some c.fit_in_run-place.result ≡ false = search rules in
-    below_more _ _ c.loop-r.invariant
-    (answer_passed (λ (r : ℕ) (run : RunState). fit_in_jobs c.args.labels.now c.args.runs.now r run.jobs) c.args.runs.now c.loop-r.r
-    c.index-all-r.result c.fit_in_run-place.result (search rules) (search rules) c.fit_in_run-place.ensures.found none)
+    below_more _ _ (none_before labels runs c.loop-r.from c.in-Some.r c.loop-r.invariant c.in-Some.ensures.between)
+    (answer_passed (fit_of labels runs) runs c.in-Some.r c.index-all-r.result c.fit_in_run-place.result (search rules) (search rules)
+    c.fit_in_run-place.ensures.found none)
 
 pub returns-clause-found : goal.returns-clause-found
 returns-clause-found c =
-    sym (first_fit_by_run c.args.labels.now c.args.runs.now
-    ∙ none_found (λ (r : ℕ) (run : RunState). fit_in_jobs c.args.labels.now c.args.runs.now r run.jobs) c.args.runs.now c.loop-r.r
-    c.loop-r.invariant (search rules))
+    let labels = c.args.labels.now in
+    let runs = c.args.runs.now in
+    sym (first_fit_by_run labels runs
+    ∙ none_found (fit_of labels runs) runs (length runs)
+    (none_before labels runs c.loop-r.from (length runs) c.loop-r.invariant (λ i from to. c.in_default.ensures.none i from)) (omega arith))

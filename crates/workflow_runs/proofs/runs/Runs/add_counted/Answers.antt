@@ -8,6 +8,7 @@ use Rattle.workflow_runs.specs.RunNumber.{events, number_of_next, same_workflow}
 use Rattle.workflow_runs.specs.RunState.{RunState}
 use Rattle.workflow_runs.specs.RunsKept.{RunsAreKept}
 use Rattle.workflow_runs.proofs.Indexed.{counted_more, events_more}
+use Rattle.workflow_runs.proofs.MarkedRuns.{marks_grown, marks_more}
 use Rattle.workflow_runs.proofs.RunNumbers.{count_of_map}
 use Rattle.workflow_runs.proofs.StillBound.{all_added, kept_in}
 use Rattle.workflow_runs.proofs.runs.Runs.add_counted.Goals as goal
@@ -16,9 +17,10 @@ use Rattle.workflow_runs.proofs.runs.Runs.add_counted.Goals.{In_ok-reserve}
 -- the runs are kept as before where memory is refused
 still_kept : (c : In_ok-reserve)
     → RunsAreKept c.self.inside.runs.items c.self.inside.numbers.items c.self.inside.asks.items c.make_room.new.self
+    c.self.inside.marks
 still_kept c =
     kept_in c.self.inside.runs.items c.as_slice-runs.result.now c.self.inside.numbers.items c.self.inside.asks.items c.self.inside.index
-    c.make_room.new.self c.as_slice-runs.ensures.value c.self.invariant c.make_room.ensures.finds c.make_room.ensures.counted
+    c.make_room.new.self c.self.inside.marks c.as_slice-runs.ensures.value c.self.invariant c.make_room.ensures.finds c.make_room.ensures.counted
 
 pub invariant_of-self-in_err-reserve-2 : goal.invariant_of-self-in_err-reserve-2
 invariant_of-self-in_err-reserve-2 c =
@@ -29,7 +31,19 @@ invariant_of-self-in_err-reserve-3 c =
     rw (c.reserve.ensures.items, c.reserve-2.ensures.items, c.reserve-3.ensures.items)
     (still_kept (goal.at.invariant_of-self-in_err-reserve-3 c).In_ok-reserve)
 
--- the run is kept with its number and with what it asks; it is found by its delivery, and counted
+-- room for marks alone is no change
+pub invariant_of-self-in_err-cover : goal.invariant_of-self-in_err-cover
+invariant_of-self-in_err-cover c =
+    let were = still_kept (goal.at-invariant_of-self-in_err-cover c).In_ok-reserve in
+    rw (c.reserve.ensures.items, c.reserve-2.ensures.items, c.reserve-3.ensures.items) (record {
+      numbered = were.numbered;
+      bound = were.bound;
+      found = were.found;
+      counted = were.counted;
+      marked = marks_grown c.self.inside.runs.items c.self.inside.marks c.cover.new.self c.cover.ensures.grows were.marked;
+    })
+
+-- the run is kept with its number and with what it asks; it is found by its delivery, counted, and marked
 pub invariant_of-self-2 : goal.invariant_of-self-2
 invariant_of-self-2 c =
     let items = c.self.inside.runs.items in
@@ -52,6 +66,8 @@ invariant_of-self-2 c =
     let room : length items < 100000 = subst (λ (runs : List RunState). length runs < 100000) (sym c.self.view_is) c.requires.room in
     let says : RunSays (record { event = event; run_id = decimal (length items + 1); run_number = decimal c.in_ok-number.number })
     c.in_ok-asked.asked = search rules in
+    let r = c.len-r.result in
+    let end : r ≡ length items = search rules in
     let kept =
     all_added items c.args.run c.self.inside.numbers.items c.self.inside.asks.items c.in_ok-number.number c.in_ok-asked.asked room
     (c.self.invariant.numbered, c.self.invariant.bound) next says in
@@ -68,4 +84,6 @@ invariant_of-self-2 c =
       found = found;
       counted = counted_more items c.args.run counts c.add.new.self.counts counted
           (λ other. c.add.ensures.counted event other c.requires.workflow number);
+      marked = marks_more items c.args.run c.cover.new.self c.stir.new.self r end c.in_ok-cover.ensures.covers c.stir.ensures
+          (marks_grown items c.self.inside.marks c.cover.new.self c.cover.ensures.grows c.self.invariant.marked);
     })

@@ -1,35 +1,23 @@
-use Rattle.std.specs.Prelude.{◌≡◌, List, Some, IfSome, Bool, option_and_then}
+use Rattle.std.specs.Prelude.{◌≡◌, List, Some, None, option_and_then, option_map}
 use Rattle.std.proofs.Common.{ap, subst, sym, ◌∙◌}
-use Rattle.workflow_runs.specs.LookAgain.{RestBefore, may_wake_others, resume_point}
+use Rattle.workflow_runs.specs.Groups.{HasOneEach}
 use Rattle.workflow_runs.specs.Moves.{Transition}
 use Rattle.workflow_runs.specs.Rules.{rule_at}
+use Rattle.workflow_runs.specs.RunState.{RunState}
 use Rattle.workflow_runs.specs.Settling.{first_place, first_rule}
 use Rattle.workflow_runs.specs.SoundRuns.{RunsAreSound}
-use Rattle.workflow_runs.specs.RunState.{RunState}
-use Rattle.workflow_runs.specs.declared.place.JobPlace.{JobPlace}
-use Rattle.workflow_runs.specs.declared.place.Place.{Place}
-use Rattle.workflow_runs.proofs.LookedAgain.{rest_after_rule}
-use Rattle.workflow_runs.proofs.Transitions.{first_rule_taken}
-use Rattle.workflow_runs.proofs.Optional.{from_map}
-use Rattle.workflow_runs.proofs.SoundRuns.{runs_that_fit}
 use Rattle.workflow_runs.proofs.runs.Runs.take_first_rule.Goals as goal
 
-rest_again : (runs new : List RunState) (place : Place) (freed : Bool) (again : JobPlace) → RunsAreSound runs
-    → first_place runs ≡ Some place
-    → IfSome (rule_at runs place) (λ next. new ≡ next.runs) → freed ≡ may_wake_others runs place → again ≡ resume_point freed new place
-    → RestBefore new again
-rest_again runs new place freed again sound first taken frees_is is =
-    let rule = from_map (λ (m : Transition). m.runs) (first_rule runs) new (first_rule_taken runs new place first taken) in
-    let at : rule_at runs place ≡ Some rule.value = sym (ap (option_and_then (rule_at runs)) first) ∙ rule.is in
-    subst (RestBefore new) (sym (is ∙ ap (λ b. resume_point b new place) frees_is))
-    (subst (λ (xs : List RunState). RestBefore xs (resume_point (may_wake_others runs place) xs place)) rule.gives
-    (rest_after_rule runs rule.value place (runs_that_fit runs sound) first at))
+pub take_first_rule_at-requires-clause-sound : goal.take_first_rule_at-requires-clause-sound
+take_first_rule_at-requires-clause-sound c = subst RunsAreSound (sym c.first_place.ensures.kept) c.requires.sound
+
+pub take_first_rule_at-requires-clause-one_each : goal.take_first_rule_at-requires-clause-one_each
+take_first_rule_at-requires-clause-one_each c = subst HasOneEach (sym c.first_place.ensures.kept) c.requires.one_each
+
+pub take_first_rule_at-requires-clause-first : goal.take_first_rule_at-requires-clause-first
+take_first_rule_at-requires-clause-first c = ap first_place c.first_place.ensures.kept ∙ sym c.first_place.ensures.found ∙ c.in-Some.is
 
 pub returns-in-Some-clause-took : goal.returns-in-Some-clause-took
 returns-in-Some-clause-took c =
-    first_rule_taken c.args.self.now c.take_rule.new.self c.in-Some.place (sym c.first_place.ensures ∙ c.in-Some.is) c.take_rule.ensures
-
-pub returns-in-Some-clause-rest : goal.returns-in-Some-clause-rest
-returns-in-Some-clause-rest c =
-    rest_again c.args.self.now c.take_rule.new.self c.in-Some.place c.may_wake_others-may_wake_others.result c.resume_point.result c.requires.sound
-    (sym c.first_place.ensures ∙ c.in-Some.is) c.take_rule.ensures c.may_wake_others-may_wake_others.ensures c.resume_point.ensures
+    ap (λ (xs : List RunState). option_map (λ (m : Transition). m.runs) (first_rule xs)) (sym c.first_place.ensures.kept)
+    ∙ c.take_first_rule_at.ensures.took

@@ -1,6 +1,5 @@
-use Rattle.std.specs.Cmp.Lexicographic.{slice_cmp}
-use Rattle.std.specs.Ordering.{is_eq, nat_cmp}
 use Rattle.std.specs.Prelude.{String, string_bytes}
+use Rattle.std.specs.Str.{bytes_eq}
 use Rattle.std.specs.declared.alloc.Global.{Global}
 use Rattle.std.specs.Map.{lookup}
 use Rattle.std.proofs.Common.{ap}
@@ -10,7 +9,7 @@ use Rattle.workflow_runs.proofs.runs.places.Places.copy.Goals as goal
 
 pub returns-clause-same : goal.returns-clause-same
 returns-clause-same c = λ delivery.
-    let test = λ (k : String Global). is_eq (slice_cmp nat_cmp delivery (string_bytes k)) in
+    let test = λ (k : String Global). bytes_eq delivery (string_bytes k) in
     same_found _ (λ m n same. same) (lookup test c.args.self.now.places.entries) (lookup test c.in_ok-clone.field-0.entries)
-    (lookup_clone _ _ test (λ x y same. ap (λ bs. is_eq (slice_cmp nat_cmp delivery bs)) same) c.args.self.now.places.entries
+    (lookup_clone _ _ test (λ x y same. ap (λ bs. bytes_eq delivery bs) same) c.args.self.now.places.entries
     c.in_ok-clone.field-0.entries c.in_ok-clone.ensures.cases)

@@ -1,8 +1,8 @@
 use Rattle.std.specs.Prelude.{◌≡◌, List, ℕ, Some, if◌then◌else◌, string_bytes}
-use Rattle.std.specs.BTreeMap.{get_by_text}
+use Rattle.indexmap.specs.IndexMap.{get_by_text}
 use Rattle.std.specs.Str.{bytes_eq}
 use Rattle.std.proofs.Common.{rules, sym, subst}
-use Rattle.std.proofs.lemmas.Map.Text.{btree_map_updates_text}
+use Rattle.std.proofs.lemmas.Map.Text.{hash_map_updates_text}
 use Rattle.workflow_runs.proofs.runs.places.Places.put.Goals as goal
 
 pub returns-clause-put : goal.returns-clause-put
@@ -12,5 +12,5 @@ returns-clause-put c = λ other.
     (λ (d : List ℕ). get_by_text c.insert.new.self other
     ≡ (if bytes_eq d other then Some c.args.place else get_by_text c.args.self.now.places other))
     (sym is)
-    (btree_map_updates_text (string_bytes c.in_ok-key.key) c.args.self.now.places c.insert.new.self (Some c.args.place)
+    (hash_map_updates_text (string_bytes c.in_ok-key.key) c.args.self.now.places c.insert.new.self (Some c.args.place)
     c.in_ok-insert.ensures.updates other)

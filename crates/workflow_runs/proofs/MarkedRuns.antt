@@ -1,0 +1,263 @@
+-- The marks of runs stay right, whatever changes.
+use Rattle.std.specs.Prelude.{◌≡◌, ℕ, zero, suc, ◌+◌, ◌<◌, ◌≤◌, ◌&&◌, ◌||◌, List, map, [], ◌∷◌, ◌++◌, length, Bool, true, false, Option, Some, None, nat_eq}
+use Rattle.std.specs.Prelude.{IfNone, IfSome, is_some, option_and_then, slice_get, slice_set, if◌then◌else◌, refl}
+use Rattle.std.specs.List.{enumerate_from, list_any}
+use Rattle.std.specs.Option.{option_map_or, option_or}
+use Rattle.std.proofs.Common.{arith, ap, sym, subst, ◌∙◌, inl, inr, length-append, length-set}
+use Rattle.std.proofs.lemmas.Bool.{cases_Bool, cases_eq, or_parts, true≢false}
+use Rattle.std.proofs.lemmas.Bool.Decides.{Decides-eqb, nat_tests}
+use Rattle.std.proofs.lemmas.Option.{slice_get_past, slice_get_within}
+use Rattle.run_marks.specs.Bits.{Puts}
+use Rattle.run_marks.specs.Marked.{Covers, SameMarks, is_marked}
+use Rattle.workflow_runs.specs.FirstOf.{first_some}
+use Rattle.workflow_runs.specs.LookAgain.{ask}
+use Rattle.workflow_runs.specs.MarkedRuns.{AreMarked, CoversRuns, OnlyGrows, RunsAreMarked, Stirs, has_waiting_leg, is_due, is_so_at, offers_legs, someone_waits}
+use Rattle.workflow_runs.specs.Places.{LegPlace, leg_place}
+use Rattle.workflow_runs.specs.Groups.{leg_waits, run_waits}
+use Rattle.workflow_runs.specs.RunState.{JobState, LegState, RunState}
+use Rattle.workflow_runs.specs.StateWords.{is_blocked, is_done, is_live}
+use Rattle.workflow_runs.specs.WithinRun.{first_in_job, first_in_jobs, first_in_run, first_of_legs, first_of_whole, goes_on, goes_on_in}
+use Rattle.workflow_runs.specs.WithinRun.{needs_settled_in, whole_goes_on_in}
+use Rattle.workflow_runs.specs.declared.phases.LegPhase.{LegPhase}
+use Rattle.workflow_runs.specs.declared.phases.LegPhase.TheVariants as leg
+use Rattle.workflow_runs.specs.declared.phases.RunPhase.{RunPhase}
+use Rattle.workflow_runs.specs.declared.phases.RunPhase.TheVariants as run
+use Rattle.workflow_runs.specs.declared.place.Place.{Place}
+use Rattle.workflow_runs.specs.declared.place.Place.TheVariants.{Opening, AtLeg, Closing, Whole}
+use Rattle.workflow_runs.specs.declared.runs.marks.RunMarks.{RunMarks}
+use Rattle.workflow_runs.proofs.Found.{before_the_end}
+
+pub list_any-map : {X Y : Type 0} (p : Y → Bool) (f : X → Y) (xs : List X) → list_any p (map f xs) ≡ list_any (λ x. p (f x)) xs
+list_any-map p f [] = refl
+list_any-map p f (x ∷ xs) = ap (λ b. p (f x) || b) (list_any-map p f xs)
+
+-- ---- one mark
+
+put_stays : (b m : Bool) → m ≡ true → (if b then true else m) ≡ true
+put_stays true m e = refl
+put_stays false m e = e
+
+pub put_adds : (r i : ℕ) (old new : List ℕ) → Puts true r old new → is_marked old i ≡ true → is_marked new i ≡ true
+put_adds r i old new puts e = puts i ∙ put_stays (nat_eq i r) (is_marked old i) e
+
+pub put_marks : (r i : ℕ) (old new : List ℕ) → Puts true r old new → i ≡ r → is_marked new i ≡ true
+put_marks r i old new puts same = puts i ∙ ap (λ b. if b then true else is_marked old i) ((Decides-eqb i r).1 same)
+
+pub set_other : {X : Type 0} (xs : List X) (i j : ℕ) (y : X) → (j ≡ i → ⊥) → slice_get (slice_set xs i y) j ≡ slice_get xs j
+set_other [] i j y other = refl
+set_other (x ∷ xs) zero zero y other = absurd (other refl)
+set_other (x ∷ xs) zero (suc j) y other = refl
+set_other (x ∷ xs) (suc i) zero y other = refl
+set_other (x ∷ xs) (suc i) (suc j) y other = set_other xs i j y (λ e. other (ap suc e))
+
+-- ---- what is found
+
+pub if_some : (o : Option ℕ) (P Q : ℕ → Type 0) → ((r : ℕ) → P r → Q r) → IfSome o P → IfSome o Q
+if_some None P Q follows is = is
+if_some (Some r) P Q follows is = follows r is
+
+pub if_none : (o : Option ℕ) (P Q : Type 0) → (P → Q) → IfNone o P → IfNone o Q
+if_none None P Q follows is = follows is
+if_none (Some r) P Q follows is = is
+
+-- ---- what an unmarked run says
+
+not_so : (b m : Bool) → (b ≡ true → m ≡ true) → m ≡ false → b ≡ false
+not_so true m says none = absurd (true≢false (sym (says refl) ∙ none))
+not_so false m says none = refl
+
+none_unmarked : (fact : ℕ → RunState → Bool) (xs : List RunState) (marks : List ℕ) → AreMarked fact xs marks → (i : ℕ) (x : RunState)
+    → is_marked marks i ≡ false → slice_get xs i ≡ Some x → fact i x ≡ false
+none_unmarked fact xs marks are i x none at = not_so (fact i x) (is_marked marks i) (are.marked i x at) none
+
+pub unmarked_is_not_so : (fact : RunState → Bool) (xs : List RunState) (marks : List ℕ) → AreMarked (λ _ x. fact x) xs marks → (i : ℕ)
+    → is_marked marks i ≡ false → is_so_at fact xs i ≡ false
+unmarked_is_not_so fact xs marks are i none =
+    elim (slice_get xs i) as (λ o. slice_get xs i ≡ o → option_map_or fact o false ≡ false) [
+      | None ↦ λ at. refl
+      | Some x ↦ λ at. none_unmarked (λ _ x. fact x) xs marks are i x none at
+    ] refl
+
+pub past_is_not_so : (fact : RunState → Bool) (xs : List RunState) (i : ℕ) → length xs ≤ i → is_so_at fact xs i ≡ false
+past_is_not_so fact xs i past = ap (λ o. option_map_or fact o false) (slice_get_past xs i past)
+
+no_place : (o : Option Place) → is_some o ≡ false → o ≡ None
+no_place None e = refl
+no_place (Some p) e = absurd (true≢false e)
+
+pub unmarked_rests : (runs : List RunState) (marks : List ℕ) → AreMarked (is_due runs) runs marks → (i : ℕ) → is_marked marks i ≡ false
+    → ask (first_in_run runs) runs i ≡ None
+unmarked_rests runs marks are i none =
+    elim (slice_get runs i) as (λ o. slice_get runs i ≡ o → option_and_then (first_in_run runs i) o ≡ None) [
+      | None ↦ λ at. refl
+      | Some x ↦ λ at. no_place (first_in_run runs i x) (none_unmarked (is_due runs) runs marks are i x none at)
+    ] refl
+
+pub past_rests : (runs : List RunState) (i : ℕ) → length runs ≤ i → ask (first_in_run runs) runs i ≡ None
+past_rests runs i past = ap (option_and_then (first_in_run runs i)) (slice_get_past runs i past)
+
+pub nothing_to_mark : (fact : ℕ → RunState → Bool) (marks : List ℕ) → AreMarked fact [] marks
+nothing_to_mark fact marks = record { covers = omega arith; marked = (λ r x at has. cc) }
+
+-- ---- a fact of one run alone, where that one changes, is added, or is seen not to have it
+
+written : (fact : RunState → Bool) (xs : List RunState) (marks marks' : List ℕ) (r : ℕ) (y : RunState) → length marks' ≡ length marks
+    → Puts true r marks marks' → AreMarked (λ _ x. fact x) xs marks → AreMarked (λ _ x. fact x) (slice_set xs r y) marks'
+written fact xs marks marks' r y as_long puts are = record {
+  covers = omega (arith, are.covers, as_long, length-set xs r y);
+  marked = (λ s x at has.
+      elim (cases_eq s r) [
+        | inl same ↦ put_marks r s marks marks' puts same
+        | inr other ↦ put_adds r s marks marks' puts (are.marked s x (sym (set_other xs r s y other) ∙ at) has)
+      ]);
+}
+
+one_more : (fact : RunState → Bool) (xs : List RunState) (y : RunState) (marks marks' : List ℕ) (r : ℕ) → r ≡ length xs
+    → Covers marks (r + 1) → length marks' ≡ length marks → Puts true r marks marks' → AreMarked (λ _ x. fact x) xs marks
+    → AreMarked (λ _ x. fact x) (xs ++ y ∷ []) marks'
+one_more fact xs y marks marks' r end room as_long puts are = record {
+  covers = omega (arith, room, as_long, end, length-append xs (y ∷ []));
+  marked = (λ s x at has.
+      elim (cases_eq s r) [
+        | inl here ↦ put_marks r s marks marks' puts here
+        | inr other ↦
+            put_adds r s marks marks' puts (are.marked s x (sym (before_the_end xs y s (λ e. other (e ∙ sym end))) ∙ at) has)
+      ]);
+}
+
+pub unmarked : (fact : ℕ → RunState → Bool) (xs : List RunState) (marks marks' : List ℕ) (r : ℕ)
+    → ((x : RunState) → slice_get xs r ≡ Some x → fact r x ≡ false) → length marks' ≡ length marks → Puts false r marks marks'
+    → AreMarked fact xs marks → AreMarked fact xs marks'
+unmarked fact xs marks marks' r none as_long puts are = record {
+  covers = omega (arith, are.covers, as_long);
+  marked = (λ s x at has.
+      elim (cases_eq s r) [
+        | inl same ↦
+            let here : slice_get xs r ≡ Some x = ap (slice_get xs) (sym same) ∙ at in
+            absurd (true≢false (sym has ∙ ap (λ k. fact k x) same ∙ none x here))
+        | inr other ↦
+            let test : nat_eq s r ≡ false = grind (arith, nat_tests) in
+            puts s ∙ ap (λ b. if b then false else is_marked marks s) test ∙ are.marked s x at has
+      ]);
+}
+
+pub not_so_there : (fact : RunState → Bool) (xs : List RunState) (r : ℕ) (x : RunState) → is_so_at fact xs r ≡ false
+    → slice_get xs r ≡ Some x → fact x ≡ false
+not_so_there fact xs r x none at = sym (ap (λ o. option_map_or fact o false) at) ∙ none
+
+pub not_due_there : (runs : List RunState) (r : ℕ) (x : RunState) → ask (first_in_run runs) runs r ≡ None → slice_get runs r ≡ Some x
+    → is_due runs r x ≡ false
+not_due_there runs r x none at = ap is_some (sym (ap (option_and_then (first_in_run runs r)) at) ∙ none)
+
+roomier : (fact : ℕ → RunState → Bool) (xs : List RunState) (marks marks' : List ℕ) → SameMarks marks marks' → length marks ≤ length marks'
+    → AreMarked fact xs marks → AreMarked fact xs marks'
+roomier fact xs marks marks' same longer are = record {
+  covers = omega (arith, are.covers, longer);
+  marked = (λ s x at has. same s ∙ are.marked s x at has);
+}
+
+-- ---- where nobody waits, other runs change nothing
+
+module _ (runs next : List RunState) (s : ℕ) where
+  leg_goes_on : (phase : LegPhase) (p : LegPlace) → leg_waits phase ≡ false → goes_on_in phase next p ≡ goes_on_in phase runs p
+  leg_goes_on leg.New p none = refl
+  leg_goes_on leg.Waiting p none = absurd (true≢false none)
+  leg_goes_on leg.Ready p none = refl
+  leg_goes_on leg.Running p none = refl
+  leg_goes_on leg.Stopping p none = refl
+  leg_goes_on (leg.Ended o) p none = refl
+
+  whole_goes_on : (phase : RunPhase) (x : RunState) → run_waits phase ≡ false
+      → whole_goes_on_in phase next s x ≡ whole_goes_on_in phase runs s x
+  whole_goes_on run.Waiting x none = absurd (true≢false none)
+  whole_goes_on run.Live x none = refl
+  whole_goes_on run.Ended x none = refl
+
+  abbrev of_leg : List RunState → ℕ → ℕ → LegState → Option Place
+  of_leg all j l it = if goes_on all (leg_place s j l) it then Some (AtLeg (leg_place s j l)) else None
+
+  legs_same : (j n : ℕ) (legs : List LegState) → list_any (λ l. leg_waits l.phase) legs ≡ false
+      → first_some (λ l. of_leg next j l.0 l.1) (enumerate_from n legs) ≡ first_some (λ l. of_leg runs j l.0 l.1) (enumerate_from n legs)
+  legs_same j n [] none = refl
+  legs_same j n (l ∷ legs) none =
+      let parts = or_parts (leg_waits l.phase) (list_any (λ l. leg_waits l.phase) legs) none in
+      ap (λ b. option_or (if b then Some (AtLeg (leg_place s j n)) else None)
+      (first_some (λ l. of_leg next j l.0 l.1) (enumerate_from (n + 1) legs))) (leg_goes_on l.phase (leg_place s j n) parts.0)
+      ∙ ap (option_or (of_leg runs j n l)) (legs_same j (n + 1) legs parts.1)
+
+  job_same : (x : RunState) (j : ℕ) (job : JobState) → has_waiting_leg job ≡ false
+      → first_in_job next s x j job ≡ first_in_job runs s x j job
+  job_same x j job none =
+      ap (λ o. if is_blocked job.phase && needs_settled_in x j then Some (Opening s j)
+      else option_or o (if is_done job then Some (Closing s j) else None)) (legs_same j 0 job.legs none)
+
+  jobs_same : (x : RunState) (n : ℕ) (jobs : List JobState) → list_any has_waiting_leg jobs ≡ false
+      → first_some (λ j. first_in_job next s x j.0 j.1) (enumerate_from n jobs)
+      ≡ first_some (λ j. first_in_job runs s x j.0 j.1) (enumerate_from n jobs)
+  jobs_same x n [] none = refl
+  jobs_same x n (job ∷ jobs) none =
+      let parts = or_parts (has_waiting_leg job) (list_any has_waiting_leg jobs) none in
+      ap (λ o. option_or o (first_some (λ j. first_in_job next s x j.0 j.1) (enumerate_from (n + 1) jobs))) (job_same x n job parts.0)
+      ∙ ap (option_or (first_in_job runs s x n job)) (jobs_same x (n + 1) jobs parts.1)
+
+  run_same : (x : RunState) → someone_waits x ≡ false → first_in_run next s x ≡ first_in_run runs s x
+  run_same x none =
+      let parts = or_parts (run_waits x.phase) (list_any has_waiting_leg x.jobs) none in
+      ap (λ o. option_or (if is_live x.phase then o else None) (first_of_whole next s x)) (jobs_same x 0 x.jobs parts.1)
+      ∙ ap (λ b. option_or (if is_live x.phase then first_in_jobs runs s x x.jobs else None) (if b then Some (Whole s) else None))
+      (whole_goes_on x.phase x parts.0)
+
+-- A run in which a rule applies now, and which stays as it was, is due: one applied before, or someone waits there and was woken.
+module _ (runs next : List RunState) (old new : RunMarks) (r : ℕ) (stirs : Stirs r (length runs) old new) (are : RunsAreMarked runs old) where
+  still_due : (s : ℕ) (x : RunState) → slice_get runs s ≡ Some x → is_due next s x ≡ true → is_marked new.due s ≡ true
+  still_due s x was due =
+      elim (cases_Bool (is_marked old.waiting s)) [
+        | inl waits ↦ stirs.woken s (slice_get_within runs s x was) waits
+        | inr none ↦
+            let quiet = none_unmarked (λ _ x. someone_waits x) runs old.waiting are.waiting s x none was in
+            stirs.due s (are.due.marked s x was (ap is_some (sym (run_same runs next s x quiet)) ∙ due))
+      ]
+
+  due_unless : (s : ℕ) (x : RunState) → ((s ≡ r → ⊥) → slice_get next s ≡ slice_get runs s) → slice_get next s ≡ Some x
+      → is_due next s x ≡ true → is_marked new.due s ≡ true
+  due_unless s x same at due =
+      elim (cases_eq s r) [
+        | inl here ↦ subst (λ i. is_marked new.due i ≡ true) (sym here) stirs.itself
+        | inr other ↦ still_due s x (sym (same other) ∙ at) due
+      ]
+
+-- ---- all marks
+
+-- a run changes
+pub marks_after : (runs : List RunState) (y : RunState) (old new : RunMarks) (r : ℕ) → Stirs r (length runs) old new → RunsAreMarked runs old
+    → RunsAreMarked (slice_set runs r y) new
+marks_after runs y old new r stirs are = record {
+  ready = written offers_legs runs old.ready new.ready r y stirs.ready_room stirs.ready are.ready;
+  waiting = written someone_waits runs old.waiting new.waiting r y stirs.waiting_room stirs.waiting are.waiting;
+  due = record {
+    covers = omega (arith, are.due.covers, stirs.due_room, length-set runs r y);
+    marked = (λ s x at due. due_unless runs (slice_set runs r y) old new r stirs are s x (λ other. set_other runs r s y other) at due);
+  };
+}
+
+-- one run more
+pub marks_more : (runs : List RunState) (y : RunState) (old new : RunMarks) (r : ℕ) → r ≡ length runs → CoversRuns old (r + 1)
+    → Stirs r r old new → RunsAreMarked runs old → RunsAreMarked (runs ++ y ∷ []) new
+marks_more runs y old new r end room stirs are = record {
+  ready = one_more offers_legs runs y old.ready new.ready r end room.ready stirs.ready_room stirs.ready are.ready;
+  waiting = one_more someone_waits runs y old.waiting new.waiting r end room.waiting stirs.waiting_room stirs.waiting are.waiting;
+  due = record {
+    covers = omega (arith, room.due, stirs.due_room, end, length-append runs (y ∷ []));
+    marked = (λ s x at due.
+        due_unless runs (runs ++ y ∷ []) old new r (subst (λ n. Stirs r n old new) end stirs) are s x
+        (λ other. before_the_end runs y s (λ e. other (e ∙ sym end))) at due);
+  };
+}
+
+-- room for more
+pub marks_grown : (runs : List RunState) (old new : RunMarks) → OnlyGrows old new → RunsAreMarked runs old → RunsAreMarked runs new
+marks_grown runs old new grows are = record {
+  ready = roomier (λ _ x. offers_legs x) runs old.ready new.ready grows.ready grows.ready_room are.ready;
+  waiting = roomier (λ _ x. someone_waits x) runs old.waiting new.waiting grows.waiting grows.waiting_room are.waiting;
+  due = roomier (is_due runs) runs old.due new.due grows.due grows.due_room are.due;
+}

@@ -1,0 +1,28 @@
+use Rattle.std.specs.Prelude.{ℕ, List}
+use Rattle.std.proofs.Common.{arith, ap, sym, ◌∙◌, inl, inr}
+use Rattle.std.proofs.lemmas.Bool.{cases_lt}
+use Rattle.workflow_runs.specs.LookAgain.{ask}
+use Rattle.workflow_runs.specs.RunState.{RunState}
+use Rattle.workflow_runs.specs.WithinRun.{first_in_run}
+use Rattle.workflow_runs.proofs.MarkedRuns.{if_none, if_some, past_rests, unmarked_rests}
+use Rattle.workflow_runs.proofs.runs.Runs.next_due.Goals as goal
+
+pub returns-clause-between : goal.returns-clause-between
+returns-clause-between c =
+    if_some c.next_below.result _ _
+    (λ r unmarked i from to.
+    ap (λ (xs : List RunState). ask (first_in_run xs) xs i) (sym c.self.view_is)
+    ∙ unmarked_rests c.self.inside.runs.items _ c.self.invariant.marked.due i (unmarked i from to))
+    c.next_below.ensures.between
+
+pub returns-clause-none : goal.returns-clause-none
+returns-clause-none c =
+    if_none c.next_below.result _ _
+    (λ unmarked i from.
+    elim (cases_lt i c.len.result) [
+      | inl within ↦
+          ap (λ (xs : List RunState). ask (first_in_run xs) xs i) (sym c.self.view_is)
+          ∙ unmarked_rests c.self.inside.runs.items _ c.self.invariant.marked.due i (unmarked i from within)
+      | inr past ↦ past_rests c.args.self.now i (omega (arith, past, c.len.ensures.len))
+    ])
+    c.next_below.ensures.none

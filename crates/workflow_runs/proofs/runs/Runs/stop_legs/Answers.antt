@@ -1,8 +1,0 @@
-use Rattle.std.proofs.Common.{ap, rules}
-use Rattle.workflow_runs.proofs.StillBound.{still_kept}
-use Rattle.workflow_runs.proofs.runs.Runs.stop_legs.Goals as goal
-
-pub invariant_of-self : goal.invariant_of-self
-invariant_of-self c =
-    still_kept _ _ _ _ c.args.r c.index_mut-run.result.now c.stop_legs.new.self (search rules) c.index_mut-run.ensures.value
-    (ap (λ x. x.admitted) c.stop_legs.ensures) c.self.invariant

@@ -1,0 +1,134 @@
+//! Where claims and settling look: at the runs that are marked for them. A look that finds nothing there takes the mark away.
+
+ghost use Rattle.std.specs.Prelude.{◌≡◌, ℕ, ◌<◌, ◌≤◌, IfNone, IfSome, None, Some, false, length};
+ghost use Rattle.workflow_runs.specs.LookAgain.{JobsRestBefore, RestBefore, ask};
+ghost use Rattle.workflow_runs.specs.MarkedRuns.{is_so_at, offers_legs, someone_waits};
+ghost use Rattle.workflow_runs.specs.Places.{run_at};
+ghost use Rattle.workflow_runs.specs.RunState.{RunState};
+ghost use Rattle.workflow_runs.specs.Settling.{first_place};
+ghost use Rattle.workflow_runs.specs.WithinRun.{first_in_run};
+
+use crate::first_place::first_in_run_at;
+use crate::place::{JobPlace, Place};
+use crate::runs::Runs;
+use crate::runs::marks::next_below;
+
+impl Runs {
+    /// The next run that may have a ready leg.
+    pub(crate) fn next_ready(&self, from: usize) -> Option<usize>
+        ensures within { IfSome result (λ r. r < length self.now) }
+        ensures few { IfSome result (λ r. r < 100000) }
+        ensures from { IfSome result (λ r. from ≤ r) }
+        ensures between { IfSome result (λ r. (i : ℕ) → from ≤ i → i < r → is_so_at offers_legs self.now i ≡ false) }
+        ensures none { IfNone result ((i : ℕ) → from ≤ i → is_so_at offers_legs self.now i ≡ false) }
+    {
+        next_below(&self.marks.ready, from, self.len())
+    }
+
+    /// The next run in which a rule may apply.
+    pub(crate) fn next_due(&self, from: usize) -> Option<usize>
+        ensures within { IfSome result (λ r. r < length self.now) }
+        ensures few { IfSome result (λ r. r < 100000) }
+        ensures from { IfSome result (λ r. from ≤ r) }
+        ensures between { IfSome result (λ r. (i : ℕ) → from ≤ i → i < r → ask (first_in_run self.now) self.now i ≡ None) }
+        ensures none { IfNone result ((i : ℕ) → from ≤ i → ask (first_in_run self.now) self.now i ≡ None) }
+    {
+        next_below(&self.marks.due, from, self.len())
+    }
+
+    fn offers_legs(&self, r: usize) -> bool
+        ensures { result ≡ is_so_at offers_legs self.now r }
+    {
+        match self.runs.get(r) {
+            Some(run) => run.offers_legs(),
+            None => false,
+        }
+    }
+
+    fn someone_waits(&self, r: usize) -> bool
+        ensures { result ≡ is_so_at someone_waits self.now r }
+    {
+        match self.runs.get(r) {
+            Some(run) => run.someone_waits(),
+            None => false,
+        }
+    }
+
+    /// Claims pass the run where no leg of it is ready, and nobody wakes it where nobody in it waits.
+    pub(crate) fn look_again(&mut self, r: usize)
+        requires { r < length self.old }
+        ensures { self.new ≡ self.old }
+    {
+        self.look_again_for_ready(r);
+        self.look_again_for_waiting(r);
+    }
+
+    fn look_again_for_ready(&mut self, r: usize)
+        requires { r < length self.old }
+        ensures { self.new ≡ self.old }
+    {
+        if !self.offers_legs(r) {
+            self.marks.ready.unmark(r);
+        }
+    }
+
+    fn look_again_for_waiting(&mut self, r: usize)
+        requires { r < length self.old }
+        ensures { self.new ≡ self.old }
+    {
+        if !self.someone_waits(r) {
+            self.marks.waiting.unmark(r);
+        }
+    }
+
+    /// Settling passes the run, in which no rule applies, until it changes or may go on.
+    pub(crate) fn rest(&mut self, r: usize)
+        requires within { r < length self.old }
+        requires rests { ask (first_in_run self.old) self.old r ≡ None }
+        ensures { self.new ≡ self.old }
+    {
+        self.marks.due.unmark(r);
+    }
+
+    /// The first place with a rule in the run at a place, where none applies at a job before the one at `from`.
+    fn look_into(&mut self, r: usize, from: usize) -> Option<Place>
+        requires { (run : RunState) → run_at self.old r ≡ Some run → JobsRestBefore self.old r run from }
+        ensures found { result ≡ ask (first_in_run self.old) self.old r }
+        ensures kept { self.new ≡ self.old }
+    {
+        let mut tries = self.tries;
+        let place = first_in_run_at(self, r, from, &mut tries);
+        self.tries = tries;
+        place
+    }
+
+    /// The first place where a rule applies, where none does before the one given.
+    pub(crate) fn first_place(&mut self, from: JobPlace) -> Option<Place>
+        requires { RestBefore self.old from }
+        ensures found { result ≡ first_place self.old }
+        ensures kept { self.new ≡ self.old }
+    {
+        let mut run = from.run;
+        while let Some(r) = self.next_due(run) {
+            let job = if r == from.run { from.job } else { 0 };
+            let place = self.look_into(r, job);
+            if place.is_some() {
+                return place;
+            }
+            self.rest(r);
+            run = r + 1;
+        }
+        None
+    }
+
+    /// How often settling has tried a rule at a place, since that was last forgotten. No contract rests on it.
+    pub fn tries(&self) -> u64 {
+        self.tries
+    }
+
+    pub fn forget_tries(&mut self)
+        ensures { self.new ≡ self.old }
+    {
+        self.tries = 0;
+    }
+}
