@@ -8,7 +8,7 @@ use Rattle.workflow_runs.specs.GroupOf.{cancels_in_progress, group_at}
 use Rattle.workflow_runs.specs.Groups.{running_in}
 use Rattle.workflow_runs.specs.Moves.{Holder, Transition, at_each, without_moves}
 use Rattle.workflow_runs.specs.Places.{LegPlace, leg_at, run_at, with_leg, with_run}
-use Rattle.workflow_runs.specs.StateWords.{has_ended, outcome_of}
+use Rattle.workflow_runs.specs.StateWords.{leg_has_ended, outcome_of}
 use Rattle.workflow_runs.specs.StopMoves.{displace, stop_holder}
 use Rattle.workflow_runs.specs.Stops.{stopped, stopped_phase, stopped_run}
 use Rattle.workflow_runs.specs.RunState.{LegState, RunState}
@@ -43,17 +43,17 @@ ended_stays leg.Running e = cc
 ended_stays leg.Stopping e = cc
 ended_stays (leg.Ended r) e = refl
 
-stopped_stays : (z x : LegState) → Some z ≡ Some x → has_ended z ≡ true → stopped x ≡ x
+stopped_stays : (z x : LegState) → Some z ≡ Some x → leg_has_ended z ≡ true → stopped x ≡ x
 stopped_stays z x same e =
     let is : z ≡ x = cc in
-    let ended : has_ended x ≡ true = ap has_ended (sym is) ∙ e in
+    let ended : leg_has_ended x ≡ true = ap leg_has_ended (sym is) ∙ e in
     ap (λ (phase : LegPhase). record x { phase = phase }) (ended_stays x.phase ended)
 
 pub leg_stop_settles : (runs : List RunState) (p : LegPlace) → RunsFit runs → Settles runs (with_leg p stopped runs)
 leg_stop_settles runs p fit =
     elim (leg_at runs p) as (λ o. leg_at runs p ≡ o → Settles runs (with_leg p stopped runs)) [
       | None ↦ λ is. subst (Settles runs) (with_leg_none runs p stopped is) (settles_nothing runs fit)
-      | Some z ↦ λ is. elim (has_ended z) as (λ b. has_ended z ≡ b → Settles runs (with_leg p stopped runs)) [
+      | Some z ↦ λ is. elim (leg_has_ended z) as (λ b. leg_has_ended z ≡ b → Settles runs (with_leg p stopped runs)) [
         | true ↦ λ e. subst (Settles runs) (with_leg_stays runs p stopped (λ x at. stopped_stays z x (sym is ∙ at) e))
             (settles_nothing runs fit)
         | false ↦ λ e.

@@ -24,8 +24,8 @@ use Rattle.workflow_runs.proofs.Counting.{one_counted}
 use Rattle.workflow_runs.proofs.Found.{at_the_end, before_the_end, each_at, found_nowhere, none_found}
 use Rattle.workflow_runs.proofs.Optional.{from_map}
 
-abbrev Places : Type 0 → Type 0
-Places S = IndexMap (String Global) ℕ S
+abbrev DeliveryPlaces : Type 0 → Type 0
+DeliveryPlaces S = IndexMap (String Global) ℕ S
 
 -- ---- the first of a list that passes a test
 
@@ -84,7 +84,7 @@ is_first runs d r e =
 
 -- ---- what is found by the kept places
 
-module _ {S : Type 0} (items runs : List RunState) (places : Places S) (d : List ℕ) (same : items ≡ runs) (of_items : FindsFirst (events items) places)
+module _ {S : Type 0} (items runs : List RunState) (places : DeliveryPlaces S) (d : List ℕ) (same : items ≡ runs) (of_items : FindsFirst (events items) places)
   where
     abbrev place : Option ℕ
     place = position (is_delivered_as d) runs
@@ -134,7 +134,7 @@ module _ {S : Type 0} (items runs : List RunState) (places : Places S) (d : List
 -- ---- one event more
 
 -- a place is kept for a delivery, unless it was found before
-abbrev pub IsKept : {S : Type 0} → Places S → Places S → List ℕ → ℕ → Option ℕ → Type 0
+abbrev pub IsKept : {S : Type 0} → DeliveryPlaces S → DeliveryPlaces S → List ℕ → ℕ → Option ℕ → Type 0
 IsKept old new d p found =
     (other : List ℕ) → get_by_text new other ≡ (if is_none found && bytes_eq d other then Some p else get_by_text old other)
 
@@ -169,7 +169,7 @@ delivery_at_end es e d r at has = one (sym
     one : Some e.delivery ≡ Some d → e.delivery ≡ d
     one h = cc
 
-module _ {S : Type 0} (es : List Admitted) (old new : Places S) (d : List ℕ) (p : ℕ) where
+module _ {S : Type 0} (es : List Admitted) (old new : DeliveryPlaces S) (d : List ℕ) (p : ℕ) where
   -- the events are found as before
   pub still_finds : (found : Option ℕ) → Tells es d found → IsKept old new d p found → FindsFirst es old → FindsFirst es new
   still_finds (Some r) tells kept finds other s first = kept other ∙ finds other s first
@@ -219,13 +219,13 @@ module _ {S : Type 0} (es : List Admitted) (old new : Places S) (d : List ℕ) (
       ]
 
 -- where all that is found is the same
-pub finds_the_same : {S : Type 0} (es : List Admitted) (old new : Places S) → ((d : List ℕ) → get_by_text new d ≡ get_by_text old d) → FindsFirst es old
+pub finds_the_same : {S : Type 0} (es : List Admitted) (old new : DeliveryPlaces S) → ((d : List ℕ) → get_by_text new d ≡ get_by_text old d) → FindsFirst es old
     → FindsFirst es new
 finds_the_same es old new same finds d r first = same d ∙ finds d r first
 
 -- ---- a run that is added
 
-module _ {S : Type 0} (runs : List RunState) (old new : Places S) (event : Admitted) (found : Option ℕ)
+module _ {S : Type 0} (runs : List RunState) (old new : DeliveryPlaces S) (event : Admitted) (found : Option ℕ)
     (is : found ≡ position (is_delivered_as event.delivery) runs) where
   -- all is found as before, whether the place of one run more is kept or not
   pub still_found : {X : Type 0} (result : Result X Refusal) → OnOk result (IsKept old new event.delivery (length runs) found)

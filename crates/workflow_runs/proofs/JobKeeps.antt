@@ -5,7 +5,7 @@ use Rattle.std.proofs.lemmas.Bool.{cases_eq}
 use Rattle.wf_value.specs.declared.outcome.JobResult.{JobResult}
 use Rattle.workflow_runs.specs.FirstOf.{changed_at}
 use Rattle.workflow_runs.specs.Places.{LegPlace, run_at, job_at, leg_at, with_leg}
-use Rattle.workflow_runs.specs.Rules.{has_ended, is_settled, result_at}
+use Rattle.workflow_runs.specs.Rules.{leg_has_ended, is_settled, result_at}
 use Rattle.workflow_runs.specs.SoundRuns.{PhaseFits, LegsFit, LeaseFits}
 use Rattle.workflow_runs.specs.RunState.{LegState, JobState, RunState}
 use Rattle.workflow_runs.specs.Words.{needs_have_settled, planned_legs, settled_result}
@@ -69,13 +69,13 @@ no_leg legs l z none e = let past : slice_get [] l ≡ Some z = subst (λ (xs : 
 
 -- a job with a leg that has not ended is open
 pub unended_is_open : (planned : ℕ) (result : JobResult) (phase : JobPhase) (legs : List LegState) (l : ℕ) (z : LegState)
-    → LegsFit planned result phase legs → slice_get legs l ≡ Some z → has_ended z ≡ false → OpenWith planned phase legs
+    → LegsFit planned result phase legs → slice_get legs l ≡ Some z → leg_has_ended z ≡ false → OpenWith planned phase legs
 unended_is_open planned result job.Blocked legs l z fits e un = absurd (no_leg legs l z fits e)
 unended_is_open planned result job.Open legs l z fits e un = record { open_is = refl; as_planned = fits }
 unended_is_open planned result (job.Settled r) legs l z fits e un =
     elim fits [
       | inl h ↦ absurd (no_leg legs l z h.0 e)
-      | inr h ↦ let ended = each_passes has_ended legs l z h.1 e in cc
+      | inr h ↦ let ended = each_passes leg_has_ended legs l z h.1 e in cc
     ]
 
 -- ---- one job of a run
@@ -119,7 +119,7 @@ abbrev pub with_leg_of : ℕ → (LegState → LegState) → JobState → JobSta
 with_leg_of l f y = record y { legs = changed_at l f y.legs }
 
 pub leg_fits : (planned : ℕ) (before result : JobResult) (y : JobState) (l : ℕ) (z : LegState) (f : LegState → LegState)
-    → JobFits planned before y → slice_get y.legs l ≡ Some z → has_ended z ≡ false → LeaseFits (f z).phase (f z).lease
+    → JobFits planned before y → slice_get y.legs l ≡ Some z → leg_has_ended z ≡ false → LeaseFits (f z).phase (f z).lease
     → JobFits planned result (with_leg_of l f y)
 leg_fits planned before result y l z f fits was un lease =
     let open_with = unended_is_open planned before y.phase y.legs l z fits.legs_fit was un in
@@ -130,7 +130,7 @@ leg_fits planned before result y l z f fits was un lease =
     }
 
 module _ (runs : List RunState) (fit : RunsFit runs) (p : LegPlace) (z : LegState) (f : LegState → LegState) (is_in : LegIn runs p z)
-    (un : has_ended z ≡ false) (lease : LeaseFits (f z).phase (f z).lease) where
+    (un : leg_has_ended z ≡ false) (lease : LeaseFits (f z).phase (f z).lease) where
   run_fits : RunFits runs p.run is_in.place.run
   run_fits = fit p.run is_in.place.run is_in.place.run_is
 

@@ -33,6 +33,7 @@ pub mod MarkedRuns
 pub mod Meant
 pub mod Transitions
 pub mod NeedsSettled
+pub mod NoneActive
 pub mod NoneReady
 pub mod OneEach
 pub mod OneEachRules

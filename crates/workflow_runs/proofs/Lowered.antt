@@ -15,7 +15,7 @@ use Rattle.workflow_runs.specs.FirstOf.{changed_at}
 use Rattle.workflow_runs.specs.Places.{LegPlace, run_at, job_at, leg_at, with_run, with_job}
 use Rattle.workflow_runs.specs.Moves.{Holder, Transition}
 use Rattle.workflow_runs.specs.Rules.{decided, may_run, result_at, rule_at, with_leg_in}
-use Rattle.workflow_runs.specs.StateWords.{has_ended, is_blocked, is_done, is_open, leg_in_phase, new_leg, opened, run_in_phase}
+use Rattle.workflow_runs.specs.StateWords.{leg_has_ended, is_blocked, is_done, is_open, leg_in_phase, new_leg, opened, run_in_phase}
 use Rattle.workflow_runs.specs.StateWords.{settled_as}
 use Rattle.workflow_runs.specs.Settling.{first_place, first_rule, leg_phases_left, leg_left, job_phases_left, job_left, legs_in_plan}
 use Rattle.workflow_runs.specs.Settling.{run_phases_left, run_left, remaining_phases}
@@ -144,7 +144,7 @@ closing_lowers : (runs : List RunState) (r j : ℕ) (y : JobState) → job_at ru
     → remaining_phases (with_job r j (settled_as (result_at runs r j y)) runs) < remaining_phases runs
 closing_lowers runs r j y was done =
     let close = settled_as (result_at runs r j y) in
-    let is_open = is_open_open y.phase (and_parts (is_open y.phase) (list_all has_ended y.legs) done).0 in
+    let is_open = is_open_open y.phase (and_parts (is_open y.phase) (list_all leg_has_ended y.legs) done).0 in
     let before : job_phases_left (planned_legs runs r j) y.phase ≡ 1 = ap (job_phases_left (planned_legs runs r j)) is_open in
     let less : job_left (planned_legs runs r j) (close y) < job_left (planned_legs runs r j) y = omega (arith, before) in
     job_lowers_all runs r j close y (job_in runs r j y was) less

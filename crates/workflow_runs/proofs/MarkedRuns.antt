@@ -1,5 +1,5 @@
 -- The marks of runs stay right, whatever changes.
-use Rattle.std.specs.Prelude.{◌≡◌, ℕ, zero, suc, ◌+◌, ◌<◌, ◌≤◌, ◌&&◌, ◌||◌, List, map, [], ◌∷◌, ◌++◌, length, Bool, true, false, Option, Some, None, nat_eq}
+use Rattle.std.specs.Prelude.{◌≡◌, ℕ, zero, suc, ◌+◌, ◌≤◌, ◌&&◌, ◌||◌, List, map, [], ◌∷◌, ◌++◌, length, Bool, true, false, Option, Some, None, nat_eq}
 use Rattle.std.specs.Prelude.{IfNone, IfSome, is_some, option_and_then, slice_get, slice_set, if◌then◌else◌, refl}
 use Rattle.std.specs.List.{enumerate_from, list_any}
 use Rattle.std.specs.Option.{option_map_or, option_or}
@@ -11,12 +11,13 @@ use Rattle.run_marks.specs.Bits.{Puts}
 use Rattle.run_marks.specs.Marked.{Covers, SameMarks, is_marked}
 use Rattle.workflow_runs.specs.FirstOf.{first_some}
 use Rattle.workflow_runs.specs.LookAgain.{ask}
-use Rattle.workflow_runs.specs.MarkedRuns.{AreMarked, CoversRuns, OnlyGrows, RunsAreMarked, Stirs, has_waiting_leg, is_due, is_so_at, offers_legs, someone_waits}
+use Rattle.workflow_runs.specs.MarkedRuns.{AreMarked, CoversRuns, OnlyGrows, RunsAreMarked, Stirs, has_waiting_leg, is_active, is_due, is_so_at, offers_legs}
+use Rattle.workflow_runs.specs.MarkedRuns.{someone_waits}
 use Rattle.workflow_runs.specs.Places.{LegPlace, leg_place}
 use Rattle.workflow_runs.specs.Groups.{leg_waits, run_waits}
 use Rattle.workflow_runs.specs.RunState.{JobState, LegState, RunState}
 use Rattle.workflow_runs.specs.StateWords.{is_blocked, is_done, is_live}
-use Rattle.workflow_runs.specs.WithinRun.{first_in_job, first_in_jobs, first_in_run, first_of_legs, first_of_whole, goes_on, goes_on_in}
+use Rattle.workflow_runs.specs.WithinRun.{first_in_job, first_in_jobs, first_in_run, first_of_whole, goes_on, goes_on_in}
 use Rattle.workflow_runs.specs.WithinRun.{needs_settled_in, whole_goes_on_in}
 use Rattle.workflow_runs.specs.declared.phases.LegPhase.{LegPhase}
 use Rattle.workflow_runs.specs.declared.phases.LegPhase.TheVariants as leg
@@ -234,6 +235,7 @@ pub marks_after : (runs : List RunState) (y : RunState) (old new : RunMarks) (r 
 marks_after runs y old new r stirs are = record {
   ready = written offers_legs runs old.ready new.ready r y stirs.ready_room stirs.ready are.ready;
   waiting = written someone_waits runs old.waiting new.waiting r y stirs.waiting_room stirs.waiting are.waiting;
+  active = written is_active runs old.active new.active r y stirs.active_room stirs.active are.active;
   due = record {
     covers = omega (arith, are.due.covers, stirs.due_room, length-set runs r y);
     marked = (λ s x at due. due_unless runs (slice_set runs r y) old new r stirs are s x (λ other. set_other runs r s y other) at due);
@@ -246,6 +248,7 @@ pub marks_more : (runs : List RunState) (y : RunState) (old new : RunMarks) (r :
 marks_more runs y old new r end room stirs are = record {
   ready = one_more offers_legs runs y old.ready new.ready r end room.ready stirs.ready_room stirs.ready are.ready;
   waiting = one_more someone_waits runs y old.waiting new.waiting r end room.waiting stirs.waiting_room stirs.waiting are.waiting;
+  active = one_more is_active runs y old.active new.active r end room.active stirs.active_room stirs.active are.active;
   due = record {
     covers = omega (arith, room.due, stirs.due_room, end, length-append runs (y ∷ []));
     marked = (λ s x at due.
@@ -259,5 +262,6 @@ pub marks_grown : (runs : List RunState) (old new : RunMarks) → OnlyGrows old 
 marks_grown runs old new grows are = record {
   ready = roomier (λ _ x. offers_legs x) runs old.ready new.ready grows.ready grows.ready_room are.ready;
   waiting = roomier (λ _ x. someone_waits x) runs old.waiting new.waiting grows.waiting grows.waiting_room are.waiting;
+  active = roomier (λ _ x. is_active x) runs old.active new.active grows.active grows.active_room are.active;
   due = roomier (is_due runs) runs old.due new.due grows.due grows.due_room are.due;
 }

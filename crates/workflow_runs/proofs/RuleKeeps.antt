@@ -13,7 +13,7 @@ use Rattle.workflow_runs.specs.Places.{LegPlace, run_at, job_at, leg_at, with_ru
 use Rattle.workflow_runs.specs.Arrivals.{arrived}
 use Rattle.workflow_runs.specs.Moves.{Holder, Transition}
 use Rattle.workflow_runs.specs.Rules.{decided, may_run, result_at, rule_at, with_leg_in}
-use Rattle.workflow_runs.specs.StateWords.{has_ended, is_done, is_open, is_settled, leg_in_phase, new_leg, opened, outcome_of}
+use Rattle.workflow_runs.specs.StateWords.{leg_has_ended, is_done, is_open, is_settled, leg_in_phase, new_leg, opened, outcome_of}
 use Rattle.workflow_runs.specs.StateWords.{run_in_phase}
 use Rattle.workflow_runs.specs.StateWords.{settled_as}
 use Rattle.workflow_runs.specs.SoundRuns.{PhaseFits, MayLackLegs, LeaseFits}
@@ -150,7 +150,7 @@ closing_settles : (runs : List RunState) (r j : ℕ) (y : JobState) → RunsFit 
     → Settles runs (with_job r j (settled_as (result_at runs r j y)) runs)
 closing_settles runs r j y fit was is =
     let close = settled_as (result_at runs r j y) in
-    let done = and_parts (is_open y.phase) (list_all has_ended y.legs) is in
+    let done = and_parts (is_open y.phase) (list_all leg_has_ended y.legs) is in
     let at = job_in runs r j y was in
     let x = at.run in
     let run_fits = fit r x at.run_is in

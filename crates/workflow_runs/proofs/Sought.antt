@@ -15,7 +15,7 @@ use Rattle.workflow_runs.proofs.Walks.{first_passing, job_found}
 
 -- ---- any test of legs by their places
 
-leg_there : (runs : List RunState) (r j : ℕ) (run : RunState) (job : JobState) → slice_get runs r ≡ Some run
+pub leg_there : (runs : List RunState) (r j : ℕ) (run : RunState) (job : JobState) → slice_get runs r ≡ Some run
     → slice_get run.jobs j ≡ Some job → (l : ℕ) (leg : LegState) → slice_get job.legs l ≡ Some leg
     → leg_at runs (leg_place r j l) ≡ Some leg
 leg_there runs r j run job at_run at_job l leg at =

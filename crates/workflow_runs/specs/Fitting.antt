@@ -21,12 +21,8 @@ abbrev pub has_labels : List (List ℕ) → List (List ℕ) → Bool
 has_labels labels wanted = list_all (has_label labels) wanted
 
 abbrev pub is_ready : LegPhase → Bool
-is_ready leg.New = false
-is_ready leg.Waiting = false
 is_ready leg.Ready = true
-is_ready leg.Running = false
-is_ready leg.Stopping = false
-is_ready (leg.Ended r) = false
+is_ready _ = false
 
 -- whether the leg at a place asks for no label that the runner lacks
 abbrev pub is_served : List (List ℕ) → List RunState → LegPlace → Bool
@@ -53,14 +49,10 @@ place_of_lease runs lease = find (λ p. option_map_or (has_lease lease) (leg_at 
 -- ---- a leg that is told to stop
 
 abbrev pub is_stopping_leg : LegPhase → Bool
-is_stopping_leg leg.New = false
-is_stopping_leg leg.Waiting = false
-is_stopping_leg leg.Ready = false
-is_stopping_leg leg.Running = false
 is_stopping_leg leg.Stopping = true
-is_stopping_leg (leg.Ended r) = false
+is_stopping_leg _ = false
 
 -- whether the leg of a lease is
-abbrev pub is_told_to_stop : List RunState → ℕ → Bool
-is_told_to_stop runs lease =
+abbrev pub is_lease_stopping : List RunState → ℕ → Bool
+is_lease_stopping runs lease =
     option_map_or (λ p. option_map_or (λ l. is_stopping_leg l.phase) (leg_at runs p) false) (place_of_lease runs lease) false

@@ -31,27 +31,19 @@ holder_of (Move.end_with r h) = h
 -- whose arrival a move is
 abbrev pub arrival_of : Move → Option Holder
 arrival_of (Move.arrive h) = Some h
-arrival_of (Move.start h) = None
-arrival_of (Move.stop h) = None
-arrival_of (Move.end_with r h) = None
+arrival_of _ = None
 
 abbrev pub start_of : Move → Option Holder
-start_of (Move.arrive h) = None
 start_of (Move.start h) = Some h
-start_of (Move.stop h) = None
-start_of (Move.end_with r h) = None
+start_of _ = None
 
 abbrev pub stop_of : Move → Option Holder
-stop_of (Move.arrive h) = None
-stop_of (Move.start h) = None
 stop_of (Move.stop h) = Some h
-stop_of (Move.end_with r h) = None
+stop_of _ = None
 
 abbrev pub end_of : Move → Option Holder
-end_of (Move.arrive h) = None
-end_of (Move.start h) = None
-end_of (Move.stop h) = None
 end_of (Move.end_with r h) = Some h
+end_of _ = None
 
 -- ---- what has been
 

@@ -21,25 +21,18 @@ use Rattle.workflow_runs.specs.declared.phases.RunPhase.TheVariants as run
 
 abbrev pub run_waits : RunPhase → Bool
 run_waits run.Waiting = true
-run_waits run.Live = false
-run_waits run.Ended = false
+run_waits _ = false
 
 abbrev pub leg_waits : LegPhase → Bool
-leg_waits leg.New = false
 leg_waits leg.Waiting = true
-leg_waits leg.Ready = false
-leg_waits leg.Running = false
-leg_waits leg.Stopping = false
-leg_waits (leg.Ended r) = false
+leg_waits _ = false
 
 -- a leg that is ready holds its group, and one that has been told to stop still does
 abbrev pub leg_holds : LegPhase → Bool
-leg_holds leg.New = false
-leg_holds leg.Waiting = false
 leg_holds leg.Ready = true
 leg_holds leg.Running = true
 leg_holds leg.Stopping = true
-leg_holds (leg.Ended r) = false
+leg_holds _ = false
 
 abbrev pub waits : List RunState → Holder → Bool
 waits runs (Holder.a_run r) = option_map_or (λ x. run_waits x.phase) (run_at runs r) false

@@ -6,8 +6,9 @@ use Rattle.std.specs.Option.{option_map_or}
 use Rattle.run_marks.specs.Bits.{Puts}
 use Rattle.run_marks.specs.Marked.{Covers, SameMarks, is_marked}
 use Rattle.workflow_runs.specs.Fitting.{is_ready}
-use Rattle.workflow_runs.specs.Groups.{leg_waits, run_waits}
-use Rattle.workflow_runs.specs.RunState.{JobState, RunState}
+use Rattle.workflow_runs.specs.Groups.{leg_holds, leg_waits, run_waits}
+use Rattle.workflow_runs.specs.RunState.{JobState, LegState, RunState}
+use Rattle.workflow_runs.specs.StateWords.{is_live}
 use Rattle.workflow_runs.specs.WithinRun.{first_in_run}
 use Rattle.workflow_runs.specs.declared.runs.marks.RunMarks.{RunMarks}
 
@@ -24,6 +25,17 @@ has_waiting_leg job = list_any (λ l. leg_waits l.phase) job.legs
 
 abbrev pub someone_waits : RunState → Bool
 someone_waits run = run_waits run.phase || list_any has_waiting_leg run.jobs
+
+-- whether a leg waits for its group, holds it, or has a lease
+abbrev pub is_active_leg : LegState → Bool
+is_active_leg leg = (leg_waits leg.phase || leg_holds leg.phase) || is_some leg.lease
+
+abbrev pub has_active_leg : JobState → Bool
+has_active_leg job = list_any is_active_leg job.legs
+
+-- whether the run waits or is live, or a leg of it is active
+abbrev pub is_active : RunState → Bool
+is_active run = (run_waits run.phase || is_live run.phase) || list_any has_active_leg run.jobs
 
 -- whether the run at a place is so
 abbrev pub is_so_at : (RunState → Bool) → List RunState → ℕ → Bool
@@ -42,6 +54,7 @@ pub record AreMarked (fact : ℕ → RunState → Bool) (runs : List RunState) (
 pub record RunsAreMarked (runs : List RunState) (marks : RunMarks) : Type 0 where
   pub ready : AreMarked (λ _ x. offers_legs x) runs marks.ready
   pub waiting : AreMarked (λ _ x. someone_waits x) runs marks.waiting
+  pub active : AreMarked (λ _ x. is_active x) runs marks.active
   pub due : AreMarked (is_due runs) runs marks.due
 
 -- ---- what changes of them
@@ -50,24 +63,29 @@ pub record RunsAreMarked (runs : List RunState) (marks : RunMarks) : Type 0 wher
 pub record CoversRuns (marks : RunMarks) (bound : ℕ) : Type 0 where
   pub ready : Covers marks.ready bound
   pub waiting : Covers marks.waiting bound
+  pub active : Covers marks.active bound
   pub due : Covers marks.due bound
 
 -- the same runs are marked, and there is no less room
 pub record OnlyGrows (old new : RunMarks) : Type 0 where
   pub ready : SameMarks old.ready new.ready
   pub waiting : SameMarks old.waiting new.waiting
+  pub active : SameMarks old.active new.active
   pub due : SameMarks old.due new.due
   pub ready_room : length old.ready ≤ length new.ready
   pub waiting_room : length old.waiting ≤ length new.waiting
+  pub active_room : length old.active ≤ length new.active
   pub due_room : length old.due ≤ length new.due
 
 -- a run is marked for everything, and every one below the bound in which someone may wait is due again
 pub record Stirs (r bound : ℕ) (old new : RunMarks) : Type 0 where
   pub ready : Puts true r old.ready new.ready
   pub waiting : Puts true r old.waiting new.waiting
+  pub active : Puts true r old.active new.active
   pub due : (i : ℕ) → is_marked old.due i ≡ true → is_marked new.due i ≡ true
   pub itself : is_marked new.due r ≡ true
   pub woken : (i : ℕ) → i < bound → is_marked old.waiting i ≡ true → is_marked new.due i ≡ true
   pub ready_room : length new.ready ≡ length old.ready
   pub waiting_room : length new.waiting ≡ length old.waiting
+  pub active_room : length new.active ≡ length old.active
   pub due_room : length new.due ≡ length old.due

@@ -9,12 +9,9 @@ use Rattle.workflow_runs.specs.declared.phases.LegPhase.TheVariants as leg
 
 -- whether a runner is at work on the leg
 abbrev pub is_at_work : LegPhase → Bool
-is_at_work leg.New = false
-is_at_work leg.Waiting = false
-is_at_work leg.Ready = false
 is_at_work leg.Running = true
 is_at_work leg.Stopping = true
-is_at_work (leg.Ended r) = false
+is_at_work _ = false
 
 -- how many legs of the job runners are at work on
 abbrev pub legs_at_work : JobState → ℕ

@@ -16,7 +16,7 @@ use Rattle.workflow_runs.specs.Groups.{may_start}
 use Rattle.workflow_runs.specs.JobResults.{results_of}
 use Rattle.workflow_runs.specs.Moves.{Holder, Move, Transition, without_moves}
 use Rattle.workflow_runs.specs.Places.{LegPlace, run_at, job_at, leg_at, with_run, with_job, with_leg}
-pub use Rattle.workflow_runs.specs.StateWords.{has_ended, is_blocked, is_done, is_live, is_open, is_settled, leg_in_phase, new_leg, opened}
+pub use Rattle.workflow_runs.specs.StateWords.{leg_has_ended, is_blocked, is_done, is_live, is_open, is_settled, leg_in_phase, new_leg, opened}
 pub use Rattle.workflow_runs.specs.StateWords.{outcome_of, run_in_phase, settled_as}
 use Rattle.workflow_runs.specs.RunState.{LegState, JobState, RunState}
 use Rattle.workflow_runs.specs.Words.{condition_of, ancestor_results, needs_have_settled, is_stopping, planned_legs, continues_on_error}
@@ -82,10 +82,7 @@ waiting_leg_rule runs p =
 abbrev pub leg_rule_in : LegPhase → List RunState → LegPlace → Option Transition
 leg_rule_in leg.New runs p = Some (newcomer_rule runs p)
 leg_rule_in leg.Waiting runs p = waiting_leg_rule runs p
-leg_rule_in leg.Ready runs p = None
-leg_rule_in leg.Running runs p = None
-leg_rule_in leg.Stopping runs p = None
-leg_rule_in (leg.Ended r) runs p = None
+leg_rule_in _ runs p = None
 
 abbrev pub leg_rule : List RunState → LegPlace → LegState → Option Transition
 leg_rule runs p l = leg_rule_in l.phase runs p

@@ -7,7 +7,7 @@ use Rattle.wf_value.specs.declared.outcome.JobResult.TheVariants as result
 use Rattle.wf_value.specs.declared.outcome.Outcome.TheVariants as outcome
 use Rattle.run_plan.specs.PlanOf.{plan_of}
 use Rattle.workflow_runs.specs.Places.{LegPlace, run_at, job_at, leg_at}
-use Rattle.workflow_runs.specs.Rules.{has_ended, is_settled, result_at}
+use Rattle.workflow_runs.specs.Rules.{leg_has_ended, is_settled, result_at}
 use Rattle.workflow_runs.specs.RunState.{LegState, JobState, RunState}
 use Rattle.workflow_runs.specs.Words.{needs_have_settled, planned_legs}
 use Rattle.workflow_runs.specs.declared.phases.LegPhase.{LegPhase}
@@ -43,7 +43,7 @@ abbrev pub LegsFit : ℕ → JobResult → JobPhase → List LegState → Type 0
 LegsFit planned gathered job.Blocked legs = legs ≡ []
 LegsFit planned gathered job.Open legs = length legs ≡ planned
 LegsFit planned gathered (job.Settled r) legs =
-    ((legs ≡ []) × MayLackLegs r) ⊎ ((length legs ≡ planned) × (list_all has_ended legs ≡ true) × (r ≡ gathered))
+    ((legs ≡ []) × MayLackLegs r) ⊎ ((length legs ≡ planned) × (list_all leg_has_ended legs ≡ true) × (r ≡ gathered))
 
 abbrev pub JobsFit : List RunState → Type 0
 JobsFit runs = (r j : ℕ) (x : JobState) → job_at runs r j ≡ Some x → LegsFit (planned_legs runs r j) (result_at runs r j x) x.phase x.legs

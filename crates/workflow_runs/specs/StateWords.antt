@@ -15,9 +15,8 @@ use Rattle.workflow_runs.specs.declared.phases.RunPhase.TheVariants as run
 -- ---- a run
 
 abbrev pub is_live : RunPhase → Bool
-is_live run.Waiting = false
 is_live run.Live = true
-is_live run.Ended = false
+is_live _ = false
 
 abbrev pub run_in_phase : RunPhase → RunState → RunState
 run_in_phase phase r = record r { phase = phase }
@@ -32,42 +31,32 @@ leg_in_phase phase l = record l { phase = phase }
 
 abbrev pub is_new : LegPhase → Bool
 is_new leg.New = true
-is_new leg.Waiting = false
-is_new leg.Ready = false
-is_new leg.Running = false
-is_new leg.Stopping = false
-is_new (leg.Ended r) = false
+is_new _ = false
 
 -- how a leg ended, where it has
 abbrev pub outcome_of : LegPhase → Option Outcome
-outcome_of leg.New = None
-outcome_of leg.Waiting = None
-outcome_of leg.Ready = None
-outcome_of leg.Running = None
-outcome_of leg.Stopping = None
 outcome_of (leg.Ended r) = Some r
+outcome_of _ = None
 
-abbrev pub has_ended : LegState → Bool
-has_ended l = is_some (outcome_of l.phase)
+abbrev pub leg_has_ended : LegState → Bool
+leg_has_ended l = is_some (outcome_of l.phase)
 
 -- ---- a job
 
 abbrev pub is_blocked : JobPhase → Bool
 is_blocked job.Blocked = true
-is_blocked job.Open = false
-is_blocked (job.Settled r) = false
+is_blocked _ = false
 
 abbrev pub is_open : JobPhase → Bool
-is_open job.Blocked = false
 is_open job.Open = true
-is_open (job.Settled r) = false
+is_open _ = false
 
 abbrev pub is_settled : JobState → Bool
 is_settled j = is_some (settled_result j.phase)
 
 -- an open job, all legs of which have ended
 abbrev pub is_done : JobState → Bool
-is_done j = is_open j.phase && list_all has_ended j.legs
+is_done j = is_open j.phase && list_all leg_has_ended j.legs
 
 -- the job with all legs of its plan, new
 abbrev pub opened : ℕ → JobState → JobState

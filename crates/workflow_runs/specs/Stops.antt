@@ -9,7 +9,7 @@ use Rattle.wf_value.specs.declared.outcome.Outcome.TheVariants as outcome
 use Rattle.needs_graph.specs.Results.{is_failure}
 use Rattle.workflow_runs.specs.Places.{LegPlace, plan_at, with_job, with_leg}
 use Rattle.workflow_runs.specs.FirstOf.{changed_at, placed}
-use Rattle.workflow_runs.specs.Fitting.{is_told_to_stop}
+use Rattle.workflow_runs.specs.Fitting.{is_lease_stopping}
 use Rattle.workflow_runs.specs.RunConditions.{may_run_in}
 use Rattle.workflow_runs.specs.StateWords.{is_open, leg_in_phase, settled_as}
 use Rattle.workflow_runs.specs.RunState.{LegState, JobState, RunState}
@@ -91,4 +91,4 @@ after_end p outcome runs =
 
 -- its leg ends as a failure, and as cancelled where it was told to stop
 abbrev pub outcome_of_loss : List RunState → ℕ → Outcome
-outcome_of_loss runs lease = if is_told_to_stop runs lease then outcome.Cancelled else outcome.Failure
+outcome_of_loss runs lease = if is_lease_stopping runs lease then outcome.Cancelled else outcome.Failure

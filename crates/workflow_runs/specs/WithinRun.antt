@@ -27,10 +27,7 @@ use Rattle.workflow_runs.specs.declared.phases.RunPhase.TheVariants as run
 abbrev pub goes_on_in : LegPhase → List RunState → LegPlace → Bool
 goes_on_in leg.New runs p = true
 goes_on_in leg.Waiting runs p = may_start runs (Holder.a_leg p)
-goes_on_in leg.Ready runs p = false
-goes_on_in leg.Running runs p = false
-goes_on_in leg.Stopping runs p = false
-goes_on_in (leg.Ended r) runs p = false
+goes_on_in _ runs p = false
 
 abbrev pub goes_on : List RunState → LegPlace → LegState → Bool
 goes_on runs p l = goes_on_in l.phase runs p

@@ -4,7 +4,7 @@ ghost use Rattle.std.specs.Prelude.{◌≡◌, ◌<◌, ◌^◌, ◌&&◌, IfSom
 ghost use Rattle.std.specs.List.{position};
 ghost use Rattle.std.specs.Option.{option_map_or};
 ghost use Rattle.workflow_runs.specs.Cells.{states};
-ghost use Rattle.workflow_runs.specs.Fitting.{first_fit, has_lease, is_ready, is_served, is_stopping_leg, is_told_to_stop, place_of_lease};
+ghost use Rattle.workflow_runs.specs.Fitting.{first_fit, has_lease, is_ready, is_served, is_stopping_leg, is_lease_stopping, place_of_lease};
 ghost use Rattle.workflow_runs.specs.Parallel.{has_room};
 ghost use Rattle.workflow_runs.specs.Places.{leg_at};
 ghost use Rattle.workflow_runs.specs.Stops.{outcome_of_loss};
@@ -139,25 +139,28 @@ fn lease_in_run(lease: Number, r: usize, run: &Run) -> Option<LegPlace>
 }
 
 /// The leg that has a lease.
-pub fn place_of_lease(lease: Number, runs: &[Run]) -> Option<LegPlace>
+pub fn place_of_lease(lease: Number, runs: &Runs) -> Option<LegPlace>
     ensures found { result ≡ place_of_lease runs.now lease }
     ensures leg { IfSome result (λ p. p.leg < 2 ^ 63) }
 {
-    for r in 0..runs.len() {
-        let run = &runs[r];
+    let all = runs.as_slice();
+    let mut from = 0;
+    while let Some(r) = runs.next_active(from) {
+        let run = &all[r];
         let place = lease_in_run(lease, r, run);
         if place.is_some() {
             return place;
         }
+        from = r + 1;
     }
     None
 }
 
 /// Whether the leg of a lease is told to stop.
-pub fn is_told_to_stop(lease: Number, runs: &Runs) -> bool
-    ensures { result ≡ is_told_to_stop runs.now lease }
+pub fn is_lease_stopping(lease: Number, runs: &Runs) -> bool
+    ensures { result ≡ is_lease_stopping runs.now lease }
 {
-    match place_of_lease(lease, runs.as_slice()) {
+    match place_of_lease(lease, runs) {
         Some(place) => is_stopping_at(runs, place),
         None => false,
     }
@@ -167,7 +170,7 @@ pub fn is_told_to_stop(lease: Number, runs: &Runs) -> bool
 pub fn outcome_of_loss(lease: Number, runs: &Runs) -> Outcome
     ensures { result ≡ outcome_of_loss runs.now lease }
 {
-    if is_told_to_stop(lease, runs) {
+    if is_lease_stopping(lease, runs) {
         Outcome::Cancelled
     } else {
         Outcome::Failure

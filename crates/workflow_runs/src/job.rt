@@ -3,9 +3,9 @@ ghost use Rattle.std.specs.List.{list_all};
 ghost use Rattle.wf_value.specs.Gives.{Gives};
 ghost use Rattle.workflow_runs.specs.Cells.{in_state};
 ghost use Rattle.workflow_runs.specs.FirstOf.{changed_at};
-ghost use Rattle.workflow_runs.specs.MarkedRuns.{has_ready_leg, has_waiting_leg};
+ghost use Rattle.workflow_runs.specs.MarkedRuns.{has_active_leg, has_ready_leg, has_waiting_leg};
 ghost use Rattle.workflow_runs.specs.Parallel.{is_at_work, legs_at_work};
-ghost use Rattle.workflow_runs.specs.Rules.{has_ended, is_done, is_settled, opened, settled_as};
+ghost use Rattle.workflow_runs.specs.Rules.{leg_has_ended, is_done, is_settled, opened, settled_as};
 ghost use Rattle.workflow_runs.specs.NewRun.{blocked_job};
 ghost use Rattle.workflow_runs.specs.Stops.{stopped, with_stopped_legs};
 
@@ -74,6 +74,13 @@ impl Job {
         self.legs().iter().any(|leg| leg.phase.waits())
     }
 
+    /// Whether a leg of it waits for its group, holds it, or has a lease.
+    pub(crate) fn has_active_leg(&self) -> bool
+        ensures { result ≡ has_active_leg self.now.state }
+    {
+        self.legs().iter().any(|leg| leg.is_active())
+    }
+
     /// The job opens: all its legs are there, new.
     pub(crate) fn open(&mut self)
         ensures { self.new ≡ in_state (opened self.old.room self.old.state) self.old }
@@ -119,7 +126,7 @@ impl Job {
     }
 
     pub fn have_legs_ended(&self) -> bool
-        ensures { result ≡ list_all has_ended self.now.state.legs }
+        ensures { result ≡ list_all leg_has_ended self.now.state.legs }
     {
         self.legs().iter().all(|leg| leg.has_ended())
     }

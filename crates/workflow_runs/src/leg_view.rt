@@ -1,5 +1,5 @@
 ghost use Rattle.std.specs.Prelude.{◌≡◌, Ok, option_copied};
-ghost use Rattle.std.specs.List.{list_all, list_any};
+ghost use Rattle.std.specs.List.{list_all};
 ghost use Rattle.std.specs.Str.{str_eq_ignore_ascii_case};
 ghost use Rattle.wf_value.specs.Gives.{Gives};
 ghost use Rattle.wf_value.specs.ScalarValue.{scalar_text};
@@ -147,15 +147,9 @@ fn has_label(labels: &[Label], wanted: &Template, context: &LegContext<'_>) -> b
     labels.iter().any(|label| is_label(label, wanted, context))
 }
 
-fn has_each(labels: &[Label], wanted: &[Template], context: &LegContext<'_>) -> bool
+/// Whether each label that the templates ask for is among these.
+fn has_labels(labels: &[Label], wanted: &[Template], context: &LegContext<'_>) -> bool
     ensures { result ≡ list_all (λ t. has_label labels.now (scalar_text (template_value (context_of context.now) t))) wanted.now }
 {
     wanted.iter().all(|label| has_label(labels, label, context))
-}
-
-/// Whether each label that the templates ask for is among these.
-fn has_labels(labels: &[Label], wanted: &[Template], context: &LegContext<'_>) -> bool
-    ensures { result ≡ has_labels labels.now (label_texts (context_of context.now) wanted.now) }
-{
-    has_each(labels, wanted, context)
 }

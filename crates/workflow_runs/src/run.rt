@@ -6,7 +6,7 @@ ghost use Rattle.workflow_runs.specs.Cells.{blocked_cells, states};
 ghost use Rattle.workflow_runs.specs.Changes.{changed};
 ghost use Rattle.workflow_runs.specs.FirstOf.{changed_at};
 ghost use Rattle.workflow_runs.specs.LookAgain.{job_again};
-ghost use Rattle.workflow_runs.specs.MarkedRuns.{has_ready_leg, has_waiting_leg, offers_legs, someone_waits};
+ghost use Rattle.workflow_runs.specs.MarkedRuns.{has_active_leg, has_ready_leg, has_waiting_leg, is_active, offers_legs, someone_waits};
 ghost use Rattle.workflow_runs.specs.Rules.{opened, settled_as, run_in_phase};
 ghost use Rattle.workflow_runs.specs.Settling.{legs_in_plan};
 ghost use Rattle.workflow_runs.specs.NewRun.{is_delivered_as, new_run};
@@ -163,6 +163,13 @@ impl Run {
         ensures { result ≡ someone_waits self.now }
     {
         self.phase.waits() || have_waiting_leg(self.jobs())
+    }
+
+    /// Whether it waits or is live, or a leg of it waits for its group, holds it, or has a lease.
+    pub(crate) fn is_active(&self) -> bool
+        ensures { result ≡ is_active self.now }
+    {
+        self.phase.waits() || self.phase.is_live() || have_active_leg(self.jobs())
     }
 
     // ---- the changes of a run
@@ -348,6 +355,12 @@ fn have_waiting_leg(jobs: &[Job]) -> bool
     ensures { result ≡ list_any (λ job. has_waiting_leg job.state) jobs.now }
 {
     jobs.iter().any(|job| job.has_waiting_leg())
+}
+
+fn have_active_leg(jobs: &[Job]) -> bool
+    ensures { result ≡ list_any (λ job. has_active_leg job.state) jobs.now }
+{
+    jobs.iter().any(|job| job.has_active_leg())
 }
 
 /// Whether the jobs at these places have all settled.

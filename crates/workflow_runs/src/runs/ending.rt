@@ -16,7 +16,7 @@ impl Runs {
     pub fn end(&mut self, lease: Number, outcome: Outcome)
         ensures { self.new ≡ with_ended lease outcome self.old }
     {
-        if let Some(place) = place_of_lease(lease, &self.runs) {
+        if let Some(place) = place_of_lease(lease, self) {
             self.end_at(place, outcome);
         }
     }

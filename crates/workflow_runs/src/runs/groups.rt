@@ -1,4 +1,4 @@
-//! Who holds a concurrency group: found by going over all runs and legs. It takes no memory.
+//! Who holds a concurrency group: found by going over all active runs and their legs. It takes no memory.
 
 ghost use Rattle.std.specs.Prelude.{◌≡◌, IfSome, Some, false, true, find, is_some, length, map, option_and_then, option_map};
 ghost use Rattle.std.specs.Option.{option_map_or};
@@ -126,7 +126,7 @@ impl Runs {
                 .is_none()
     }
 
-    // ---- over all runs and legs
+    // ---- over all active runs and their legs
 
     /// Whether the other one is in the group of `holder`, and pending or running there, as `whom` asks.
     fn is_conflicting(&self, holder: &Holder, whom: HolderFilter, other: &Holder) -> bool
@@ -154,10 +154,12 @@ impl Runs {
         ensures { result ≡ find (λ r. is_conflicting self.now (holder_in_words holder.now) whom (HolderOfGroup.a_run r))
             (map (λ r. r.0) (placed self.now)) }
     {
-        for r in 0..self.len() {
+        let mut from = 0;
+        while let Some(r) = self.next_active(from) {
             if self.is_conflicting(holder, whom, &Holder::Run(r)) {
                 return Some(r);
             }
+            from = r + 1;
         }
         None
     }
@@ -165,11 +167,13 @@ impl Runs {
     fn first_conflicting_leg(&self, holder: &Holder, whom: HolderFilter) -> Option<LegPlace>
         ensures { result ≡ find (λ p. is_conflicting self.now (holder_in_words holder.now) whom (HolderOfGroup.a_leg p)) (leg_places self.now) }
     {
-        for r in 0..self.len() {
+        let mut from = 0;
+        while let Some(r) = self.next_active(from) {
             let leg = self.first_conflicting_leg_of_run(holder, whom, r);
             if leg.is_some() {
                 return leg;
             }
+            from = r + 1;
         }
         None
     }

@@ -14,7 +14,7 @@ ghost use Rattle.workflow_runs.specs.RunNumber.{events, number_of_next};
 
 use crate::run::Run;
 use crate::runs::counts::{Counts, Workflow};
-use crate::runs::places::Places;
+use crate::runs::places::DeliveryPlaces;
 use run_plan::Prepared;
 use std::alloc::Global;
 use wf_value::Refusal;
@@ -22,7 +22,7 @@ use wf_value::Refusal;
 /// Where the run of each delivery stands, and how many runs there are of each workflow.
 #[derive(Drop)]
 pub(crate) struct Index {
-    pub places: Places,
+    pub places: DeliveryPlaces,
     pub counts: Counts,
 }
 
@@ -32,7 +32,7 @@ impl Index {
         ensures counts { AreCounted [] result.counts.counts }
     {
         Index {
-            places: Places::new(alloc),
+            places: DeliveryPlaces::new(alloc),
             counts: Counts::new(alloc),
         }
     }

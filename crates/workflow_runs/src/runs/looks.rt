@@ -1,8 +1,8 @@
-//! Where claims and settling look: at the runs that are marked for them. A look that finds nothing there takes the mark away.
+//! Where commands and settling look: at the runs that are marked for them. A look that finds nothing there takes the mark away.
 
 ghost use Rattle.std.specs.Prelude.{◌≡◌, ℕ, ◌<◌, ◌≤◌, IfNone, IfSome, None, Some, false, length};
 ghost use Rattle.workflow_runs.specs.LookAgain.{JobsRestBefore, RestBefore, ask};
-ghost use Rattle.workflow_runs.specs.MarkedRuns.{is_so_at, offers_legs, someone_waits};
+ghost use Rattle.workflow_runs.specs.MarkedRuns.{is_active, is_so_at, offers_legs, someone_waits};
 ghost use Rattle.workflow_runs.specs.Places.{run_at};
 ghost use Rattle.workflow_runs.specs.RunState.{RunState};
 ghost use Rattle.workflow_runs.specs.Settling.{first_place};
@@ -36,6 +36,17 @@ impl Runs {
         next_below(&self.marks.due, from, self.len())
     }
 
+    /// The next run that may wait or be live, or have a leg that waits for a group, holds it, or has a lease.
+    pub(crate) fn next_active(&self, from: usize) -> Option<usize>
+        ensures within { IfSome result (λ r. r < length self.now) }
+        ensures few { IfSome result (λ r. r < 100000) }
+        ensures from { IfSome result (λ r. from ≤ r) }
+        ensures between { IfSome result (λ r. (i : ℕ) → from ≤ i → i < r → is_so_at is_active self.now i ≡ false) }
+        ensures none { IfNone result ((i : ℕ) → from ≤ i → is_so_at is_active self.now i ≡ false) }
+    {
+        next_below(&self.marks.active, from, self.len())
+    }
+
     fn offers_legs(&self, r: usize) -> bool
         ensures { result ≡ is_so_at offers_legs self.now r }
     {
@@ -54,13 +65,24 @@ impl Runs {
         }
     }
 
-    /// Claims pass the run where no leg of it is ready, and nobody wakes it where nobody in it waits.
+    fn is_active(&self, r: usize) -> bool
+        ensures { result ≡ is_so_at is_active self.now r }
+    {
+        match self.runs.get(r) {
+            Some(run) => run.is_active(),
+            None => false,
+        }
+    }
+
+    /// Claims pass the run where no leg of it is ready, nobody wakes it where nobody in it waits, and neither a lease nor a holder of a group
+    /// is looked for in it where it is not active.
     pub(crate) fn look_again(&mut self, r: usize)
         requires { r < length self.old }
         ensures { self.new ≡ self.old }
     {
         self.look_again_for_ready(r);
         self.look_again_for_waiting(r);
+        self.look_again_for_active(r);
     }
 
     fn look_again_for_ready(&mut self, r: usize)
@@ -78,6 +100,15 @@ impl Runs {
     {
         if !self.someone_waits(r) {
             self.marks.waiting.unmark(r);
+        }
+    }
+
+    fn look_again_for_active(&mut self, r: usize)
+        requires { r < length self.old }
+        ensures { self.new ≡ self.old }
+    {
+        if !self.is_active(r) {
+            self.marks.active.unmark(r);
         }
     }
 

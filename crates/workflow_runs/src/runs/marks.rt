@@ -8,13 +8,15 @@ ghost use Rattle.workflow_runs.specs.MarkedRuns.{CoversRuns, OnlyGrows, RunsAreM
 use run_marks::Marks;
 use std::alloc::{AllocError, Global};
 
-/// Which runs have something for a claim or for settling, each at least where it has.
+/// Which runs have something for a command or for settling, each at least where it has.
 #[derive(Drop)]
 pub(crate) struct RunMarks {
     /// Those with a ready leg.
     pub ready: Marks,
     /// Those that wait for a group, or in which a leg does.
     pub waiting: Marks,
+    /// Those that wait or are live, or in which a leg waits for a group, holds it, or has a lease.
+    pub active: Marks,
     /// Those in which a settling rule applies.
     pub due: Marks,
 }
@@ -26,6 +28,7 @@ impl RunMarks {
         RunMarks {
             ready: Marks::new(alloc),
             waiting: Marks::new(alloc),
+            active: Marks::new(alloc),
             due: Marks::new(alloc),
         }
     }
@@ -36,6 +39,7 @@ impl RunMarks {
         Ok(RunMarks {
             ready: self.ready.copy()?,
             waiting: self.waiting.copy()?,
+            active: self.active.copy()?,
             due: self.due.copy()?,
         })
     }
@@ -47,6 +51,7 @@ impl RunMarks {
     {
         self.ready.cover(bound)?;
         self.waiting.cover(bound)?;
+        self.active.cover(bound)?;
         self.due.cover(bound)
     }
 
@@ -61,6 +66,7 @@ impl RunMarks {
         self.due.mark(r);
         self.ready.mark(r);
         self.waiting.mark(r);
+        self.active.mark(r);
     }
 }
 

@@ -13,15 +13,15 @@ use wf_value::Refusal;
 
 /// A place for each delivery. One may be kept where its run could not be added, so whoever asks looks whether the run stands there.
 #[derive(Drop)]
-pub(crate) struct Places {
+pub(crate) struct DeliveryPlaces {
     pub places: IndexMap<String, usize>,
 }
 
-impl Places {
+impl DeliveryPlaces {
     pub(crate) fn new(alloc: Global) -> Self
         ensures { (delivery : List ℕ) → get_by_text result.places delivery ≡ None }
     {
-        Places {
+        DeliveryPlaces {
             places: IndexMap::new(alloc),
         }
     }
@@ -71,7 +71,7 @@ impl Places {
         ensures err { ErrsOnlyByMemory result }
         ensures same { IfOk result (λ copy. (delivery : List ℕ) → get_by_text copy.places delivery ≡ get_by_text self.now.places delivery) }
     {
-        Ok(Places {
+        Ok(DeliveryPlaces {
             places: self.places.clone()?,
         })
     }

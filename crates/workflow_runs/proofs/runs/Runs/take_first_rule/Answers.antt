@@ -1,8 +1,7 @@
-use Rattle.std.specs.Prelude.{◌≡◌, List, Some, None, option_and_then, option_map}
+use Rattle.std.specs.Prelude.{List, option_map}
 use Rattle.std.proofs.Common.{ap, subst, sym, ◌∙◌}
 use Rattle.workflow_runs.specs.Groups.{HasOneEach}
 use Rattle.workflow_runs.specs.Moves.{Transition}
-use Rattle.workflow_runs.specs.Rules.{rule_at}
 use Rattle.workflow_runs.specs.RunState.{RunState}
 use Rattle.workflow_runs.specs.Settling.{first_place, first_rule}
 use Rattle.workflow_runs.specs.SoundRuns.{RunsAreSound}

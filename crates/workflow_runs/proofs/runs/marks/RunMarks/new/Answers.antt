@@ -1,5 +1,5 @@
 use Rattle.std.specs.Prelude.{[]}
-use Rattle.workflow_runs.specs.MarkedRuns.{is_due, offers_legs, someone_waits}
+use Rattle.workflow_runs.specs.MarkedRuns.{is_active, is_due, offers_legs, someone_waits}
 use Rattle.workflow_runs.proofs.MarkedRuns.{nothing_to_mark}
 use Rattle.workflow_runs.proofs.runs.marks.RunMarks.new.Goals as goal
 
@@ -7,5 +7,6 @@ pub returns : goal.returns
 returns c = record {
   ready = nothing_to_mark (λ _ x. offers_legs x) c.new.result;
   waiting = nothing_to_mark (λ _ x. someone_waits x) c.new-2.result;
-  due = nothing_to_mark (is_due []) c.new-3.result;
+  active = nothing_to_mark (λ _ x. is_active x) c.new-3.result;
+  due = nothing_to_mark (is_due []) c.new-4.result;
 }

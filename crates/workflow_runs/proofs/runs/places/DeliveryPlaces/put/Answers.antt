@@ -3,7 +3,7 @@ use Rattle.indexmap.specs.IndexMap.{get_by_text}
 use Rattle.std.specs.Str.{bytes_eq}
 use Rattle.std.proofs.Common.{rules, sym, subst}
 use Rattle.std.proofs.lemmas.Map.Text.{hash_map_updates_text}
-use Rattle.workflow_runs.proofs.runs.places.Places.put.Goals as goal
+use Rattle.workflow_runs.proofs.runs.places.DeliveryPlaces.put.Goals as goal
 
 pub returns-clause-put : goal.returns-clause-put
 returns-clause-put c = λ other.

@@ -5,7 +5,7 @@ use Rattle.std.specs.Map.{lookup}
 use Rattle.std.proofs.Common.{ap}
 use Rattle.std.proofs.lemmas.Map.Entries.{lookup_clone}
 use Rattle.workflow_runs.proofs.Counting.{same_found}
-use Rattle.workflow_runs.proofs.runs.places.Places.copy.Goals as goal
+use Rattle.workflow_runs.proofs.runs.places.DeliveryPlaces.copy.Goals as goal
 
 pub returns-clause-same : goal.returns-clause-same
 returns-clause-same c = λ delivery.

@@ -1,0 +1,156 @@
+-- A run that is not active has no leg of a lease, and is nobody in a group, nor is one of its legs.
+use Rattle.std.specs.Prelude.{◌≡◌, ℕ, zero, suc, ◌<◌, ◌≤◌, ◌&&◌, ◌||◌, List, find, [], ◌∷◌, Bool, true, false, Option, Some, None, not}
+use Rattle.std.specs.Prelude.{is_some, nat_eq, option_and_then, slice_get, if◌then◌else◌, refl}
+use Rattle.std.specs.List.{list_any}
+use Rattle.std.specs.Option.{option_map_or}
+use Rattle.std.proofs.Common.{ap, sym, ◌∙◌, inl, inr}
+use Rattle.std.proofs.lemmas.Bool.{cases_lt, or_parts, true≢false}
+use Rattle.group_name.specs.Group.{Group}
+use Rattle.workflow_runs.specs.FirstOf.{first_some, placed}
+use Rattle.workflow_runs.specs.Fitting.{has_lease}
+use Rattle.workflow_runs.specs.GroupOf.{group_at}
+use Rattle.workflow_runs.specs.GroupWords.{same_holder}
+use Rattle.workflow_runs.specs.Groups.{holds, is_in, is_pending_in, is_running_in, leg_holds, leg_waits, run_waits, waits}
+use Rattle.workflow_runs.specs.Holders.{is_conflicting}
+use Rattle.workflow_runs.specs.LookAgain.{ask}
+use Rattle.workflow_runs.specs.MarkedRuns.{has_active_leg, is_active, is_active_leg, is_so_at}
+use Rattle.workflow_runs.specs.Moves.{Holder}
+use Rattle.workflow_runs.specs.Places.{LegPlace, leg_at, leg_place, leg_places_of_job, leg_places_of_run}
+use Rattle.workflow_runs.specs.RunState.{JobState, LegState, RunState}
+use Rattle.workflow_runs.specs.StateWords.{is_live}
+use Rattle.workflow_runs.specs.WithinRun.{lease_in_job, lease_in_run}
+use Rattle.workflow_runs.specs.declared.holder.HolderFilter.{HolderFilter}
+use Rattle.workflow_runs.specs.declared.holder.HolderFilter.TheVariants.{OthersPending, Running}
+use Rattle.workflow_runs.proofs.Firsts.{find-flat_map, find-map, first_same_placed}
+use Rattle.workflow_runs.proofs.Meant.{first_of_run}
+use Rattle.workflow_runs.proofs.Sought.{leg_there}
+use Rattle.workflow_runs.proofs.Walks.{first_passing}
+
+-- ---- where each place gives nothing
+
+nothing : {X Y : Type 0} (xs : List X) → first_some {X = X} {Y = Y} (λ x. None) xs ≡ None
+nothing [] = refl
+nothing (x ∷ xs) = nothing xs
+
+none_placed : {X Y : Type 0} (f : ℕ × X → Option Y) (xs : List X) → ((i : ℕ) (x : X) → slice_get xs i ≡ Some x → f (i, x) ≡ None)
+    → first_some f (placed xs) ≡ None
+none_placed f xs none = first_same_placed f (λ x. None) xs none ∙ nothing (placed xs)
+
+-- ---- each leg of a run that is not active
+
+none_of : {X : Type 0} (p : X → Bool) (xs : List X) (i : ℕ) (x : X) → list_any p xs ≡ false → slice_get xs i ≡ Some x → p x ≡ false
+none_of p [] i x none at = cc
+none_of p (y ∷ ys) zero x none at = ap (λ o. option_map_or p o false) (sym at) ∙ (or_parts (p y) (list_any p ys) none).0
+none_of p (y ∷ ys) (suc i) x none at = none_of p ys i x (or_parts (p y) (list_any p ys) none).1 at
+
+jobs_rest : (run : RunState) → is_active run ≡ false → list_any has_active_leg run.jobs ≡ false
+jobs_rest run none = (or_parts (run_waits run.phase || is_live run.phase) (list_any has_active_leg run.jobs) none).1
+
+leg_rests : (run : RunState) (j l : ℕ) (job : JobState) (leg : LegState) → is_active run ≡ false → slice_get run.jobs j ≡ Some job
+    → slice_get job.legs l ≡ Some leg → is_active_leg leg ≡ false
+leg_rests run j l job leg none at_job at_leg =
+    none_of is_active_leg job.legs l leg (none_of has_active_leg run.jobs j job (jobs_rest run none) at_job) at_leg
+
+-- ---- the leg of a lease
+
+not_held : (lease : ℕ) (leg : LegState) → is_active_leg leg ≡ false → has_lease lease leg ≡ false
+not_held lease leg none = by leg.lease (or_parts (leg_waits leg.phase || leg_holds leg.phase) (is_some leg.lease) none).1
+  where
+    by : (o : Option ℕ) → is_some o ≡ false → option_map_or (λ held. nat_eq held lease) o false ≡ false
+    by None e = refl
+    by (Some held) e = absurd (true≢false e)
+
+no_lease_in_job : (lease r j : ℕ) (run : RunState) (job : JobState) → is_active run ≡ false → slice_get run.jobs j ≡ Some job
+    → lease_in_job lease r j job ≡ None
+no_lease_in_job lease r j run job none at =
+    sym (first_passing (has_lease lease) (leg_place r j) job.legs)
+    ∙ none_placed (λ l. if has_lease lease l.1 then Some (leg_place r j l.0) else None) job.legs
+    (λ l leg there. ap (λ b. if b then Some (leg_place r j l) else None) (not_held lease leg (leg_rests run j l job leg none at there)))
+
+no_lease_in_run : (lease r : ℕ) (run : RunState) → is_active run ≡ false → lease_in_run lease r run ≡ None
+no_lease_in_run lease r run none =
+    none_placed (λ j. lease_in_job lease r j.0 j.1) run.jobs (λ j job at. no_lease_in_job lease r j run job none at)
+
+module _ (lease : ℕ) (runs : List RunState) where
+  pub no_lease : (i : ℕ) → is_so_at is_active runs i ≡ false → ask (lease_in_run lease) runs i ≡ None
+  no_lease i none = by (slice_get runs i) none
+    where
+      by : (o : Option RunState) → option_map_or is_active o false ≡ false → option_and_then (lease_in_run lease i) o ≡ None
+      by None e = refl
+      by (Some x) e = no_lease_in_run lease i x e
+
+-- ---- the holders of a group
+
+and_none : (a b : Bool) → b ≡ false → (a && b) ≡ false
+and_none true b none = none
+and_none false b none = refl
+
+-- one that is not so is not so in what is weaker
+weaker : (fact other : RunState → Bool) (o : Option RunState) → ((x : RunState) → fact x ≡ false → other x ≡ false)
+    → option_map_or fact o false ≡ false → option_map_or other o false ≡ false
+weaker fact other None says e = refl
+weaker fact other (Some x) says e = says x e
+
+phase_rests : (x : RunState) → is_active x ≡ false → (run_waits x.phase ≡ false) × (is_live x.phase ≡ false)
+phase_rests x none =
+    or_parts (run_waits x.phase) (is_live x.phase) (or_parts (run_waits x.phase || is_live x.phase) (list_any has_active_leg x.jobs) none).0
+
+module _ (runs : List RunState) (h : Holder) where
+  not_pending : (other : Holder) (o : Option Group) → waits runs other ≡ false
+      → option_map_or (λ g. is_pending_in runs g other && not (same_holder other h)) o false ≡ false
+  not_pending other None none = refl
+  not_pending other (Some g) none = ap (λ b. b && not (same_holder other h)) (and_none (is_in runs g other) (waits runs other) none)
+
+  not_running : (other : Holder) (o : Option Group) → holds runs other ≡ false
+      → option_map_or (λ g. is_running_in runs g other) o false ≡ false
+  not_running other None none = refl
+  not_running other (Some g) none = and_none (is_in runs g other) (holds runs other) none
+
+  not_meant : (whom : HolderFilter) (other : Holder) → waits runs other ≡ false → holds runs other ≡ false
+      → is_conflicting runs h whom other ≡ false
+  not_meant OthersPending other waits_not holds_not = not_pending other (group_at runs h) waits_not
+  not_meant Running other waits_not holds_not = not_running other (group_at runs h) holds_not
+
+  pub run_not_meant : (whom : HolderFilter) (r : ℕ) → is_so_at is_active runs r ≡ false
+      → is_conflicting runs h whom (Holder.a_run r) ≡ false
+  run_not_meant whom r none =
+      not_meant whom (Holder.a_run r)
+      (weaker is_active (λ x. run_waits x.phase) (slice_get runs r) (λ x rests. (phase_rests x rests).0) none)
+      (weaker is_active (λ x. is_live x.phase) (slice_get runs r) (λ x rests. (phase_rests x rests).1) none)
+
+  leg_not_meant : (whom : HolderFilter) (p : LegPlace) (leg : LegState) → leg_at runs p ≡ Some leg → is_active_leg leg ≡ false
+      → is_conflicting runs h whom (Holder.a_leg p) ≡ false
+  leg_not_meant whom p leg at none =
+      let parts =
+      or_parts (leg_waits leg.phase) (leg_holds leg.phase) (or_parts (leg_waits leg.phase || leg_holds leg.phase) (is_some leg.lease) none).0 in
+      not_meant whom (Holder.a_leg p) (ap (λ o. option_map_or (λ x. leg_waits x.phase) o false) at ∙ parts.0)
+      (ap (λ o. option_map_or (λ x. leg_holds x.phase) o false) at ∙ parts.1)
+
+  module _ (whom : HolderFilter) where
+    abbrev test : LegPlace → Bool
+    test p = is_conflicting runs h whom (Holder.a_leg p)
+
+    legs_not_meant : (r : ℕ) (o : Option RunState) → slice_get runs r ≡ o → option_map_or is_active o false ≡ false
+        → option_and_then (λ run. find test (leg_places_of_run (r, run))) o ≡ None
+    legs_not_meant r None at_run none = refl
+    legs_not_meant r (Some run) at_run none =
+        find-flat_map test (leg_places_of_job r) (placed run.jobs)
+        ∙ none_placed (λ j. find test (leg_places_of_job r j)) run.jobs
+        (λ j job at_job. find-map test (λ (l : ℕ × LegState). leg_place r j l.0) (placed job.legs)
+        ∙ none_placed (λ l. if test (leg_place r j l.0) then Some (leg_place r j l.0) else None) job.legs
+        (λ l leg at_leg. ap (λ b. if b then Some (leg_place r j l) else None)
+        (leg_not_meant whom (leg_place r j l) leg (leg_there runs r j run job at_run at_job l leg at_leg)
+        (leg_rests run j l job leg none at_job at_leg))))
+
+    pub no_leg_meant : (r : ℕ) → is_so_at is_active runs r ≡ false → first_of_run test runs r ≡ None
+    no_leg_meant r none = legs_not_meant r (slice_get runs r) refl none
+
+-- ---- what no run has before one, where none is active from a place on, and only those that are active can have it
+
+pub none_before : (none_at : ℕ → Type 0) (runs : List RunState) (from r : ℕ) → ((i : ℕ) → is_so_at is_active runs i ≡ false → none_at i)
+    → ((k : ℕ) → k < from → none_at k) → ((i : ℕ) → from ≤ i → i < r → is_so_at is_active runs i ≡ false) → (k : ℕ) → k < r → none_at k
+none_before none_at runs from r where_idle before between k lt =
+    elim (cases_lt k from) [
+      | inl early ↦ before k early
+      | inr late ↦ where_idle k (between k late lt)
+    ]
