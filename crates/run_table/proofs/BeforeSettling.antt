@@ -10,7 +10,7 @@ use Rattle.workflow_runs.specs.Moves.{Holder}
 use Rattle.workflow_runs.specs.Places.{LegPlace, with_leg, with_run}
 use Rattle.run_table.specs.Sound.{IsSound}
 use Rattle.workflow_runs.specs.SoundRuns.{RunsAreSound}
-use Rattle.workflow_runs.specs.StateWords.{has_ended}
+use Rattle.workflow_runs.specs.StateWords.{leg_has_ended}
 use Rattle.run_table.specs.Step.{entered, report_answer}
 use Rattle.workflow_runs.specs.StopMoves.{with_ended}
 use Rattle.workflow_runs.specs.NewRun.{leased_leg, new_run}
@@ -103,7 +103,7 @@ pub leased_may_settle : (t : TableState) (labels : List (List ℕ)) (p : LegPlac
 leased_may_settle t labels p lease s fits =
     let ready = fitting_leg labels t.runs p fits in
     let z = ready.leg_of in
-    let unended : has_ended z ≡ false = ap (λ (phase : LegPhase). has_ended (record z { phase = phase })) ready.ready in
+    let unended : leg_has_ended z ≡ false = ap (λ (phase : LegPhase). leg_has_ended (record z { phase = phase })) ready.ready in
     let stay = leg_stays t.runs (table_fits t s) p z (λ _. leased_leg lease) (leg_in t.runs p z ready.is) unended refl in
     record {
       sound = sound_runs (with_leg p (λ _. leased_leg lease) t.runs) stay.fit;

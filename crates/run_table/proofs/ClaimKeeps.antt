@@ -13,7 +13,7 @@ use Rattle.workflow_runs.specs.FirstOf.{changed_at}
 use Rattle.workflow_runs.specs.Fitting.{is_ready, is_served, may_run_too, fits, first_fit}
 use Rattle.workflow_runs.specs.Parallel.{has_room, legs_at_work, most_at_work}
 use Rattle.workflow_runs.specs.Places.{LegPlace, job_at, leg_at, leg_places, with_leg}
-use Rattle.workflow_runs.specs.Rules.{has_ended}
+use Rattle.workflow_runs.specs.Rules.{leg_has_ended}
 use Rattle.run_plan.specs.LastCommand.{is_last_claim}
 use Rattle.run_table.specs.Sound.{IsLastOf, ParallelIsBounded}
 use Rattle.workflow_runs.specs.SoundRuns.{LeaseFits}
@@ -237,7 +237,7 @@ leasing_keeps t claim p s none fit =
     (no_lease_left (first_fit claim.labels t.runs) p (nat_le last_number t.last_lease) fit tests.1) in
     let ready = fitting_leg claim.labels t.runs p fit in
     let z = ready.leg_of in
-    let unended : has_ended z ≡ false = ap (λ (phase : LegPhase). has_ended (record z { phase = phase })) ready.ready in
+    let unended : leg_has_ended z ≡ false = ap (λ (phase : LegPhase). leg_has_ended (record z { phase = phase })) ready.ready in
     let stay = leg_stays t.runs s.fit p z (λ _. leased_leg lease) (leg_in t.runs p z ready.is) unended refl in
     let free_leg : had_at t.runs p ≡ None =
     had_from_leg t.runs p z ready.is ∙ ready_has_no_lease z.phase z.lease ready.ready (leases_fit t.runs s.fit p z ready.is) in

@@ -8,7 +8,7 @@ use Rattle.workflow_runs.specs.Fitting.{first_fit, place_of_lease}
 use Rattle.workflow_runs.specs.Groups.{HasOneEach, holds, leg_holds}
 use Rattle.workflow_runs.specs.Moves.{Holder}
 use Rattle.workflow_runs.specs.Places.{LegPlace, with_job, with_leg, with_run}
-use Rattle.workflow_runs.specs.StateWords.{has_ended, leg_in_phase}
+use Rattle.workflow_runs.specs.StateWords.{leg_has_ended, leg_in_phase}
 use Rattle.workflow_runs.specs.StopMoves.{with_ended}
 use Rattle.workflow_runs.specs.NewRun.{leased_leg}
 use Rattle.workflow_runs.specs.Stops.{after_end, stopped_run, stops_others, with_stopped_legs}
@@ -49,7 +49,7 @@ module _ (runs : List RunState) (fit : RunsFit runs) (labels : List (List ℕ)) 
   leased_one_each each =
       let ready = fitting_leg labels runs p fits in
       let z = ready.leg_of in
-      let unended : has_ended z ≡ false = ap (λ (phase : LegPhase). has_ended (record z { phase = phase })) ready.ready in
+      let unended : leg_has_ended z ≡ false = ap (λ (phase : LegPhase). leg_has_ended (record z { phase = phase })) ready.ready in
       let next = with_leg p (λ _. leased_leg lease) runs in
       fading_keeps runs next
       (groups_stay runs next fit (leg_stays runs fit p z (λ _. leased_leg lease) (leg_in runs p z ready.is) unended refl)) leased_fades each

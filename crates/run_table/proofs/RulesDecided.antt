@@ -17,7 +17,7 @@ use Rattle.workflow_runs.specs.Places.{run_at, job_at, with_run, with_job}
 use Rattle.workflow_runs.specs.Rules.{rule_at}
 use Rattle.workflow_runs.specs.Rules.{decided, leg_ends, may_run, result_at, with_leg_in}
 use Rattle.workflow_runs.specs.Settling.{settled}
-use Rattle.workflow_runs.specs.StateWords.{has_ended, is_done, is_open, leg_in_phase, opened, run_in_phase, settled_as}
+use Rattle.workflow_runs.specs.StateWords.{leg_has_ended, is_done, is_open, leg_in_phase, opened, run_in_phase, settled_as}
 use Rattle.workflow_runs.specs.StopMoves.{displace, stop_holder}
 use Rattle.workflow_runs.specs.Stops.{stopped, stopped_run}
 use Rattle.workflow_runs.specs.RunState.{JobState, RunState}
@@ -72,7 +72,7 @@ opening_now runs r j y was needs =
 closing_now : (runs : List RunState) (r j : ℕ) (y : JobState) → job_at runs r j ≡ Some y → is_done y ≡ true → Decided runs
     → NowDecided runs (with_job r j (settled_as (result_at runs r j y)) runs)
 closing_now runs r j y was done all =
-    let is_open = is_open_open y.phase (and_parts (is_open y.phase) (list_all has_ended y.legs) done).0 in
+    let is_open = is_open_open y.phase (and_parts (is_open y.phase) (list_all leg_has_ended y.legs) done).0 in
     one_decided runs r j (settled_as (result_at runs r j y)) y was (
       open_needs runs r j y.phase is_open (all r j y was),
       (λ e. absurd (never_skipped (list_any fails_job (leg_ends runs r j y)) (list_any was_cancelled (leg_ends runs r j y)) e)),

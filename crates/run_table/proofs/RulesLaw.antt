@@ -22,7 +22,7 @@ use Rattle.workflow_runs.specs.Rules.{rule_at}
 use Rattle.workflow_runs.specs.Rules.{with_leg_in}
 use Rattle.workflow_runs.specs.Settling.{first_place, first_rule, settled_within}
 use Rattle.workflow_runs.specs.SoundRuns.{PhaseFits}
-use Rattle.workflow_runs.specs.StateWords.{has_ended, is_blocked, is_done, is_live, is_open, leg_in_phase, opened}
+use Rattle.workflow_runs.specs.StateWords.{leg_has_ended, is_blocked, is_done, is_live, is_open, leg_in_phase, opened}
 use Rattle.workflow_runs.specs.StateWords.{run_in_phase, settled_as}
 use Rattle.workflow_runs.specs.RunState.{LegState, JobState, RunState}
 use Rattle.workflow_runs.specs.Words.{is_stopping, planned_legs}
@@ -127,7 +127,7 @@ closing_run : (runs : List RunState) → RunsFit runs → (r j : ℕ) (y : JobSt
     → run_at runs r ≡ Some x → is_live x.phase ≡ true
 closing_run runs fit r j y was done x at =
     let in_run : slice_get x.jobs j ≡ Some y = sym (job_in_run runs r j x at) ∙ was in
-    let is_open_now = is_open_open y.phase (and_parts (is_open y.phase) (list_all has_ended y.legs) done).0 in
+    let is_open_now = is_open_open y.phase (and_parts (is_open y.phase) (list_all leg_has_ended y.legs) done).0 in
     ap is_live (open_is_live x.phase x.stopping x.jobs j y (fit r x at).phase_fits in_run is_open_now)
 
 -- ---- a run

@@ -28,7 +28,7 @@ use Rattle.workflow_runs.specs.Parallel.{is_at_work}
 use Rattle.workflow_runs.specs.Places.{LegPlace, job_at, leg_at, leg_places, run_at, with_job, with_leg}
 use Rattle.workflow_runs.specs.Settling.{remaining_phases, settled, settling}
 use Rattle.run_table.specs.Sound.{IsSound}
-use Rattle.workflow_runs.specs.StateWords.{has_ended, leg_in_phase}
+use Rattle.workflow_runs.specs.StateWords.{leg_has_ended, leg_in_phase}
 use Rattle.run_table.specs.Step.{admission_answer, admitted, admitting, at_rest_after, cancel_answer, cancelled}
 use Rattle.workflow_runs.specs.NewRun.{blocked_job, leased_leg, new_run}
 use Rattle.run_table.specs.Step.{cancelling, claim_answer, claimed, claiming, claiming_runner, entered, lease_at, leasing, losing, lost}
@@ -274,7 +274,7 @@ module _ (later : List RunState) (g : Group) (cancels : Holder → Bool) (asks :
         let next = with_leg p (λ _. leased_leg lease) t.runs in
         let ready = fitting_leg claim.labels t.runs p is in
         let z = ready.leg_of in
-        let unended : has_ended z ≡ false = ap (λ (phase : LegPhase). has_ended (record z { phase = phase })) ready.ready in
+        let unended : leg_has_ended z ≡ false = ap (λ (phase : LegPhase). leg_has_ended (record z { phase = phase })) ready.ready in
         let place = leg_in t.runs p z ready.is in
         let stay = leg_stays t.runs kept.fit p z (λ _. leased_leg lease) place unended refl in
         let tells : Tells t.runs (without_moves next) =

@@ -12,7 +12,7 @@ use Rattle.run_plan.proofs.FewLegs.{few_planned}
 use Rattle.workflow_runs.specs.FirstOf.{placed}
 use Rattle.workflow_runs.specs.JobResults.{settled_result}
 use Rattle.workflow_runs.specs.Places.{LegPlace, job_at, leg_at, run_at}
-use Rattle.workflow_runs.specs.Rules.{has_ended, is_live, is_settled, job_places, leg_rule, leg_rule_in, outcome_of, places, result_at}
+use Rattle.workflow_runs.specs.Rules.{leg_has_ended, is_live, is_settled, job_places, leg_rule, leg_rule_in, outcome_of, places, result_at}
 use Rattle.workflow_runs.specs.Rules.{run_places}
 use Rattle.workflow_runs.specs.Settling.{applies, first_place}
 use Rattle.run_table.specs.Sound.{IsSound}
@@ -124,7 +124,7 @@ has_not_settled planned gathered job.Blocked legs l x fits at new is = cc
 has_not_settled planned gathered job.Open legs l x fits at new is = cc
 has_not_settled planned gathered (job.Settled r) legs l x (inl none) at new is = none_at legs l x none.0 at
 has_not_settled planned gathered (job.Settled r) legs l x (inr all) at new is =
-    let ended : is_some (outcome_of x.phase) ≡ true = each_passes has_ended legs l x all.1 at in
+    let ended : is_some (outcome_of x.phase) ≡ true = each_passes leg_has_ended legs l x all.1 at in
     let not_ended : is_some (outcome_of x.phase) ≡ false = ap (λ phase. is_some (outcome_of phase)) new in
     cc
 

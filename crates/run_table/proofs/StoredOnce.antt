@@ -1,5 +1,5 @@
 -- Of the parts of a table there is at most one table: what is not stored follows from the rest.
-use Rattle.std.specs.Prelude.{◌≡◌, ℕ, suc, ◌&&◌, List, [], ◌∷◌, length, map, Option, Some, option_and_then, slice_get, refl}
+use Rattle.std.specs.Prelude.{◌≡◌, ℕ, suc, ◌&&◌, List, [], ◌∷◌, length, map, Option, Some, option_and_then, slice_get, refl, true}
 use Rattle.std.specs.Cmp.Lexicographic.{slice_cmp}
 use Rattle.std.specs.Option.{option_map_or}
 use Rattle.std.specs.Ordering.{is_lt, nat_cmp}
@@ -134,3 +134,11 @@ module _ (parts : StoredTable) where
   pub none_sound : (made : TableState) → made.last_lease ≡ parts.last_lease → made.runs ≡ parts.runs
       → AreRunnersAs made.runs parts.runners made.runners → (IsSound made → ⊥) → IsNoTable parts
   none_sound made lease same runners not_sound t is = not_sound (subst IsSound (the_one made lease same runners t is) is.is_sound)
+
+  -- nor where no runners are stored so
+  pub none_listed : (runs : List RunState) → runs ≡ parts.runs
+      → ((runners : List RunnerState) → AreRunnersAs runs parts.runners runners → names_rise runners ≡ true → ⊥) → IsNoTable parts
+  none_listed runs same none t is =
+      none t.runners
+      (subst (λ (xs : List RunState). AreRunnersAs xs parts.runners t.runners) (runs_are t is ∙ sym same) (runners_are t is))
+      is.is_sound.runners_in_order

@@ -13,12 +13,7 @@ use Rattle.run_plan.specs.declared.reply.Reply.TheVariants as reply
 abbrev pub HasTurn : Command → List ℕ → ℕ → Type 0
 HasTurn (command.Claim claim) runner number = (claim.runner ≡ runner) × (claim.number ≡ number)
 HasTurn (command.Done report) runner number = (report.runner ≡ runner) × (report.number ≡ number)
-HasTurn (command.Admit event) runner number = ⊥
-HasTurn (command.Beat beat) runner number = ⊥
-HasTurn (command.Cancel id) runner number = ⊥
-HasTurn (command.Lost name) runner number = ⊥
-HasTurn (command.Look id) runner number = ⊥
-HasTurn (command.Fetch id) runner number = ⊥
+HasTurn _ runner number = ⊥
 
 -- none of them is a command of this runner with a later number
 abbrev pub HaveNoLaterTurn : List ℕ → ℕ → List Command → Type 0

@@ -10,6 +10,7 @@ pub mod GroupLawTest
 pub mod GroupSets
 pub mod Histories
 pub mod OneByOne
+pub mod PlaceNamed
 pub mod Remembered
 pub mod Skips
 pub mod Sound

@@ -22,7 +22,7 @@ use Rattle.run_plan.specs.declared.reply.Lease.{Lease as Leased}
 use Rattle.run_plan.specs.declared.reply.Reply.{Reply}
 use Rattle.run_plan.specs.declared.reply.Reply.TheVariants as reply
 use Rattle.workflow_runs.specs.Arrivals.{arrived}
-use Rattle.workflow_runs.specs.Fitting.{first_fit, is_told_to_stop}
+use Rattle.workflow_runs.specs.Fitting.{first_fit, is_lease_stopping}
 use Rattle.workflow_runs.specs.Moves.{Holder, Move, Transition}
 use Rattle.run_table.specs.TableState.{Step, RunnerState, TableState}
 use Rattle.workflow_runs.specs.Places.{LegPlace, run_at, with_leg}
@@ -155,7 +155,7 @@ abbrev pub beat_answer : TableState → Asked → Reply
 beat_answer t beat =
     option_map_or (λ runner.
     if holds_this beat.lease (Some runner)
-    then (if is_told_to_stop t.runs beat.lease then reply.Stop else reply.GoOn)
+    then (if is_lease_stopping t.runs beat.lease then reply.Stop else reply.GoOn)
     else refused LeaseNotHeld) (runner_named t.runners beat.runner) (refused NoRunner)
 
 -- ---- cancel

@@ -16,6 +16,7 @@ ghost use Rattle.run_table.specs.Step.{lease_answer, lease_at, leasing, look_ans
 ghost use Rattle.run_table.specs.Step.{reported, reporting, seen, serving_nothing, step, unchanged};
 ghost use Rattle.workflow_runs.specs.StopMoves.{with_ended};
 ghost use Rattle.workflow_runs.specs.Stops.{outcome_of_loss};
+ghost use Rattle.run_table.specs.PlaceNamed.{place_named};
 ghost use Rattle.run_table.specs.Turns.{names_rise};
 
 mod of;
@@ -30,7 +31,7 @@ use run_plan::{
 use std::alloc::Global;
 use std::marker::Model;
 use wf_value::{Chars, Code, Refusal, TryCopy};
-use workflow_runs::fit::{first_fit, is_told_to_stop, outcome_of_loss};
+use workflow_runs::fit::{first_fit, is_lease_stopping, outcome_of_loss};
 use workflow_runs::holder::Holder;
 use workflow_runs::leg::Leg;
 use workflow_runs::phases::RunPhase;
@@ -42,7 +43,7 @@ use workflow_runs::runs::{MOST_RUNS, Runs};
 #[derive(Drop)]
 pub struct Content {
     last_lease: u32,
-    runs: Runs,
+    pub(crate) runs: Runs,
     runners: Runners,
 }
 
@@ -188,18 +189,26 @@ impl Content {
         ensures err { OnErr result (self.new ≡ self.old) }
         ensures answers { is_free (claim_answer self.old claim.now) ≡ true → IsOk result }
     {
-        let runner = self.runners.named(&claim.runner);
+        let place = self.runners.place_named(&claim.runner);
+        let runner = self.runners.at(place, &claim.runner);
         if let Some(reply) = answer_to_claim(alloc, runner, claim)? {
             return with_copy(alloc, reply);
         }
         if holds_lease(runner) {
             return Ok((refused(Code::HasLease), refused(Code::HasLease)));
         }
-        self.claim_in_turn(alloc, claim)
+        self.claim_in_turn(alloc, claim, place)
     }
 
-    fn claim_in_turn(&mut self, alloc: Global, claim: &Claim) -> Result<(Reply, Reply), Refusal>
-        requires { IsSound self.old }
+    /// A claim of a runner that holds no lease, with the number after its last, at the runner's place.
+    fn claim_in_turn(
+        &mut self,
+        alloc: Global,
+        claim: &Claim,
+        place: usize,
+    ) -> Result<(Reply, Reply), Refusal>
+        requires sound { IsSound self.old }
+        requires place { place ≡ place_named self.old.runners claim.now.runner }
         ensures step { Gives (λ replies. (self.new, replies.0)) result
             (Ok (outcome (option_map_or (unchanged self.old) (lease_answer self.old claim.now) (claiming self.old claim.now)))) }
         ensures copy { IfOk result (λ replies. replies.1 ≡ replies.0) }
@@ -207,23 +216,29 @@ impl Content {
         ensures answers { is_some (lease_answer self.old claim.now) ≡ true → IsOk result }
     {
         match first_fit(claim.labels.as_slice(), &self.runs) {
-            None => self.serve_nothing(alloc, claim),
+            None => self.serve_nothing(alloc, claim, place),
             Some(_) if self.last_lease >= LAST_NUMBER => {
                 Ok((refused(Code::LastCounter), refused(Code::LastCounter)))
             }
-            Some(place) => self.lease(alloc, claim, place),
+            Some(leg) => self.lease(alloc, claim, place, leg),
         }
     }
 
     /// Answers a claim that no leg fits, and keeps it. No rule applies before, so none applies then.
-    fn serve_nothing(&mut self, alloc: Global, claim: &Claim) -> Result<(Reply, Reply), Refusal>
-        requires { IsSound self.old }
+    fn serve_nothing(
+        &mut self,
+        alloc: Global,
+        claim: &Claim,
+        place: usize,
+    ) -> Result<(Reply, Reply), Refusal>
+        requires sound { IsSound self.old }
+        requires place { place ≡ place_named self.old.runners claim.now.runner }
         ensures step { Gives (λ replies. (self.new, replies.0)) result (Ok (outcome (serving_nothing self.old claim.now))) }
         ensures copy { IfOk result (λ replies. replies.1 ≡ replies.0) }
         ensures err { OnErr result (self.new ≡ self.old) }
     {
         let runner = Runner::claiming(alloc, claim, None, ClaimReply::Nothing)?;
-        self.runners.put(runner)?;
+        self.runners.put(place, runner)?;
         Ok((Reply::Nothing, Reply::Nothing))
     }
 
@@ -232,21 +247,23 @@ impl Content {
         &mut self,
         alloc: Global,
         claim: &Claim,
-        place: LegPlace,
+        place: usize,
+        leg: LegPlace,
     ) -> Result<(Reply, Reply), Refusal>
         requires sound { IsSound self.old }
-        requires run { place.run < 100000 }
-        requires fits { first_fit claim.now.labels self.old.runs ≡ Some place }
+        requires place { place ≡ place_named self.old.runners claim.now.runner }
+        requires run { leg.run < 100000 }
+        requires fits { first_fit claim.now.labels self.old.runs ≡ Some leg }
         requires left { self.old.last_lease < 999999999 }
-        ensures step { Gives (λ replies. (self.new, replies.0)) result (Ok (outcome (leasing self.old claim.now place))) }
+        ensures step { Gives (λ replies. (self.new, replies.0)) result (Ok (outcome (leasing self.old claim.now leg))) }
         ensures copy { IfOk result (λ replies. replies.1 ≡ replies.0) }
         ensures err { OnErr result (self.new ≡ self.old) }
     {
         let lease = Number::new(self.last_lease + 1);
-        let (runner, told, copy) = told_twice(alloc, claim, &self.runs, place, lease)?;
-        self.runners.put(runner)?;
+        let (runner, told, copy) = told_twice(alloc, claim, &self.runs, leg, lease)?;
+        self.runners.put(place, runner)?;
         self.last_lease = lease.get();
-        self.runs.set_leg(place, Leg::leased(lease));
+        self.runs.set_leg(leg, Leg::leased(lease));
         self.runs.settle();
         Ok((Reply::Lease(told), Reply::Lease(copy)))
     }
@@ -259,25 +276,27 @@ impl Content {
         ensures err { OnErr result (self.new ≡ self.old) }
         ensures answers { is_free (report_answer self.old report.now) ≡ true → IsOk result }
     {
-        let runner = self.runners.named(&report.runner);
+        let place = self.runners.place_named(&report.runner);
+        let runner = self.runners.at(place, &report.runner);
         if let Some(reply) = answer_to_report(alloc, runner, report)? {
             return Ok(reply);
         }
         if !holds_this(runner, report.lease) {
             return Ok(refused(Code::LeaseNotHeld));
         }
-        self.end(alloc, report)
+        self.end(alloc, report, place)
     }
 
     /// The leg of the lease ends.
-    fn end(&mut self, alloc: Global, report: &Done) -> Result<Reply, Refusal>
+    fn end(&mut self, alloc: Global, report: &Done, place: usize) -> Result<Reply, Refusal>
         requires sound { IsSound self.old }
+        requires place { place ≡ place_named self.old.runners report.now.runner }
         requires due { report_answer self.old report.now ≡ None }
         ensures step { Gives (λ reply. (self.new, reply)) result (Ok (outcome (reporting self.old report.now))) }
         ensures err { OnErr result (self.new ≡ self.old) }
     {
         let runner = Runner::reporting(alloc, report)?;
-        self.runners.put(runner)?;
+        self.runners.put(place, runner)?;
         self.runs.end(report.lease, report.result);
         self.runs.settle();
         Ok(Reply::Ok)
@@ -294,7 +313,7 @@ impl Content {
             refused(Code::NoRunner)
         } else if !holds_this(runner, beat.lease) {
             refused(Code::LeaseNotHeld)
-        } else if is_told_to_stop(beat.lease, &self.runs) {
+        } else if is_lease_stopping(beat.lease, &self.runs) {
             Reply::Stop
         } else {
             Reply::GoOn
@@ -333,11 +352,12 @@ impl Content {
         ensures err { OnErr result (self.new ≡ self.old) }
         ensures answers { is_free (loss_answer self.old name.now) ≡ true → IsOk result }
     {
-        match self.runners.named(name) {
+        let place = self.runners.place_named(name);
+        match self.runners.at(place, name) {
             Some(runner) => match runner.holds {
                 Some(lease) => {
                     let runner = runner.released(alloc)?;
-                    self.end_lost(runner, lease)
+                    self.end_lost(place, runner, lease)
                 }
                 None => Ok(refused(Code::LeaseNotHeld)),
             },
@@ -346,13 +366,14 @@ impl Content {
     }
 
     /// The leg of the lease ends. The runner had it, and is released.
-    fn end_lost(&mut self, runner: Runner, lease: Number) -> Result<Reply, Refusal>
+    fn end_lost(&mut self, place: usize, runner: Runner, lease: Number) -> Result<Reply, Refusal>
+        requires place { place ≡ place_named self.old.runners runner.name }
         requires ends { RunsAreSound (with_ended lease (outcome_of_loss self.old.runs lease) self.old.runs) }
         requires one_each { HasOneEach (with_ended lease (outcome_of_loss self.old.runs lease) self.old.runs) }
         ensures step { Gives (λ reply. (self.new, reply)) result (Ok (outcome (losing self.old runner lease))) }
         ensures err { OnErr result (self.new ≡ self.old) }
     {
-        self.runners.put(runner)?;
+        self.runners.put(place, runner)?;
         let outcome = outcome_of_loss(lease, &self.runs);
         self.runs.end(lease, outcome);
         self.runs.settle();

@@ -1,6 +1,7 @@
-ghost use Rattle.std.specs.Prelude.{◌≡◌, ◌<◌, [], filter, is_some, length, option_and_then, option_map, slice_get, slice_set, Ok, OnErr};
+ghost use Rattle.std.specs.Prelude.{◌≡◌, ◌<◌, [], is_some, length, option_and_then, option_map, slice_get, slice_set, Ok, OnErr};
 ghost use Rattle.std.specs.Prelude.{true};
 ghost use Rattle.wf_value.specs.Gives.{Gives};
+ghost use Rattle.run_table.specs.PlaceNamed.{place_named};
 ghost use Rattle.run_table.specs.Turns.{is_below, is_named, kept_named, names_rise, runner_named, with_runner};
 
 mod of;
@@ -45,19 +46,35 @@ impl Runners {
         self.runners.as_slice()
     }
 
+    /// Where the runner of a name stands, or would.
+    pub(crate) fn place_named(&self, name: &RunnerName) -> usize
+        ensures { result ≡ place_named self.now name.now }
+    {
+        count_below(self.as_slice(), name)
+    }
+
+    /// The runner of a name, whose place is known.
+    pub(crate) fn at(&self, place: usize, name: &RunnerName) -> Option<&Runner>
+        requires { place ≡ place_named self.now name.now }
+        ensures { option_map (λ r. r.now) result ≡ runner_named self.now name.now }
+    {
+        named_at(self.as_slice(), place, name)
+    }
+
     /// The runner of a name.
     pub(crate) fn named(&self, name: &RunnerName) -> Option<&Runner>
         ensures { option_map (λ r. r.now) result ≡ runner_named self.now name.now }
     {
-        runner_in(self.as_slice(), name)
+        self.at(self.place_named(name), name)
     }
 
     /// Puts the runner where its name belongs, in the place of the one of its name. At an error the runners are as they were.
-    pub(crate) fn put(&mut self, runner: Runner) -> Result<(), Refusal>
+    pub(crate) fn put(&mut self, place: usize, runner: Runner) -> Result<(), Refusal>
+        requires { place ≡ place_named self.old runner.name }
         ensures put { Gives (λ _. self.new) result (Ok (with_runner self.old runner)) }
         ensures err { OnErr result (self.new ≡ self.old) }
     {
-        put_in(&mut self.runners, runner)
+        put_in(&mut self.runners, place, runner)
     }
 }
 
@@ -84,7 +101,7 @@ fn is_named(runner: &Runner, name: &RunnerName) -> bool
 /// How many of the runners, which stand in the order of their names, have a name below this one.
 fn count_below(runners: &[Runner], name: &RunnerName) -> usize
     requires { names_rise runners.now ≡ true }
-    ensures { result ≡ length (filter (is_below name.now) runners.now) }
+    ensures { result ≡ place_named runners.now name.now }
 {
     runners.partition_point(|runner| is_below(runner, name))
 }
@@ -101,13 +118,6 @@ fn named_at<'a>(runners: &'a [Runner], place: usize, name: &RunnerName) -> Optio
     }
 }
 
-fn runner_in<'a>(runners: &'a [Runner], name: &RunnerName) -> Option<&'a Runner>
-    requires { names_rise runners.now ≡ true }
-    ensures { option_map (λ r. r.now) result ≡ runner_named runners.now name.now }
-{
-    named_at(runners, count_below(runners, name), name)
-}
-
 fn replace(runners: &mut Vec<Runner>, place: usize, runner: Runner)
     requires { place < length runners.old.items }
     ensures { runners.new.items ≡ slice_set runners.old.items place runner }
@@ -115,12 +125,12 @@ fn replace(runners: &mut Vec<Runner>, place: usize, runner: Runner)
     runners[place] = runner;
 }
 
-fn put_in(runners: &mut Vec<Runner>, runner: Runner) -> Result<(), Refusal>
-    requires { names_rise runners.old.items ≡ true }
+fn put_in(runners: &mut Vec<Runner>, place: usize, runner: Runner) -> Result<(), Refusal>
+    requires rise { names_rise runners.old.items ≡ true }
+    requires place { place ≡ place_named runners.old.items runner.name }
     ensures put { Gives (λ _. runners.new.items) result (Ok (with_runner runners.old.items runner)) }
     ensures err { OnErr result (runners.new.items ≡ runners.old.items) }
 {
-    let place = count_below(runners, &runner.name);
     if named_at(runners, place, &runner.name).is_some() {
         replace(runners, place, runner);
         return Ok(());

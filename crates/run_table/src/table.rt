@@ -51,6 +51,7 @@ impl Table {
         ensures err { OnErr result (self.new ≡ self.old) }
         ensures answers { is_free (answered self.old command.now) ≡ true → IsOk result }
     {
+        self.content.runs.forget_tries();
         self.content.step(alloc, command)
     }
 
@@ -66,7 +67,13 @@ impl Table {
         ensures err { OnErr result (self.new ≡ self.old) }
         ensures answers { is_free (answered self.old command.now) ≡ true → IsOk result }
     {
+        self.content.runs.forget_tries();
         self.content.step_with_copy(alloc, command)
+    }
+
+    /// How often the last step tried a settling rule at a place. No contract rests on it.
+    pub fn looked(&self) -> u64 {
+        self.content.runs.tries()
     }
 
     /// What is seen of the run of an id, or `None` where there is no such run. It takes no memory.

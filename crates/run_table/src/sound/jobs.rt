@@ -4,7 +4,7 @@
 ghost use Rattle.std.specs.Bool.{Decides};
 ghost use Rattle.std.specs.Prelude.{◌≡◌};
 ghost use Rattle.workflow_runs.specs.Cells.{states};
-ghost use Rattle.run_table.specs.OneByOne.{EachJobIsSound, EachLegIsSound, IsWithinParallel, JobIsSound, NeedsAreFirst};
+ghost use Rattle.run_table.specs.OneByOne.{EachJobIsSound, IsWithinParallel, JobIsSound, NeedsAreFirst};
 ghost use Rattle.workflow_runs.specs.Rules.{result_at};
 ghost use Rattle.workflow_runs.specs.SoundRuns.{LegsFit, MayLackLegs};
 ghost use Rattle.workflow_runs.specs.declared.phases.JobPhase.TheVariants.{Settled};
@@ -89,12 +89,6 @@ fn is_within_parallel(runs: &Runs, r: usize, j: usize, job: &Job) -> bool
     }
 }
 
-fn has_sound_legs(leases: &Leases, r: usize, j: usize, job: &Job) -> bool
-    ensures { Decides result (EachLegIsSound leases.now r j job.now.state.legs) }
-{
-    are_legs_sound(leases, r, j, job.legs())
-}
-
 fn is_job_sound(leases: &Leases, runs: &Runs, r: usize, j: usize, job: &Job) -> bool
     ensures { Decides result (JobIsSound leases.now runs.now r j job.now.state) }
 {
@@ -107,7 +101,7 @@ fn is_job_sound(leases: &Leases, runs: &Runs, r: usize, j: usize, job: &Job) -> 
     if !is_within_parallel(runs, r, j, job) {
         return false;
     }
-    has_sound_legs(leases, r, j, job)
+    are_legs_sound(leases, r, j, job.legs())
 }
 
 pub(crate) fn are_jobs_sound(leases: &Leases, runs: &Runs, r: usize, jobs: &[Job]) -> bool

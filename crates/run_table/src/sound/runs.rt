@@ -3,7 +3,7 @@
 ghost use Rattle.std.specs.Bool.{Decides};
 ghost use Rattle.std.specs.Prelude.{◌≡◌};
 ghost use Rattle.std.specs.List.{list_all};
-ghost use Rattle.run_table.specs.OneByOne.{EachJobIsSound, EachRunIsSound, RunIsSound};
+ghost use Rattle.run_table.specs.OneByOne.{EachRunIsSound, RunIsSound};
 ghost use Rattle.workflow_runs.specs.SoundRuns.{PhaseFits};
 ghost use Rattle.workflow_runs.specs.StateWords.{is_blocked};
 
@@ -38,19 +38,13 @@ fn phase_fits(run: &Run) -> bool
     }
 }
 
-fn has_sound_jobs(leases: &Leases, runs: &Runs, r: usize, run: &Run) -> bool
-    ensures { Decides result (EachJobIsSound leases.now runs.now r run.now.jobs) }
-{
-    are_jobs_sound(leases, runs, r, run.jobs())
-}
-
 fn is_run_sound(leases: &Leases, runs: &Runs, r: usize, run: &Run) -> bool
     ensures { Decides result (RunIsSound leases.now runs.now r run.now) }
 {
     if !phase_fits(run) {
         return false;
     }
-    has_sound_jobs(leases, runs, r, run)
+    are_jobs_sound(leases, runs, r, run.jobs())
 }
 
 pub(crate) fn are_runs_sound(leases: &Leases, runs: &Runs) -> bool

@@ -1,7 +1,8 @@
-use Rattle.std.proofs.Common.{◌≡◌, Bool, List, ap, arith, filter, length, refl, slice_get, sym, ◌∙◌, Ok}
+use Rattle.std.proofs.Common.{◌≡◌, Bool, List, ap, arith, length, refl, slice_get, sym, ◌∙◌, Ok}
 use Rattle.std.specs.Prelude.{Option, Some, None, option_and_then, option_map}
 use Rattle.std.specs.Option.{is_some}
-use Rattle.run_table.specs.Turns.{is_below, kept_named, runner_named}
+use Rattle.run_table.specs.PlaceNamed.{place_named}
+use Rattle.run_table.specs.Turns.{kept_named, runner_named}
 use Rattle.run_table.specs.TableState.{RunnerState}
 use Rattle.run_table.proofs.RunnerOrder.{found_there, place_in_range, place_within, put_between, put_over}
 use Rattle.run_table.proofs.runners.put_in.Goals as goal
@@ -19,20 +20,20 @@ pub replace-requires : goal.replace-requires
 replace-requires c =
     let items = c.args.runners.now.items in
     let name = c.runner.inside.name in
-    let place = c.count_below-place.result in
-    let at = c.count_below-place.ensures ∙ ap (λ (xs : List RunnerState). length (filter (is_below name) xs)) c.deref.ensures.value in
-    let there = c.named_at.ensures ∙ ap (λ (xs : List RunnerState). option_and_then (kept_named name) (slice_get xs place)) c.deref-2.ensures.value
-    ∙ found_there items name c.requires place at in
-    place_within items name c.requires place at
+    let place = c.args.place in
+    let at = c.requires.place ∙ ap (λ (r : RunnerState). place_named c.args.runners.now.items r.name) (sym c.runner.view_is) in
+    let there = c.named_at.ensures ∙ ap (λ (xs : List RunnerState). option_and_then (kept_named name) (slice_get xs place)) c.deref.ensures.value
+    ∙ found_there items name c.requires.rise place at in
+    place_within items name c.requires.rise place at
     (known_by (λ r. r.now) c.named_at.result (runner_named items name) c.is_some.result there c.is_some.ensures ∙ c.if-is_some.true)
 
 pub insert-requires : goal.insert-requires
 insert-requires c =
     let name = c.runner.inside.name in
-    let at = c.count_below-place.ensures ∙ ap (λ (xs : List RunnerState). length (filter (is_below name) xs)) c.deref.ensures.value in
+    let at = c.requires.place ∙ ap (λ (r : RunnerState). place_named c.args.runners.now.items r.name) (sym c.runner.view_is) in
     omega (
       arith,
-      place_in_range c.args.runners.now.items name c.requires c.count_below-place.result at,
+      place_in_range c.args.runners.now.items name c.requires.rise c.args.place at,
       c.deref.ensures.len,
       ap length c.deref.ensures.value,
     )
@@ -41,22 +42,22 @@ pub returns-then-is_some-clause-put : goal.returns-then-is_some-clause-put
 returns-then-is_some-clause-put c =
     let items = c.args.runners.now.items in
     let name = c.runner.inside.name in
-    let place = c.count_below-place.result in
-    let at = c.count_below-place.ensures ∙ ap (λ (xs : List RunnerState). length (filter (is_below name) xs)) c.deref.ensures.value in
-    let there = c.named_at.ensures ∙ ap (λ (xs : List RunnerState). option_and_then (kept_named name) (slice_get xs place)) c.deref-2.ensures.value
-    ∙ found_there items name c.requires place at in
+    let place = c.args.place in
+    let at = c.requires.place ∙ ap (λ (r : RunnerState). place_named c.args.runners.now.items r.name) (sym c.runner.view_is) in
+    let there = c.named_at.ensures ∙ ap (λ (xs : List RunnerState). option_and_then (kept_named name) (slice_get xs place)) c.deref.ensures.value
+    ∙ found_there items name c.requires.rise place at in
     let known = known_by (λ r. r.now) c.named_at.result (runner_named items name) c.is_some.result there c.is_some.ensures ∙ c.if-is_some.true in
     ap Ok (sym (c.replace.ensures
-    ∙ put_over items name c.requires place at c.args.runner known (sym (ap (λ (r : RunnerState). r.name) c.runner.view_is))))
+    ∙ put_over items name c.requires.rise place at c.args.runner known (sym (ap (λ (r : RunnerState). r.name) c.runner.view_is))))
 
 pub returns-clause-put : goal.returns-clause-put
 returns-clause-put c =
     let items = c.args.runners.now.items in
     let name = c.runner.inside.name in
-    let place = c.count_below-place.result in
-    let at = c.count_below-place.ensures ∙ ap (λ (xs : List RunnerState). length (filter (is_below name) xs)) c.deref.ensures.value in
-    let there = c.named_at.ensures ∙ ap (λ (xs : List RunnerState). option_and_then (kept_named name) (slice_get xs place)) c.deref-2.ensures.value
-    ∙ found_there items name c.requires place at in
+    let place = c.args.place in
+    let at = c.requires.place ∙ ap (λ (r : RunnerState). place_named c.args.runners.now.items r.name) (sym c.runner.view_is) in
+    let there = c.named_at.ensures ∙ ap (λ (xs : List RunnerState). option_and_then (kept_named name) (slice_get xs place)) c.deref.ensures.value
+    ∙ found_there items name c.requires.rise place at in
     let unknown = known_by (λ r. r.now) c.named_at.result (runner_named items name) c.is_some.result there c.is_some.ensures ∙ c.if-is_some.false in
     ap Ok (sym (c.in_ok-insert.ensures.items
-    ∙ put_between items name c.requires place at c.args.runner unknown (sym (ap (λ (r : RunnerState). r.name) c.runner.view_is))))
+    ∙ put_between items name c.requires.rise place at c.args.runner unknown (sym (ap (λ (r : RunnerState). r.name) c.runner.view_is))))

@@ -1,8 +1,15 @@
-use Rattle.std.proofs.Common.{ap, ◌∙◌}
-use Rattle.run_table.specs.TableState.{TableState}
+use Rattle.std.proofs.Common.{ap, sym, ◌∙◌}
+use Rattle.run_table.specs.TableState.{RunnerState, TableState}
+use Rattle.run_table.specs.PlaceNamed.{place_named}
 use Rattle.workflow_runs.specs.StopMoves.{with_ended}
 use Rattle.run_table.proofs.BeforeSettling.{reported_may_settle, so_settles}
 use Rattle.run_table.proofs.content.Content.end.Goals as goal
+use Rattle.wf_value.proofs.PassedOn.{same_Ok}
+
+pub put-requires : goal.put-requires
+put-requires c =
+    c.requires.place ∙ ap (λ (t : TableState). place_named t.runners c.args.report.now.runner) (sym c.self.view_is)
+    ∙ ap (λ (r : RunnerState). place_named c.self.inside.runners r.name) (same_Ok _ _ c.in_ok-runner.ensures)
 
 pub settle-requires : goal.settle-requires
 settle-requires c =

@@ -5,8 +5,12 @@ use Rattle.workflow_runs.specs.SoundRuns.{RunsAreSound}
 use Rattle.workflow_runs.specs.StopMoves.{with_ended}
 use Rattle.workflow_runs.specs.Stops.{outcome_of_loss}
 use Rattle.run_table.specs.TableState.{TableState}
+use Rattle.run_table.specs.PlaceNamed.{place_named}
 use Rattle.workflow_runs.specs.RunState.{RunState}
 use Rattle.run_table.proofs.content.Content.end_lost.Goals as goal
+
+pub put-requires : goal.put-requires
+put-requires c = c.requires.place ∙ ap (λ (t : TableState). place_named t.runners c.args.runner.name) (sym c.self.view_is)
 
 pub settle-requires-clause-sound : goal.settle-requires-clause-sound
 settle-requires-clause-sound c =

@@ -1,13 +1,14 @@
 use Rattle.std.proofs.Common.{◌≡◌, List, Option, None, false, ap, sym, ◌∙◌, subst, rules}
 use Rattle.std.specs.Prelude.{MatchOption, true}
 use Rattle.run_table.specs.Stored.{StoredRunner, StoredTable}
+use Rattle.run_table.specs.Sound.{KeptLeasesAreLegs}
 use Rattle.run_table.specs.TableOf.{AreRunnersAs}
 use Rattle.workflow_runs.specs.AsPlanned.{AreAsPlanned}
 use Rattle.run_table.specs.TableState.{RunnerState, TableState}
 use Rattle.workflow_runs.specs.RunState.{RunState}
 use Rattle.run_table.specs.Turns.{names_rise}
 use Rattle.workflow_runs.proofs.OneAfterAnother.{not_so}
-use Rattle.run_table.proofs.StoredOnce.{none_planned, none_sound}
+use Rattle.run_table.proofs.StoredOnce.{none_listed, none_planned, none_sound}
 use Rattle.run_table.proofs.content.Content.of_parts.Goals as goal
 
 pub returns-in_default-clause-of : goal.returns-in_default-clause-of
@@ -19,6 +20,33 @@ returns-in_default-clause-of c =
     (λ (o : Option (List RunState)). MatchOption o (AreAsPlanned given → ⊥) (λ runs. (runs ≡ given) × AreAsPlanned given)) nothing
     c.in_ok-runs.ensures.of in
     none_planned c.args.parts.now (λ planned. none (subst AreAsPlanned (sym same) planned))
+
+pub returns-in_default-2-clause-of : goal.returns-in_default-2-clause-of
+returns-in_default-2-clause-of c =
+    let given = c.as_slice.result.now in
+    let same : given ≡ c.args.parts.now.runs = c.as_slice.ensures ∙ ap (λ (s : StoredTable). s.runs) c.parts.view_is in
+    let these = subst
+    (λ (o : Option (List RunState)). MatchOption o (AreAsPlanned given → ⊥) (λ runs. (runs ≡ given) × AreAsPlanned given)) c.in-Some.is
+    c.in_ok-runs.ensures.of in
+    let of_runners = c.as_slice-2.result.now in
+    let parted : of_runners ≡ c.args.parts.now.runners = c.as_slice-2.ensures ∙ ap (λ (s : StoredTable). s.runners) c.parts.view_is in
+    let nothing : c.in_ok-runners.field-0 ≡ None = search rules in
+    let none = subst
+    (λ (o : Option (List RunnerState)). MatchOption o
+    ((runners : List RunnerState) → AreRunnersAs c.in-Some.runs of_runners runners → names_rise runners ≡ true → ⊥)
+    (λ runners. AreRunnersAs c.in-Some.runs of_runners runners)) nothing c.in_ok-runners.ensures.of in
+    none_listed c.args.parts.now c.in-Some.runs (these.0 ∙ same)
+    (λ runners its. none runners
+    (subst (λ (ps : List StoredRunner). AreRunnersAs c.in-Some.runs ps runners) (sym parted) its))
+
+pub is_sound-requires-clause-kept : goal.is_sound-requires-clause-kept
+is_sound-requires-clause-kept c =
+    let of_runners = c.as_slice-2.result.now in
+    let those = subst
+    (λ (o : Option (List RunnerState)). MatchOption o
+    ((runners : List RunnerState) → AreRunnersAs c.in-Some.runs of_runners runners → names_rise runners ≡ true → ⊥)
+    (λ runners. AreRunnersAs c.in-Some.runs of_runners runners)) c.in-Some-2.is c.in_ok-runners.ensures.of in
+    subst (λ (rs : List RunnerState). KeptLeasesAreLegs c.in-Some.runs rs) (sym c.as_slice-4.ensures.runners) those.are_legs
 
 pub returns-then-not-branch-clause-of : goal.returns-then-not-branch-clause-of
 returns-then-not-branch-clause-of c =

@@ -1,5 +1,8 @@
-use Rattle.std.proofs.Common.{◌≡◌, true, rules}
+use Rattle.std.proofs.Common.{◌≡◌, List, subst, true, rules}
+use Rattle.std.specs.Bool.{Decides}
+use Rattle.workflow_runs.specs.RunState.{LegState}
 use Rattle.workflow_runs.proofs.OneAfterAnother.{no, not_so}
+use Rattle.run_table.specs.OneByOne.{EachLegIsSound}
 use Rattle.run_table.proofs.sound.jobs.is_job_sound.Goals as goal
 
 pub returns-then-not-legs_fit : goal.returns-then-not-legs_fit
@@ -16,12 +19,14 @@ pub returns : goal.returns
 returns c =
     let fit : c.legs_fit.result ≡ true = search rules in
     let first : c.needs_are_first.result ≡ true = search rules in
-    let within : c.is_within_parallel.result ≡ true = search rules in (
+    let within : c.is_within_parallel.result ≡ true = search rules in
+    let legs = subst (λ (legs : List LegState). Decides c.are_legs_sound.result (EachLegIsSound c.args.leases.now c.args.r c.args.j legs))
+    c.legs.ensures c.are_legs_sound.ensures in (
       (λ e. record {
         legs_fit = c.legs_fit.ensures.0 fit;
         needs_first = c.needs_are_first.ensures.0 first;
         within_parallel = c.is_within_parallel.ensures.0 within;
-        each_leg = c.has_sound_legs.ensures.0 e;
+        each_leg = legs.0 e;
       }),
-      (λ s. c.has_sound_legs.ensures.1 s.each_leg),
+      (λ s. legs.1 s.each_leg),
     )

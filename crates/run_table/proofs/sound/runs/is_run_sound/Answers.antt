@@ -1,5 +1,8 @@
-use Rattle.std.proofs.Common.{◌≡◌, true, rules}
+use Rattle.std.proofs.Common.{◌≡◌, List, subst, true, rules}
+use Rattle.std.specs.Bool.{Decides}
+use Rattle.workflow_runs.specs.RunState.{JobState}
 use Rattle.workflow_runs.proofs.OneAfterAnother.{no, not_so}
+use Rattle.run_table.specs.OneByOne.{EachJobIsSound}
 use Rattle.run_table.proofs.sound.runs.is_run_sound.Goals as goal
 
 pub returns-then-not-phase_fits : goal.returns-then-not-phase_fits
@@ -7,7 +10,9 @@ returns-then-not-phase_fits c = no (λ s. not_so c.phase_fits.result c.phase_fit
 
 pub returns : goal.returns
 returns c =
-    let fits : c.phase_fits.result ≡ true = search rules in (
-      (λ e. record { phase_fits = c.phase_fits.ensures.0 fits; each_job = c.has_sound_jobs.ensures.0 e }),
-      (λ s. c.has_sound_jobs.ensures.1 s.each_job),
+    let fits : c.phase_fits.result ≡ true = search rules in
+    let jobs = subst (λ (jobs : List JobState). Decides c.are_jobs_sound.result (EachJobIsSound c.args.leases.now c.args.runs.now c.args.r jobs))
+    c.jobs.ensures c.are_jobs_sound.ensures in (
+      (λ e. record { phase_fits = c.phase_fits.ensures.0 fits; each_job = jobs.0 e }),
+      (λ s. jobs.1 s.each_job),
     )

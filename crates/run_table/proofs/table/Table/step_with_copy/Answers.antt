@@ -1,8 +1,17 @@
+use Rattle.std.proofs.Common.{◌≡◌, ◌∙◌, List, ap, subst, sym}
+use Rattle.workflow_runs.specs.RunState.{RunState}
+use Rattle.run_table.specs.Sound.{IsSound}
+use Rattle.run_table.specs.TableState.{TableState}
+use Rattle.run_table.specs.declared.table.Table.TheInside.{Inside}
 use Rattle.run_table.proofs.KeepsSound.{pair_stays_sound}
 use Rattle.run_table.proofs.table.Table.step_with_copy.Goals as goal
 
 pub invariant_of-self : goal.invariant_of-self
 invariant_of-self c =
-    pair_stays_sound c.self.inside.content c.step_with_copy.new.self c.args.command.now c.step_with_copy.result
-    c.step_with_copy.ensures.step
-    c.step_with_copy.ensures.err c.self.invariant
+    let content = c.self-inside.inside.0.0 in
+    let begun : TableState = record { last_lease = content.last_lease; runs = c.forget_tries.new.self; runners = content.runners } in
+    let same : begun ≡ c.self.inside.content =
+    ap (λ (rs : List RunState). record { last_lease = content.last_lease; runs = rs; runners = content.runners }) c.forget_tries.ensures
+    ∙ ap (λ (i : Inside). i.content) c.self-inside.view_is in
+    pair_stays_sound begun c.step_with_copy.new.self c.args.command.now c.step_with_copy.result c.step_with_copy.ensures.step c.step_with_copy.ensures.err
+    (subst (λ t. IsSound t) (sym same) c.self.invariant)

@@ -1,0 +1,7 @@
+-- Where the runner of a name stands among those of a table, or would.
+use Rattle.std.specs.Prelude.{ℕ, List, filter, length}
+use Rattle.run_table.specs.TableState.{RunnerState}
+use Rattle.run_table.specs.Turns.{is_below}
+
+abbrev pub place_named : List RunnerState → List ℕ → ℕ
+place_named runners name = length (filter (is_below name) runners)
