@@ -9,11 +9,12 @@ use Rattle.gated_journal.specs.declared.gate.Gate.{Gate}
 use Rattle.gated_journal.specs.declared.gate.Gate.TheVariants.{Closed}
 use Rattle.gated_journal.specs.declared.side.Side.{Side}
 use Rattle.gated_journal.specs.declared.side.Side.TheVariants.{First}
+use Rattle.run_table.specs.Sound.{IsSound}
 use Rattle.run_table.specs.Step.{empty}
 use Rattle.run_table.specs.TableState.{TableState}
 use Rattle.act_store.specs.Entries.{table_after}
 use Rattle.act_store.specs.Images.{IsAreaLength, StandsFor}
-use Rattle.act_store.specs.Kept.{Checkpoint, Kept}
+use Rattle.act_store.specs.StoreState.{Checkpoint, StoreState}
 use Rattle.act_store.specs.Meaning.{MeansTable}
 use Rattle.act_store.specs.Promise.{IsCounted, IsSettled, IsStanding}
 use Rattle.act_store.specs.Waiting.{Waits, waits_of}
@@ -21,7 +22,7 @@ use Rattle.act_store.specs.declared.entry.Entry.{Entry}
 use Rattle.act_store.proofs.Settling.{settled_at, settled_stands}
 use Rattle.act_store.proofs.TextOfTable.{empty_spells, empty_text}
 
-abbrev pub begun : {D : Type 0} → D → ℕ → TableState → ℕ → ℕ → Option Checkpoint → Bool → List Entry → Kept D
+abbrev pub begun : {D : Type 0} → D → ℕ → TableState → ℕ → ℕ → Option Checkpoint → Bool → List Entry → StoreState D
 begun disk area base used generation checkpoint failed history = record {
   disk = disk;
   area = area;
@@ -36,10 +37,12 @@ begun disk area base used generation checkpoint failed history = record {
 
 module _ {D : Type 0} (disk : D) (area : ℕ) (base : TableState) (used generation : ℕ) (checkpoint : Option Checkpoint) (failed : Bool)
     (history : List Entry) (none : history ≡ []) where
-  pub counted_begun : (table : TableState) → table ≡ base → (waiting : Waits) → waiting ≡ waits_of [] → IsAreaLength area → used < area
+  pub counted_begun : IsSound base → (table : TableState) → table ≡ base → (waiting : Waits) → waiting ≡ waits_of [] → IsAreaLength area
+      → used < area
       → IsCounted (begun disk area base used generation checkpoint failed history) table waiting
-  counted_begun table same waiting nothing size fits =
+  counted_begun sound table same waiting nothing size fits =
       subst (λ (h : List Entry). IsCounted (begun disk area base used generation checkpoint failed h) table waiting) (sym none) (record {
+        sound = sound;
         legal = refl;
         table_is = same;
         covers = omega arith;
@@ -71,11 +74,10 @@ first_head = record { version = 1; generation = 1; text = empty_text }
 
 pub means_first : MeansTable first_head [] empty
 means_first = record {
-  version = refl;
   first = empty;
   text = empty_spells;
   commands = [];
-  batched = record { batches = []; takes = _; spelled = refl; commands_are = refl };
+  batched = record { version_is = refl; batches = []; takes = _; spelled = refl; commands_are = refl };
   table_is = refl;
 }
 

@@ -10,17 +10,19 @@ use Rattle.gated_journal.specs.Whole.{StandsWhole, WholeEither}
 use Rattle.gated_journal.specs.declared.gate.Gate.{Gate}
 use Rattle.gated_journal.specs.declared.gate.Gate.TheVariants.{Open, Closed}
 use Rattle.gated_journal.specs.declared.side.Side.{Side}
+use Rattle.run_table.specs.Sound.{IsSound}
 use Rattle.run_table.specs.Stored.{StoredRunner, stored_runner}
 use Rattle.run_table.specs.TableState.{TableState}
+use Rattle.run_table.proofs.ReachedTables.{after_is_sound}
 use Rattle.table_text.specs.Commands.{number}
 use Rattle.table_text.specs.Format.{pair, word_bytes, text_bytes}
 use Rattle.table_text.specs.Tables.{last_command, lease, runner, run}
 use Rattle.table_text.proofs.LengthLaws.{length_text}
 use Rattle.act_store.specs.Checkpoints.{first_gate, text_length}
 use Rattle.act_store.specs.Entries.{commands_of, table_after}
-use Rattle.act_store.specs.Kept.{Checkpoint, Kept, StandsForEither, covered_table, table_of}
+use Rattle.act_store.specs.StoreState.{Checkpoint, StoreState, StandsForEither, covered_table, table_of}
 use Rattle.act_store.specs.Promise.{IsCounted, IsSettled, IsStanding}
-use Rattle.act_store.specs.StoreSeen.{as_kept}
+use Rattle.act_store.specs.StoreSeen.{as_state}
 use Rattle.act_store.specs.Waiting.{Waits, waits_of}
 use Rattle.act_store.specs.declared.entry.Entry.{Entry}
 use Rattle.act_store.specs.declared.store.Store.TheInside.{Inside}
@@ -57,7 +59,7 @@ runners_within t =
       length-append (word_bytes (length rs)) (flat_map runner.spelling rs),
     )
 
-module _ {D : Type 0} (s : Kept D) (table : TableState) (waiting : Waits) (counted : IsCounted s table waiting) where
+module _ {D : Type 0} (s : StoreState D) (table : TableState) (waiting : Waits) (counted : IsCounted s table waiting) where
   pub few_runners : MayBegin s → length table.runners ≤ 4294967295
   few_runners may =
       omega (arith, ap (λ (t : TableState). length t.runners) counted.table_is, runners_within (table_of s), may.room, counted.size.most)
@@ -66,6 +68,10 @@ module _ {D : Type 0} (s : Kept D) (table : TableState) (waiting : Waits) (count
       → s.area < first_gate (text_length (table_of s)) + 1
   too_many runners is more =
       omega (arith, is, more, ap (λ (t : TableState). length t.runners) counted.table_is, runners_within (table_of s), counted.size.most)
+
+  -- the table in memory is sound, since the base is
+  pub table_sound : IsSound table
+  table_sound = subst (λ (t : TableState). IsSound t) (sym counted.table_is) (after_is_sound s.base (commands_of s.history) counted.sound)
 
   -- ---- where all are covered
 
@@ -81,6 +87,7 @@ module _ {D : Type 0} (s : Kept D) (table : TableState) (waiting : Waits) (count
   pub counted_with : (disk : D) (checkpoint : Option Checkpoint) (failed : Bool)
       → IsCounted (record s { disk = disk; begun = checkpoint; failed = failed }) table waiting
   counted_with disk checkpoint failed = record {
+    sound = counted.sound;
     legal = counted.legal;
     table_is = counted.table_is;
     covers = counted.covers;
@@ -139,30 +146,30 @@ module _ {D : Type 0} (s : Kept D) (table : TableState) (waiting : Waits) (count
 
 -- each image since a call began, as a store of this view says it
 module _ {D : Type 0} (honest : D → Type 0) (images : D → List ℕ → Type 0) (s : Inside D)
-    (counted : IsCounted (as_kept s) s.table s.waiting) (live : s.failed ≡ false)
-    (standing : honest s.disk → IsStanding images s.areas.side s.other (as_kept s)) (disk : D)
+    (counted : IsCounted (as_state s) s.table s.waiting) (live : s.failed ≡ false)
+    (standing : honest s.disk → IsStanding images s.areas.side s.other (as_state s)) (disk : D)
     (moment : D → ℕ) (images_since : D → ℕ → List ℕ → Type 0) where
   pub begin_moments : ((head : Head) (bodies : List (List ℕ)) → honest s.disk
       → ((c : List ℕ) → images s.disk c → StandsWhole s.areas.len s.areas.side s.other c head bodies)
       → EachSince moment images_since s.disk disk (WholeEither s.areas.len s.areas.side head bodies))
-      → (v : Kept D) → as_kept s ≡ v → honest v.disk → EachSince moment images_since v.disk disk (StandsForEither v)
+      → (v : StoreState D) → as_state s ≡ v → honest v.disk → EachSince moment images_since v.disk disk (StandsForEither v)
   begin_moments closes v is =
-      subst (λ (k : Kept D). honest k.disk → EachSince moment images_since k.disk disk (StandsForEither k)) is (λ is_honest.
+      subst (λ (k : StoreState D). honest k.disk → EachSince moment images_since k.disk disk (StandsForEither k)) is (λ is_honest.
       let settled = (standing is_honest).settled live in
       weakened moment images_since s.disk disk (WholeEither s.areas.len s.areas.side settled.head settled.bodies)
-      (StandsForEither (as_kept s)) (closes settled.head settled.bodies is_honest settled.each)
-      (close_stands (as_kept s) s.table s.waiting counted images s.areas.side s.other settled))
+      (StandsForEither (as_state s)) (closes settled.head settled.bodies is_honest settled.each)
+      (close_stands (as_state s) s.table s.waiting counted images s.areas.side s.other settled))
 
   pub slice_moments : (honest s.disk → s.other ≡ Closed)
       → ((head : Head) (bodies : List (List ℕ)) → honest s.disk
       → ((c : List ℕ) → images s.disk c → StandsWhole s.areas.len s.areas.side Closed c head bodies)
       → EachSince moment images_since s.disk disk (λ c. StandsWhole s.areas.len s.areas.side Closed c head bodies))
-      → (v : Kept D) → as_kept s ≡ v → honest v.disk → EachSince moment images_since v.disk disk (StandsForEither v)
+      → (v : StoreState D) → as_state s ≡ v → honest v.disk → EachSince moment images_since v.disk disk (StandsForEither v)
   slice_moments closed puts v is =
-      subst (λ (k : Kept D). honest k.disk → EachSince moment images_since k.disk disk (StandsForEither k)) is (λ is_honest.
+      subst (λ (k : StoreState D). honest k.disk → EachSince moment images_since k.disk disk (StandsForEither k)) is (λ is_honest.
       let settled = (standing is_honest).settled live in
       weakened moment images_since s.disk disk (λ c. StandsWhole s.areas.len s.areas.side Closed c settled.head settled.bodies)
-      (StandsForEither (as_kept s))
+      (StandsForEither (as_state s))
       (puts settled.head settled.bodies is_honest (λ c now.
       subst (λ (g : Gate). StandsWhole s.areas.len s.areas.side g c settled.head settled.bodies) (closed is_honest) (settled.each c now)))
-      (whole_stands (as_kept s) s.table s.waiting counted images s.areas.side s.other settled Closed))
+      (whole_stands (as_state s) s.table s.waiting counted images s.areas.side s.other settled Closed))

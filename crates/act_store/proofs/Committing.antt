@@ -14,10 +14,10 @@ use Rattle.run_table.specs.TableState.{TableState}
 use Rattle.table_text.specs.Commands.{IsSpelled, batch}
 use Rattle.act_store.specs.Entries.{commands_of, table_after}
 use Rattle.act_store.specs.Images.{StandsFor}
-use Rattle.act_store.specs.Kept.{Kept, StandsForEither, covered_table, pending_commands, table_of}
+use Rattle.act_store.specs.StoreState.{StoreState, StandsForEither, covered_table, pending_commands, table_of}
 use Rattle.act_store.specs.Plain.{committed, used_after}
 use Rattle.act_store.specs.Promise.{IsCounted, IsSettled, IsStanding}
-use Rattle.act_store.specs.StoreSeen.{as_kept}
+use Rattle.act_store.specs.StoreSeen.{as_state}
 use Rattle.act_store.specs.Waiting.{Waits, body_of, waits_of}
 use Rattle.act_store.specs.declared.entry.Entry.{Entry}
 use Rattle.act_store.specs.declared.store.Store.TheInside.{Inside}
@@ -34,7 +34,7 @@ pub none_left : (left : Waits) → left.count ≡ 0 → left.spelled ≡ [] → 
 none_left left none no_bytes =
     ap (λ (n : ℕ). record { count = n; spelled = left.spelled }) none ∙ ap (λ (l : List ℕ). record { count = 0; spelled = l }) no_bytes
 
-module _ {D : Type 0} (s : Kept D) (table : TableState) (waiting : Waits) (counted : IsCounted s table waiting) where
+module _ {D : Type 0} (s : StoreState D) (table : TableState) (waiting : Waits) (counted : IsCounted s table waiting) where
   pub length-pending : length (pending_commands s) ≡ length s.history - s.covered
   length-pending = length-map (drop s.covered s.history) (λ (e : Entry). e.command) ∙ length-drop s.covered s.history
 
@@ -68,6 +68,7 @@ module _ {D : Type 0} (s : Kept D) (table : TableState) (waiting : Waits) (count
     counted_committed disk left none no_bytes =
         let all : drop (length s.history) s.history ≡ [] = drop_of_length-le s.history (omega arith) in
         record {
+          sound = counted.sound;
           legal = counted.legal;
           table_is = counted.table_is;
           covers = omega arith;
@@ -95,7 +96,7 @@ module _ {D : Type 0} (s : Kept D) (table : TableState) (waiting : Waits) (count
           waits each)
 
 -- a store whose counts are those after a commit
-pub same_committed : {D : Type 0} (s : Kept D) (disk : D) (covered used : ℕ) → covered ≡ length s.history → used ≡ used_after s
+pub same_committed : {D : Type 0} (s : StoreState D) (disk : D) (covered used : ℕ) → covered ≡ length s.history → used ≡ used_after s
     → committed s disk ≡ record s { disk = disk; covered = covered; used = used }
 same_committed s disk covered used all is =
     ap (λ (n : ℕ). record s { disk = disk; covered = n; used = used_after s }) (sym all)
@@ -103,8 +104,8 @@ same_committed s disk covered used all is =
 
 -- What a commit leaves, where the disk grows by these bytes, the record of what waits, behind what was settled.
 module _ {D : Type 0} (honest : D → Type 0) (images : D → List ℕ → Type 0) (s : Inside D)
-    (counted : IsCounted (as_kept s) s.table s.waiting) (live : s.failed ≡ false) (some : 0 < s.waiting.count)
-    (standing : honest s.disk → IsStanding images s.areas.side s.other (as_kept s)) (bytes : List ℕ)
+    (counted : IsCounted (as_state s) s.table s.waiting) (live : s.failed ≡ false) (some : 0 < s.waiting.count)
+    (standing : honest s.disk → IsStanding images s.areas.side s.other (as_state s)) (bytes : List ℕ)
     (record_is : 0 < s.waiting.count → bytes ≡ record_of (body_of s.waiting))
     (short : 0 < s.waiting.count → length (body_of s.waiting) < 2 ^ 32) (disk : D) where
   -- what is promised of an append of the bytes, as a record of any body to whatever is settled
@@ -126,15 +127,15 @@ module _ {D : Type 0} (honest : D → Type 0) (images : D → List ℕ → Type 
     grows_since gate head bodies body =
         EachSince moment images_since s.disk disk (WholeOrGrew s.areas.len s.areas.side gate head bodies body)
 
-    pub commit_moments : Promises grows_since → (v : Kept D) → as_kept s ≡ v → honest v.disk
+    pub commit_moments : Promises grows_since → (v : StoreState D) → as_state s ≡ v → honest v.disk
         → EachSince moment images_since v.disk disk (StandsForEither v)
     commit_moments grows v is =
-        subst (λ (k : Kept D). honest k.disk → EachSince moment images_since k.disk disk (StandsForEither k)) is (λ is_honest.
+        subst (λ (k : StoreState D). honest k.disk → EachSince moment images_since k.disk disk (StandsForEither k)) is (λ is_honest.
         let settled = (standing is_honest).settled live in
         weakened moment images_since s.disk disk
-        (WholeOrGrew s.areas.len s.areas.side s.other settled.head settled.bodies (body_of s.waiting)) (StandsForEither (as_kept s))
+        (WholeOrGrew s.areas.len s.areas.side s.other settled.head settled.bodies (body_of s.waiting)) (StandsForEither (as_state s))
         (promised grows_since grows is_honest)
-        (commit_each (as_kept s) s.table s.waiting counted some images s.areas.side s.other settled))
+        (commit_each (as_state s) s.table s.waiting counted some images s.areas.side s.other settled))
 
   -- and once it was done, all are settled at all entries
   abbrev grown_now : Gate → Head → List (List ℕ) → List ℕ → Type 0
@@ -142,7 +143,7 @@ module _ {D : Type 0} (honest : D → Type 0) (images : D → List ℕ → Type 
       (c : List ℕ) → images disk c → StandsWhole s.areas.len s.areas.side gate c head (bodies ++ body ∷ [])
 
   pub commit_settles : Promises grown_now → honest s.disk
-      → IsSettled s.areas.len s.areas.side s.other s.generation (used_after (as_kept s)) (table_of (as_kept s)) (images disk)
+      → IsSettled s.areas.len s.areas.side s.other s.generation (used_after (as_state s)) (table_of (as_state s)) (images disk)
   commit_settles grows is_honest =
-      commit_settled (as_kept s) s.table s.waiting counted some images s.areas.side s.other ((standing is_honest).settled live) disk
+      commit_settled (as_state s) s.table s.waiting counted some images s.areas.side s.other ((standing is_honest).settled live) disk
       (promised grown_now grows is_honest)

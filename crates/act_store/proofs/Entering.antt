@@ -10,7 +10,7 @@ use Rattle.run_table.specs.Step.{stepped}
 use Rattle.run_table.specs.TableState.{TableState}
 use Rattle.table_text.specs.Commands.{IsSpelled, command_bytes}
 use Rattle.act_store.specs.Entries.{IsLegal, commands_of, table_after}
-use Rattle.act_store.specs.Kept.{Kept, pending_commands, table_of}
+use Rattle.act_store.specs.StoreState.{StoreState, pending_commands, table_of}
 use Rattle.act_store.specs.Plain.{area_full, failed_earlier, history_full, record_end, refusal_of_apply, refusal_of_room}
 use Rattle.act_store.specs.Promise.{IsCounted}
 use Rattle.act_store.specs.Waiting.{Waits, waits_of, with_command}
@@ -20,12 +20,12 @@ use Rattle.act_store.proofs.Meanings.{all_push}
 use Rattle.act_store.proofs.Records.{length_with, waits_more}
 
 -- what is known where a command is not refused
-pub record IsAdmitted {D : Type 0} (s : Kept D) (command : Command) : Type 0 where
+pub record IsAdmitted {D : Type 0} (s : StoreState D) (command : Command) : Type 0 where
   pub live : s.failed ≡ false
   pub fewer : length s.history < 100000
   pub room : record_end s (pending_commands s ++ command ∷ []) ≤ s.area
 
-module _ {D : Type 0} (s : Kept D) (command : Command) where
+module _ {D : Type 0} (s : StoreState D) (command : Command) where
   has_room : refusal_of_room s command ≡ None → record_end s (pending_commands s ++ command ∷ []) ≤ s.area
   has_room none = elim (cases_Bool (nat_lt s.area (record_end s (pending_commands s ++ command ∷ [])))) [
     | inl full ↦ absurd (cc (sym (ap (λ (b : Bool). if b then Some area_full else None) full) ∙ none))
@@ -54,7 +54,7 @@ module _ {D : Type 0} (s : Kept D) (command : Command) where
       ]
 
 -- A command that is not refused can be added to what waits.
-module _ {D : Type 0} (s : Kept D) (table : TableState) (waiting : Waits) (counted : IsCounted s table waiting) (command : Command)
+module _ {D : Type 0} (s : StoreState D) (table : TableState) (waiting : Waits) (counted : IsCounted s table waiting) (command : Command)
     (admitted : IsAdmitted s command) where
   pub few_wait : waiting.count + 1 < 2 ^ 32
   few_wait =
@@ -76,7 +76,7 @@ module _ {D : Type 0} (s : Kept D) (table : TableState) (waiting : Waits) (count
         counted.size.most,
       )
 
-module _ {D : Type 0} (s : Kept D) (table : TableState) (waiting : Waits) (counted : IsCounted s table waiting)
+module _ {D : Type 0} (s : StoreState D) (table : TableState) (waiting : Waits) (counted : IsCounted s table waiting)
     (command : Command) (entry : Entry) (history : List Entry) (asked : entry.command ≡ command)
     (reply : entry.reply ≡ (stepped table command).reply) (is : history ≡ s.history ++ entry ∷ []) where
   pending_more : commands_of (drop s.covered history) ≡ pending_commands s ++ command ∷ []
@@ -96,6 +96,7 @@ module _ {D : Type 0} (s : Kept D) (table : TableState) (waiting : Waits) (count
   pub counted_entered : (more : Waits) → more ≡ with_command waiting command → IsSpelled command
       → IsAdmitted s command → IsCounted (record s { history = history }) (stepped table command).table more
   counted_entered more added spelled admitted = record {
+    sound = counted.sound;
     legal = subst (λ (l : List Entry). IsLegal s.base l) (sym is) (legal_more s.base s.history entry counted.legal told);
     table_is =
         ap (λ (t : TableState). (stepped t command).table) counted.table_is

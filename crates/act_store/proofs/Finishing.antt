@@ -19,11 +19,11 @@ use Rattle.run_table.specs.TableState.{TableState}
 use Rattle.table_text.specs.Commands.{IsSpelled, batch, command_bytes}
 use Rattle.act_store.specs.Checkpoints.{first_gate, gate_behind, refusal_of_finish}
 use Rattle.act_store.specs.Entries.{commands_of, table_after}
-use Rattle.act_store.specs.Kept.{Kept, StandsForEither, covered_table, table_of}
+use Rattle.act_store.specs.StoreState.{StoreState, StandsForEither, covered_table, table_of}
 use Rattle.act_store.specs.LastPart.{bodies_of, last_part}
 use Rattle.act_store.specs.Meaning.{MeansTable}
 use Rattle.act_store.specs.Promise.{IsBegun, IsCounted, IsPut, IsSettled, IsSnapshot, IsStanding}
-use Rattle.act_store.specs.StoreSeen.{as_checkpoint, as_kept}
+use Rattle.act_store.specs.StoreSeen.{as_checkpoint, as_state}
 use Rattle.act_store.specs.Waiting.{Waits, waits_of}
 use Rattle.act_store.specs.declared.begun.Begun.{Begun}
 use Rattle.act_store.specs.declared.entry.Entry.{Entry}
@@ -75,11 +75,11 @@ means_with head table (c ∷ cs) few spelled means = means_more head [] table (c
 -- What a finish is given: the disk turns over with these bytes, the last part, behind what was put.
 pub record Finishes {D : Type 0} (honest : D → Type 0) (images : D → List ℕ → Type 0) (seen : D → List ℕ) (s : Inside D) (at : ℕ)
     (bytes : List ℕ) : Type 0 where
-  pub counted : IsCounted (as_kept s) s.table s.waiting
-  pub standing : honest s.disk → IsStanding images s.areas.side s.other (as_kept s)
+  pub counted : IsCounted (as_state s) s.table s.waiting
+  pub standing : honest s.disk → IsStanding images s.areas.side s.other (as_state s)
   pub b : Begun
   pub snapshot : IsSnapshot s.base s.history.items s.generation s.areas.len b
-  pub may : MayFinish (as_kept s) (as_checkpoint b)
+  pub may : MayFinish (as_state s) (as_checkpoint b)
   pub put : honest s.disk → IsPut s.areas.len s.areas.side s.other (seen s.disk) b
   pub place : at ≡ 1 + length b.front.items
   pub is : bytes ≡ last_part (commands_of (drop b.place s.history.items))
@@ -87,16 +87,16 @@ pub record Finishes {D : Type 0} (honest : D → Type 0) (images : D → List �
 
 -- What is known as a checkpoint is finished, made to that.
 pub finishing : {D : Type 0} (honest : D → Type 0) (images : D → List ℕ → Type 0) (seen : D → List ℕ) (s : Inside D)
-    → IsCounted (as_kept s) s.table s.waiting → (honest s.disk → IsStanding images s.areas.side s.other (as_kept s))
+    → IsCounted (as_state s) s.table s.waiting → (honest s.disk → IsStanding images s.areas.side s.other (as_state s))
     → IfSome s.begun (IsBegun s.base s.history.items s.generation s.areas.len s.areas.side s.other (honest s.disk) s.failed (seen s.disk))
-    → (v : Kept D) → as_kept s ≡ v → refusal_of_finish v ≡ None → (b : Begun) → s.begun ≡ Some b
+    → (v : StoreState D) → as_state s ≡ v → refusal_of_finish v ≡ None → (b : Begun) → s.begun ≡ Some b
     → (history : List Entry) → history ≡ s.history.items → (len : ℕ) → len ≡ length b.front.items → (bytes last : List ℕ) → bytes ≡ last
     → last ≡ last_part (commands_of (take (length history - b.place) (drop b.place history)))
     → AllByRecursion IsSpelled (commands_of (take (length history - b.place) (drop b.place history)))
     → Finishes honest images seen s (1 + len) bytes
 finishing {D} honest images seen s counted standing begun v view none b some history value len front bytes last same is spelled =
-    let may = may_finish (as_kept s) (as_checkpoint b) (ap (λ (o : Option Begun). option_map as_checkpoint o) some)
-    (subst (λ (k : Kept D). refusal_of_finish k ≡ None) (sym view) none) in
+    let may = may_finish (as_state s) (as_checkpoint b) (ap (λ (o : Option Begun). option_map as_checkpoint o) some)
+    (subst (λ (k : StoreState D). refusal_of_finish k ≡ None) (sym view) none) in
     let so = it_is s.begun b
     (IsBegun s.base s.history.items s.generation s.areas.len s.areas.side s.other (honest s.disk) s.failed (seen s.disk)) some begun in
     let on = from_on b.place s.history.items history value in
@@ -147,16 +147,15 @@ module _ {D : Type 0} (honest : D → Type 0) (images : D → List ℕ → Type 
 
   means_first : MeansTable next [] first
   means_first = record {
-    version = refl;
     first = first;
     text = f.snapshot.spells;
     commands = [];
-    batched = record { batches = []; takes = _; spelled = refl; commands_are = refl };
+    batched = record { version_is = refl; batches = []; takes = _; spelled = refl; commands_are = refl };
     table_is = refl;
   }
 
   -- the text, and then the entries since
-  means_all : MeansTable next others (table_of (as_kept s))
+  means_all : MeansTable next others (table_of (as_state s))
   means_all =
       subst (λ (t : TableState). MeansTable next others t) (table_split s.base f.b.place s.history.items)
       (means_with next first cs
@@ -168,7 +167,7 @@ module _ {D : Type 0} (honest : D → Type 0) (images : D → List ℕ → Type 
       )) f.spelled means_first)
 
   module _ (is_honest : honest s.disk) where
-    settled : IsSettled s.areas.len s.areas.side s.other s.generation s.used (covered_table (as_kept s)) (images s.disk)
+    settled : IsSettled s.areas.len s.areas.side s.other s.generation s.used (covered_table (as_state s)) (images s.disk)
     settled = (f.standing is_honest).settled f.may.live
 
     shut : (c : List ℕ) → images s.disk c → StandsWhole s.areas.len s.areas.side Closed c settled.head settled.bodies
@@ -190,11 +189,11 @@ module _ {D : Type 0} (honest : D → Type 0) (images : D → List ℕ → Type 
         }
 
     either_of : (c : List ℕ) → WholeOrTurned s.areas.len s.areas.side settled.head settled.bodies next others c
-        → StandsForEither (as_kept s) c
+        → StandsForEither (as_state s) c
     either_of c either = ⊎_elim
-        (λ old. inl (stands_for s.areas.len s.areas.side Closed settled.head settled.bodies (covered_table (as_kept s)) c
+        (λ old. inl (stands_for s.areas.len s.areas.side Closed settled.head settled.bodies (covered_table (as_state s)) c
         f.counted.size old settled.means))
-        (λ new. inr (stands_for s.areas.len (other s.areas.side) Open next others (table_of (as_kept s)) c f.counted.size new means_all))
+        (λ new. inr (stands_for s.areas.len (other s.areas.side) Open next others (table_of (as_state s)) c f.counted.size new means_all))
         either
 
   -- what is promised of the turn
@@ -209,12 +208,12 @@ module _ {D : Type 0} (honest : D → Type 0) (images : D → List ℕ → Type 
     pub finish_moments : (moment : D → ℕ) (images_since : D → ℕ → List ℕ → Type 0)
         → Turns (λ head next bodies others. EachSince moment images_since s.disk disk
         (WholeOrTurned s.areas.len s.areas.side head bodies next others))
-        → (v : Kept D) → as_kept s ≡ v → honest v.disk → EachSince moment images_since v.disk disk (StandsForEither v)
+        → (v : StoreState D) → as_state s ≡ v → honest v.disk → EachSince moment images_since v.disk disk (StandsForEither v)
     finish_moments moment images_since turns v same =
-        subst (λ (k : Kept D). honest k.disk → EachSince moment images_since k.disk disk (StandsForEither k)) same (λ is_honest.
+        subst (λ (k : StoreState D). honest k.disk → EachSince moment images_since k.disk disk (StandsForEither k)) same (λ is_honest.
         weakened moment images_since s.disk disk
         (WholeOrTurned s.areas.len s.areas.side (settled is_honest).head (settled is_honest).bodies next others)
-        (StandsForEither (as_kept s))
+        (StandsForEither (as_state s))
         (turns (settled is_honest).head next (settled is_honest).bodies others is_honest (shut is_honest) (completes is_honest))
         (either_of is_honest))
 
@@ -232,7 +231,7 @@ module _ {D : Type 0} (honest : D → Type 0) (images : D → List ℕ → Type 
 
     pub finish_settles : Turns (λ head next bodies others. (c : List ℕ) → images disk c
         → StandsWhole s.areas.len (other s.areas.side) Open c next others) → honest s.disk
-        → IsSettled s.areas.len (other s.areas.side) Open (s.generation + 1) (at + length bytes - 1) (table_of (as_kept s))
+        → IsSettled s.areas.len (other s.areas.side) Open (s.generation + 1) (at + length bytes - 1) (table_of (as_state s))
         (images disk)
     finish_settles turns is_honest = record {
       head = next;
@@ -251,8 +250,8 @@ module _ {D : Type 0} (honest : D → Type 0) (images : D → List ℕ → Type 
       means = means_all;
     }
 
-    abbrev pub done : ℕ → ℕ → Kept D
-    done covered used = record (as_kept s) {
+    abbrev pub done : ℕ → ℕ → StoreState D
+    done covered used = record (as_state s) {
       disk = disk;
       covered = covered;
       used = used;
@@ -265,6 +264,7 @@ module _ {D : Type 0} (honest : D → Type 0) (images : D → List ℕ → Type 
       counted_finished left nothing =
           let none : drop covered s.history.items ≡ [] = drop_of_length-le s.history.items (omega (arith, all)) in
           record {
+            sound = f.counted.sound;
             legal = f.counted.legal;
             table_is = f.counted.table_is;
             covers = omega (arith, all);
@@ -277,14 +277,14 @@ module _ {D : Type 0} (honest : D → Type 0) (images : D → List ℕ → Type 
           }
 
       pub standing_finished : IsSettled s.areas.len (other s.areas.side) Open (s.generation + 1) (at + length bytes - 1)
-          (table_of (as_kept s)) (images disk)
+          (table_of (as_state s)) (images disk)
           → IsStanding images (other s.areas.side) Open (done covered used)
       standing_finished now =
-          let same : table_of (as_kept s) ≡ covered_table (done covered used) =
+          let same : table_of (as_state s) ≡ covered_table (done covered used) =
           ap (λ (l : List Entry). table_after s.base l) (sym (take_all covered s.history.items (omega (arith, all)))) in
-          let again = settled_at s.areas.len (other s.areas.side) Open (s.generation + 1) used (table_of (as_kept s))
+          let again = settled_at s.areas.len (other s.areas.side) Open (s.generation + 1) used (table_of (as_state s))
           (covered_table (done covered used)) (images disk) same
-          (subst (λ (n : ℕ). IsSettled s.areas.len (other s.areas.side) Open (s.generation + 1) n (table_of (as_kept s)) (images disk))
+          (subst (λ (n : ℕ). IsSettled s.areas.len (other s.areas.side) Open (s.generation + 1) n (table_of (as_state s)) (images disk))
           (sym here) now) in
           record {
             each = λ c there. inl (settled_stands s.areas.len (other s.areas.side) Open (s.generation + 1) used

@@ -10,6 +10,7 @@ mod Meanings
 mod OneTable
 mod Opening
 mod Plays
+mod ReadTwice
 mod Records
 mod RefusalsOfCheckpoints
 mod Refused

@@ -15,9 +15,10 @@ pub all_push : {X : Type 0} (P : X → Type 0) (xs : List X) (x : X) → AllByRe
 all_push P [] x all here = (here, tt)
 all_push P (y ∷ xs) x all here = (all.0, all_push P xs x all.1 here)
 
-pub spell_more : (bodies : List (List ℕ)) (commands more : List Command) → batch.Takes more → SpellCommands bodies commands
-    → SpellCommands (bodies ++ batch.spelling more ∷ []) (commands ++ more)
-spell_more bodies commands more takes spelled = record {
+pub spell_more : (version : ℕ) (bodies : List (List ℕ)) (commands more : List Command) → batch.Takes more
+    → SpellCommands version bodies commands → SpellCommands version (bodies ++ batch.spelling more ∷ []) (commands ++ more)
+spell_more version bodies commands more takes spelled = record {
+  version_is = spelled.version_is;
   batches = spelled.batches ++ more ∷ [];
   takes = all_push batch.Takes spelled.batches more spelled.takes takes;
   spelled = ap (λ (l : List (List ℕ)). l ++ batch.spelling more ∷ []) spelled.spelled
@@ -31,10 +32,9 @@ spell_more bodies commands more takes spelled = record {
 pub means_more : (head : Head) (bodies : List (List ℕ)) (table : TableState) (more : List Command) → batch.Takes more
     → MeansTable head bodies table → MeansTable head (bodies ++ batch.spelling more ∷ []) (after table more)
 means_more head bodies table more takes means = record {
-  version = means.version;
   first = means.first;
   text = means.text;
   commands = means.commands ++ more;
-  batched = spell_more bodies means.commands more takes means.batched;
+  batched = spell_more head.version bodies means.commands more takes means.batched;
   table_is = after_both means.first means.commands more ∙ ap (λ (t : TableState). after t more) means.table_is;
 }

@@ -28,8 +28,9 @@ same_batches (a ∷ one) (b ∷ two) f s same =
     (ap (λ (l : List ℕ). l ++ []) first) in
     ap (λ (x : List Command). x ∷ one) heads.1 ∙ ap (λ (l : List (List Command)). b ∷ l) (same_batches one two f.1 s.1 rest)
 
-same_commands : (bodies : List (List ℕ)) (one two : List Command) → SpellCommands bodies one → SpellCommands bodies two → one ≡ two
-same_commands bodies one two first second =
+same_commands : (version : ℕ) (bodies : List (List ℕ)) (one two : List Command) → SpellCommands version bodies one
+    → SpellCommands version bodies two → one ≡ two
+same_commands version bodies one two first second =
     first.commands_are
     ∙ ap (λ (l : List (List Command)). flat_map (λ b. b) l)
     (same_batches first.batches second.batches first.takes second.takes (sym first.spelled ∙ second.spelled))
@@ -39,8 +40,8 @@ one_meaning : (head : Head) (bodies : List (List ℕ)) (one two : TableState) �
     → MeansTable head bodies two → one ≡ two
 one_meaning head bodies one two first second =
     sym first.table_is
-    ∙ ap (λ (t : TableState). after t first.commands) (one_text first.first second.first head.text first.text second.text)
-    ∙ ap (λ (l : List Command). after second.first l) (same_commands bodies first.commands second.commands first.batched second.batched)
+    ∙ ap (λ (t : TableState). after t first.commands) (one_text head.version first.first second.first head.text first.text second.text)
+    ∙ ap (λ (l : List Command). after second.first l) (same_commands head.version bodies first.commands second.commands first.batched second.batched)
     ∙ second.table_is
 
 pub one_table : (image : List ℕ) (one two : TableState) → StandsFor one image → StandsFor two image → one ≡ two

@@ -5,15 +5,15 @@ use Rattle.std.specs.Prelude.{Option, Some, None, nat_lt, nat_le, is_some, optio
 use Rattle.std.proofs.lemmas.Bool.{cases_Bool, leb-false, ltb-false}
 use Rattle.act_store.specs.Checkpoints.{first_gate, gate_behind, has_no_room, is_written, last_counter, refusal_of_begin, refusal_of_finish}
 use Rattle.act_store.specs.Checkpoints.{refusal_of_last, refusal_of_slice, since, text_length}
-use Rattle.act_store.specs.Kept.{Checkpoint, Kept, table_of}
+use Rattle.act_store.specs.StoreState.{Checkpoint, StoreState, table_of}
 use Rattle.act_store.specs.Plain.{area_full, checkpoint_turn, failed_earlier, refusal_of_turning}
-use Rattle.act_store.specs.StoreSeen.{as_checkpoint, as_kept}
+use Rattle.act_store.specs.StoreSeen.{as_checkpoint, as_state}
 use Rattle.act_store.specs.declared.begun.Begun.{Begun}
 use Rattle.act_store.specs.declared.store.Store.TheInside.{Inside}
 
 -- ---- begin
 
-pub record MayBegin {D : Type 0} (s : Kept D) : Type 0 where
+pub record MayBegin {D : Type 0} (s : StoreState D) : Type 0 where
   pub live : s.failed ≡ false
   pub none : is_some s.begun ≡ false
   pub newer : s.generation < 18446744073709551615
@@ -29,7 +29,7 @@ begin_of false false true full none = absurd (cc none)
 begin_of false false false true none = absurd (cc none)
 begin_of false false false false none = (refl, refl, refl, refl)
 
-may_begin : {D : Type 0} (s : Kept D) → refusal_of_begin s ≡ None → MayBegin s
+may_begin : {D : Type 0} (s : StoreState D) → refusal_of_begin s ≡ None → MayBegin s
 may_begin s none =
     let so = begin_of s.failed (is_some s.begun) (nat_le 18446744073709551615 s.generation)
     (nat_lt s.area (first_gate (text_length (table_of s)) + 1)) none in
@@ -41,8 +41,8 @@ may_begin s none =
     }
 
 -- of the fields of a store with this view
-pub begins : {D : Type 0} (s : Inside D) (v : Kept D) → as_kept s ≡ v → refusal_of_begin v ≡ None → MayBegin (as_kept s)
-begins {D} s v view none = may_begin (as_kept s) (subst (λ (k : Kept D). refusal_of_begin k ≡ None) (sym view) none)
+pub begins : {D : Type 0} (s : Inside D) (v : StoreState D) → as_state s ≡ v → refusal_of_begin v ≡ None → MayBegin (as_state s)
+begins {D} s v view none = may_begin (as_state s) (subst (λ (k : StoreState D). refusal_of_begin k ≡ None) (sym view) none)
 
 pub no_room : (a b : ℕ) → a < b → false ≡ not (nat_lt a b)
 no_room a b less = elim (cases_Bool (nat_lt a b)) [
@@ -61,15 +61,15 @@ slice_of : (failed written : Bool)
 slice_of true written none = absurd (cc none)
 slice_of false written none = refl
 
-may_slice : {D : Type 0} (s : Kept D) → refusal_of_slice s ≡ None → s.failed ≡ false
+may_slice : {D : Type 0} (s : StoreState D) → refusal_of_slice s ≡ None → s.failed ≡ false
 may_slice s none = slice_of s.failed (is_written s.begun) none
 
-pub slices : {D : Type 0} (s : Inside D) (v : Kept D) → as_kept s ≡ v → refusal_of_slice v ≡ None → s.failed ≡ false
-slices {D} s v view none = may_slice (as_kept s) (subst (λ (k : Kept D). refusal_of_slice k ≡ None) (sym view) none)
+pub slices : {D : Type 0} (s : Inside D) (v : StoreState D) → as_state s ≡ v → refusal_of_slice v ≡ None → s.failed ≡ false
+slices {D} s v view none = may_slice (as_state s) (subst (λ (k : StoreState D). refusal_of_slice k ≡ None) (sym view) none)
 
 -- ---- finish
 
-pub record MayFinish {D : Type 0} (s : Kept D) (checkpoint : Checkpoint) : Type 0 where
+pub record MayFinish {D : Type 0} (s : StoreState D) (checkpoint : Checkpoint) : Type 0 where
   pub live : s.failed ≡ false
   pub none_left : checkpoint.left ≤ 0
   pub room : gate_behind checkpoint.text (since s checkpoint) + 1 ≤ s.area
@@ -82,7 +82,7 @@ finish_of false true full none = absurd (cc none)
 finish_of false false true none = absurd (cc none)
 finish_of false false false none = (refl, refl, refl)
 
-pub may_finish : {D : Type 0} (s : Kept D) (checkpoint : Checkpoint) → s.begun ≡ Some checkpoint → refusal_of_finish s ≡ None
+pub may_finish : {D : Type 0} (s : StoreState D) (checkpoint : Checkpoint) → s.begun ≡ Some checkpoint → refusal_of_finish s ≡ None
     → MayFinish s checkpoint
 may_finish s checkpoint is none =
     let so = finish_of s.failed (nat_lt 0 checkpoint.left) (has_no_room s checkpoint)
@@ -95,7 +95,7 @@ may_finish s checkpoint is none =
 
 -- ---- turn over
 
-pub record MayTurn {D : Type 0} (s : Kept D) : Type 0 where
+pub record MayTurn {D : Type 0} (s : StoreState D) : Type 0 where
   pub live : s.failed ≡ false
   pub none : is_some s.begun ≡ false
   pub all : length s.history ≤ s.covered
@@ -108,7 +108,7 @@ turning_of false true less none = absurd (cc none)
 turning_of false false true none = absurd (cc none)
 turning_of false false false none = (refl, refl, refl)
 
-pub may_turn : {D : Type 0} (s : Kept D) → refusal_of_turning s ≡ None → MayTurn s
+pub may_turn : {D : Type 0} (s : StoreState D) → refusal_of_turning s ≡ None → MayTurn s
 may_turn s none =
     let so = turning_of s.failed (is_some s.begun) (nat_lt s.covered (length s.history)) none in
     record { live = so.0; none = so.1; all = ltb-false s.covered (length s.history) so.2 }

@@ -7,7 +7,7 @@ use Rattle.wf_value.specs.declared.refusal.Refusal.{Refusal}
 use Rattle.act_disk.specs.Failed.{device_failed}
 use Rattle.run_plan.specs.declared.command.Command.{Command}
 use Rattle.act_store.specs.Checkpoints.{dropped, first_gate, has_no_room, last_counter, refusal_of_last, text_length}
-use Rattle.act_store.specs.Kept.{Checkpoint, Kept, table_of}
+use Rattle.act_store.specs.StoreState.{Checkpoint, StoreState, table_of}
 use Rattle.act_store.specs.Plain.{area_full, broken, checkpoint_turn, failed_earlier}
 use Rattle.act_store.specs.Steps.{IsRefused, is_area_full, left_by, refusal_of}
 use Rattle.act_store.specs.declared.step.Step.{Step}
@@ -32,7 +32,7 @@ due_or_none r None e is due = inr refl
 due_or_none r (Some x) e is due = let same : x ≡ e = cc (is, due) in inl (ap (λ (y : Refusal). Some y) same)
 
 module _ {D : Type 0} where
-  finish_has : (P : Refusal → Type 0) → P failed_earlier → P checkpoint_turn → P area_full → (s : Kept D) (e : Refusal)
+  finish_has : (P : Refusal → Type 0) → P failed_earlier → P checkpoint_turn → P area_full → (s : StoreState D) (e : Refusal)
       → refusal_of s asked.Finish ≡ Some e → P e
   finish_has P earlier turn full s e is =
       cause_has P s.failed failed_earlier e (refusal_of_last s s.begun) earlier (last_has s.begun) is
@@ -43,7 +43,7 @@ module _ {D : Type 0} where
           cause_has P (nat_lt 0 checkpoint.left) checkpoint_turn e (if has_no_room s checkpoint then Some area_full else None) turn
           (cause_has P (has_no_room s checkpoint) area_full e None full (none_of P e)) is
 
-  begin_no_fault : (s : Kept D) (e : Refusal) → refusal_of s asked.Begin ≡ Some e → IsNoFault e
+  begin_no_fault : (s : StoreState D) (e : Refusal) → refusal_of s asked.Begin ≡ Some e → IsNoFault e
   begin_no_fault s e is =
       cause_has IsNoFault s.failed failed_earlier e _ (λ clash. cc)
       (cause_has IsNoFault (is_some s.begun) checkpoint_turn e _ (λ clash. cc)
@@ -51,11 +51,11 @@ module _ {D : Type 0} where
       (cause_has IsNoFault (nat_lt s.area (first_gate (text_length (table_of s)) + 1)) area_full e None (λ clash. cc)
       (none_of IsNoFault e)))) is
 
-  finish_no_fault : (s : Kept D) (e : Refusal) → refusal_of s asked.Finish ≡ Some e → IsNoFault e
+  finish_no_fault : (s : StoreState D) (e : Refusal) → refusal_of s asked.Finish ≡ Some e → IsNoFault e
   finish_no_fault s e is = finish_has IsNoFault (λ clash. cc) (λ clash. cc) (λ clash. cc) s e is
 
   -- it is the want of room, or another one
-  room_or_not : (s : Kept D) (e : Refusal) → refusal_of s asked.Finish ≡ Some e
+  room_or_not : (s : StoreState D) (e : Refusal) → refusal_of s asked.Finish ≡ Some e
       → ((e ≡ area_full) × (is_area_full e ≡ true)) ⊎ ((e ≡ area_full → ⊥) × (is_area_full e ≡ false))
   room_or_not s e is =
       finish_has (λ x. ((x ≡ area_full) × (is_area_full x ≡ true)) ⊎ ((x ≡ area_full → ⊥) × (is_area_full x ≡ false)))
@@ -63,7 +63,7 @@ module _ {D : Type 0} where
 
   -- ---- what is left
 
-  module _ {T : Type 0} (old new : Kept D) (r : Result T Refusal) (e : Refusal) (is : r ≡ Err e) where
+  module _ {T : Type 0} (old new : StoreState D) (r : Result T Refusal) (e : Refusal) (is : r ≡ Err e) where
     refused_so : (step : Step) → IfSome (refusal_of old step) (λ x. r ≡ Err x)
         → (refusal_of old step ≡ Some e → new ≡ left_by old step e)
         → (refusal_of old step ≡ None → IsRefused old step e new) → IsRefused old step e new

@@ -13,6 +13,7 @@ use Rattle.run_table.specs.Remembered.{AreNoLaterTurns, KnowsDelivery, LastComma
 use Rattle.run_table.specs.Step.{step, stepped}
 use Rattle.run_table.specs.TableState.{TableState}
 use Rattle.run_table.proofs.LeasesStay.{after_both}
+use Rattle.run_table.proofs.Remembered.{answered_is_last, created_is_known, known_after, known_is_answered, last_after, last_is_answered}
 use Rattle.act_store.specs.Entries.{IsLegal, commands_of, replies_of, table_after}
 use Rattle.act_store.specs.Reopened.{FindsAgain, IsAcknowledged, LeadTo, Life, asked_in}
 use Rattle.act_store.specs.declared.entry.Entry.{Entry}
@@ -114,38 +115,26 @@ module _ (life : Life) (before behind : List Entry) (entry : Entry) (acknowledge
         ∙ after_both life.base (commands_of before) (entry.command ∷ later)
 
     -- an admission that is asked again
-    pub delivery_again : ((t : TableState) (event : Admitted) (run : ℕ) → (stepped t (command.Admit event)).reply ≡ reply.Created run
-        → KnowsDelivery (stepped t (command.Admit event)).table event.delivery run)
-        → ((t : TableState) (later : List Command) (delivery : List ℕ) (run : ℕ) → KnowsDelivery t delivery run
-        → KnowsDelivery (after t later) delivery run)
-        → ((t : TableState) (event : Admitted) (run : ℕ) → KnowsDelivery t event.delivery run
-        → step t (command.Admit event) ≡ (t, reply.Created run))
-        → (id : ℕ) (event again : Admitted) → entry.command ≡ command.Admit event → entry.reply ≡ reply.Created id
+    pub delivery_again : (id : ℕ) (event again : Admitted) → entry.command ≡ command.Admit event → entry.reply ≡ reply.Created id
         → again.delivery ≡ event.delivery → step table (command.Admit again) ≡ (table, reply.Created id)
-    delivery_again established kept_on answered id event again asked created same =
+    delivery_again id event again asked created same =
         let given : (stepped here (command.Admit event)).reply ≡ reply.Created id =
         ap (λ (c : Command). (stepped here c).reply) (sym asked) ∙ sym told ∙ created in
         let is : after (stepped here (command.Admit event)).table later ≡ table =
         ap (λ (c : Command). after (stepped here c).table later) (sym asked) ∙ sym found in
         let known : KnowsDelivery table event.delivery id =
         subst (λ (x : TableState). KnowsDelivery x event.delivery id) is
-        (kept_on (stepped here (command.Admit event)).table later event.delivery id (established here event id given)) in
-        answered table again id (subst (λ (d : List ℕ). KnowsDelivery table d id) (sym same) known)
+        (known_after (stepped here (command.Admit event)).table later event.delivery id (created_is_known here event id given)) in
+        known_is_answered table again id (subst (λ (d : List ℕ). KnowsDelivery table d id) (sym same) known)
 
     -- a runner's command
-    pub reply_again : ((t : TableState) (c : Command) (runner : List ℕ) (number : ℕ) → HasTurn c runner number
-        → (IsRefused (stepped t c).reply → ⊥) → LastCommandIs (stepped t c).table runner c (stepped t c).reply)
-        → ((t : TableState) (c : Command) (later : List Command) (runner : List ℕ) (number : ℕ) (given : Reply)
-        → HasTurn c runner number → LastCommandIs t runner c given → AreNoLaterTurns runner number later (replies t later)
-        → LastCommandIs (after t later) runner c given)
-        → ((t : TableState) (c : Command) (runner : List ℕ) (given : Reply) → LastCommandIs t runner c given → step t c ≡ (t, given))
-        → (name : List ℕ) (number : ℕ) → HasTurn entry.command name number → (IsRefused entry.reply → ⊥)
+    pub reply_again : (name : List ℕ) (number : ℕ) → HasTurn entry.command name number → (IsRefused entry.reply → ⊥)
         → AreNoLaterTurns name number later (replies (stepped here entry.command).table later) → step table entry.command ≡ (table, entry.reply)
-    reply_again established kept_on answered name number turn taken no_later =
+    reply_again name number turn taken no_later =
         let next = (stepped here entry.command).table in
         let given = (stepped here entry.command).reply in
-        let known = established here entry.command name number turn (λ refused. taken (refused.0, told ∙ refused.1)) in
-        let still = kept_on next entry.command later name number given turn known no_later in
-        answered table entry.command name entry.reply
+        let known = answered_is_last here entry.command name number turn (λ refused. taken (refused.0, told ∙ refused.1)) in
+        let still = last_after entry.command name number given turn next later known no_later in
+        last_is_answered table entry.command name entry.reply
         (subst (λ (r : Reply). LastCommandIs table name entry.command r) (sym told)
         (subst (λ (x : TableState). LastCommandIs x name entry.command given) (sym found) still))

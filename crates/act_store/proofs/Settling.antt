@@ -13,7 +13,7 @@ use Rattle.run_table.specs.TableState.{TableState}
 use Rattle.table_text.specs.Commands.{batch}
 use Rattle.act_store.specs.Entries.{table_after}
 use Rattle.act_store.specs.Images.{IsAreaLength, StandsAt, StandsFor}
-use Rattle.act_store.specs.Kept.{Kept, StandForCovered, StandsForEither, covered_table, pending_commands, table_of}
+use Rattle.act_store.specs.StoreState.{StoreState, StandForCovered, StandsForEither, covered_table, pending_commands, table_of}
 use Rattle.act_store.specs.Meaning.{MeansTable}
 use Rattle.act_store.specs.Plain.{committed, used_after}
 use Rattle.act_store.specs.Promise.{IsSettled, IsStanding}
@@ -64,7 +64,7 @@ settled_at_used len side gate generation used table images size settled c now = 
   used_is = settled.used_is;
 }
 
-pub stand_covered : {D : Type 0} (images : D → List ℕ → Type 0) (side : Side) (gate : Gate) (s : Kept D) → IsAreaLength s.area
+pub stand_covered : {D : Type 0} (images : D → List ℕ → Type 0) (side : Side) (gate : Gate) (s : StoreState D) → IsAreaLength s.area
     → IsStanding images side gate s → StandForCovered images s
 stand_covered images side gate s size standing live =
     settled_at_used s.area side gate s.generation s.used (covered_table s) (images s.disk) size (standing.settled live)
@@ -75,7 +75,7 @@ pub settled_at : (len : ℕ) (side : Side) (gate : Gate) (generation used : ℕ)
 settled_at len side gate generation used one two images same settled =
     subst (λ (t : TableState). IsSettled len side gate generation used t images) same settled
 
-module _ {D : Type 0} (images : D → List ℕ → Type 0) (side : Side) (gate : Gate) (s : Kept D) (size : IsAreaLength s.area) where
+module _ {D : Type 0} (images : D → List ℕ → Type 0) (side : Side) (gate : Gate) (s : StoreState D) (size : IsAreaLength s.area) where
   abbrev body : List ℕ
   body = batch.spelling (pending_commands s)
 

@@ -13,28 +13,33 @@ use Rattle.table_text.proofs.WholeTables.{whole_begins_none}
 use Rattle.act_store.specs.TableText.{SpellsTable}
 use Rattle.act_store.proofs.WholeTexts.{none_longer, none_whole, one_value, whole}
 
-pub one_text : (one two : TableState) (text : List ℕ) → SpellsTable one text → SpellsTable two text → one ≡ two
+pub one_text : (version : ℕ) (one two : TableState) (text : List ℕ) → SpellsTable version one text → SpellsTable version two text → one ≡ two
 unfolding SpellsTable
-one_text one two text first second = one_value whole_table whole_begins_none text one two first second
+one_text version one two text first second = one_value whole_table whole_begins_none text one two first.1 second.1
 
 pub whole_text : (text rest : List ℕ) (found : TableState) → OpensWith whole_table text found rest → length rest ≤ 0
-    → SpellsTable found text
+    → SpellsTable 1 found text
 unfolding SpellsTable
-whole_text text rest found opens none = whole whole_table text rest found opens none
+whole_text text rest found opens none = (refl, whole whole_table text rest found opens none)
 
 pub longer_text : (text rest : List ℕ) (found : TableState) → OpensWith whole_table text found rest → 0 < length rest
-    → (other : TableState) → SpellsTable other text → ⊥
+    → (other : TableState) → SpellsTable 1 other text → ⊥
 unfolding SpellsTable
-longer_text text rest found opens some other spells = none_longer whole_table whole_begins_none text rest found opens some other spells
+longer_text text rest found opens some other spells = none_longer whole_table whole_begins_none text rest found opens some other spells.1
 
-pub no_text : (text : List ℕ) → StandsAtFront whole_table text None → (other : TableState) → SpellsTable other text → ⊥
+pub no_text : (text : List ℕ) → StandsAtFront whole_table text None → (other : TableState) → SpellsTable 1 other text → ⊥
 unfolding SpellsTable
-no_text text none other spells = none_whole whole_table text none other spells
+no_text text none other spells = none_whole whole_table text none other spells.1
+
+-- only a sound table has a text
+pub text_sound : (version : ℕ) (t : TableState) (text : List ℕ) → SpellsTable version t text → IsSound t
+unfolding SpellsTable
+text_sound version t text spells = spells.1.0.0
 
 -- the spelling of a sound table that has one
-pub table_spells : (t : TableState) → IsSound t → table.Takes (stored_table t) → SpellsTable t (whole_table.spelling t)
+pub table_spells : (t : TableState) → IsSound t → table.Takes (stored_table t) → SpellsTable 1 t (whole_table.spelling t)
 unfolding SpellsTable
-table_spells t sound takes = ((sound, takes), refl)
+table_spells t sound takes = (refl, ((sound, takes), refl))
 
 -- ---- the empty table
 
@@ -49,6 +54,6 @@ empty_spelled : empty_text ≡ table.spelling (stored_table empty)
 unfolding word_bytes
 empty_spelled = refl
 
-pub empty_spells : SpellsTable empty empty_text
+pub empty_spells : SpellsTable 1 empty empty_text
 unfolding SpellsTable
-empty_spells = ((empty_is_sound, empty_takes), empty_spelled)
+empty_spells = (refl, ((empty_is_sound, empty_takes), empty_spelled))

@@ -9,7 +9,7 @@ use Rattle.run_plan.specs.declared.command.Command.{Command}
 use Rattle.run_table.specs.TableState.{TableState}
 use Rattle.table_text.specs.WholeTables.{whole_table}
 use Rattle.act_store.specs.Entries.{commands_of}
-use Rattle.act_store.specs.Kept.{Checkpoint, Kept, table_of}
+use Rattle.act_store.specs.StoreState.{Checkpoint, StoreState, table_of}
 use Rattle.act_store.specs.Plain.{area_full, batch_length, checkpoint_turn, failed_earlier}
 
 abbrev pub last_counter : Refusal
@@ -25,24 +25,24 @@ first_gate text = 18 + text
 
 -- ---- check_begin
 
-abbrev pub refusal_of_head : {D : Type 0} → Kept D → Option Refusal
+abbrev pub refusal_of_head : {D : Type 0} → StoreState D → Option Refusal
 refusal_of_head s =
     if nat_le 18446744073709551615 s.generation then Some last_counter
     else (if nat_lt s.area (first_gate (text_length (table_of s)) + 1) then Some area_full else None)
 
-abbrev pub refusal_of_begin : {D : Type 0} → Kept D → Option Refusal
+abbrev pub refusal_of_begin : {D : Type 0} → StoreState D → Option Refusal
 refusal_of_begin s =
     if s.failed then Some failed_earlier else (if is_some s.begun then Some checkpoint_turn else refusal_of_head s)
 
 -- the text of the table of all entries is taken, and nothing of it is written yet
-abbrev pub taken : {D : Type 0} → Kept D → Checkpoint
+abbrev pub taken : {D : Type 0} → StoreState D → Checkpoint
 taken s = record {
   place = length s.history;
   text = text_length (table_of s);
   left = 17 + text_length (table_of s);
 }
 
-abbrev pub begun_at : {D : Type 0} → Kept D → D → Kept D
+abbrev pub begun_at : {D : Type 0} → StoreState D → D → StoreState D
 begun_at s disk = record s { disk = disk; begun = Some (taken s) }
 
 -- ---- check_slice
@@ -52,14 +52,14 @@ abbrev pub is_written : Option Checkpoint → Bool
 is_written None = true
 is_written (Some checkpoint) = checkpoint.left == 0
 
-abbrev pub refusal_of_slice : {D : Type 0} → Kept D → Option Refusal
+abbrev pub refusal_of_slice : {D : Type 0} → StoreState D → Option Refusal
 refusal_of_slice s = if s.failed then Some failed_earlier else (if is_written s.begun then Some checkpoint_turn else None)
 
 -- up to 4,096 bytes are written
 abbrev pub with_slice : Checkpoint → Checkpoint
 with_slice checkpoint = record checkpoint { left = checkpoint.left - 4096 }
 
-abbrev pub sliced : {D : Type 0} → Kept D → D → Kept D
+abbrev pub sliced : {D : Type 0} → StoreState D → D → StoreState D
 sliced s disk = record s { disk = disk; begun = option_map with_slice s.begun }
 
 abbrev pub left_of : Option Checkpoint → ℕ
@@ -69,7 +69,7 @@ left_of (Some checkpoint) = checkpoint.left
 -- ---- check_finish
 
 -- what the entries since a checkpoint was begun ask
-abbrev pub since : {D : Type 0} → Kept D → Checkpoint → List Command
+abbrev pub since : {D : Type 0} → StoreState D → Checkpoint → List Command
 since s checkpoint = commands_of (drop checkpoint.place s.history)
 
 -- where the gate behind these commands is, in an area whose text is so long; they stand in one record, and without any there is none
@@ -77,23 +77,23 @@ abbrev pub gate_behind : ℕ → List Command → ℕ
 gate_behind text [] = first_gate text
 gate_behind text (command ∷ commands) = first_gate text + 5 + batch_length (command ∷ commands)
 
-abbrev pub has_no_room : {D : Type 0} → Kept D → Checkpoint → Bool
+abbrev pub has_no_room : {D : Type 0} → StoreState D → Checkpoint → Bool
 has_no_room s checkpoint = nat_lt s.area (gate_behind checkpoint.text (since s checkpoint) + 1)
 
-abbrev pub refusal_of_last : {D : Type 0} → Kept D → Option Checkpoint → Option Refusal
+abbrev pub refusal_of_last : {D : Type 0} → StoreState D → Option Checkpoint → Option Refusal
 refusal_of_last s None = Some checkpoint_turn
 refusal_of_last s (Some checkpoint) =
     if nat_lt 0 checkpoint.left then Some checkpoint_turn else (if has_no_room s checkpoint then Some area_full else None)
 
-abbrev pub refusal_of_finish : {D : Type 0} → Kept D → Option Refusal
+abbrev pub refusal_of_finish : {D : Type 0} → StoreState D → Option Refusal
 refusal_of_finish s = if s.failed then Some failed_earlier else refusal_of_last s s.begun
 
 -- a checkpoint for whose last record there is no room
-abbrev pub dropped : {D : Type 0} → Kept D → Kept D
+abbrev pub dropped : {D : Type 0} → StoreState D → StoreState D
 dropped s = record s { begun = None }
 
 -- The other area stands, with the text and one record of the entries since. All entries are covered.
-abbrev pub finished : {D : Type 0} → Kept D → Checkpoint → D → Kept D
+abbrev pub finished : {D : Type 0} → StoreState D → Checkpoint → D → StoreState D
 finished s checkpoint disk = record s {
   disk = disk;
   covered = length s.history;
@@ -103,5 +103,5 @@ finished s checkpoint disk = record s {
 }
 
 -- it was the one that was begun
-abbrev pub IsFinished : {D : Type 0} → Kept D → Kept D → Type 0
+abbrev pub IsFinished : {D : Type 0} → StoreState D → StoreState D → Type 0
 IsFinished old new = IsSomeAnd old.begun (λ checkpoint. new ≡ finished old checkpoint new.disk)

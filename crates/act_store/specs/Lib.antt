@@ -2,7 +2,6 @@ pub mod Checkpoints
 pub mod Entries
 pub mod GroupsOfHistory
 pub mod Images
-pub mod Kept
 pub mod LastPart
 pub mod Meaning
 pub mod Opened
@@ -13,6 +12,7 @@ pub mod Replayed
 pub mod Spelled
 pub mod Steps
 pub mod StoreSeen
+pub mod StoreState
 pub mod TableText
 pub mod Told
 pub mod Waiting

@@ -8,19 +8,19 @@ use Rattle.run_table.specs.TableState.{TableState}
 use Rattle.table_text.specs.Commands.{batch}
 use Rattle.act_store.specs.TableText.{SpellsTable}
 
--- Each body is the spelling of a batch, and these are the commands of all of them, in order.
-pub record SpellCommands (bodies : List (List ℕ)) (commands : List Command) : Type 0 where
+-- In this version of the layout each body is the spelling of a batch, and these are the commands of all of them, in order.
+pub record SpellCommands (version : ℕ) (bodies : List (List ℕ)) (commands : List Command) : Type 0 where
+  -- the only one yet
+  pub version_is : version ≡ 1
   pub batches : List (List Command)
   pub takes : AllByRecursion batch.Takes batches
   pub spelled : bodies ≡ map batch.spelling batches
   pub commands_are : commands ≡ flat_map (λ b. b) batches
 
--- An area with this head and these bodies stands for this table.
+-- An area with this head and these bodies stands for this table, in the version of the layout that the head names.
 pub record MeansTable (head : Head) (bodies : List (List ℕ)) (table : TableState) : Type 0 where
-  -- the layout has one version so far
-  pub version : head.version ≡ 1
   pub first : TableState
-  pub text : SpellsTable first head.text
+  pub text : SpellsTable head.version first head.text
   pub commands : List Command
-  pub batched : SpellCommands bodies commands
+  pub batched : SpellCommands head.version bodies commands
   pub table_is : after first commands ≡ table

@@ -9,7 +9,7 @@ use Rattle.act_disk.specs.Failed.{device_failed}
 use Rattle.run_plan.specs.declared.command.Command.{Command}
 use Rattle.run_table.specs.Step.{empty, stepped}
 use Rattle.table_text.specs.Commands.{batch}
-use Rattle.act_store.specs.Kept.{Kept, pending_commands, table_of}
+use Rattle.act_store.specs.StoreState.{StoreState, pending_commands, table_of}
 use Rattle.act_store.specs.declared.entry.Entry.{Entry}
 use Rattle.act_store.specs.declared.receipt.Receipt.{Receipt}
 
@@ -33,56 +33,56 @@ batch_length commands = length (batch.spelling commands)
 
 -- Where a record of these commands ends: an open gate, the length in four bytes, the batch, and the next gate. What is entered has to
 -- fit, so that a commit is never refused for want of room.
-abbrev pub record_end : {D : Type 0} → Kept D → List Command → ℕ
+abbrev pub record_end : {D : Type 0} → StoreState D → List Command → ℕ
 record_end s commands = s.used + 5 + batch_length commands + 1
 
 -- ---- apply
 
-abbrev pub refusal_of_room : {D : Type 0} → Kept D → Command → Option Refusal
+abbrev pub refusal_of_room : {D : Type 0} → StoreState D → Command → Option Refusal
 refusal_of_room s command = if nat_lt s.area (record_end s (pending_commands s ++ command ∷ [])) then Some area_full else None
 
-abbrev pub refusal_of_apply : {D : Type 0} → Kept D → Command → Option Refusal
+abbrev pub refusal_of_apply : {D : Type 0} → StoreState D → Command → Option Refusal
 refusal_of_apply s command =
     if s.failed then Some failed_earlier else (if nat_le 100000 (length s.history) then Some history_full else refusal_of_room s command)
 
 -- the entry of a command at the end of the history
-abbrev pub entry_of : {D : Type 0} → Kept D → ℕ → Command → Entry
+abbrev pub entry_of : {D : Type 0} → StoreState D → ℕ → Command → Entry
 entry_of s seat command = record { seat = seat; command = command; reply = (stepped (table_of s) command).reply }
 
-abbrev pub entered : {D : Type 0} → Kept D → ℕ → Command → Kept D
+abbrev pub entered : {D : Type 0} → StoreState D → ℕ → Command → StoreState D
 entered s seat command = record s { history = s.history ++ entry_of s seat command ∷ [] }
 
 -- what the caller is told: the reply, and the place of the entry, counted from 1
-abbrev pub receipt_of : {D : Type 0} → Kept D → Command → Receipt
+abbrev pub receipt_of : {D : Type 0} → StoreState D → Command → Receipt
 receipt_of s command = record { reply = (stepped (table_of s) command).reply; place = length s.history + 1 }
 
 -- ---- commit
 
-abbrev pub refusal_of_commit : {D : Type 0} → Kept D → Option Refusal
+abbrev pub refusal_of_commit : {D : Type 0} → StoreState D → Option Refusal
 refusal_of_commit s = if s.failed then Some failed_earlier else None
 
 -- where the next record goes once the pending entries stand in one
-abbrev pub used_after : {D : Type 0} → Kept D → ℕ
+abbrev pub used_after : {D : Type 0} → StoreState D → ℕ
 used_after s = s.used + 5 + batch_length (pending_commands s)
 
 -- all entries are covered
-abbrev pub committed : {D : Type 0} → Kept D → D → Kept D
+abbrev pub committed : {D : Type 0} → StoreState D → D → StoreState D
 committed s disk = record s { disk = disk; covered = length s.history; used = used_after s }
 
 -- the device failed
-abbrev pub broken : {D : Type 0} → Kept D → D → Kept D
+abbrev pub broken : {D : Type 0} → StoreState D → D → StoreState D
 broken s disk = record s { disk = disk; failed = true }
 
 -- ---- turn_over
 
 -- it is out of its turn while a checkpoint is begun, or an entry is not covered
-abbrev pub refusal_of_turning : {D : Type 0} → Kept D → Option Refusal
+abbrev pub refusal_of_turning : {D : Type 0} → StoreState D → Option Refusal
 refusal_of_turning s =
     if s.failed then Some failed_earlier
     else (if is_some s.begun || nat_lt s.covered (length s.history) then Some checkpoint_turn else None)
 
 -- the history begins anew, at the present table
-abbrev pub turned_over : {D : Type 0} → Kept D → Kept D
+abbrev pub turned_over : {D : Type 0} → StoreState D → StoreState D
 turned_over s = record s { base = table_of s; history = []; covered = 0 }
 
 -- ---- init
@@ -91,7 +91,7 @@ abbrev pub disk_not_empty : Refusal
 disk_not_empty = Numbered DiskNotEmpty
 
 -- a store that was made on an empty disk: the first area's record gate is behind its gate, its head and the empty table's text
-abbrev pub fresh : {D : Type 0} → D → ℕ → Kept D
+abbrev pub fresh : {D : Type 0} → D → ℕ → StoreState D
 fresh disk area = record {
   disk = disk;
   area = area;

@@ -8,11 +8,12 @@ use Rattle.gated_journal.specs.Whole.{StandsWhole}
 use Rattle.gated_journal.specs.declared.gate.Gate.{Gate}
 use Rattle.gated_journal.specs.declared.gate.Gate.TheVariants.{Closed}
 use Rattle.gated_journal.specs.declared.side.Side.{Side}
+use Rattle.run_table.specs.Sound.{IsSound}
 use Rattle.run_table.specs.TableState.{TableState}
 use Rattle.table_text.specs.Commands.{IsSpelled}
 use Rattle.act_store.specs.Entries.{IsLegal, table_after}
 use Rattle.act_store.specs.Images.{IsAreaLength}
-use Rattle.act_store.specs.Kept.{Kept, StandsForEither, covered_table, pending_commands, table_of}
+use Rattle.act_store.specs.StoreState.{StoreState, StandsForEither, covered_table, pending_commands, table_of}
 use Rattle.act_store.specs.Meaning.{MeansTable}
 use Rattle.act_store.specs.Plain.{record_end}
 use Rattle.act_store.specs.TableText.{SpellsTable}
@@ -32,12 +33,14 @@ pub record IsSettled (len : ℕ) (side : Side) (gate : Gate) (generation used : 
 
 -- Each image stands for the covered entries or for all. This holds of a store that has failed too, since its history grows no more. While
 -- it has not failed, all images are settled at the covered ones, which is what the next record needs.
-pub record IsStanding {D : Type 0} (images : D → List ℕ → Type 0) (side : Side) (gate : Gate) (s : Kept D) : Type 0 where
+pub record IsStanding {D : Type 0} (images : D → List ℕ → Type 0) (side : Side) (gate : Gate) (s : StoreState D) : Type 0 where
   pub each : (c : List ℕ) → images s.disk c → StandsForEither s c
   pub settled : s.failed ≡ false → IsSettled s.area side gate s.generation s.used (covered_table s) (images s.disk)
 
--- What is kept in memory: a legal history, the table that it leads to, and the entries that wait for a commit, whose record fits.
-pub record IsCounted {D : Type 0} (s : Kept D) (table : TableState) (waiting : Waits) : Type 0 where
+-- What is kept in memory: a sound base, a legal history, the table that it leads to, and the entries that wait for a commit, whose record
+-- fits.
+pub record IsCounted {D : Type 0} (s : StoreState D) (table : TableState) (waiting : Waits) : Type 0 where
+  pub sound : IsSound s.base
   pub legal : IsLegal s.base s.history
   pub table_is : table ≡ table_of s
   pub covers : s.covered ≤ length s.history
@@ -52,7 +55,7 @@ pub record IsCounted {D : Type 0} (s : Kept D) (table : TableState) (waiting : W
 -- first entries lead to. It fits the area, with a gate before it and one behind.
 pub record IsSnapshot (base : TableState) (history : List Entry) (generation area : ℕ) (b : Begun) : Type 0 where
   pub text : List ℕ
-  pub spells : SpellsTable (table_after base (take b.place history)) text
+  pub spells : SpellsTable 1 (table_after base (take b.place history)) text
   pub front_is : b.front.items ≡ head_bytes (record { version = 1; generation = generation + 1; text = text })
   pub place : b.place ≤ length history
   pub put : b.put ≤ length b.front.items

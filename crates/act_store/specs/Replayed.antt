@@ -14,11 +14,11 @@ abbrev pub IsCarried : List ℕ → TableState → Option TableState → Type 0
 IsCarried body table (Some next) = (commands : List Command) × Spells batch body commands × (after table commands ≡ next)
 IsCarried body table None = (commands : List Command) → Spells batch body commands → ⊥
 
--- The same of records with these bodies, whichever they are.
-abbrev pub IsReplayed : List ℕ → TableState → Option TableState → Type 0
-IsReplayed records table (Some last) =
+-- The same of records with these bodies, whichever they are, in a version of the layout.
+abbrev pub IsReplayed : ℕ → List ℕ → TableState → Option TableState → Type 0
+IsReplayed version records table (Some last) =
     (bodies : List (List ℕ)) → AllByRecursion (λ body. length body < 2 ^ 32) bodies → records ≡ record_bytes bodies
-    → (commands : List Command) × SpellCommands bodies commands × (after table commands ≡ last)
-IsReplayed records table None =
+    → (commands : List Command) × SpellCommands version bodies commands × (after table commands ≡ last)
+IsReplayed version records table None =
     (bodies : List (List ℕ)) (commands : List Command) → AllByRecursion (λ body. length body < 2 ^ 32) bodies
-    → records ≡ record_bytes bodies → SpellCommands bodies commands → ⊥
+    → records ≡ record_bytes bodies → SpellCommands version bodies commands → ⊥

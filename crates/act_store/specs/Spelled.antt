@@ -22,10 +22,10 @@ IsSpelled area (Some found) = SpellsArea area found.generation found.used found.
 IsSpelled area None = (head : Head) (bodies : List (List ℕ)) (table : TableState) → Reads area head bodies
     → MeansTable head bodies table → ⊥
 
--- The text spells this table, or none.
-abbrev pub IsTextOf : List ℕ → Option TableState → Type 0
-IsTextOf text (Some table) = SpellsTable table text
-IsTextOf text None = (table : TableState) → SpellsTable table text → ⊥
+-- In this version of the layout the text spells this table, or none.
+abbrev pub IsTextOf : ℕ → List ℕ → Option TableState → Type 0
+IsTextOf version text (Some table) = SpellsTable version table text
+IsTextOf version text None = (table : TableState) → SpellsTable version table text → ⊥
 
 -- half of a disk's length, where that is the length of an area
 abbrev pub IsHalf : ℕ → Option ℕ → Type 0

@@ -11,7 +11,7 @@ use Rattle.run_plan.specs.declared.reply.Reply.{Reply}
 use Rattle.run_table.specs.Step.{stepped}
 use Rattle.act_store.specs.Checkpoints.{IsFinished, begun_at, dropped, left_of, sliced, text_length}
 use Rattle.act_store.specs.Checkpoints.{refusal_of_begin, refusal_of_finish, refusal_of_slice}
-use Rattle.act_store.specs.Kept.{Kept, StandsForEither, table_of}
+use Rattle.act_store.specs.StoreState.{StoreState, StandsForEither, table_of}
 use Rattle.act_store.specs.Plain.{broken, committed, entered, refusal_of_apply, refusal_of_commit}
 use Rattle.act_store.specs.Told.{IsCause}
 use Rattle.act_store.specs.declared.entry.Entry.{Entry}
@@ -23,7 +23,7 @@ use Rattle.act_store.specs.declared.step.Played.TheVariants as told
 -- ---- a step that is refused
 
 -- the cause that there is, memory or not
-abbrev pub refusal_of : {D : Type 0} → Kept D → Step → Option Refusal
+abbrev pub refusal_of : {D : Type 0} → StoreState D → Step → Option Refusal
 refusal_of s (asked.Apply command) = refusal_of_apply s command
 refusal_of s asked.Commit = refusal_of_commit s
 refusal_of s asked.Begin = refusal_of_begin s
@@ -35,7 +35,7 @@ is_area_full (Numbered AreaFull) = true
 is_area_full _ = false
 
 -- What a step leaves that is refused so: all as it was, but that a finish for whose record there is no room drops its checkpoint.
-abbrev pub left_by : {D : Type 0} → Kept D → Step → Refusal → Kept D
+abbrev pub left_by : {D : Type 0} → StoreState D → Step → Refusal → StoreState D
 left_by s (asked.Apply command) e = s
 left_by s asked.Commit e = s
 left_by s asked.Begin e = s
@@ -49,7 +49,7 @@ MayTakeMemory asked.Begin = ⊤
 MayTakeMemory asked.Slice = ⊥
 MayTakeMemory asked.Finish = ⊤
 
-abbrev pub MayCallDevice : {D : Type 0} → Kept D → Step → Type 0
+abbrev pub MayCallDevice : {D : Type 0} → StoreState D → Step → Type 0
 MayCallDevice s (asked.Apply command) = ⊥
 MayCallDevice s asked.Commit = s.covered < length s.history
 MayCallDevice s asked.Begin = ⊤
@@ -58,7 +58,7 @@ MayCallDevice s asked.Finish = ⊤
 
 -- It was refused for its cause. Or, where there is none, memory was wanting, and all is as it was; or the device failed, and the store with
 -- it.
-abbrev pub IsRefused : {D : Type 0} → Kept D → Step → Refusal → Kept D → Type 0
+abbrev pub IsRefused : {D : Type 0} → StoreState D → Step → Refusal → StoreState D → Type 0
 IsRefused old step e new =
     ((refusal_of old step ≡ Some e) × (new ≡ left_by old step e))
     ⊎ ((refusal_of old step ≡ None) × MayTakeMemory step × (e ≡ no_memory) × (new ≡ old))
@@ -67,14 +67,14 @@ IsRefused old step e new =
 -- ---- a step that is taken
 
 -- a commit that was done: all entries are covered, and this many there are
-pub record Covers {D : Type 0} (old : Kept D) (count : ℕ) (new : Kept D) : Type 0 where
+pub record Covers {D : Type 0} (old : StoreState D) (count : ℕ) (new : StoreState D) : Type 0 where
   pub live : old.failed ≡ false
   pub count_is : count ≡ length old.history
   pub none : length old.history ≤ old.covered → new ≡ old
   pub some : old.covered < length old.history → new ≡ committed old new.disk
 
 -- a command is applied, for seat 0
-abbrev pub Replies : {D : Type 0} → Kept D → Step → Reply → Kept D → Type 0
+abbrev pub Replies : {D : Type 0} → StoreState D → Step → Reply → StoreState D → Type 0
 Replies old (asked.Apply command) reply new = (new ≡ entered old 0 command) × (reply ≡ (stepped (table_of old) command).reply)
 Replies old asked.Commit reply new = ⊥
 Replies old asked.Begin reply new = ⊥
@@ -82,7 +82,7 @@ Replies old asked.Slice reply new = ⊥
 Replies old asked.Finish reply new = ⊥
 
 -- how many entries are covered, or how many bytes are left to write
-abbrev pub Counts : {D : Type 0} → Kept D → Step → ℕ → Kept D → Type 0
+abbrev pub Counts : {D : Type 0} → StoreState D → Step → ℕ → StoreState D → Type 0
 Counts old (asked.Apply command) count new = ⊥
 Counts old asked.Commit count new = Covers old count new
 Counts old asked.Begin count new = (new ≡ begun_at old new.disk) × (count ≡ 17 + text_length (table_of old))
@@ -90,7 +90,7 @@ Counts old asked.Slice count new = (new ≡ sliced old new.disk) × (count ≡ l
 Counts old asked.Finish count new = IsFinished old new × (count ≡ length old.history)
 
 -- One step leads from one store to another, with this answer.
-abbrev pub Takes : {D : Type 0} → Kept D → Step → Played → Kept D → Type 0
+abbrev pub Takes : {D : Type 0} → StoreState D → Step → Played → StoreState D → Type 0
 Takes old step (told.Replied reply) new = (refusal_of old step ≡ None) × Replies old step reply new
 Takes old step (told.Count count) new = (refusal_of old step ≡ None) × Counts old step count new
 Takes old step (told.Refused e) new = IsRefused old step e new
@@ -103,22 +103,22 @@ TellsStep (told.Count count) old new = new ≡ old
 
 -- What a stop may leave during a step: whenever it comes, the image stands for the entries that were covered when the step began, or for
 -- all that there were then.
-pub record Survives {D : Type 0} (honest : D → Type 0) (moment fault_count : D → ℕ) (images_since : D → ℕ → List ℕ → Type 0) (old : Kept D)
-    (answer : Played) (new : Kept D) : Type 0 where
+pub record Survives {D : Type 0} (honest : D → Type 0) (moment fault_count : D → ℕ) (images_since : D → ℕ → List ℕ → Type 0) (old : StoreState D)
+    (answer : Played) (new : StoreState D) : Type 0 where
   pub any_moment : honest old.disk → EachSince moment images_since old.disk new.disk (StandsForEither old)
   pub stays_honest : honest new.disk ↔ honest old.disk
   pub faults : TellsStep answer (fault_count old.disk) (fault_count new.disk)
 
 -- All of them, in order, where `during` holds of each step.
-abbrev pub Plays : {D : Type 0} → (Kept D → Played → Kept D → Type 0) → Kept D → List Step → List Played → Kept D → Type 0
+abbrev pub Plays : {D : Type 0} → (StoreState D → Played → StoreState D → Type 0) → StoreState D → List Step → List Played → StoreState D → Type 0
 Plays during old [] [] new = new ≡ old
 Plays during old [] (p ∷ ps) new = ⊥
 Plays during old (s ∷ ss) [] new = ⊥
-Plays {D} during old (s ∷ ss) (p ∷ ps) new = (mid : Kept D) × Takes old s p mid × during old p mid × Plays during mid ss ps new
+Plays {D} during old (s ∷ ss) (p ∷ ps) new = (mid : StoreState D) × Takes old s p mid × during old p mid × Plays during mid ss ps new
 
 -- The first of them, however many, and no other.
-pub record PlaysSome {D : Type 0} (during : Kept D → Played → Kept D → Type 0) (old : Kept D) (steps : List Step)
-    (new : Kept D) : Type 0 where
+pub record PlaysSome {D : Type 0} (during : StoreState D → Played → StoreState D → Type 0) (old : StoreState D) (steps : List Step)
+    (new : StoreState D) : Type 0 where
   pub first : List Step
   pub others : List Step
   pub split : steps ≡ first ++ others
@@ -127,15 +127,15 @@ pub record PlaysSome {D : Type 0} (during : Kept D → Played → Kept D → Typ
 
 -- How a play of steps, one after another, ends: each of them was answered, or some of the first were, and then memory was wanting for an
 -- answer or for a copy of a command. A play of no steps needs none.
-pub record PlayEnds {D V : Type 0} (during : Kept D → Played → Kept D → Type 0) (items : V → List Played) (old : Kept D) (steps : List Step)
-    (result : Result V Refusal) (new : Kept D) : Type 0 where
+pub record PlayEnds {D V : Type 0} (during : StoreState D → Played → StoreState D → Type 0) (items : V → List Played) (old : StoreState D) (steps : List Step)
+    (result : Result V Refusal) (new : StoreState D) : Type 0 where
   pub played : IfOk result (λ answers. Plays during old steps (items answers) new)
   pub part : OnErr result (PlaysSome during old steps new)
   pub refused : IfErr result (λ e. e ≡ no_memory)
   pub empty : length steps ≡ 0 → IsOk result
 
 -- The base stays, entries come behind those that there are, and what is covered stays covered.
-pub record Grows {D : Type 0} (old new : Kept D) : Type 0 where
+pub record Grows {D : Type 0} (old new : StoreState D) : Type 0 where
   pub base : new.base ≡ old.base
   pub more : List Entry
   pub history : new.history ≡ old.history ++ more

@@ -1,6 +1,6 @@
 -- What the fields of a store show of it.
 use Rattle.std.specs.Prelude.{◌-◌, length, option_map}
-use Rattle.act_store.specs.Kept.{Checkpoint, Kept}
+use Rattle.act_store.specs.StoreState.{Checkpoint, StoreState}
 use Rattle.act_store.specs.declared.begun.Begun.{Begun}
 use Rattle.act_store.specs.declared.store.Store.TheInside.{Inside}
 
@@ -12,8 +12,8 @@ as_checkpoint b = record {
   left = length b.front.items - b.put;
 }
 
-abbrev pub as_kept : {D : Type 0} → Inside D → Kept D
-as_kept s = record {
+abbrev pub as_state : {D : Type 0} → Inside D → StoreState D
+as_state s = record {
   disk = s.disk;
   area = s.areas.len;
   base = s.base;

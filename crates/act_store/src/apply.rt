@@ -5,7 +5,7 @@ ghost use Rattle.act_disk.specs.Failed.{device_failed};
 ghost use Rattle.act_disk.specs.Images.{EachSince};
 ghost use Rattle.run_table.specs.Step.{stepped};
 ghost use Rattle.table_text.specs.Commands.{IsSpelled, command_bytes};
-ghost use Rattle.act_store.specs.Kept.{StandsForEither};
+ghost use Rattle.act_store.specs.StoreState.{StandsForEither};
 ghost use Rattle.act_store.specs.Plain.{entered, receipt_of, refusal_of_apply};
 ghost use Rattle.act_store.specs.Waiting.{with_command};
 
@@ -35,6 +35,8 @@ impl<D: Disk> Store<D> {
         ensures any_moment { D.honest self.old.disk
             → EachSince D.moment D.images_since self.old.disk self.new.disk (StandsForEither self.old) }
         ensures entered { IfOk result (λ receipt. (self.new ≡ entered self.old seat command) × (receipt ≡ receipt_of self.old command)) }
+        // The new entry waits for a commit.
+        ensures waits { OnOk result (self.new.covered < length self.new.history) }
         ensures refused { IfSome (refusal_of_apply self.old command) (λ refusal. result ≡ Err refusal) }
         ensures cause { IfErr result (λ e. (e ≡ no_memory) ⊎ (refusal_of_apply self.old command ≡ Some e)) }
         ensures unchanged { OnErr result (self.new ≡ self.old) }

@@ -3,9 +3,10 @@ ghost use Rattle.wf_value.specs.Gives.{no_memory};
 ghost use Rattle.act_disk.specs.Failed.{device_failed};
 ghost use Rattle.act_disk.specs.Images.{EachSince};
 ghost use Rattle.gated_journal.specs.Layout.{head_bytes};
+ghost use Rattle.run_table.specs.Sound.{IsSound};
 ghost use Rattle.table_text.specs.WholeTables.{whole_table};
 ghost use Rattle.act_store.specs.Checkpoints.{begun_at, first_gate, refusal_of_begin, text_length};
-ghost use Rattle.act_store.specs.Kept.{StandsForEither, table_of};
+ghost use Rattle.act_store.specs.StoreState.{StandsForEither, table_of};
 ghost use Rattle.act_store.specs.Plain.{broken};
 ghost use Rattle.act_store.specs.TableText.{SpellsTable};
 ghost use Rattle.act_store.specs.Told.{TellsFault};
@@ -101,13 +102,13 @@ impl<D: Disk> Store<D> {
 /// The head of an area of a generation, with the text of a table.
 #[tactic(auto, using(crate::proofs::TextOfTable::table_spells))]
 fn front_of(alloc: Global, generation: u64, table: &Table) -> Result<Vec<u8>, Refusal>
-    requires { length table.now.runners ≤ 4294967295 }
+    requires few { length table.now.runners ≤ 4294967295 }
+    requires sound { IsSound table.now }
     ensures front { IfOk result (λ bytes. bytes.items
         ≡ head_bytes (record { version = 1; generation = generation; text = whole_table.spelling table.now })) }
-    ensures spells { OnOk result (SpellsTable table.now (whole_table.spelling table.now)) }
+    ensures spells { OnOk result (SpellsTable 1 table.now (whole_table.spelling table.now)) }
     ensures refused { IfErr result (λ e. e ≡ no_memory) }
 {
-    let _last = table.last_lease();
     let text = table_length(table);
     let mut bytes = vec![in alloc; VERSION; 1]?;
     bytes.extend_from_slice(&generation.to_be_bytes())?;

@@ -4,7 +4,7 @@ ghost use Rattle.act_disk.specs.Failed.{device_failed};
 ghost use Rattle.act_disk.specs.Images.{EachSince};
 ghost use Rattle.act_store.specs.Checkpoints.{IsFinished, dropped, has_no_room, refusal_of_finish};
 ghost use Rattle.act_store.specs.Images.{StandsFor};
-ghost use Rattle.act_store.specs.Kept.{StandsForEither, table_of};
+ghost use Rattle.act_store.specs.StoreState.{StandsForEither, table_of};
 ghost use Rattle.act_store.specs.Plain.{area_full, broken};
 ghost use Rattle.act_store.specs.StoreSeen.{as_checkpoint};
 ghost use Rattle.act_store.specs.Told.{TellsFault};
@@ -34,6 +34,7 @@ impl<D: Disk> Store<D> {
         ensures stands { OnOk result (D.honest self.new.disk → (c : List ℕ) → D.images self.new.disk c → StandsFor (table_of self.old) c) }
         ensures finished { OnOk result (IsFinished self.old self.new) }
         ensures covered { IfOk result (λ count. count ≡ length self.old.history) }
+        ensures grows { self.old.covered ≤ self.new.covered }
         ensures refused { IfSome (refusal_of_finish self.old) (λ refusal. result ≡ Err refusal) }
         ensures dropped { result ≡ Err area_full → self.new ≡ dropped self.old }
         ensures broken { result ≡ Err device_failed → self.new ≡ broken self.old self.new.disk }

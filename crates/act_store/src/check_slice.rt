@@ -6,7 +6,7 @@ ghost use Rattle.gated_journal.specs.TwoAreas.{other, start_of};
 ghost use Rattle.gated_journal.specs.Whole.{StandsWhole};
 ghost use Rattle.gated_journal.specs.declared.gate.Gate.TheVariants.{Closed};
 ghost use Rattle.act_store.specs.Checkpoints.{left_of, refusal_of_slice, sliced};
-ghost use Rattle.act_store.specs.Kept.{StandsForEither};
+ghost use Rattle.act_store.specs.StoreState.{StandsForEither};
 ghost use Rattle.act_store.specs.Plain.{broken};
 ghost use Rattle.act_store.specs.Told.{TellsFault};
 

@@ -2,7 +2,7 @@ ghost use Rattle.std.specs.Prelude.{◌≡◌, ◌↔◌, ◌+◌, ◌<◌, ◌�
 ghost use Rattle.act_disk.specs.Failed.{device_failed};
 ghost use Rattle.act_disk.specs.Images.{EachSince, CountsFault};
 ghost use Rattle.act_store.specs.Images.{StandsFor};
-ghost use Rattle.act_store.specs.Kept.{StandForCovered, StandsForEither, table_of};
+ghost use Rattle.act_store.specs.StoreState.{StandForCovered, StandsForEither, table_of};
 ghost use Rattle.act_store.specs.Plain.{broken, committed, failed_earlier};
 
 use crate::store::Store;
@@ -21,6 +21,7 @@ impl<D: Disk> Store<D> {
         ensures stands { OnOk result (D.honest self.new.disk → (c : List ℕ) → D.images self.new.disk c → StandsFor (table_of self.old) c) }
         ensures exact { D.honest self.new.disk → StandForCovered D.images self.new }
         ensures covered { IfOk result (λ count. (count ≡ length self.old.history) × (self.new.covered ≡ count)) }
+        ensures grows { self.old.covered ≤ self.new.covered }
         ensures failed { self.old.failed ≡ true → (result ≡ Err failed_earlier) × (self.new ≡ self.old) }
         ensures none { self.old.failed ≡ false → self.old.covered ≡ length self.old.history → IsOk result × (self.new ≡ self.old) }
         ensures all { OnOk result (length self.old.history ≤ self.old.covered → self.new ≡ self.old) }

@@ -22,6 +22,7 @@ pub struct DecodedArea {
 }
 
 /// What the bytes of an area spell, or `None` where they spell no table.
+#[tactic(auto, using(crate::proofs::Spelling::some_replayed))]
 pub(crate) fn spelled_in(alloc: Global, area: &[u8]) -> Result<Option<DecodedArea>, Refusal>
     ensures spelled { IfOk result (λ found. IsSpelled area.now found) }
     ensures refused { IfErr result (λ e. e ≡ no_memory) }
@@ -48,7 +49,7 @@ pub(crate) fn spelled_in(alloc: Global, area: &[u8]) -> Result<Option<DecodedAre
 /// The table that a text spells, or `None` where it spells none. Bytes behind a table make it the text of none.
 #[tactic(auto, using(crate::proofs::TextOfTable::whole_text, crate::proofs::TextOfTable::longer_text, crate::proofs::TextOfTable::no_text))]
 fn table_in(alloc: Global, text: &[u8]) -> Result<Option<Table>, Refusal>
-    ensures spelled { IfOk result (λ found. IsTextOf text.now found) }
+    ensures spelled { IfOk result (λ found. IsTextOf 1 text.now found) }
     ensures refused { IfErr result (λ e. e ≡ no_memory) }
 {
     let Some((table, rest)) = read_table(alloc, text)? else {

@@ -27,9 +27,7 @@ pub fn a_delivery_makes_one_run()
         (event again : Admitted) → LeadTo life lives table → IsAcknowledged life before entry behind
         → entry.command ≡ command.Admit event → entry.reply ≡ reply.Created run → again.delivery ≡ event.delivery
         → step table (command.Admit again) ≡ (table, reply.Created run) }
-{
-    run_table::laws::a_delivery_stays_known();
-}
+{}
 
 /// In the same way, a runner that asks again what an acknowledged entry carried out gets the reply of that entry again, as long as no
 /// later number of that runner was carried out by what stands behind it. The table stays.
@@ -40,6 +38,4 @@ pub fn a_kept_reply_is_given_again()
         → AreNoLaterTurns runner number (drop (length before + 1) (asked_in life lives table leads))
         (replies (stepped (table_after life.base before) entry.command).table (drop (length before + 1) (asked_in life lives table leads)))
         → step table entry.command ≡ (table, entry.reply) }
-{
-    run_table::laws::a_last_command_stays_known();
-}
+{}

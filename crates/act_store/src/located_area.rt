@@ -4,6 +4,7 @@ ghost use Rattle.act_disk.specs.Failed.{device_failed};
 ghost use Rattle.act_disk.specs.Images.{Only, SameImages};
 ghost use Rattle.gated_journal.specs.Choice.{part};
 ghost use Rattle.gated_journal.specs.Reading.{OnlyRead};
+ghost use Rattle.run_table.specs.Sound.{IsSound};
 ghost use Rattle.act_store.specs.Images.{HasNoArea, HasNoTable, IsAreaLength};
 ghost use Rattle.act_store.specs.Opened.{IsFound};
 ghost use Rattle.act_store.specs.Plain.{RefusesOpening, TellsNoArea, no_area, no_table};
@@ -49,6 +50,7 @@ fn spelled_at<D: Disk>(
     requires within { area.start + area.len ≤ D.size disk.old }
     ensures spelled { IfOk result (λ found. D.honest disk.new → IsSpelled (part area.start area.len (D.seen disk.old)) found) }
     ensures fits { IfOk result (λ found. IfSome found (λ s. s.used < area.len)) }
+    ensures sound { IfOk result (λ found. IfSome found (λ s. IsSound s.table)) }
     ensures images { D.honest disk.new → SameImages (D.images disk.old) (D.images disk.new) }
     ensures only_read { OnlyRead D.honest D.seen D.size D.moment D.images D.images_since disk.old disk.new }
     ensures faults { TellsFault result (D.fault_count disk.old) (D.fault_count disk.new) }
@@ -65,6 +67,7 @@ pub(crate) fn find<D: Disk>(alloc: Global, disk: &mut D) -> Result<LocatedArea, 
     ensures found { IfOk result (λ found. D.honest disk.new → IsFound found (D.seen disk.old)) }
     ensures area { IfOk result (λ found. IsAreaLength found.area × (found.spelled.used < found.area)
         × (D.size disk.old ≡ found.area + found.area)) }
+    ensures sound { IfOk result (λ found. IsSound found.spelled.table) }
     ensures no_area { result ≡ Err no_area → D.honest disk.new → HasNoArea (D.seen disk.old) }
     ensures no_table { result ≡ Err no_table → D.honest disk.new → HasNoTable (D.seen disk.old) }
     ensures nothing_stands { IfErr result (λ e. D.honest disk.new → HasNoArea (D.seen disk.old) → TellsNoArea e) }

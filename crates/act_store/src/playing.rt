@@ -3,7 +3,7 @@ ghost use Rattle.wf_value.specs.Gives.{no_memory};
 ghost use Rattle.act_disk.specs.Images.{EachSince};
 ghost use Rattle.act_store.specs.Entries.{IsLegal};
 ghost use Rattle.act_store.specs.GroupsOfHistory.{KeepsGroups};
-ghost use Rattle.act_store.specs.Kept.{StandForCovered, StandsForSome};
+ghost use Rattle.act_store.specs.StoreState.{StandForCovered, StandsForSome};
 ghost use Rattle.act_store.specs.Steps.{Grows, PlayEnds, Survives, Takes};
 ghost use Rattle.act_store.specs.declared.step.Step.TheVariants as asked;
 

@@ -16,7 +16,7 @@ use wf_value::Refusal;
 /// Carries out the commands of records, one behind the other. `None` where a body spells no batch.
 #[tactic(auto, using(crate::proofs::Replaying::none_so_far, crate::proofs::Replaying::one_more, gated_journal::proofs::Parting::shorter))]
 pub(crate) fn replay(alloc: Global, first: Table, records: &[u8]) -> Result<Option<Table>, Refusal>
-    ensures replayed { IfOk result (λ last. IsReplayed records.now first last) }
+    ensures replayed { IfOk result (λ last. IsReplayed 1 records.now first last) }
     ensures refused { IfErr result (λ e. e ≡ no_memory) }
 {
     let mut table = first;

@@ -1,7 +1,7 @@
 ghost use Rattle.std.specs.Prelude.{◌≡◌, ◌≤◌, ◌==◌, ◌-◌, List, ℕ, if◌then◌else◌, length, slice_get, option_copied, None};
 ghost use Rattle.act_store.specs.Entries.{IsLegal};
 ghost use Rattle.act_store.specs.GroupsOfHistory.{KeepsGroups};
-ghost use Rattle.act_store.specs.Kept.{StandForCovered, StandsForEither, table_of};
+ghost use Rattle.act_store.specs.StoreState.{StandForCovered, StandsForEither, table_of};
 ghost use Rattle.run_table.specs.Sound.{IsSound};
 ghost use Rattle.run_table.specs.Step.{seen};
 
@@ -11,7 +11,6 @@ use crate::waiting::Waiting;
 use act_disk::Disk;
 use gated_journal::{Gate, Standing};
 use run_plan::Number;
-use run_table::laws::{every_group_keeps_its_law, groups_have_one_holder_of_each_kind};
 use run_table::{RunView, Table};
 use std::marker::Model;
 
@@ -47,18 +46,18 @@ pub struct Store<D: Disk> {
 
 impl<D: Disk> Model for Store<D> {
     ghost use Rattle.std.specs.Prelude.{◌≡◌, ◌-◌, ◌^◌, ◌<◌, IfSome, false};
-    ghost use Rattle.act_store.specs.Kept.{Kept};
+    ghost use Rattle.act_store.specs.StoreState.{StoreState};
 
-    ghost Value = { Kept D };
+    ghost Value = { StoreState D };
 
     ghost use Rattle.act_store.specs.Promise.{IsBegun, IsCounted, IsStanding};
-    ghost use Rattle.act_store.specs.StoreSeen.{as_kept};
+    ghost use Rattle.act_store.specs.StoreSeen.{as_state};
 
-    ghost view = { as_kept };
+    ghost view = { as_state };
 
-    ghost invariant = { λ s. IsCounted {D = D} (as_kept s) s.table s.waiting
+    ghost invariant = { λ s. IsCounted {D = D} (as_state s) s.table s.waiting
         × (s.failed ≡ false → D.Disk.fault_count s.disk < 2 ^ 64 - 1)
-        × (D.Disk.honest s.disk → IsStanding D.Disk.images s.areas.side s.other (as_kept s))
+        × (D.Disk.honest s.disk → IsStanding D.Disk.images s.areas.side s.other (as_state s))
         × IfSome s.begun (IsBegun s.base s.history.items s.generation s.areas.len s.areas.side s.other
         (D.Disk.honest s.disk) s.failed (D.Disk.seen s.disk)) };
 }
@@ -80,9 +79,6 @@ impl<D: Disk> Store<D> {
         ensures exact { D.honest self.now.disk → StandForCovered D.images self.now }
         ensures promise { D.honest self.now.disk → (c : List ℕ) → D.images self.now.disk c → StandsForEither self.now c }
     {
-        every_group_keeps_its_law();
-        groups_have_one_holder_of_each_kind();
-        let _last = self.base.last_lease();
         self.covered as u64
     }
 

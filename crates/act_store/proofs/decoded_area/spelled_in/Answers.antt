@@ -14,15 +14,14 @@ pub returns-in_default-2-clause-spelled : goal.returns-in_default-2-clause-spell
 returns-in_default-2-clause-spelled c =
     let found = c.in-Some.found in
     none_text c.args.area.now (head_of found.head) found.records.now found.gate c.in-Some.ensures.some
-    (subst (λ (o : Option TableState). IsTextOf found.head.text.now o) c.in_default-2.is c.in_ok-first.ensures.spelled)
+    (subst (λ (o : Option TableState). IsTextOf 1 found.head.text.now o) c.in_default-2.is c.in_ok-first.ensures.spelled)
 
 pub returns-in-None-clause-spelled : goal.returns-in-None-clause-spelled
 returns-in-None-clause-spelled c =
     let found = c.in-Some.found in
     let first = c.in-Some-2.first in
     none_replayed c.args.area.now (head_of found.head) found.records.now found.gate c.in-Some.ensures.some first
-    (subst (λ (o : Option TableState). IsTextOf found.head.text.now o) c.in-Some-2.is c.in_ok-first.ensures.spelled)
-    (subst (λ (o : Option TableState). IsReplayed found.records.now first o) c.in-None.is c.in_ok-table.ensures.replayed)
+    (subst (λ (o : Option TableState). IsReplayed 1 found.records.now first o) c.in-None.is c.in_ok-table.ensures.replayed)
 
 pub returns-then-found-ne-VERSION-clause-spelled : goal.returns-then-found-ne-VERSION-clause-spelled
 returns-then-found-ne-VERSION-clause-spelled c =

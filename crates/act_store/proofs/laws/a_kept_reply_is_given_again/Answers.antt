@@ -3,5 +3,4 @@ use Rattle.act_store.proofs.laws.a_kept_reply_is_given_again.Goals as goal
 
 pub returns : goal.returns
 returns c = λ life lives table before behind entry number runner leads acknowledged.
-    let last = c.a_last_command_stays_known.ensures in
-    reply_again life before behind entry acknowledged lives table leads last.established last.kept_on last.answered runner number
+    reply_again life before behind entry acknowledged lives table leads runner number

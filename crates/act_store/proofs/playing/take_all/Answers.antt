@@ -1,6 +1,6 @@
 use Rattle.std.proofs.Common.{◌+◌, ◌++◌, [], ◌∷◌, refl, rules, arith, sym, subst}
 use Rattle.std.specs.Prelude.{OnErr}
-use Rattle.act_store.specs.Kept.{Kept}
+use Rattle.act_store.specs.StoreState.{StoreState}
 use Rattle.act_store.specs.Steps.{PlaysSome, Survives}
 use Rattle.act_store.proofs.Plays.{first_played, plays_next}
 use Rattle.act_store.proofs.playing.take_all.Goals as goal
@@ -13,7 +13,7 @@ returns-in_err-answer g c =
     let result = c.from_residual.result in
     record {
       played = search rules;
-      part = subst (λ (k : Kept g.row.D.Denot). OnErr result (PlaysSome during c.args.store.now c.args.steps.now k))
+      part = subst (λ (k : StoreState g.row.D.Denot). OnErr result (PlaysSome during c.args.store.now c.args.steps.now k))
           (sym c.in_err-answer.ensures.unchanged)
           (first_played during c.args.store.now c.args.steps.now result l.store l.step-index l.answers.items l.invariant);
       refused = search rules;

@@ -4,10 +4,10 @@ use Rattle.run_table.specs.Step.{stepped}
 use Rattle.run_table.specs.TableState.{TableState}
 use Rattle.act_disk.specs.Images.{EachSince}
 use Rattle.act_disk.specs.Moments.{started}
-use Rattle.act_store.specs.Kept.{Kept, StandsForEither}
+use Rattle.act_store.specs.StoreState.{StoreState, StandsForEither}
 use Rattle.act_store.specs.Plain.{refusal_of_apply}
 use Rattle.act_store.specs.Promise.{IsCounted}
-use Rattle.act_store.specs.StoreSeen.{as_kept}
+use Rattle.act_store.specs.StoreSeen.{as_state}
 use Rattle.act_store.specs.declared.entry.Entry.{Entry}
 use Rattle.act_store.proofs.Entering.{IsAdmitted, counted_entered, few_wait, is_admitted, record_is_short}
 use Rattle.act_store.proofs.Settling.{standing_entered}
@@ -17,12 +17,12 @@ use Rattle.act_store.proofs.store.Store.apply.Goals as goal
 pub enter-requires : goal.enter-requires
 enter-requires g c =
     let s = c.self.inside in
-    let k = as_kept s in
+    let k = as_state s in
     let counted = c.self.invariant.0 in
     let command = c.args.command in
     let none : refusal_of_apply c.args.self.now command ≡ None = search rules in
     let admitted = is_admitted k command
-    (subst (λ (v : Kept g.row.D.Denot). refusal_of_apply v command ≡ None) (sym c.self.view_is) none) in
+    (subst (λ (v : StoreState g.row.D.Denot). refusal_of_apply v command ≡ None) (sym c.self.view_is) none) in
     record {
       few = few_wait k s.table s.waiting counted command admitted;
       fits = record_is_short k s.table s.waiting counted command admitted;
@@ -31,12 +31,12 @@ enter-requires g c =
 pub invariant_of-self-2 : goal.invariant_of-self-2
 invariant_of-self-2 g c =
     let s = c.self.inside in
-    let k = as_kept s in
+    let k = as_state s in
     let counted = c.self.invariant.0 in
     let command = c.args.command in
     let none : refusal_of_apply c.args.self.now command ≡ None = search rules in
     let admitted : IsAdmitted k command = is_admitted k command
-    (subst (λ (v : Kept g.row.D.Denot). refusal_of_apply v command ≡ None) (sym c.self.view_is) none) in
+    (subst (λ (v : StoreState g.row.D.Denot). refusal_of_apply v command ≡ None) (sym c.self.view_is) none) in
     let entry : Entry = record { seat = c.args.seat; command = command; reply = (stepped s.table command).reply } in
     let history = c.enter.new.history.items in
     let is : history ≡ s.history.items ++ entry ∷ [] = c.in_ok-reply.ensures.history in
@@ -55,7 +55,7 @@ pub returns-in-Some-clause-any_moment : goal.returns-in-Some-clause-any_moment
 returns-in-Some-clause-any_moment g c =
     let s = c.self.inside in
     let disk = g.D.Disk in
-    subst (λ (v : Kept g.row.D.Denot). disk.honest v.disk → EachSince disk.moment disk.images_since v.disk v.disk (StandsForEither v))
+    subst (λ (v : StoreState g.row.D.Denot). disk.honest v.disk → EachSince disk.moment disk.images_since v.disk v.disk (StandsForEither v))
     c.self.view_is
-    (λ honest. started disk.moment disk.images_since s.disk (StandsForEither (as_kept s))
+    (λ honest. started disk.moment disk.images_since s.disk (StandsForEither (as_state s))
     (λ i left. (c.self.invariant.2 honest).each i (g.met.D.Disk.only_now s.disk honest i left)))

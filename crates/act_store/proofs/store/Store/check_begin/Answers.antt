@@ -3,11 +3,11 @@ use Rattle.std.specs.Prelude.{Some, option_map}
 use Rattle.gated_journal.specs.TwoAreas.{other, start_of}
 use Rattle.gated_journal.specs.declared.gate.Gate.TheVariants.{Closed}
 use Rattle.act_store.specs.Checkpoints.{first_gate, text_length}
-use Rattle.act_store.specs.Kept.{StandsForEither}
+use Rattle.act_store.specs.StoreState.{StandsForEither}
 use Rattle.act_store.specs.Promise.{IsBegun}
-use Rattle.act_store.specs.StoreSeen.{as_checkpoint, as_kept}
+use Rattle.act_store.specs.StoreSeen.{as_checkpoint, as_state}
 use Rattle.act_store.specs.declared.begun.Begun.{Begun}
-use Rattle.act_store.proofs.Checkpointing.{begin_moments, counted_with, few_runners, settled_again, standing_failed, standing_with}
+use Rattle.act_store.proofs.Checkpointing.{begin_moments, counted_with, few_runners, settled_again, standing_failed, standing_with, table_sound}
 use Rattle.act_store.proofs.Committing.{now_of}
 use Rattle.act_store.proofs.RefusalsOfCheckpoints.{begins, none_begun}
 use Rattle.act_store.proofs.Snapshots.{held_none, if_none, snapshot_taken}
@@ -16,14 +16,18 @@ use Rattle.act_store.proofs.store.Store.check_begin.Goals as goal
 pub front_of-requires : goal.front_of-requires
 front_of-requires g c =
     let s = c.self.inside in
-    let k = as_kept s in
-    few_runners k s.table s.waiting c.self.invariant.0 (begins s c.args.self.now c.self.view_is (search rules))
+    let k = as_state s in
+    let counted = c.self.invariant.0 in
+    record {
+      few = few_runners k s.table s.waiting counted (begins s c.args.self.now c.self.view_is (search rules));
+      sound = table_sound k s.table s.waiting counted;
+    }
 
 pub invariant_of-self : goal.invariant_of-self
 invariant_of-self g c =
     let s = c.self.inside in
     let disk = g.D.Disk in
-    let k = as_kept s in
+    let k = as_state s in
     let counted = c.self.invariant.0 in
     let d1 = c.close_other.new.disk in
     let may = begins s c.args.self.now c.self.view_is (search rules) in
@@ -43,7 +47,7 @@ pub invariant_of-self-in-Ok : goal.invariant_of-self-in-Ok
 invariant_of-self-in-Ok g c =
     let s = c.self.inside in
     let disk = g.D.Disk in
-    let k = as_kept s in
+    let k = as_state s in
     let counted = c.self.invariant.0 in
     let d1 = c.close_other.new.disk in
     let may = begins s c.args.self.now c.self.view_is (search rules) in

@@ -6,9 +6,9 @@ use Rattle.gated_journal.specs.TwoAreas.{other}
 use Rattle.gated_journal.specs.declared.gate.Gate.TheVariants.{Open}
 use Rattle.gated_journal.specs.declared.side.Side.{Side}
 use Rattle.act_store.specs.Images.{StandsFor}
-use Rattle.act_store.specs.Kept.{Kept, StandsForEither, table_of}
+use Rattle.act_store.specs.StoreState.{StoreState, StandsForEither, table_of}
 use Rattle.act_store.specs.Promise.{IsStanding}
-use Rattle.act_store.specs.StoreSeen.{as_checkpoint, as_kept}
+use Rattle.act_store.specs.StoreSeen.{as_checkpoint, as_state}
 use Rattle.act_store.specs.Waiting.{waits_of}
 use Rattle.act_store.proofs.Checkpointing.{counted_with, standing_failed}
 use Rattle.act_store.proofs.Committing.{none_left, now_of}
@@ -21,9 +21,9 @@ pub returns-in_err-last-clause-any_moment : goal.returns-in_err-last-clause-any_
 returns-in_err-last-clause-any_moment g c =
     let s = c.self.inside in
     let disk = g.D.Disk in
-    subst (λ (v : Kept g.row.D.Denot). disk.honest v.disk → EachSince disk.moment disk.images_since v.disk v.disk (StandsForEither v))
+    subst (λ (v : StoreState g.row.D.Denot). disk.honest v.disk → EachSince disk.moment disk.images_since v.disk v.disk (StandsForEither v))
     c.self.view_is
-    (λ honest. started disk.moment disk.images_since s.disk (StandsForEither (as_kept s))
+    (λ honest. started disk.moment disk.images_since s.disk (StandsForEither (as_state s))
     (λ i left. (c.self.invariant.2 honest).each i (g.met.D.Disk.only_now s.disk honest i left)))
 
 -- ---- where the device failed
@@ -32,7 +32,7 @@ pub invariant_of-self-in-Err : goal.invariant_of-self-in-Err
 invariant_of-self-in-Err g c =
     let s = c.self.inside in
     let disk = g.D.Disk in
-    let k = as_kept s in
+    let k = as_state s in
     let counted = c.self.invariant.0 in
     let d1 = c.turn.new.disk in
     let checkpoint = option_map as_checkpoint s.begun in
@@ -113,7 +113,7 @@ returns-clause-stands g c = λ honest1.
     c.self.view_is (search rules) c.in-Some-begun.begun (search rules) c.deref.result.now (search rules) c.len.result (search rules)
     c.as_slice.result.now c.in_ok-last.last.items c.as_slice.ensures.value c.in_ok-last.ensures.bytes c.in_ok-last.ensures.spelled in
     let d1 = c.turn.new.disk in
-    subst (λ (v : Kept g.row.D.Denot). (image : List ℕ) → disk.images d1 image → StandsFor (table_of v) image) c.self.view_is
-    (settled_stands s.areas.len (other s.areas.side) Open (s.generation + 1) (at + length bytes - 1) (table_of (as_kept s))
+    subst (λ (v : StoreState g.row.D.Denot). (image : List ℕ) → disk.images d1 image → StandsFor (table_of v) image) c.self.view_is
+    (settled_stands s.areas.len (other s.areas.side) Open (s.generation + 1) (at + length bytes - 1) (table_of (as_state s))
     (disk.images d1) f.counted.size
     (finish_settles disk.honest disk.images disk.seen s at bytes f d1 c.in-Ok.ensures.turned (c.turn.ensures.honest.0 honest1)))

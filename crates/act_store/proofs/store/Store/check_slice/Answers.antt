@@ -2,9 +2,9 @@ use Rattle.std.proofs.Common.{rules, arith, ◌≡◌, ◌≤◌, length, true, 
 use Rattle.std.specs.Prelude.{Some}
 use Rattle.gated_journal.specs.Whole.{StandsWhole}
 use Rattle.gated_journal.specs.declared.gate.Gate.TheVariants.{Closed}
-use Rattle.act_store.specs.Kept.{StandsForEither}
+use Rattle.act_store.specs.StoreState.{StandsForEither}
 use Rattle.act_store.specs.Promise.{IsBegun, IsSnapshot}
-use Rattle.act_store.specs.StoreSeen.{as_checkpoint, as_kept}
+use Rattle.act_store.specs.StoreSeen.{as_checkpoint, as_state}
 use Rattle.act_store.specs.declared.begun.Begun.{Begun}
 use Rattle.act_store.proofs.Checkpointing.{counted_with, slice_moments, slice_settles, standing_failed, standing_with}
 use Rattle.act_store.proofs.Committing.{now_of}
@@ -16,7 +16,7 @@ pub invariant_of-self-in-Err : goal.invariant_of-self-in-Err
 invariant_of-self-in-Err g c =
     let s = c.self.inside in
     let disk = g.D.Disk in
-    let k = as_kept s in
+    let k = as_state s in
     let counted = c.self.invariant.0 in
     let d1 = c.put_slice.new.disk in
     let b = c.in-Some-take.begun in
@@ -43,7 +43,7 @@ pub invariant_of-self-in-Ok : goal.invariant_of-self-in-Ok
 invariant_of-self-in-Ok g c =
     let s = c.self.inside in
     let disk = g.D.Disk in
-    let k = as_kept s in
+    let k = as_state s in
     let counted = c.self.invariant.0 in
     let d1 = c.put_slice.new.disk in
     let b = c.in-Some-take.begun in

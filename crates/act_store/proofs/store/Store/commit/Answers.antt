@@ -1,9 +1,9 @@
 use Rattle.std.proofs.Common.{rules, ◌≡◌, ℕ, List, ◌+◌, ◌<◌, ◌^◌, ◌∙◌, ◌-◌, length, true, false, refl, arith, ap, subst, sym}
 use Rattle.act_store.specs.Images.{StandsFor}
-use Rattle.act_store.specs.Kept.{Kept, StandForCovered, StandsForEither, table_of}
+use Rattle.act_store.specs.StoreState.{StoreState, StandForCovered, StandsForEither, table_of}
 use Rattle.act_store.specs.Plain.{committed, used_after}
 use Rattle.act_store.specs.Promise.{IsCounted, IsSettled, IsStanding}
-use Rattle.act_store.specs.StoreSeen.{as_kept}
+use Rattle.act_store.specs.StoreSeen.{as_state}
 use Rattle.act_store.specs.Waiting.{body_of}
 use Rattle.act_store.proofs.Checkpointing.{counted_with, standing_failed}
 use Rattle.act_store.proofs.Committing.{now_of, none_waits, all_stands, counted_committed, commit_moments}
@@ -18,10 +18,10 @@ pub returns-then-is_empty-clause-stands : goal.returns-then-is_empty-clause-stan
 returns-then-is_empty-clause-stands g c =
     let s = c.self.inside in
     let disk = g.D.Disk in
-    let k = as_kept s in
+    let k = as_state s in
     let counted = c.self.invariant.0 in
     let none : s.waiting.count ≡ 0 = search (rules, arith) in
-    subst (λ (v : Kept g.row.D.Denot). disk.honest v.disk → (image : List ℕ) → disk.images v.disk image → StandsFor (table_of v) image)
+    subst (λ (v : StoreState g.row.D.Denot). disk.honest v.disk → (image : List ℕ) → disk.images v.disk image → StandsFor (table_of v) image)
     c.self.view_is
     (λ honest image now. all_stands k s.table s.waiting counted (none_waits k s.table s.waiting counted none) image
     ((c.self.invariant.2 honest).each image now))
@@ -29,7 +29,7 @@ returns-then-is_empty-clause-stands g c =
 pub grow-requires-clause-fits : goal.grow-requires-clause-fits
 grow-requires-clause-fits g c =
     let s = c.self.inside in
-    let k = as_kept s in
+    let k = as_state s in
     let counted = c.self.invariant.0 in
     let some : 0 < s.waiting.count = search (rules, arith) in
     let bytes = c.as_slice-bytes.ensures in
@@ -58,7 +58,7 @@ pub invariant_of-self : goal.invariant_of-self
 invariant_of-self g c =
     let s = c.self.inside in
     let disk = g.D.Disk in
-    let k = as_kept s in
+    let k = as_state s in
     let counted = c.self.invariant.0 in
     let d1 = c.grow.new.disk in
     let since = commit_moments disk.honest disk.images s counted (search rules) (search (rules, arith)) c.self.invariant.2
@@ -76,8 +76,8 @@ invariant_of-self g c =
 
 -- the counts are those after a commit
 is_committed : (g : Over) (c : goal.After-truncate g)
-    → committed (as_kept c.self.inside) c.grow.new.disk
-    ≡ record (as_kept c.self.inside) {
+    → committed (as_state c.self.inside) c.grow.new.disk
+    ≡ record (as_state c.self.inside) {
       disk = c.grow.new.disk;
       covered = c.len-self-inside.result;
       used = c.self.inside.used + length c.as_slice-bytes.result.now;
@@ -87,14 +87,14 @@ is_committed g c =
     let some : 0 < s.waiting.count = search (rules, arith) in
     let bytes = c.as_slice-bytes.result.now in
     let all : c.len-self-inside.result ≡ length s.history.items = search rules in
-    same_committed (as_kept s) c.grow.new.disk c.len-self-inside.result (s.used + length bytes) all
-    (used_is (as_kept s) s.table s.waiting c.self.invariant.0 some (length bytes)
+    same_committed (as_state s) c.grow.new.disk c.len-self-inside.result (s.used + length bytes) all
+    (used_is (as_state s) s.table s.waiting c.self.invariant.0 some (length bytes)
     (ap (λ (l : List ℕ). length l) (c.as_slice-bytes.ensures.bytes some) ∙ length_record (body_of s.waiting)))
 
 -- all images are settled at all entries
 settled : (g : Over) (c : goal.After-truncate g) → g.D.Disk.honest c.grow.new.disk
     → IsSettled c.self.inside.areas.len c.self.inside.areas.side c.self.inside.other c.self.inside.generation
-    (used_after (as_kept c.self.inside)) (table_of (as_kept c.self.inside)) (g.D.Disk.images c.grow.new.disk)
+    (used_after (as_state c.self.inside)) (table_of (as_state c.self.inside)) (g.D.Disk.images c.grow.new.disk)
 settled g c honest1 =
     let disk = g.D.Disk in
     commit_settles disk.honest disk.images c.self.inside c.self.invariant.0 (search rules) (search (rules, arith)) c.self.invariant.2
@@ -105,11 +105,11 @@ pub invariant_of-self-in-Ok : goal.invariant_of-self-in-Ok
 invariant_of-self-in-Ok g c =
     let s = c.self.inside in
     let disk = g.D.Disk in
-    let k = as_kept s in
+    let k = as_state s in
     let counted = c.self.invariant.0 in
     let d1 = c.grow.new.disk in
     let before = c.grow.ensures.honest.0 in
-    let three = subst (λ (v : Kept g.row.D.Denot). IsCounted v s.table c.truncate.new.self
+    let three = subst (λ (v : StoreState g.row.D.Denot). IsCounted v s.table c.truncate.new.self
     × (v.failed ≡ false → disk.fault_count v.disk < 2 ^ 64 - 1)
     × (disk.honest v.disk → IsStanding disk.images s.areas.side s.other v))
     (is_committed g c) (
@@ -130,16 +130,16 @@ invariant_of-self-in-Ok g c =
 pub returns-in-Ok-clause-stands : goal.returns-in-Ok-clause-stands
 returns-in-Ok-clause-stands g c = λ honest1.
     let s = c.self.inside in
-    let k = as_kept s in
+    let k = as_state s in
     let images = g.D.Disk.images c.grow.new.disk in
-    subst (λ (v : Kept g.row.D.Denot). (image : List ℕ) → images image → StandsFor (table_of v) image) c.self.view_is
+    subst (λ (v : StoreState g.row.D.Denot). (image : List ℕ) → images image → StandsFor (table_of v) image) c.self.view_is
     (settled_stands s.areas.len s.areas.side s.other s.generation (used_after k) (table_of k) images c.self.invariant.0.size
     (settled g c honest1))
 
 pub returns-in-Ok-clause-some : goal.returns-in-Ok-clause-some
 returns-in-Ok-clause-some g c =
-    subst (λ (v : Kept g.row.D.Denot). v.covered < length v.history
-    → record (as_kept c.self.inside) {
+    subst (λ (v : StoreState g.row.D.Denot). v.covered < length v.history
+    → record (as_state c.self.inside) {
       disk = c.grow.new.disk;
       covered = c.len-self-inside.result;
       used = c.self.inside.used + length c.as_slice-bytes.result.now;
@@ -151,15 +151,15 @@ pub returns-then-is_empty-clause-exact : goal.returns-then-is_empty-clause-exact
 returns-then-is_empty-clause-exact g c =
     let s = c.self.inside in
     let disk = g.D.Disk in
-    subst (λ (v : Kept g.row.D.Denot). disk.honest v.disk → StandForCovered disk.images v) c.self.view_is
-    (λ honest. stand_covered disk.images s.areas.side s.other (as_kept s) c.self.invariant.0.size (c.self.invariant.2 honest))
+    subst (λ (v : StoreState g.row.D.Denot). disk.honest v.disk → StandForCovered disk.images v) c.self.view_is
+    (λ honest. stand_covered disk.images s.areas.side s.other (as_state s) c.self.invariant.0.size (c.self.invariant.2 honest))
 
 pub returns-in-Ok-clause-exact : goal.returns-in-Ok-clause-exact
 returns-in-Ok-clause-exact g c = λ honest1.
     let s = c.self.inside in
     let disk = g.D.Disk in
-    let k = as_kept s in
+    let k = as_state s in
     let d1 = c.grow.new.disk in
-    subst (λ (v : Kept g.row.D.Denot). StandForCovered disk.images v) (is_committed g c)
+    subst (λ (v : StoreState g.row.D.Denot). StandForCovered disk.images v) (is_committed g c)
     (stand_covered disk.images s.areas.side s.other (committed k d1) c.self.invariant.0.size
     (standing_fresh disk.images s.areas.side s.other k c.self.invariant.0.size d1 (settled g c honest1)))

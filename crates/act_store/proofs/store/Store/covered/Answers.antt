@@ -1,21 +1,20 @@
 use Rattle.std.proofs.Common.{subst}
 use Rattle.act_store.specs.GroupsOfHistory.{KeepsGroups}
-use Rattle.act_store.specs.Kept.{Kept, StandForCovered}
+use Rattle.act_store.specs.StoreState.{StoreState, StandForCovered}
 use Rattle.act_store.proofs.GroupsOfHistory.{keeps_groups}
-use Rattle.act_store.specs.StoreSeen.{as_kept}
+use Rattle.act_store.specs.StoreSeen.{as_state}
 use Rattle.act_store.proofs.Settling.{stand_covered}
 use Rattle.act_store.proofs.store.Store.covered.Goals as goal
 
 pub returns-clause-groups : goal.returns-clause-groups
 returns-clause-groups g c =
     let s = c.self.inside in
-    let one = c.groups_have_one_holder_of_each_kind.ensures in
-    subst (λ (v : Kept g.row.D.Denot). KeepsGroups v.base v.history) c.self.view_is
-    (keeps_groups one.pending one.running c.every_group_keeps_its_law.ensures s.base s.history.items c.last_lease-last.ensures.sound)
+    subst (λ (v : StoreState g.row.D.Denot). KeepsGroups v.base v.history) c.self.view_is
+    (keeps_groups s.base s.history.items c.self.invariant.0.sound)
 
 pub returns-clause-exact : goal.returns-clause-exact
 returns-clause-exact g c =
     let s = c.self.inside in
     let disk = g.D.Disk in
-    subst (λ (v : Kept g.row.D.Denot). disk.honest v.disk → StandForCovered disk.images v) c.self.view_is
-    (λ honest. stand_covered disk.images s.areas.side s.other (as_kept s) c.self.invariant.0.size (c.self.invariant.2 honest))
+    subst (λ (v : StoreState g.row.D.Denot). disk.honest v.disk → StandForCovered disk.images v) c.self.view_is
+    (λ honest. stand_covered disk.images s.areas.side s.other (as_state s) c.self.invariant.0.size (c.self.invariant.2 honest))

@@ -1,6 +1,9 @@
-use Rattle.std.proofs.Common.{rules, false, ◌≡◌, ◌∙◌, [], sym, arith}
+use Rattle.std.proofs.Common.{rules, false, ◌≡◌, ◌∙◌, [], sym, subst, arith}
 use Rattle.std.specs.Prelude.{None}
+use Rattle.run_table.specs.Sound.{IsSound}
 use Rattle.run_table.specs.Step.{empty}
+use Rattle.run_table.specs.TableState.{TableState}
+use Rattle.run_table.proofs.StepKeeps.{empty_is_sound}
 use Rattle.gated_journal.specs.declared.gate.Gate.TheVariants.{Closed}
 use Rattle.gated_journal.specs.declared.side.Side.TheVariants.{First}
 use Rattle.act_store.specs.Images.{IsAreaLength}
@@ -16,7 +19,8 @@ invariant_of-result g c =
     let size : IsAreaLength area = record { least = c.requires.least; most = c.requires.most } in
     let none : c.new-in-Ok-2.result.items ≡ [] = c.new-in-Ok-2.ensures.items in
     let base : c.new.result ≡ empty = c.new.ensures in (
-      counted_begun d1 area c.new.result 30 1 None false c.new-in-Ok-2.result.items none c.new-in-Ok.result (c.new-in-Ok.ensures ∙ sym base)
+      counted_begun d1 area c.new.result 30 1 None false c.new-in-Ok-2.result.items none
+          (subst (λ (t : TableState). IsSound t) (sym base) empty_is_sound) c.new-in-Ok.result (c.new-in-Ok.ensures ∙ sym base)
           c.new-in-Ok-3.result c.new-in-Ok-3.ensures size (omega (arith, c.requires.least)),
       (λ _. search (rules, arith)),
       λ honest1.

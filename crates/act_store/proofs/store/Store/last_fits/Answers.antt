@@ -3,7 +3,7 @@ use Rattle.std.specs.Prelude.{flat_map, nat_lt}
 use Rattle.table_text.specs.Commands.{command_bytes}
 use Rattle.act_store.specs.Checkpoints.{has_no_room}
 use Rattle.act_store.specs.Entries.{commands_of}
-use Rattle.act_store.specs.Kept.{Kept}
+use Rattle.act_store.specs.StoreState.{StoreState}
 use Rattle.act_store.specs.StoreSeen.{as_checkpoint}
 use Rattle.act_store.specs.declared.entry.Entry.{Entry}
 use Rattle.act_store.proofs.Finishing.{fits_is}
@@ -20,7 +20,7 @@ returns g c =
     let spelled : c.spelled_len.result ≡ length (flat_map command_bytes (commands_of (drop b.place s.history.items))) =
     c.spelled_len.ensures.length ∙ ap (λ (l : List Entry). length (flat_map command_bytes (commands_of l))) on in
     let some : 0 < length (drop b.place s.history.items) = search (rules, arith) in
-    subst (λ (v : Kept g.row.D.Denot). nat_lt (c.len.result + 10 + c.spelled_len.result) s.areas.len ≡ not (has_no_room v (as_checkpoint b)))
+    subst (λ (v : StoreState g.row.D.Denot). nat_lt (c.len.result + 10 + c.spelled_len.result) s.areas.len ≡ not (has_no_room v (as_checkpoint b)))
     c.self.view_is
     (fits_is c.len.result (length b.front.items) c.spelled_len.result s.areas.len (drop b.place s.history.items) some c.requires.head front
     spelled)

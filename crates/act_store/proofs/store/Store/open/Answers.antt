@@ -1,5 +1,6 @@
 use Rattle.std.proofs.Common.{rules, false, arith, ◌≡◌, [], ℕ, List, sym, subst}
 use Rattle.std.specs.Prelude.{None}
+use Rattle.run_table.specs.Sound.{IsSound}
 use Rattle.run_table.specs.TableState.{TableState}
 use Rattle.act_store.specs.Images.{StandsAt, StandsFor}
 use Rattle.act_store.proofs.Beginning.{counted_begun, standing_begun}
@@ -18,7 +19,8 @@ invariant_of-result g c =
     let same : spelled.table ≡ base = search rules in
     let none : c.new.result.items ≡ [] = c.new.ensures.items in
     let area = c.in-Ok.ensures.area in (
-      counted_begun d1 found.area base spelled.used spelled.generation None false c.new.result.items none spelled.table same c.new-2.result
+      counted_begun d1 found.area base spelled.used spelled.generation None false c.new.result.items none
+          (subst (λ (t : TableState). IsSound t) same c.in-Ok.ensures.sound) spelled.table same c.new-2.result
           c.new-2.ensures area.0 area.1,
       (λ _. search (rules, arith)),
       λ honest. standing_begun d1 found.area base spelled.used spelled.generation None false c.new.result.items none disk.images found.chosen.side

@@ -1,11 +1,13 @@
 use Rattle.std.proofs.Common.{rules, ◌≡◌, sym, ◌∙◌, subst}
 use Rattle.std.specs.Prelude.{None, option_map}
-use Rattle.act_store.specs.Kept.{Kept, covered_table}
+use Rattle.run_table.specs.Sound.{IsSound}
+use Rattle.run_table.specs.TableState.{TableState}
+use Rattle.act_store.specs.StoreState.{StoreState, covered_table}
 use Rattle.act_store.specs.Plain.{refusal_of_turning}
 use Rattle.act_store.specs.Promise.{IsBegun}
-use Rattle.act_store.specs.StoreSeen.{as_checkpoint, as_kept}
+use Rattle.act_store.specs.StoreSeen.{as_checkpoint, as_state}
 use Rattle.act_store.proofs.Beginning.{counted_begun, standing_begun}
-use Rattle.act_store.proofs.Checkpointing.{all_table, nothing_waits}
+use Rattle.act_store.proofs.Checkpointing.{all_table, nothing_waits, table_sound}
 use Rattle.act_store.proofs.RefusalsOfCheckpoints.{may_turn, none_begun}
 use Rattle.act_store.proofs.Settling.{settled_at}
 use Rattle.act_store.proofs.Snapshots.{if_none}
@@ -15,15 +17,16 @@ pub invariant_of-self : goal.invariant_of-self
 invariant_of-self g c =
     let s = c.self.inside in
     let disk = g.D.Disk in
-    let k = as_kept s in
+    let k = as_state s in
     let counted = c.self.invariant.0 in
     let none : refusal_of_turning c.args.self.now ≡ None = search rules in
-    let may = may_turn k (subst (λ (v : Kept g.row.D.Denot). refusal_of_turning v ≡ None) (sym c.self.view_is) none) in
+    let may = may_turn k (subst (λ (v : StoreState g.row.D.Denot). refusal_of_turning v ≡ None) (sym c.self.view_is) none) in
     let base = c.in_ok-self-inside.field-0 in
     let same : s.table ≡ base = search rules in
     let now = c.clear.new.self.items in
     let checkpoint = option_map as_checkpoint s.begun in (
-      counted_begun s.disk s.areas.len base s.used s.generation checkpoint s.failed now c.clear.ensures.items s.table same s.waiting
+      counted_begun s.disk s.areas.len base s.used s.generation checkpoint s.failed now c.clear.ensures.items
+          (subst (λ (t : TableState). IsSound t) same (table_sound k s.table s.waiting counted)) s.table same s.waiting
           (nothing_waits k s.table s.waiting counted may.all) counted.size counted.gate_fits,
       c.self.invariant.1,
       λ honest. standing_begun s.disk s.areas.len base s.used s.generation checkpoint s.failed now c.clear.ensures.items disk.images

@@ -13,7 +13,7 @@ pub record Checkpoint : Type 0 where
   pub text : ℕ
   pub left : ℕ
 
-pub record Kept (D : Type 0) : Type 0 where
+pub record StoreState (D : Type 0) : Type 0 where
   pub disk : D
   -- how long an area of the disk is
   pub area : ℕ
@@ -32,26 +32,26 @@ pub record Kept (D : Type 0) : Type 0 where
   pub failed : Bool
 
 -- the entries that are not covered, and what they ask
-abbrev pub pending : {D : Type 0} → Kept D → List Entry
+abbrev pub pending : {D : Type 0} → StoreState D → List Entry
 pending s = drop s.covered s.history
 
-abbrev pub pending_commands : {D : Type 0} → Kept D → List Command
+abbrev pub pending_commands : {D : Type 0} → StoreState D → List Command
 pending_commands s = commands_of (pending s)
 
 -- the table of all entries, and that of the covered ones
-abbrev pub table_of : {D : Type 0} → Kept D → TableState
+abbrev pub table_of : {D : Type 0} → StoreState D → TableState
 table_of s = table_after s.base s.history
 
-abbrev pub covered_table : {D : Type 0} → Kept D → TableState
+abbrev pub covered_table : {D : Type 0} → StoreState D → TableState
 covered_table s = table_after s.base (take s.covered s.history)
 
 -- An image stands for the covered entries, or for all.
-abbrev pub StandsForEither : {D : Type 0} → Kept D → List ℕ → Type 0
+abbrev pub StandsForEither : {D : Type 0} → StoreState D → List ℕ → Type 0
 StandsForEither s c = StandsFor (covered_table s) c ⊎ StandsFor (table_of s) c
 
 -- Of a store that has not failed, each image stands for exactly the covered entries, by the area of its generation, whose records end
 -- where the next one goes.
-abbrev pub StandForCovered : {D : Type 0} → (D → List ℕ → Type 0) → Kept D → Type 0
+abbrev pub StandForCovered : {D : Type 0} → (D → List ℕ → Type 0) → StoreState D → Type 0
 StandForCovered images s =
     s.failed ≡ false → (c : List ℕ) → images s.disk c → StandsAt s.generation s.used (covered_table s) c
 
