@@ -5,4 +5,4 @@ pub mod Fronts
 pub mod Lists
 pub mod Parts
 pub mod Sending
-pub mod Standing
+pub mod StandsLater

@@ -33,6 +33,7 @@ use Rattle.workflow_runs.proofs.phases.RunPhase.TheSendSync as phase
 use Rattle.workflow_runs.proofs.job.Job.TheSendSync as job
 use Rattle.workflow_runs.proofs.asks.RunBindings.TheSendSync as asks
 use Rattle.workflow_runs.proofs.runs.index.Index.TheSendSync as index
+use Rattle.workflow_runs.proofs.runs.marks.RunMarks.TheSendSync as marks
 use Rattle.run_table.proofs.runners.Runners.TheSendSync as runners
 use Rattle.run_plan.specs.contracts.command.Command.{the_row as command, enum as command_variants}
 use Rattle.act_store.specs.contracts.entry.Entry.{the_row as entry, the_type as entry_type}
@@ -142,7 +143,7 @@ run_send : IsSend run
 run_send = view_send run_inside _ _ _ _ (declared_send run_type (search (parts, prepared_send) depth 6, (search (parts, phase.the_send) depth 6, (search parts depth 6, (search (parts, job.the_send) depth 10, tt)))))
 
 runs_send : IsSend runs
-runs_send = view_send runs_inside _ _ _ _ (declared_send runs_type (search (parts, run_send) depth 10, (search parts depth 10, (search (parts, asks.the_send) depth 10, (search (parts, index.the_send) depth 6, tt)))))
+runs_send = view_send runs_inside _ _ _ _ (declared_send runs_type (search (parts, run_send) depth 10, (search parts depth 10, (search (parts, asks.the_send) depth 10, (search (parts, index.the_send) depth 6, (search (parts, marks.the_send) depth 6, (search parts depth 6, tt)))))))
 
 content_send : IsSend content
 content_send = view_send content_inside _ _ _ _ (declared_send content_type (search parts depth 6, (search (parts, runs_send) depth 6, (search (parts, runners.the_send) depth 6, tt))))

@@ -6,18 +6,18 @@ use Rattle.wf_value.specs.declared.refusal.Refusal.TheVariants.{Numbered}
 use Rattle.run_plan.specs.declared.command.Command.{Command}
 use Rattle.run_plan.specs.declared.reply.Reply.{Reply}
 use Rattle.run_table.specs.Step.{stepped}
-use Rattle.act_store.specs.Kept.{Kept, table_of}
+use Rattle.act_store.specs.StoreState.{StoreState, table_of}
 use Rattle.act_store.specs.Plain.{entry_of}
 
 -- The command was entered for the seat behind all other entries, the reply is the one of its step, and every entry is covered.
-pub record IsAnswered {D : Type 0} (old new : Kept D) (seat : ℕ) (command : Command) (reply : Reply) : Type 0 where
+pub record IsAnswered {D : Type 0} (old new : StoreState D) (seat : ℕ) (command : Command) (reply : Reply) : Type 0 where
   pub base : new.base ≡ old.base
   pub entered : new.history ≡ old.history ++ entry_of old seat command ∷ []
   pub reply_is : reply ≡ (stepped (table_of old) command).reply
   pub covers : new.covered ≡ length new.history
 
 -- The history is as it was, or has the command's entry at its end. What was covered is.
-pub record MayHaveEntered {D : Type 0} (old new : Kept D) (seat : ℕ) (command : Command) : Type 0 where
+pub record MayHaveEntered {D : Type 0} (old new : StoreState D) (seat : ℕ) (command : Command) : Type 0 where
   pub base : new.base ≡ old.base
   pub history : (new.history ≡ old.history) ⊎ (new.history ≡ old.history ++ entry_of old seat command ∷ [])
   pub covers : old.covered ≤ new.covered

@@ -3,7 +3,7 @@ use Rattle.std.specs.Prelude.{◌≡◌, List}
 use Rattle.wf_value.specs.declared.code.Code.{Code}
 use Rattle.wf_value.specs.declared.code.Code.TheVariants as code
 use Rattle.act_sessions.specs.declared.transcript.Transcript.{Transcript}
-use Rattle.act_store.specs.Kept.{Kept}
+use Rattle.act_store.specs.StoreState.{StoreState}
 use Rattle.act_desk.specs.Settled.{HaveEnded, IsSettled, NoneBroken}
 use Rattle.act_desk.specs.declared.settled.Fault.{Fault}
 use Rattle.act_desk.specs.declared.settled.Fault.TheVariants.{Broken, Memory, Unsettled}
@@ -28,7 +28,7 @@ IsUnsettledOrBroken given (Unsettled settled) = settled ≡ given
 IsUnsettledOrBroken given (Broken settled) =
     (settled ≡ given) × IsSettled settled.transcripts.items settled.store.history × (NoneBroken settled.transcripts.items → ⊥)
 
-abbrev pub IsCause : {D W : Type 0} → (W → Transcript → Type 0) → Kept D → List W → Fault D W → Type 0
+abbrev pub IsCause : {D W : Type 0} → (W → Transcript → Type 0) → StoreState D → List W → Fault D W → Type 0
 IsCause ends given works (Memory store left) = (store ≡ given) × (left.items ≡ works)
 IsCause ends given works (Unsettled settled) = HaveEnded ends works settled.transcripts.items
 IsCause ends given works (Broken settled) =

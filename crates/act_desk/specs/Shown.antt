@@ -4,12 +4,12 @@ use Rattle.run_plan.specs.declared.command.Command.{Command}
 use Rattle.run_plan.specs.declared.reply.Reply.{Reply}
 use Rattle.run_table.specs.Step.{stepped}
 use Rattle.run_table.specs.TableState.{TableState}
-use Rattle.act_store.specs.Kept.{Kept}
+use Rattle.act_store.specs.StoreState.{StoreState}
 use Rattle.act_store.specs.declared.entry.Entry.{Entry}
 
 -- What the lock keeps.
 pub record Shown (D : Type 0) : Type 0 where
-  pub store : Kept D
+  pub store : StoreState D
   -- the shares of entries of all seats, those of seats that are gone among them, added up
   pub entered : ℕ
   -- the same of the replies that were given out

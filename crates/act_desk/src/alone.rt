@@ -2,7 +2,7 @@ ghost use Rattle.std.specs.Prelude.{◌≡◌, ◌⊎◌, ℕ, List, [], Err, If
 ghost use Rattle.wf_value.specs.Gives.{no_memory};
 ghost use Rattle.act_sessions.specs.Told.{Asks};
 ghost use Rattle.act_store.specs.Images.{StandsFor};
-ghost use Rattle.act_store.specs.Kept.{table_of};
+ghost use Rattle.act_store.specs.StoreState.{table_of};
 ghost use Rattle.act_desk.specs.Answered.{IsAnswered, MayHaveEntered};
 
 use act_disk::Disk;
@@ -86,7 +86,6 @@ fn submit<D: Disk>(alloc: Global, store: &mut Store<D>, command: Command) -> Res
     ensures survives { OnOk result (D.honest store.new.disk → (c : List ℕ) → D.images store.new.disk c → StandsFor (table_of store.new) c) }
     ensures entered { MayHaveEntered store.old store.new 0 command }
 {
-    let _covered = store.covered();
     let Receipt { reply, .. } = store.apply(alloc, SEAT, command)?;
     store.commit()?;
     Ok(reply)

@@ -7,7 +7,7 @@ ghost use Rattle.act_store.specs.Checkpoints.{IsFinished, begun_at, dropped, lef
 ghost use Rattle.act_store.specs.Entries.{IsLegal};
 ghost use Rattle.act_store.specs.GroupsOfHistory.{KeepsGroups};
 ghost use Rattle.act_store.specs.Images.{StandsFor};
-ghost use Rattle.act_store.specs.Kept.{StandsForEither, table_of};
+ghost use Rattle.act_store.specs.StoreState.{StandsForEither, table_of};
 ghost use Rattle.act_store.specs.declared.entry.Entry.{Entry};
 ghost use Rattle.act_desk.specs.Answered.{unsettled};
 ghost use Rattle.act_store.specs.Plain.{area_full, broken, entered, entry_of, failed_earlier, history_full, refusal_of_apply};
@@ -156,7 +156,6 @@ impl<D: Disk, E: Named, T: Ledger> Desked<D, E, T> {
         ensures same { self.new ≡ record self.old { store = self.new.store } }
         ensures history { (self.new.store.history ≡ self.old.store.history) × (self.new.store.base ≡ self.old.store.base) }
     {
-        let _covered = self.store.covered();
         self.store.check_finish(alloc)
     }
 

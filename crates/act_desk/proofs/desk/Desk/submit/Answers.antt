@@ -1,4 +1,4 @@
-use Rattle.act_desk.proofs.Standing.{stands_later}
+use Rattle.act_desk.proofs.StandsLater.{stands_later}
 use Rattle.act_desk.proofs.desk.Desk.submit.Goals as goal
 
 pub returns-clause-stands : goal.returns-clause-stands
