@@ -8,7 +8,7 @@ use Rattle.wf_value.specs.RefusalText.{refusal_text}
 use Rattle.wf_value.specs.declared.refusal.Refusal.{Refusal}
 use Rattle.run_plan.specs.declared.reply.Reply.{Reply}
 use Rattle.act_store.specs.Checkpoints.{dropped, finished, left_of}
-use Rattle.act_store.specs.Kept.{Checkpoint, Kept}
+use Rattle.act_store.specs.StoreState.{Checkpoint, StoreState}
 use Rattle.act_store.specs.Plain.{committed}
 use Rattle.act_store.specs.Steps.{Counts, Covers, IsRefused, MayCallDevice, MayTakeMemory, Replies, Takes, is_area_full, left_by, refusal_of}
 use Rattle.act_store.specs.declared.step.Played.{Played}
@@ -19,7 +19,7 @@ use Rattle.acts_ops.specs.Answers.{counted_as, played_text}
 use Rattle.acts_ops.specs.PlainStore.{PlainStore, all_checked, all_covered, done, taken_unless, without_disk}
 use Rattle.acts_ops.specs.Play.{IsAnswerOf, IsOfCommand, WantsMemory}
 
-module _ {D : Type 0} (old new : Kept D) where
+module _ {D : Type 0} (old new : StoreState D) where
   abbrev plain : PlainStore
   plain = without_disk old
 
@@ -54,21 +54,21 @@ module _ {D : Type 0} (old new : Kept D) where
 
   covers_plain : (count : ℕ) → Covers old count new → without_disk new ≡ all_covered plain
   covers_plain count covers = elim (cases_Bool (nat_lt old.covered (length old.history))) [
-    | inl less ↦ ap (λ (k : Kept D). without_disk k) (covers.some (ltb-true old.covered (length old.history) less))
+    | inl less ↦ ap (λ (k : StoreState D). without_disk k) (covers.some (ltb-true old.covered (length old.history) less))
         ∙ sym (ap (λ (b : Bool). if b then committed plain tt else plain) less)
-    | inr all ↦ ap (λ (k : Kept D). without_disk k) (covers.none (ltb-false old.covered (length old.history) all))
+    | inr all ↦ ap (λ (k : StoreState D). without_disk k) (covers.none (ltb-false old.covered (length old.history) all))
         ∙ sym (ap (λ (b : Bool). if b then committed plain tt else plain) all)
   ]
 
   finishes_plain : (o : Option Checkpoint) → IsSomeAnd o (λ checkpoint. new ≡ finished old checkpoint new.disk)
       → without_disk new ≡ all_checked plain o
   finishes_plain None done = absurd done
-  finishes_plain (Some checkpoint) done = ap (λ (k : Kept D). without_disk k) done
+  finishes_plain (Some checkpoint) done = ap (λ (k : StoreState D). without_disk k) done
 
   replied_plain : (step : Step) (reply : Reply) → Replies old step reply new
       → (without_disk new ≡ (done plain step).0) × (told.Replied reply ≡ (done plain step).1)
   replied_plain (asked.Apply command) reply replies =
-      (ap (λ (k : Kept D). without_disk k) replies.0, ap (λ (r : Reply). told.Replied r) replies.1)
+      (ap (λ (k : StoreState D). without_disk k) replies.0, ap (λ (r : Reply). told.Replied r) replies.1)
   replied_plain asked.Commit reply replies = absurd replies
   replied_plain asked.Begin reply replies = absurd replies
   replied_plain asked.Slice reply replies = absurd replies
@@ -79,10 +79,10 @@ module _ {D : Type 0} (old new : Kept D) where
   counted_plain (asked.Apply command) count counts = absurd counts
   counted_plain asked.Commit count counts = (covers_plain count counts, ap (λ (n : ℕ). told.Count n) counts.count_is)
   counted_plain asked.Begin count counts =
-      (ap (λ (k : Kept D). without_disk k) counts.0, ap (λ (n : ℕ). told.Count n) counts.1)
+      (ap (λ (k : StoreState D). without_disk k) counts.0, ap (λ (n : ℕ). told.Count n) counts.1)
   counted_plain asked.Slice count counts = (
-    ap (λ (k : Kept D). without_disk k) counts.0,
-    ap (λ (n : ℕ). told.Count n) (counts.1 ∙ ap (λ (k : Kept D). left_of k.begun) counts.0),
+    ap (λ (k : StoreState D). without_disk k) counts.0,
+    ap (λ (n : ℕ). told.Count n) (counts.1 ∙ ap (λ (k : StoreState D). left_of k.begun) counts.0),
   )
   counted_plain asked.Finish count counts = (finishes_plain old.begun counts.0, ap (λ (n : ℕ). told.Count n) counts.1)
 
@@ -104,13 +104,13 @@ module _ {D : Type 0} (old new : Kept D) where
       → IsAnswerOf plain (Ok step) (refusal_text e) (without_disk new)
   refused_plain step e refused =
       ⊎_elim (λ cause. as_defined step (Some e) (told.Refused e) cause.0
-      (ap (λ (k : Kept D). without_disk k) cause.1 ∙ left_plain step e) refl)
+      (ap (λ (k : StoreState D). without_disk k) cause.1 ∙ left_plain step e) refl)
       (λ rest. ⊎_elim
-      (λ memory. inr (inl (wants_memory step memory.0 memory.1, ap refusal_text memory.2, ap (λ (k : Kept D). without_disk k) memory.3)))
+      (λ memory. inr (inl (wants_memory step memory.0 memory.1, ap refusal_text memory.2, ap (λ (k : StoreState D). without_disk k) memory.3)))
       (λ fault. inr (inr (
         (same_refusal step ∙ fault.0, calls_device step fault.1),
         ap refusal_text fault.2,
-        ap (λ (k : Kept D). without_disk k) fault.3,
+        ap (λ (k : StoreState D). without_disk k) fault.3,
       )))
       rest) refused
 

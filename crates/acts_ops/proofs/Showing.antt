@@ -13,7 +13,7 @@ use Rattle.workflow_runs.specs.RunState.{RunState}
 use Rattle.run_table.specs.ViewText.{Seen}
 use Rattle.act_store.specs.Entries.{table_after}
 use Rattle.act_store.specs.Images.{HasNoArea, StandsFor}
-use Rattle.act_store.specs.Kept.{Kept, table_of}
+use Rattle.act_store.specs.StoreState.{StoreState, table_of}
 use Rattle.act_store.specs.declared.entry.Entry.{Entry}
 use Rattle.acts_ops.specs.Show.{Shows, lines_from, shown, view_line}
 use Rattle.acts_ops.specs.Writes.{Writes}
@@ -64,7 +64,7 @@ past_last t out all place past h =
     sym (append-nil out) ∙ ap (λ n. out ++ lines_from t (place + 1) n) (sym none) ∙ h
 
 -- the table of a store that was just opened is its base
-pub opened_table : {D : Type 0} (s : Kept D) → s.history ≡ [] → s.base ≡ table_of s
+pub opened_table : {D : Type 0} (s : StoreState D) → s.history ≡ [] → s.base ≡ table_of s
 opened_table s begun = ap (λ (h : List Entry). table_after s.base h) (sym begun)
 
 -- where a table stands, an area is open

@@ -4,7 +4,7 @@ use Rattle.std.specs.Prelude.{ℕ, ◌+◌, length, nat_lt, Option, Some, None, 
 use Rattle.wf_value.specs.declared.refusal.Refusal.{Refusal}
 use Rattle.run_table.specs.Step.{stepped}
 use Rattle.act_store.specs.Checkpoints.{begun_at, finished, left_of, sliced, text_length}
-use Rattle.act_store.specs.Kept.{Checkpoint, Kept, table_of}
+use Rattle.act_store.specs.StoreState.{Checkpoint, StoreState, table_of}
 use Rattle.act_store.specs.Plain.{committed, entered, fresh}
 use Rattle.act_store.specs.Steps.{left_by, refusal_of}
 use Rattle.act_store.specs.declared.step.Step.{Step}
@@ -13,9 +13,9 @@ use Rattle.act_store.specs.declared.step.Played.{Played}
 use Rattle.act_store.specs.declared.step.Played.TheVariants as told
 
 abbrev pub PlainStore : Type 0
-PlainStore = Kept (Unit {0})
+PlainStore = StoreState (Unit {0})
 
-abbrev pub without_disk : {D : Type 0} → Kept D → PlainStore
+abbrev pub without_disk : {D : Type 0} → StoreState D → PlainStore
 without_disk s = record {
   disk = tt;
   area = s.area;

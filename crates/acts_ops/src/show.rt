@@ -5,7 +5,7 @@ ghost use Rattle.std.specs.Io.KnownBytes.{Appends};
 ghost use Rattle.wf_value.specs.Gives.{Gives};
 ghost use Rattle.act_disk.specs.Images.{EachSince};
 ghost use Rattle.act_store.specs.Images.{HasNoArea};
-ghost use Rattle.act_store.specs.Kept.{table_of};
+ghost use Rattle.act_store.specs.StoreState.{table_of};
 ghost use Rattle.act_store.specs.Plain.{TellsNoArea};
 ghost use Rattle.act_store.specs.Told.{TellsFault};
 ghost use Rattle.acts_ops.specs.Show.{Shows, shown, view_line};

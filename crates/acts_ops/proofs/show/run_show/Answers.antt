@@ -2,7 +2,7 @@ use Rattle.std.proofs.Common.{[], ap, refl, subst, inl, ◌∙◌}
 use Rattle.std.proofs.KnownBytes.{Appends-nil}
 use Rattle.run_table.specs.TableState.{TableState}
 use Rattle.act_store.specs.Images.{StandsFor}
-use Rattle.act_store.specs.Kept.{table_of}
+use Rattle.act_store.specs.StoreState.{table_of}
 use Rattle.acts_ops.specs.Show.{shown}
 use Rattle.acts_ops.proofs.Showing.{opened_table, shows_told, stands_somewhere}
 use Rattle.acts_ops.proofs.Writing.{written_faults}

@@ -1,4 +1,4 @@
-use Rattle.act_store.specs.Kept.{table_of}
+use Rattle.act_store.specs.StoreState.{table_of}
 use Rattle.acts_ops.specs.Show.{shown}
 use Rattle.acts_ops.proofs.Writing.{flushed, stopped}
 use Rattle.acts_ops.proofs.show.show_store.Goals as goal

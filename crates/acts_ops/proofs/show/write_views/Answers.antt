@@ -1,7 +1,7 @@
 use Rattle.std.proofs.Common.{◌≤◌, ◌+◌, ◌++◌, [], length, subst, arith}
 use Rattle.std.specs.Io.KnownBytes.{Appends}
 use Rattle.std.proofs.KnownBytes.{Appends-nil, Appends-trans}
-use Rattle.act_store.specs.Kept.{table_of}
+use Rattle.act_store.specs.StoreState.{table_of}
 use Rattle.acts_ops.specs.Show.{shown, view_line}
 use Rattle.acts_ops.proofs.Showing.{before_all, behind_run, lines_behind, past_last}
 use Rattle.acts_ops.proofs.Writing.{more_written, past_part, stopped}

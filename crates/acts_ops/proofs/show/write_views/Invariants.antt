@@ -1,6 +1,6 @@
 use Rattle.std.proofs.Common.{◌≡◌, ℕ, ◌<◌, ◌≤◌, ◌++◌, List, length}
 use Rattle.std.specs.Io.KnownBytes.{Appends}
-use Rattle.act_store.specs.Kept.{table_of}
+use Rattle.act_store.specs.StoreState.{table_of}
 use Rattle.acts_ops.specs.Show.{shown}
 use Rattle.acts_ops.proofs.Showing.{lines_behind}
 use Rattle.acts_ops.proofs.show.write_views.Given as goal
