@@ -28,6 +28,7 @@ mod GroupScripts
 mod GroupTableRows
 pub mod GroupTruths
 pub mod GroupsKept
+pub mod HeldAtWork
 pub mod HistoryLaw
 pub mod HistoryWords
 pub mod HolderStatus

@@ -54,7 +54,7 @@ one_there lease_of lease (Some x) e =
       | Some n ↦ λ f. ap Some (eqb-true n lease f)
     ] e
 
-holds_it : (lease : ℕ) (o : Option RunnerState) → holds_this lease o ≡ true → option_and_then (λ x. x.holds) o ≡ Some lease
+pub holds_it : (lease : ℕ) (o : Option RunnerState) → holds_this lease o ≡ true → option_and_then (λ x. x.holds) o ≡ Some lease
 holds_it = one_there (λ (x : RunnerState). x.holds)
 
 pub has_it : (lease : ℕ) (o : Option LegState) → option_map_or (has_lease lease) o false ≡ true

@@ -5,7 +5,7 @@ ghost use Rattle.wf_value.specs.Gives.{Gives, no_memory};
 ghost use Rattle.run_plan.specs.ReplyText.{carries_text};
 ghost use Rattle.run_plan.specs.declared.last_command.ClaimReply.TheVariants as given;
 ghost use Rattle.run_table.specs.Claims.{is_claim};
-ghost use Rattle.workflow_runs.specs.Fitting.{first_fit};
+ghost use Rattle.workflow_runs.specs.Fitting.{OnlyAtWork, first_fit};
 ghost use Rattle.workflow_runs.specs.Groups.{HasOneEach};
 ghost use Rattle.run_table.specs.Sound.{IsSound};
 ghost use Rattle.workflow_runs.specs.SoundRuns.{RunsAreSound};
@@ -306,6 +306,7 @@ impl Content {
 
     /// What a runner is told of the leg that it has. It takes no memory.
     fn beat(&self, beat: &Beat) -> Reply
+        requires { IsSound self.now }
         ensures { result ≡ beat_answer self.now beat.now }
     {
         let runner = self.runners.named(&beat.runner);
@@ -368,6 +369,7 @@ impl Content {
     /// The leg of the lease ends. The runner had it, and is released.
     fn end_lost(&mut self, place: usize, runner: Runner, lease: Number) -> Result<Reply, Refusal>
         requires place { place ≡ place_named self.old.runners runner.name }
+        requires work { OnlyAtWork self.old.runs lease }
         requires ends { RunsAreSound (with_ended lease (outcome_of_loss self.old.runs lease) self.old.runs) }
         requires one_each { HasOneEach (with_ended lease (outcome_of_loss self.old.runs lease) self.old.runs) }
         ensures step { Gives (λ reply. (self.new, reply)) result (Ok (outcome (losing self.old runner lease))) }

@@ -1,13 +1,14 @@
--- A run that is not active has no leg of a lease, and is nobody in a group, nor is one of its legs.
+-- A run that is not active has no leg on which a runner is at work, and neither it nor a leg of it is pending or running in a group.
 use Rattle.std.specs.Prelude.{◌≡◌, ℕ, zero, suc, ◌<◌, ◌≤◌, ◌&&◌, ◌||◌, List, find, [], ◌∷◌, Bool, true, false, Option, Some, None, not}
-use Rattle.std.specs.Prelude.{is_some, nat_eq, option_and_then, slice_get, if◌then◌else◌, refl}
+use Rattle.std.specs.Prelude.{nat_eq, option_and_then, slice_get, if◌then◌else◌, refl}
 use Rattle.std.specs.List.{list_any}
 use Rattle.std.specs.Option.{option_map_or}
-use Rattle.std.proofs.Common.{ap, sym, ◌∙◌, inl, inr}
-use Rattle.std.proofs.lemmas.Bool.{cases_lt, or_parts, true≢false}
+use Rattle.std.proofs.Common.{arith, ap, sym, ◌∙◌, inl, inr}
+use Rattle.std.proofs.lemmas.Bool.{cases_eq, cases_lt, or_parts, true≢false}
+use Rattle.std.proofs.lemmas.Bool.Decides.{nat_tests}
 use Rattle.group_name.specs.Group.{Group}
 use Rattle.workflow_runs.specs.FirstOf.{first_some, placed}
-use Rattle.workflow_runs.specs.Fitting.{has_lease}
+use Rattle.workflow_runs.specs.Fitting.{OnlyAtWork, has_lease}
 use Rattle.workflow_runs.specs.GroupOf.{group_at}
 use Rattle.workflow_runs.specs.GroupWords.{same_holder}
 use Rattle.workflow_runs.specs.Groups.{holds, is_in, is_pending_in, is_running_in, leg_holds, leg_waits, run_waits, waits}
@@ -15,12 +16,15 @@ use Rattle.workflow_runs.specs.Holders.{is_conflicting}
 use Rattle.workflow_runs.specs.LookAgain.{ask}
 use Rattle.workflow_runs.specs.MarkedRuns.{has_active_leg, is_active, is_active_leg, is_so_at}
 use Rattle.workflow_runs.specs.Moves.{Holder}
+use Rattle.workflow_runs.specs.Parallel.{is_at_work}
 use Rattle.workflow_runs.specs.Places.{LegPlace, leg_at, leg_place, leg_places_of_job, leg_places_of_run}
 use Rattle.workflow_runs.specs.RunState.{JobState, LegState, RunState}
 use Rattle.workflow_runs.specs.StateWords.{is_live}
 use Rattle.workflow_runs.specs.WithinRun.{lease_in_job, lease_in_run}
 use Rattle.workflow_runs.specs.declared.holder.HolderFilter.{HolderFilter}
 use Rattle.workflow_runs.specs.declared.holder.HolderFilter.TheVariants.{OthersPending, Running}
+use Rattle.workflow_runs.specs.declared.phases.LegPhase.{LegPhase}
+use Rattle.workflow_runs.specs.declared.phases.LegPhase.TheVariants as a_leg
 use Rattle.workflow_runs.proofs.Firsts.{find-flat_map, find-map, first_same_placed}
 use Rattle.workflow_runs.proofs.Meant.{first_of_run}
 use Rattle.workflow_runs.proofs.Sought.{leg_there}
@@ -51,33 +55,48 @@ leg_rests : (run : RunState) (j l : ℕ) (job : JobState) (leg : LegState) → i
 leg_rests run j l job leg none at_job at_leg =
     none_of is_active_leg job.legs l leg (none_of has_active_leg run.jobs j job (jobs_rest run none) at_job) at_leg
 
--- ---- the leg of a lease
+-- ---- the leg of a lease, where a runner is at work on each leg that has it
 
-not_held : (lease : ℕ) (leg : LegState) → is_active_leg leg ≡ false → has_lease lease leg ≡ false
-not_held lease leg none = by leg.lease (or_parts (leg_waits leg.phase || leg_holds leg.phase) (is_some leg.lease) none).1
-  where
-    by : (o : Option ℕ) → is_some o ≡ false → option_map_or (λ held. nat_eq held lease) o false ≡ false
-    by None e = refl
-    by (Some held) e = absurd (true≢false e)
+at_work_holds : (phase : LegPhase) → is_at_work phase ≡ true → leg_holds phase ≡ true
+at_work_holds a_leg.New e = cc
+at_work_holds a_leg.Waiting e = cc
+at_work_holds a_leg.Ready e = refl
+at_work_holds a_leg.Running e = refl
+at_work_holds a_leg.Stopping e = refl
+at_work_holds (a_leg.Ended r) e = cc
 
-no_lease_in_job : (lease r j : ℕ) (run : RunState) (job : JobState) → is_active run ≡ false → slice_get run.jobs j ≡ Some job
-    → lease_in_job lease r j job ≡ None
-no_lease_in_job lease r j run job none at =
-    sym (first_passing (has_lease lease) (leg_place r j) job.legs)
-    ∙ none_placed (λ l. if has_lease lease l.1 then Some (leg_place r j l.0) else None) job.legs
-    (λ l leg there. ap (λ b. if b then Some (leg_place r j l) else None) (not_held lease leg (leg_rests run j l job leg none at there)))
-
-no_lease_in_run : (lease r : ℕ) (run : RunState) → is_active run ≡ false → lease_in_run lease r run ≡ None
-no_lease_in_run lease r run none =
-    none_placed (λ j. lease_in_job lease r j.0 j.1) run.jobs (λ j job at. no_lease_in_job lease r j run job none at)
-
-module _ (lease : ℕ) (runs : List RunState) where
-  pub no_lease : (i : ℕ) → is_so_at is_active runs i ≡ false → ask (lease_in_run lease) runs i ≡ None
-  no_lease i none = by (slice_get runs i) none
+module _ (runs : List RunState) (lease : ℕ) (only : OnlyAtWork runs lease) where
+  not_held : (p : LegPlace) (leg : LegState) → leg_at runs p ≡ Some leg → is_active_leg leg ≡ false → has_lease lease leg ≡ false
+  not_held p leg at none = by leg.lease refl
     where
-      by : (o : Option RunState) → option_map_or is_active o false ≡ false → option_and_then (lease_in_run lease i) o ≡ None
-      by None e = refl
-      by (Some x) e = no_lease_in_run lease i x e
+      holds_not : leg_holds leg.phase ≡ false
+      holds_not = (or_parts (leg_waits leg.phase) (leg_holds leg.phase) none).1
+
+      by : (o : Option ℕ) → leg.lease ≡ o → option_map_or (λ held. nat_eq held lease) o false ≡ false
+      by None is = refl
+      by (Some held) is =
+          elim (cases_eq held lease) [
+            | inl same ↦
+                absurd (true≢false (sym (at_work_holds leg.phase (only p leg at (is ∙ ap Some same))) ∙ holds_not))
+            | inr other ↦ grind (arith, nat_tests)
+          ]
+
+  no_lease_in_job : (r j : ℕ) (run : RunState) (job : JobState) → slice_get runs r ≡ Some run → is_active run ≡ false
+      → slice_get run.jobs j ≡ Some job → lease_in_job lease r j job ≡ None
+  no_lease_in_job r j run job at_run none at_job =
+      sym (first_passing (has_lease lease) (leg_place r j) job.legs)
+      ∙ none_placed (λ l. if has_lease lease l.1 then Some (leg_place r j l.0) else None) job.legs
+      (λ l leg at_leg. ap (λ b. if b then Some (leg_place r j l) else None)
+      (not_held (leg_place r j l) leg (leg_there runs r j run job at_run at_job l leg at_leg) (leg_rests run j l job leg none at_job at_leg)))
+
+  pub no_lease : (i : ℕ) → is_so_at is_active runs i ≡ false → ask (lease_in_run lease) runs i ≡ None
+  no_lease i none = by (slice_get runs i) refl none
+    where
+      by : (o : Option RunState) → slice_get runs i ≡ o → option_map_or is_active o false ≡ false
+          → option_and_then (lease_in_run lease i) o ≡ None
+      by None at_run e = refl
+      by (Some x) at_run e =
+          none_placed (λ j. lease_in_job lease i j.0 j.1) x.jobs (λ j job at_job. no_lease_in_job i j x job at_run e at_job)
 
 -- ---- the holders of a group
 
@@ -121,8 +140,7 @@ module _ (runs : List RunState) (h : Holder) where
   leg_not_meant : (whom : HolderFilter) (p : LegPlace) (leg : LegState) → leg_at runs p ≡ Some leg → is_active_leg leg ≡ false
       → is_conflicting runs h whom (Holder.a_leg p) ≡ false
   leg_not_meant whom p leg at none =
-      let parts =
-      or_parts (leg_waits leg.phase) (leg_holds leg.phase) (or_parts (leg_waits leg.phase || leg_holds leg.phase) (is_some leg.lease) none).0 in
+      let parts = or_parts (leg_waits leg.phase) (leg_holds leg.phase) none in
       not_meant whom (Holder.a_leg p) (ap (λ o. option_map_or (λ x. leg_waits x.phase) o false) at ∙ parts.0)
       (ap (λ o. option_map_or (λ x. leg_holds x.phase) o false) at ∙ parts.1)
 

@@ -1,11 +1,11 @@
 -- Which leg a claim gets, and which leg has a lease: the first one, in the order of run, job and leg.
 -- GitHub Docs, "Workflow syntax for GitHub Actions": jobs.<job_id>.runs-on, jobs.<job_id>.strategy.max-parallel. That labels
 -- compare without the case of ASCII letters is own.
-use Rattle.std.specs.Prelude.{ℕ, ◌&&◌, List, find, Bool, true, false, nat_eq, Option}
+use Rattle.std.specs.Prelude.{◌≡◌, ℕ, ◌&&◌, List, find, Bool, true, false, nat_eq, Option, Some}
 use Rattle.std.specs.List.{list_all, list_any}
 use Rattle.std.specs.Option.{option_map_or}
 use Rattle.std.specs.Str.{str_eq_ignore_ascii_case}
-use Rattle.workflow_runs.specs.Parallel.{has_room}
+use Rattle.workflow_runs.specs.Parallel.{has_room, is_at_work}
 use Rattle.workflow_runs.specs.Places.{LegPlace, job_at, leg_at, leg_places}
 use Rattle.workflow_runs.specs.RunState.{LegState, RunState}
 use Rattle.workflow_runs.specs.Words.{labels_at}
@@ -45,6 +45,10 @@ has_lease lease l = option_map_or (λ held. nat_eq held lease) l.lease false
 -- the leg of a lease
 abbrev pub place_of_lease : List RunState → ℕ → Option LegPlace
 place_of_lease runs lease = find (λ p. option_map_or (has_lease lease) (leg_at runs p) false) (leg_places runs)
+
+-- a runner is at work on each leg that has the lease
+abbrev pub OnlyAtWork : List RunState → ℕ → Type 0
+OnlyAtWork runs lease = (p : LegPlace) (l : LegState) → leg_at runs p ≡ Some l → l.lease ≡ Some lease → is_at_work l.phase ≡ true
 
 -- ---- a leg that is told to stop
 

@@ -26,9 +26,9 @@ has_waiting_leg job = list_any (λ l. leg_waits l.phase) job.legs
 abbrev pub someone_waits : RunState → Bool
 someone_waits run = run_waits run.phase || list_any has_waiting_leg run.jobs
 
--- whether a leg waits for its group, holds it, or has a lease
+-- whether a leg waits for its group, or holds it: a leg on which a runner is at work does
 abbrev pub is_active_leg : LegState → Bool
-is_active_leg leg = (leg_waits leg.phase || leg_holds leg.phase) || is_some leg.lease
+is_active_leg leg = leg_waits leg.phase || leg_holds leg.phase
 
 abbrev pub has_active_leg : JobState → Bool
 has_active_leg job = list_any is_active_leg job.legs

@@ -4,7 +4,8 @@ ghost use Rattle.std.specs.Prelude.{◌≡◌, ◌<◌, ◌^◌, ◌&&◌, IfSom
 ghost use Rattle.std.specs.List.{position};
 ghost use Rattle.std.specs.Option.{option_map_or};
 ghost use Rattle.workflow_runs.specs.Cells.{states};
-ghost use Rattle.workflow_runs.specs.Fitting.{first_fit, has_lease, is_ready, is_served, is_stopping_leg, is_lease_stopping, place_of_lease};
+ghost use Rattle.workflow_runs.specs.Fitting.{OnlyAtWork, first_fit, has_lease, is_ready, is_served, is_stopping_leg, is_lease_stopping};
+ghost use Rattle.workflow_runs.specs.Fitting.{place_of_lease};
 ghost use Rattle.workflow_runs.specs.Parallel.{has_room};
 ghost use Rattle.workflow_runs.specs.Places.{leg_at};
 ghost use Rattle.workflow_runs.specs.Stops.{outcome_of_loss};
@@ -138,8 +139,9 @@ fn lease_in_run(lease: Number, r: usize, run: &Run) -> Option<LegPlace>
     lease_in_jobs(lease, r, run.jobs())
 }
 
-/// The leg that has a lease.
+/// The leg that has a lease, where a runner is at work on it.
 pub fn place_of_lease(lease: Number, runs: &Runs) -> Option<LegPlace>
+    requires { OnlyAtWork runs.now lease }
     ensures found { result ≡ place_of_lease runs.now lease }
     ensures leg { IfSome result (λ p. p.leg < 2 ^ 63) }
 {
@@ -158,6 +160,7 @@ pub fn place_of_lease(lease: Number, runs: &Runs) -> Option<LegPlace>
 
 /// Whether the leg of a lease is told to stop.
 pub fn is_lease_stopping(lease: Number, runs: &Runs) -> bool
+    requires { OnlyAtWork runs.now lease }
     ensures { result ≡ is_lease_stopping runs.now lease }
 {
     match place_of_lease(lease, runs) {
@@ -168,6 +171,7 @@ pub fn is_lease_stopping(lease: Number, runs: &Runs) -> bool
 
 /// How the leg of a lease ends whose runner is lost.
 pub fn outcome_of_loss(lease: Number, runs: &Runs) -> Outcome
+    requires { OnlyAtWork runs.now lease }
     ensures { result ≡ outcome_of_loss runs.now lease }
 {
     if is_lease_stopping(lease, runs) {

@@ -74,7 +74,7 @@ impl Job {
         self.legs().iter().any(|leg| leg.phase.waits())
     }
 
-    /// Whether a leg of it waits for its group, holds it, or has a lease.
+    /// Whether a leg of it waits for its group, or holds it.
     pub(crate) fn has_active_leg(&self) -> bool
         ensures { result ≡ has_active_leg self.now.state }
     {

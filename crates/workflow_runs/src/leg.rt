@@ -110,11 +110,11 @@ impl Leg {
         self.phase.is_stopping()
     }
 
-    /// Whether it waits for its group, holds it, or has a lease.
+    /// Whether it waits for its group, or holds it.
     pub(crate) fn is_active(&self) -> bool
         ensures { result ≡ is_active_leg self.now }
     {
-        self.phase.waits() || self.phase.holds() || self.lease.is_some()
+        self.phase.waits() || self.phase.holds()
     }
 
     pub(crate) fn has_lease(&self, lease: Number) -> bool

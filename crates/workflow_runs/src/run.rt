@@ -165,7 +165,7 @@ impl Run {
         self.phase.waits() || have_waiting_leg(self.jobs())
     }
 
-    /// Whether it waits or is live, or a leg of it waits for its group, holds it, or has a lease.
+    /// Whether it waits or is live, or a leg of it waits for its group, or holds it.
     pub(crate) fn is_active(&self) -> bool
         ensures { result ≡ is_active self.now }
     {

@@ -1,6 +1,7 @@
 //! The end of a leg.
 
 ghost use Rattle.std.specs.Prelude.{◌≡◌, ◌<◌, ◌^◌};
+ghost use Rattle.workflow_runs.specs.Fitting.{OnlyAtWork};
 ghost use Rattle.workflow_runs.specs.StopMoves.{with_ended};
 ghost use Rattle.workflow_runs.specs.Stops.{after_end, fails_fast, stops_others};
 
@@ -12,8 +13,9 @@ use run_plan::Number;
 use wf_value::Outcome;
 
 impl Runs {
-    /// The leg of a lease ends.
+    /// The leg of a lease ends, on which a runner is at work.
     pub fn end(&mut self, lease: Number, outcome: Outcome)
+        requires { OnlyAtWork self.old lease }
         ensures { self.new ≡ with_ended lease outcome self.old }
     {
         if let Some(place) = place_of_lease(lease, self) {

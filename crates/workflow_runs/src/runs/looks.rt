@@ -36,7 +36,7 @@ impl Runs {
         next_below(&self.marks.due, from, self.len())
     }
 
-    /// The next run that may wait or be live, or have a leg that waits for a group, holds it, or has a lease.
+    /// The next run that may wait or be live, or have a leg that waits for its group, or holds it.
     pub(crate) fn next_active(&self, from: usize) -> Option<usize>
         ensures within { IfSome result (λ r. r < length self.now) }
         ensures few { IfSome result (λ r. r < 100000) }

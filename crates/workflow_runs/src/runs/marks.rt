@@ -15,7 +15,7 @@ pub(crate) struct RunMarks {
     pub ready: Marks,
     /// Those that wait for a group, or in which a leg does.
     pub waiting: Marks,
-    /// Those that wait or are live, or in which a leg waits for a group, holds it, or has a lease.
+    /// Those that wait or are live, or in which a leg waits for its group, or holds it.
     pub active: Marks,
     /// Those in which a settling rule applies.
     pub due: Marks,

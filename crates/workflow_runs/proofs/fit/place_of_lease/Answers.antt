@@ -14,7 +14,7 @@ returns-then-is_some-clause-found c =
     let some : is_some c.lease_in_run-place.result ≡ true = search rules in
     sym (place_of_lease_by_run runs c.args.lease
     ∙ answer_found asked runs c.in-Some.r c.index-all-r.result c.lease_in_run-place.result
-    (none_before (λ k. ask asked runs k ≡ None) runs c.loop-r.from c.in-Some.r (no_lease c.args.lease runs) c.loop-r.invariant
+    (none_before (λ k. ask asked runs k ≡ None) runs c.loop-r.from c.in-Some.r (no_lease runs c.args.lease c.requires) c.loop-r.invariant
     c.in-Some.ensures.between) (search rules) (search rules) c.lease_in_run-place.ensures.found some)
 
 pub loop-r-preserved : goal.loop-r-preserved
@@ -23,7 +23,7 @@ loop-r-preserved c =
     let asked = lease_in_run c.args.lease in
     let none : is_some c.lease_in_run-place.result ≡ false = search rules in
     below_more _ _
-    (none_before (λ k. ask asked runs k ≡ None) runs c.loop-r.from c.in-Some.r (no_lease c.args.lease runs) c.loop-r.invariant
+    (none_before (λ k. ask asked runs k ≡ None) runs c.loop-r.from c.in-Some.r (no_lease runs c.args.lease c.requires) c.loop-r.invariant
     c.in-Some.ensures.between)
     (answer_passed asked runs c.in-Some.r c.index-all-r.result c.lease_in_run-place.result (search rules) (search rules)
     c.lease_in_run-place.ensures.found none)
@@ -34,5 +34,5 @@ returns-clause-found c =
     let asked = lease_in_run c.args.lease in
     sym (place_of_lease_by_run runs c.args.lease
     ∙ none_found asked runs (length runs)
-    (none_before (λ k. ask asked runs k ≡ None) runs c.loop-r.from (length runs) (no_lease c.args.lease runs) c.loop-r.invariant
+    (none_before (λ k. ask asked runs k ≡ None) runs c.loop-r.from (length runs) (no_lease runs c.args.lease c.requires) c.loop-r.invariant
     (λ i from to. c.in_default.ensures.none i from)) (omega arith))

@@ -1,5 +1,6 @@
 use Rattle.std.specs.Prelude.{List}
 use Rattle.std.proofs.Common.{ap, sym, subst, ◌∙◌}
+use Rattle.workflow_runs.specs.Fitting.{OnlyAtWork}
 use Rattle.workflow_runs.specs.Groups.{HasOneEach}
 use Rattle.workflow_runs.specs.SoundRuns.{RunsAreSound}
 use Rattle.workflow_runs.specs.StopMoves.{with_ended}
@@ -11,6 +12,12 @@ use Rattle.run_table.proofs.content.Content.end_lost.Goals as goal
 
 pub put-requires : goal.put-requires
 put-requires c = c.requires.place ∙ ap (λ (t : TableState). place_named t.runners c.args.runner.name) (sym c.self.view_is)
+
+pub outcome_of_loss-outcome-requires : goal.outcome_of_loss-outcome-requires
+outcome_of_loss-outcome-requires c = subst (λ (s : TableState). OnlyAtWork s.runs c.args.lease) (sym c.self.view_is) c.requires.work
+
+pub end-requires : goal.end-requires
+end-requires c = subst (λ (s : TableState). OnlyAtWork s.runs c.args.lease) (sym c.self.view_is) c.requires.work
 
 pub settle-requires-clause-sound : goal.settle-requires-clause-sound
 settle-requires-clause-sound c =

@@ -4,6 +4,7 @@ use Rattle.run_table.specs.TableState.{RunnerState, TableState}
 use Rattle.run_table.specs.PlaceNamed.{place_named}
 use Rattle.run_table.specs.Turns.{runner_named}
 use Rattle.run_table.proofs.BeforeSettling.{lost_may_settle}
+use Rattle.run_table.proofs.HeldAtWork.{held_at_work}
 use Rattle.run_table.proofs.RunnerPut.{has_the_name}
 use Rattle.run_table.proofs.content.Content.lose.Goals as goal
 use Rattle.wf_value.proofs.PassedOn.{same_Ok}
@@ -22,6 +23,7 @@ end_lost-requires c =
     record {
       place = c.place_named-place.ensures ∙ ap (λ (t : TableState). place_named t.runners name) c.self.view_is
           ∙ ap (λ (n : List ℕ). place_named c.args.self.now.runners n) same;
+      work = held_at_work c.args.self.now name c.in-Some.runner.now c.in-Some-holds.lease c.requires named holds;
       ends = may.sound;
       one_each = may.one_each;
     }
