@@ -1,6 +1,7 @@
 //! Serves a store on two ports: sessions of HTTP on the one, sessions of runner lines on the other.
 #![tactic(auto)]
 
+mod closing;
 mod serve;
 mod visit;
 

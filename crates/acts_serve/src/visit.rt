@@ -1,5 +1,6 @@
 ghost use Rattle.std.specs.Prelude.{◌≡◌, [], ⊤};
 
+use crate::closing::close;
 use act_sessions::{Answer, Ending, SessionFault, Transcript, Work};
 use std::alloc::Global;
 use std::net::{TcpListener, TcpStream};
@@ -45,7 +46,7 @@ impl<'a> Work for Visit<'a> {
             return Err(unaccepted(alloc));
         };
         let (mut reader, mut writer) = (&stream, &stream);
-        match self {
+        let ended = match self {
             Visit::Hook(_) => webhook_sessions::Session::run(
                 alloc,
                 &mut reader,
@@ -58,6 +59,8 @@ impl<'a> Work for Visit<'a> {
                 &mut writer,
                 answer,
             ),
-        }
+        };
+        close(stream);
+        ended
     }
 }
