@@ -4,6 +4,10 @@
 #[cfg(test)]
 mod clients;
 #[cfg(test)]
+mod closing;
+#[cfg(test)]
 mod loopback;
 #[cfg(test)]
 mod rounds;
+#[cfg(test)]
+mod service;

@@ -1,15 +1,10 @@
 //! Two rounds of sessions over loopback: the second one goes on at the table that the first has left.
 
 use crate::clients::{BODY, CREATED, POST, is_answered};
-use act_disk::MemoryDisk;
-use act_store::Store;
-use acts_serve::serve_rounds;
+use crate::service::serve;
 use std::alloc::Global;
 use std::net::{Net, SocketAddr, TcpListener, TcpStream};
-use std::sync::Wait;
 use std::test::Fail;
-use std::thread::Threads;
-use std::time::Clock;
 use std::{io, thread};
 
 /// One stream for each of two texts, one after the other, and whether each was answered so.
@@ -36,21 +31,6 @@ const RUNNER: &[(&[&str], &str)] = &[
     (&["CLAIM r1 1 linux\n"], "lease 1 1 build 0 {}\n"),
 ];
 
-/// Serves a new store in two rounds, and tells how many entries the second one has.
-fn serve<R: Threads + Wait + Clock + Sync>(
-    rt: &R,
-    alloc: Global,
-    hooks: &TcpListener,
-    runners: &TcpListener,
-    out: &mut Vec<u8>,
-) -> Option<u64> {
-    let Ok(store) = Store::init(alloc, MemoryDisk::new(alloc), 4096) else {
-        return None;
-    };
-    let settled = serve_rounds(rt, alloc, store, hooks, runners, 1, 2, out).ok()?;
-    Some(settled.entries())
-}
-
 #[test]
 fn serves_two_rounds(rt: HostRuntime) -> Result<(), Fail> {
     let alloc: Global = rt.alloc();
@@ -63,7 +43,7 @@ fn serves_two_rounds(rt: HostRuntime) -> Result<(), Fail> {
     let ended = thread::scope(thread::scope_env(), rt, |scope| {
         let one = scope.spawn(|| visits(rt, to_hooks, HOOK));
         let two = scope.spawn(|| visits(rt, to_runners, RUNNER));
-        let served = serve(rt, alloc, &hooks, &runners, &mut out);
+        let served = serve(rt, alloc, &hooks, &runners, 2, &mut out);
         let one = one.is_ok_and(|handle| handle.join(rt).unwrap_or(false));
         let two = two.is_ok_and(|handle| handle.join(rt).unwrap_or(false));
         (served == Some(2), one, two)
