@@ -74,21 +74,26 @@ fn answered<R: Net<Stream = TcpStream>>(
 /// How many rounds are served.
 const ROUNDS: usize = 24;
 
-/// A stream in each round, with one of the texts after the other: how many were answered so.
+/// A stream in each round, with one of the texts after the other: how many were answered so, and how many of these could be sent on
+/// behind their end.
 fn visits<R: Net<Stream = TcpStream>>(
     rt: &R,
     alloc: Global,
     to: SocketAddr,
     texts: &[Last<'_>],
-) -> usize {
-    texts
-        .iter()
-        .cycle()
-        .take(ROUNDS)
-        .filter(|last| matches!(answered(rt, alloc, to, last), Ok(Some(_))))
-        .count()
+) -> (usize, usize) {
+    let (mut all, mut sent_on) = (0_usize, 0_usize);
+    for last in texts.iter().cycle().take(ROUNDS) {
+        if let Ok(Some(mut stream)) = answered(rt, alloc, to, last) {
+            all = all.saturating_add(1);
+            sent_on = sent_on.saturating_add(usize::from(send_on(&mut stream, &[]).is_ok()));
+        }
+    }
+    (all, sent_on)
 }
 
+/// Each client is given its last answers. Of those that send on half at least have to be read: one that is kept from a processor for a
+/// quarter of a second is let go.
 #[test]
 fn last_answers_are_read(rt: HostRuntime) -> Result<(), Fail> {
     let alloc: Global = rt.alloc();
@@ -102,11 +107,16 @@ fn last_answers_are_read(rt: HostRuntime) -> Result<(), Fail> {
         let one = scope.spawn(|| visits(rt, alloc, to_hooks, HOOKS));
         let two = scope.spawn(|| visits(rt, alloc, to_runners, RUNNERS));
         let served = serve(rt, alloc, &hooks, &runners, ROUNDS as u64, &mut out);
-        let one = one.map_or(0, |handle| handle.join(rt));
-        let two = two.map_or(0, |handle| handle.join(rt));
+        let one = one.map_or((0, 0), |handle| handle.join(rt));
+        let two = two.map_or((0, 0), |handle| handle.join(rt));
         (served, one, two)
     });
-    assert_eq!(rt; ended, (Some(3), ROUNDS, ROUNDS));
+    let (served, (hooked, hooks_read), (lined, lines_read)) = ended;
+    assert_eq!(rt; (served, hooked, lined), (Some(3), ROUNDS, ROUNDS));
+    assert!(rt;
+        hooks_read >= ROUNDS / 2 && lines_read >= ROUNDS / 2,
+        "{hooks_read}, {lines_read}"
+    );
     Ok(())
 }
 
