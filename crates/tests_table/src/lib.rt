@@ -9,6 +9,8 @@ mod group_parts;
 #[cfg(test)]
 mod holds;
 #[cfg(test)]
+mod looked;
+#[cfg(test)]
 mod spellings;
 #[cfg(test)]
 mod stored_tables;

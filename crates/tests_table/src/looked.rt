@@ -1,0 +1,66 @@
+//! How often a step tries settling rules: as often in a table of many finished runs as in an empty one.
+
+use crate::holds::holds;
+use run_plan::{Command, Reply};
+use run_table::Table;
+use std::alloc::Global;
+use tests_common::commands::{Words, command_of};
+use wf_value::{Outcome, Refusal};
+use workflow_runs::phases::RunPhase;
+
+/// The body of an event of one job, `build`.
+const BUILD: &str =
+    "{\"repo\":\"o/r\",\"path\":\"ci.json\",\"workflow\":{\"jobs\":{\"build\":{\"runs-on\":\"linux\"}}}}";
+
+/// The most tries that a step may make once a thousand runs have finished.
+const MOST: u64 = 64;
+
+fn step(alloc: Global, table: &mut Table, words: &Words<'_>) -> Result<Reply, Refusal> {
+    let command: Command = command_of(alloc, words)?;
+    table.step(alloc, &command)
+}
+
+/// A run is admitted, claimed and finished: the one behind `before` others of its table, by a runner that has sent two commands for each.
+fn finish_run(alloc: Global, table: &mut Table, before: u32) -> Result<(), Refusal> {
+    let before = u64::from(before);
+    let delivery = format!(in alloc; "d{before}")?;
+    let lease = format!(in alloc; "{}", before + 1)?;
+    let claim = format!(in alloc; "{}", 2 * before + 1)?;
+    let report = format!(in alloc; "{}", 2 * before + 2)?;
+    step(alloc, table, &Words::Admit(delivery.as_str(), BUILD))?;
+    step(alloc, table, &Words::Claim("r1", claim.as_str(), "linux"))?;
+    let done = Words::Done("r1", report.as_str(), lease.as_str(), Outcome::Success);
+    step(alloc, table, &done)?;
+    Ok(())
+}
+
+/// How many runs of so many have ended, and how often the admission of one more tries a rule.
+fn tries_after(alloc: Global, runs: u32) -> Result<(usize, u64), Refusal> {
+    let mut table = Table::new(alloc);
+    for before in 0..runs {
+        finish_run(alloc, &mut table, before)?;
+    }
+    let ended = table
+        .runs()
+        .iter()
+        .filter(|run| matches!(run.phase(), RunPhase::Ended))
+        .count();
+    step(alloc, &mut table, &Words::Admit("another", BUILD))?;
+    Ok((ended, table.looked()))
+}
+
+#[test]
+fn an_admission_tries_few_rules_after_a_thousand_runs(rt: HostRuntime) {
+    let (ended, tries) = tries_after(rt.alloc(), 1_000).expect(&rt, "memory");
+    holds!(rt; ended == 1_000);
+    holds!(rt; 0 < tries && tries <= MOST, tries);
+}
+
+#[test]
+fn a_step_that_settles_nothing_tries_no_rule(rt: HostRuntime) {
+    let alloc = rt.alloc();
+    let mut table = Table::new(alloc);
+    finish_run(alloc, &mut table, 0).expect(&rt, "memory");
+    step(alloc, &mut table, &Words::Look("1")).expect(&rt, "memory");
+    holds!(rt; table.looked() == 0);
+}
