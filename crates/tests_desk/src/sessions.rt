@@ -30,6 +30,12 @@ fn number_of(rt: &impl Abort, transcript: &Transcript) -> u64 {
     }
 }
 
+/// That a session ended with one answer, which prints so.
+fn expect_answered(rt: &impl Abort, alloc: Global, transcript: &Transcript, want: &str) {
+    holds!(rt; transcript.ending == Ending::Done && transcript.asked.len() == 1);
+    expect_answer(rt, alloc, &transcript.asked[0].answer, want);
+}
+
 /// Both first calls are held until both sessions have come, and that of the first until the second was answered: sessions are not served one
 /// after another, and no lock is held while one waits.
 #[test]
@@ -42,10 +48,9 @@ fn sessions_overlap(rt: HostRuntime) {
     let settled = settled(&rt, serve_all(&rt, alloc, store, works, &gate));
     holds!(rt; gate.was_held());
     holds!(rt; settled.transcripts.len() == 2);
-    for (place, want) in [(0, "nothing"), (1, "refused 40")] {
-        let transcript = &settled.transcripts[place];
-        holds!(rt; transcript.ending == Ending::Done && transcript.asked.len() == 1);
-        expect_answer(&rt, alloc, &transcript.asked[0].answer, want);
+    let wanted = ["nothing", "refused 40"];
+    for (transcript, want) in settled.transcripts.iter().zip(wanted) {
+        expect_answered(&rt, alloc, transcript, want);
     }
     holds!(rt; settled.store.entries() == 2 && settled.store.covered() == 2);
     expect_entry(&rt, alloc, &settled.store, 1, (1, "refused 40"));
