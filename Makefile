@@ -52,7 +52,7 @@ hostile: build
 	sweeps/little_memory/run $(ACTS)
 	sweeps/clients/run $(ACTS)
 	sweeps/crowd/run $(ACTS)
-	sweeps/damaged_files/run.sh $(ACTS)
+	sweeps/damaged_files/run $(ACTS)
 
 # The wrong bodies beyond those of the gate: of each crate, of CRATE, or the one of CRATE=NAME/EDIT.
 wrong-bodies:
