@@ -3,7 +3,9 @@
 import os
 import socket
 import subprocess
+import time
 
+MOMENT = 0.002
 BODY = b'{"repo":"o/r","path":"ci.json","workflow":{"jobs":{"build":{"runs-on":"linux"}}}}'
 
 
@@ -78,6 +80,7 @@ class Client:
 
     def __init__(self, port, timeout=20):
         self.stream = socket.create_connection(('127.0.0.1', port), timeout=timeout)
+        self.stream.setsockopt(socket.IPPROTO_TCP, socket.TCP_NODELAY, 1)
         self.held = b''
 
     def more(self):
@@ -103,8 +106,13 @@ class Client:
         return front
 
     def send(self, data):
+        """Sends bytes, or pieces of them with a moment between."""
+        first, *rest = data if isinstance(data, tuple) else (data,)
         try:
-            self.stream.sendall(data)
+            self.stream.sendall(first)
+            for piece in rest:
+                time.sleep(MOMENT)
+                self.stream.sendall(piece)
         except (BrokenPipeError, ConnectionResetError):
             raise Ended(self.held) from None
 
