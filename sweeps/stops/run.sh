@@ -3,18 +3,19 @@
 # fail, by itself and with all after it. Each image opens to the entries that were covered or to all; a fault is answered 51 and all
 # behind it 52; the disk then opens so too, and the rest of the script, played over that, with the step that failed once more, leads to the
 # table of the whole. The script is the sixteen runs of the rows with a checkpoint among them, where none is named; a name ends in
-# `.script`, and the answers stand beside it. It is a trial run of the sweep's own program, so nothing of that is proved. The same over a
-# service and its file is `sweeps/stops/served`.
+# `.script`, and the answers stand beside it. It is a trial run of the sweep's own program, so nothing of that is proved, and each opening
+# costs by the bytes of the disk: with areas of 4,096 bytes, which the sixteen runs fit, it takes some minutes, and its output comes at the
+# end. The same over a file is `sweeps/stops/file.sh`, and over a service and its file `sweeps/stops/served`.
 # Usage: sweeps/stops/run.sh [SCRIPT [AREA]]
 set -eu
 . "$(dirname "$0")/../../bench/copy.sh"
 script=$(realpath "${1:-$top/crates/acts_rows/data/store/checkpoint_among_sixteen_runs.script}")
-area=${2:-65536}
+area=${2:-4096}
 copy_for stops_sweep main.rt.txt act_disk act_store command_lines run_plan wf_value anyhow
-for part in script stops faults; do cp "$here/$part.rt.txt" "$scratch/crates/stops_sweep/src/$part.rt"; done
+for part in lines script stops faults; do cp "$here/$part.rt.txt" "$scratch/crates/stops_sweep/src/$part.rt"; done
 cd "$scratch/crates/stops_sweep"
 rt fmt > /dev/null
-rt try --seconds 1800 -- "$area" < "$script" > "$scratch/said" 2> "$scratch/log" || { tail -n 5 "$scratch/said" "$scratch/log" >&2; exit 1; }
+rt try --steps 1 --seconds 7200 -- "$area" < "$script" > "$scratch/said" 2> "$scratch/log" || { tail -n 5 "$scratch/said" "$scratch/log" >&2; exit 1; }
 count=$(wc -l < "${script%.script}.answers")
 head -n "$count" "$scratch/said" | diff - "${script%.script}.answers"
 tail -n +$((count + 1)) "$scratch/said"
