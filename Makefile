@@ -47,6 +47,7 @@ sweep: build
 # Stops, failing calls, want of memory, hostile clients and damaged files, all of it with the proved program. Needs a C compiler.
 hostile: build
 	sweeps/stops/run.sh
+	sweeps/stops/file.sh
 	sweeps/stops/served $(ACTS)
 	sweeps/refused_growth/served $(ACTS)
 	sweeps/little_memory/run $(ACTS)
