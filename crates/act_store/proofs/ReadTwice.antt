@@ -1,5 +1,5 @@
 -- A disk that is only read by one call and then by another is only read by both.
-use Rattle.std.specs.Prelude.{◌≡◌, ℕ, ◌≤◌, List}
+use Rattle.std.specs.Prelude.{ℕ, ◌≤◌, List}
 use Rattle.std.proofs.Common.{arith, inl, inr, ◌∙◌}
 use Rattle.gated_journal.specs.Reading.{OnlyRead}
 
