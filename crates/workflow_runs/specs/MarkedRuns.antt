@@ -1,4 +1,4 @@
--- Marks of runs, by which claims and settling pass the runs that have nothing for them: where a fact holds of a run the run is marked,
+-- Marks of runs, by which commands and settling pass the runs that have nothing for them: where a fact holds of a run the run is marked,
 -- and others may be (own).
 use Rattle.std.specs.Prelude.{◌≡◌, ℕ, ◌≤◌, ◌<◌, ◌||◌, List, length, Bool, true, false, slice_get, Some, is_some}
 use Rattle.std.specs.List.{list_any}

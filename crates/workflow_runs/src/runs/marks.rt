@@ -1,4 +1,4 @@
-//! Marks of runs, by which claims and settling pass the runs that have nothing for them. A run may be marked in vain: a look that finds
+//! Marks of runs, by which commands and settling pass the runs that have nothing for them. A run may be marked in vain: a look that finds
 //! nothing there unmarks it.
 
 ghost use Rattle.std.specs.Prelude.{◌≡◌, ◌≤◌, ◌<◌, ◌+◌, ℕ, [], IfNone, IfOk, IfSome, OnOk, false, length, true};
