@@ -1,0 +1,77 @@
+"""What a local mirror of a repository says of an event: the commit, its workflows, and the files that changed."""
+import os, subprocess, sys
+
+EMPTY_TREE = '4b825dc642cb6eb9a060e54bf8d69288fbee4904'
+
+
+class NoCommit(Exception):
+    """The mirror has no such commit, or not yet."""
+
+
+class Mirror:
+    """A bare clone of a repository, which is fetched for each delivery where it has a remote."""
+
+    def __init__(self, folder):
+        self.folder = folder
+        if self.git('remote'):
+            try:
+                self.git('fetch', '--quiet', '--prune', 'origin')
+            except subprocess.SubprocessError as fault:
+                print(f'github_events: {folder}: no fetch:', getattr(fault, 'stderr', b'') or fault, file=sys.stderr, flush=True)
+
+    def git(self, *words):
+        done = subprocess.run(['git', '-C', self.folder, *words], capture_output=True, check=True, timeout=300, env={**os.environ, 'GIT_TERMINAL_PROMPT': '0'})
+        return done.stdout.decode(errors='replace')
+
+    def ask(self, *words):
+        """The answer without its line feed; None where git refuses."""
+        try:
+            return self.git(*words).rstrip('\n')
+        except subprocess.CalledProcessError:
+            return None
+
+    def commit(self, name):
+        found = self.ask('rev-parse', '--verify', '--quiet', '--end-of-options', name + '^{commit}')
+        if found is None:
+            raise NoCommit(f'{self.folder} has no commit {name}')
+        return found
+
+    def changed(self, span):
+        names = self.ask('diff', '--name-only', '--no-renames', '-z', *span, '--')
+        return None if names is None else names.split('\0')[:-1]
+
+    def workflows(self, commit):
+        paths = self.ask('ls-tree', '-z', '--name-only', commit, '.github/workflows/') or ''
+        return [path for path in paths.split('\0') if path.endswith(('.yml', '.yaml'))]
+
+
+class Occasion:
+    """Where an event was: `kind` and `name` of the branch or tag by which `on` filters, the values of `github` that say it, and its newest commit."""
+
+    def __init__(self, event, payload, mirror):
+        self.payload, self.mirror, self.pull = payload, mirror, payload.get('pull_request') if event == 'pull_request' else None
+        base_ref = head_ref = ''
+        if self.pull:
+            base_ref, head_ref = self.pull['base']['ref'], self.pull['head']['ref']
+            ref, self.kind, self.name = f'refs/pull/{payload["number"]}/merge', 'branches', base_ref
+            self.head = mirror.commit(self.pull['head']['sha'])
+            merge = (mirror.ask('rev-list', '--parents', '--max-count=1', ref) or '').split()
+            self.commit = merge[0] if self.head in merge[2:] else self.head  # where its second parent is another, the merge is of an earlier push
+        else:
+            ref = payload['ref'] if payload['ref'].startswith('refs/') else 'refs/heads/' + payload['ref']
+            self.kind, self.name = 'tags' if ref.startswith('refs/tags/') else 'branches', ref.split('/', 2)[2]
+            self.head = self.commit = mirror.commit(payload['after'] if event == 'push' else ref)
+        self.github = {'ref': ref, 'ref_name': ref.split('/', 2)[2], 'ref_type': 'tag' if self.kind == 'tags' else 'branch', 'sha': self.commit,
+                       'base_ref': base_ref, 'head_ref': head_ref}
+
+    def changed(self):
+        """The files that a pull request changes; of a branch that was there those in which it differs from before, of a new one those in which it
+        differs from the parent of the first commit that was pushed. None where nothing is known to compare with."""
+        if self.pull:
+            return self.mirror.changed([f'{self.pull["base"]["sha"]}...{self.head}'])
+        before, commits = self.payload['before'], self.payload.get('commits')
+        if not before.strip('0'):
+            if not commits:
+                return None
+            before = self.mirror.ask('rev-parse', '--verify', '--quiet', commits[0]['id'] + '^') or EMPTY_TREE
+        return self.mirror.changed([before, self.commit])
