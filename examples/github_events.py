@@ -32,7 +32,8 @@ def body_of(envelope, payload):
     """The bytes of an event, with as much of the payload as there is room for; None where there is none."""
     scalars = {name: value for name, value in payload.items() if not isinstance(value, (dict, list))}
     for event in trimmed(payload, False), trimmed(payload, True), scalars, {}:
-        body = json.dumps({**envelope, 'github': {**envelope['github'], 'event': event}}, ensure_ascii=False, allow_nan=False, separators=(',', ':')).encode(errors='replace')
+        envelope['github'] = {**envelope['github'], 'event': event}
+        body = json.dumps(envelope, ensure_ascii=False, allow_nan=False, separators=(',', ':')).encode(errors='replace')
         if len(body) <= LONGEST_BODY:
             return body
     return None
