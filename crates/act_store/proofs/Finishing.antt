@@ -78,7 +78,7 @@ pub record Finishes {D : Type 0} (honest : D → Type 0) (images : D → List �
   pub counted : IsCounted (as_state s) s.table s.waiting
   pub standing : honest s.disk → IsStanding images s.areas.side s.other (as_state s)
   pub b : Begun
-  pub snapshot : IsSnapshot s.base s.history.items s.generation s.areas.len b
+  pub snapshot : IsSnapshot s.base.value s.history.items s.generation s.areas.len b
   pub may : MayFinish (as_state s) (as_checkpoint b)
   pub put : honest s.disk → IsPut s.areas.len s.areas.side s.other (seen s.disk) b
   pub place : at ≡ 1 + length b.front.items
@@ -88,7 +88,7 @@ pub record Finishes {D : Type 0} (honest : D → Type 0) (images : D → List �
 -- What is known as a checkpoint is finished, made to that.
 pub finishing : {D : Type 0} (honest : D → Type 0) (images : D → List ℕ → Type 0) (seen : D → List ℕ) (s : Inside D)
     → IsCounted (as_state s) s.table s.waiting → (honest s.disk → IsStanding images s.areas.side s.other (as_state s))
-    → IfSome s.begun (IsBegun s.base s.history.items s.generation s.areas.len s.areas.side s.other (honest s.disk) s.failed (seen s.disk))
+    → IfSome s.begun (IsBegun s.base.value s.history.items s.generation s.areas.len s.areas.side s.other (honest s.disk) s.failed (seen s.disk))
     → (v : StoreState D) → as_state s ≡ v → refusal_of_finish v ≡ None → (b : Begun) → s.begun ≡ Some b
     → (history : List Entry) → history ≡ s.history.items → (len : ℕ) → len ≡ length b.front.items → (bytes last : List ℕ) → bytes ≡ last
     → last ≡ last_part (commands_of (take (length history - b.place) (drop b.place history)))
@@ -98,7 +98,7 @@ finishing {D} honest images seen s counted standing begun v view none b some his
     let may = may_finish (as_state s) (as_checkpoint b) (ap (λ (o : Option Begun). option_map as_checkpoint o) some)
     (subst (λ (k : StoreState D). refusal_of_finish k ≡ None) (sym view) none) in
     let so = it_is s.begun b
-    (IsBegun s.base s.history.items s.generation s.areas.len s.areas.side s.other (honest s.disk) s.failed (seen s.disk)) some begun in
+    (IsBegun s.base.value s.history.items s.generation s.areas.len s.areas.side s.other (honest s.disk) s.failed (seen s.disk)) some begun in
     let on = from_on b.place s.history.items history value in
     record {
       counted = counted;
@@ -124,7 +124,7 @@ module _ {D : Type 0} (honest : D → Type 0) (images : D → List ℕ → Type 
   next = record { version = 1; generation = s.generation + 1; text = f.snapshot.text }
 
   abbrev first : TableState
-  first = table_after s.base (take f.b.place s.history.items)
+  first = table_after s.base.value (take f.b.place s.history.items)
 
   long_front : length f.b.front.items ≡ 17 + length f.snapshot.text
   long_front = ap (λ (l : List ℕ). length l) f.snapshot.front_is ∙ length_head (s.generation + 1) f.snapshot.text
@@ -157,7 +157,7 @@ module _ {D : Type 0} (honest : D → Type 0) (images : D → List ℕ → Type 
   -- the text, and then the entries since
   means_all : MeansTable next others (table_of (as_state s))
   means_all =
-      subst (λ (t : TableState). MeansTable next others t) (table_split s.base f.b.place s.history.items)
+      subst (λ (t : TableState). MeansTable next others t) (table_split s.base.value f.b.place s.history.items)
       (means_with next first cs
       (omega (
         arith,
@@ -281,7 +281,7 @@ module _ {D : Type 0} (honest : D → Type 0) (images : D → List ℕ → Type 
           → IsStanding images (other s.areas.side) Open (done covered used)
       standing_finished now =
           let same : table_of (as_state s) ≡ covered_table (done covered used) =
-          ap (λ (l : List Entry). table_after s.base l) (sym (take_all covered s.history.items (omega (arith, all)))) in
+          ap (λ (l : List Entry). table_after s.base.value l) (sym (take_all covered s.history.items (omega (arith, all)))) in
           let again = settled_at s.areas.len (other s.areas.side) Open (s.generation + 1) used (table_of (as_state s))
           (covered_table (done covered used)) (images disk) same
           (subst (λ (n : ℕ). IsSettled s.areas.len (other s.areas.side) Open (s.generation + 1) n (table_of (as_state s)) (images disk))

@@ -50,9 +50,6 @@ module _ (found : LocatedArea) (file : List ℕ) (is_found : IsFound found file)
     whole = is_found.long;
   }
 
-  pub found_one : IsAreaLength found.area → HasNoArea file → ⊥
-  found_one size nothing = let shut = nothing found.area is_found.long size in absurd (cc (shut, is_found.stands))
-
   pub found_settled : (images : List ℕ → Type 0) → Only file images
       → IsSettled found.area found.chosen.side found.chosen.other found.spelled.generation found.spelled.used found.spelled.table images
   found_settled images only = record {

@@ -16,7 +16,7 @@ abbrev pub as_state : {D : Type 0} → Inside D → StoreState D
 as_state s = record {
   disk = s.disk;
   area = s.areas.len;
-  base = s.base;
+  base = s.base.value;
   history = s.history.items;
   covered = s.covered;
   used = s.used;

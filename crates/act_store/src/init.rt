@@ -11,6 +11,7 @@ use act_disk::Disk;
 use gated_journal::{Gate, Side, Standing, make_areas};
 use run_table::Table;
 use std::alloc::Global;
+use std::snapshot::Snapshot;
 use wf_value::{Code, Refusal};
 
 /// What the first area of a new store holds, behind a closed gate: version 1, generation 1, the text of the empty table behind its
@@ -31,6 +32,7 @@ impl<D: Disk> Store<D> {
         requires least { 4096 ≤ area }
         requires most { area ≤ 1073741824 }
         ensures made { IfOk result (λ s. s ≡ fresh s.disk area) }
+        ensures size { IfOk result (λ s. D.size s.disk ≡ area + area) }
         ensures stands { IfOk result (λ s. D.honest s.disk → (c : List ℕ) → D.images s.disk c → StandsFor empty c) }
         ensures occupied { (D.size disk ≡ 0 → ⊥) → result ≡ Err (disk, disk_not_empty) }
         ensures refused { IfErr result (λ e. D.size disk ≡ 0 → (e.1 ≡ device_failed) × (D.fault_count e.0 ≡ D.fault_count disk + 1)) }
@@ -44,23 +46,26 @@ impl<D: Disk> Store<D> {
         }
         match make_areas(&mut disk, area, &FRONT) {
             Err(fault) => Err((disk, Refusal::from(fault))),
-            Ok(()) => Ok(Store {
-                disk,
-                areas: Standing {
-                    len: area,
-                    side: Side::First,
-                },
-                other: Gate::Closed,
-                base: Table::new(alloc),
-                table: Table::new(alloc),
-                history: Vec::new(alloc),
-                covered: 0,
-                used: USED,
-                generation: 1,
-                waiting: Waiting::new(),
-                begun: None,
-                failed: false,
-            }),
+            Ok(()) => {
+                let table = Table::new(alloc);
+                Ok(Store {
+                    disk,
+                    areas: Standing {
+                        len: area,
+                        side: Side::First,
+                    },
+                    other: Gate::Closed,
+                    base: Snapshot::of(&table),
+                    table,
+                    history: Vec::new(alloc),
+                    covered: 0,
+                    used: USED,
+                    generation: 1,
+                    waiting: Waiting::new(),
+                    begun: None,
+                    failed: false,
+                })
+            }
         }
     }
 }

@@ -10,7 +10,8 @@ use crate::waiting::Waiting;
 use act_disk::Disk;
 use gated_journal::Standing;
 use std::alloc::Global;
-use wf_value::{Refusal, TryCopy};
+use std::snapshot::Snapshot;
+use wf_value::Refusal;
 
 impl<D: Disk> Store<D> {
     /// Opens what a stop left: syncs, and then reads. The store begins at the table that the disk stands for, with an empty history.
@@ -43,10 +44,6 @@ impl<D: Disk> Store<D> {
             Ok(found) => found,
             Err(refusal) => return Err((disk, refusal)),
         };
-        let base = match found.spelled.table.copy(alloc) {
-            Ok(base) => base,
-            Err(refusal) => return Err((disk, refusal)),
-        };
         Ok(Store {
             disk,
             areas: Standing {
@@ -54,7 +51,7 @@ impl<D: Disk> Store<D> {
                 side: found.chosen.side,
             },
             other: found.chosen.other,
-            base,
+            base: Snapshot::of(&found.spelled.table),
             table: found.spelled.table,
             history: Vec::new(alloc),
             covered: 0,

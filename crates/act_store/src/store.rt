@@ -13,6 +13,7 @@ use gated_journal::{Gate, Standing};
 use run_plan::Number;
 use run_table::{RunView, Table};
 use std::marker::Model;
+use std::snapshot::Snapshot;
 
 /// What a record has beside its commands and their count: its gate, its length in four bytes, and the next gate.
 const FRAME: u64 = 6;
@@ -28,8 +29,8 @@ pub struct Store<D: Disk> {
     pub(crate) areas: Standing,
     /// Whether the gate of the other area, which does not stand, is open.
     pub(crate) other: Gate,
-    /// The table at the history's begin.
-    pub(crate) base: Table,
+    /// The table at the history's begin, which clauses alone read.
+    pub(crate) base: Snapshot<Table>,
     pub(crate) table: Table,
     pub(crate) history: Vec<Entry>,
     /// How many of the first entries are covered.
@@ -58,7 +59,7 @@ impl<D: Disk> Model for Store<D> {
     ghost invariant = { λ s. IsCounted {D = D} (as_state s) s.table s.waiting
         × (s.failed ≡ false → D.Disk.fault_count s.disk < 2 ^ 64 - 1)
         × (D.Disk.honest s.disk → IsStanding D.Disk.images s.areas.side s.other (as_state s))
-        × IfSome s.begun (IsBegun s.base s.history.items s.generation s.areas.len s.areas.side s.other
+        × IfSome s.begun (IsBegun s.base.value s.history.items s.generation s.areas.len s.areas.side s.other
         (D.Disk.honest s.disk) s.failed (D.Disk.seen s.disk)) };
 }
 

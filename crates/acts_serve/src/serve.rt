@@ -75,11 +75,11 @@ fn serve_round<'a, D: Disk + Drop + Send, R: Threads + Wait + Clock + Sync, O: W
 }
 
 /// A settled store whose history begins anew.
-fn turned_over<D: Disk + Drop>(alloc: Global, store: Store<D>) -> Result<Store<D>, Refusal>
+fn turned_over<D: Disk + Drop>(store: Store<D>) -> Result<Store<D>, Refusal>
     ensures { IfOk result (λ anew. anew.history ≡ []) }
 {
     let mut store = store;
-    store.turn_over(alloc)?;
+    store.turn_over()?;
     Ok(store)
 }
 
@@ -110,7 +110,7 @@ pub fn serve_on<D: Disk + Drop + Send, R: Threads + Wait + Clock + Sync, O: Writ
 /// written for it, the history begins anew at the table that they left, and the next round holds as many sessions on the same ports.
 ///
 /// `ready` is written once. What refuses a round ends the service, and so does the store where its history cannot begin anew: with 52
-/// where the device has failed, with 50 for want of memory, and with 56 where that was wanting to end a checkpoint.
+/// where the device has failed, and with 56 where memory was wanting to end a checkpoint.
 pub fn serve_rounds<D: Disk + Drop + Send, R: Threads + Wait + Clock + Sync, O: Write>(
     rt: &R,
     alloc: Global,
@@ -129,7 +129,7 @@ pub fn serve_rounds<D: Disk + Drop + Send, R: Threads + Wait + Clock + Sync, O: 
     let mut settled = serve_round(rt, alloc, store, first, out)?;
     for _ in 1..rounds {
         let next = visits(alloc, hooks, runners, sessions)?;
-        let anew = turned_over(alloc, settled)?;
+        let anew = turned_over(settled)?;
         settled = serve_round(rt, alloc, anew, next, out)?;
     }
     Ok(settled)

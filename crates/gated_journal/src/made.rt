@@ -22,6 +22,7 @@ pub fn make_areas<D: Disk>(disk: &mut D, len: u64, front: &[u8]) -> Result<(), D
     ensures made { OnOk result ((head : Head) (bodies : List (List ℕ)) → D.honest disk.old
         → front.now ≡ 0 ∷ behind_gate head bodies → Fits head bodies
         → (c : List ℕ) → D.images disk.new c → StandsWhole len First Closed c head bodies) }
+    ensures size { OnOk result (D.size disk.new ≡ len + len) }
     ensures calls { D.calls disk.new ≤ D.calls disk.old + 6 }
     ensures faults { CountsFault result (D.fault_count disk.old) (D.fault_count disk.new) }
     ensures honest { D.honest disk.new ↔ D.honest disk.old }

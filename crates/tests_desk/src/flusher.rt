@@ -233,11 +233,11 @@ fn sessions_share_a_desk_with_a_flusher(rt: HostRuntime) {
 }
 
 /// A settled store whose history begins anew.
-fn turned_over(rt: &impl Abort, alloc: Global, store: Store<MemoryDisk>) -> Store<MemoryDisk>
+fn turned_over(rt: &impl Abort, store: Store<MemoryDisk>) -> Store<MemoryDisk>
     ensures { result.history ≡ [] }
 {
     let mut store = store;
-    match store.turn_over(alloc) {
+    match store.turn_over() {
         Ok(()) => store,
         Err(refusal) => panic!(rt; "not turned over: {refusal}"),
     }
@@ -249,7 +249,7 @@ fn a_settled_store_is_served_again(rt: HostRuntime) {
     let alloc = rt.alloc();
     let store = serve(&rt, alloc, made_in_memory(&rt, alloc), 2, 100);
     holds!(rt; store.entries() == 200);
-    let store = turned_over(&rt, alloc, store);
+    let store = turned_over(&rt, store);
     holds!(rt; store.entries() == 0 && store.covered() == 0);
     let store = serve(&rt, alloc, store, 2, 100);
     holds!(rt; store.entries() == 200 && store.covered() == 200);

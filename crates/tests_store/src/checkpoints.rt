@@ -176,8 +176,8 @@ fn full_area_takes_commands_after_a_checkpoint(rt: HostRuntime) {
 }
 
 /// The number with which a store refuses to begin its history anew, and 0 where it does so.
-fn number_of_turning(alloc: Global, store: &mut Store<MemoryDisk>) -> u64 {
-    match store.turn_over(alloc) {
+fn number_of_turning(store: &mut Store<MemoryDisk>) -> u64 {
+    match store.turn_over() {
         Ok(()) => 0,
         Err(refusal) => refusal.number(),
     }
@@ -194,12 +194,12 @@ fn history_begins_anew_where_all_is_covered(rt: HostRuntime) {
     let mut store = made(&rt, rt.alloc(), LEAST);
     holds!(&rt; store.area() == 4_096 && store.room() == 4_060);
     play(&rt, rt.alloc(), &mut store, BESIDE_COMMITS.split_at(4).0);
-    holds!(&rt; number_of_turning(rt.alloc(), &mut store) == 56);
+    holds!(&rt; number_of_turning(&mut store) == 56);
     holds!(&rt; store.commit().is_ok());
-    holds!(&rt; number_of_turning(rt.alloc(), &mut store) == 56);
+    holds!(&rt; number_of_turning(&mut store) == 56);
     holds!(&rt; store.check_slice().is_ok());
     holds!(&rt; store.check_finish(rt.alloc()).is_ok());
-    holds!(&rt; number_of_turning(rt.alloc(), &mut store) == 0);
+    holds!(&rt; number_of_turning(&mut store) == 0);
     holds!(&rt; store.entries() == 0 && store.covered() == 0);
     play(&rt, rt.alloc(), &mut store, ANEW);
     close(store);

@@ -47,7 +47,7 @@ invariant_of-self-2 g c =
       c.self.invariant.1,
       λ honest. standing_entered g.D.Disk.images s.areas.side s.other k counted.size history entry is counted.covers admitted.live
           (c.self.invariant.2 honest),
-      begun_entered s.base s.history.items s.generation s.areas.len s.areas.side s.other (g.D.Disk.honest s.disk) s.failed
+      begun_entered s.base.value s.history.items s.generation s.areas.len s.areas.side s.other (g.D.Disk.honest s.disk) s.failed
           (g.D.Disk.seen s.disk) s.begun c.self.invariant.3 history entry is,
     )
 

@@ -39,7 +39,7 @@ invariant_of-self g c =
           (now_of disk.moment disk.images_since disk.images s.disk d1 (StandsForEither k) (g.met.D.Disk.counts_now d1 honest1)
           (since (c.close_other.ensures.honest.0 honest1)))),
       if_none s.begun
-          (IsBegun s.base s.history.items s.generation s.areas.len s.areas.side s.other (disk.honest d1) true (disk.seen d1))
+          (IsBegun s.base.value s.history.items s.generation s.areas.len s.areas.side s.other (disk.honest d1) true (disk.seen d1))
           (none_begun s.begun may.none),
     )
 
@@ -63,7 +63,7 @@ invariant_of-self-in-Ok g c =
           (settled_again k s.table s.waiting counted disk.images s.areas.side s.other settled Closed d1
           (c.in-Ok.ensures.closed settled.head settled.bodies honest settled.each))),
       (
-        snapshot_taken s.base s.table s.history.items s.generation s.areas.len b counted.table_is place refl may.newer
+        snapshot_taken s.base.value s.table s.history.items s.generation s.areas.len b counted.table_is place refl may.newer
             (subst (λ t. first_gate (text_length t) + 1 ≤ s.areas.len) (sym counted.table_is) may.room)
             c.in_ok-front.ensures.front c.in_ok-front.ensures.spells,
         λ honest1 live. record {

@@ -47,7 +47,7 @@ invariant_of-self-in-Err g c =
       (λ honest1. standing_failed k s.table s.waiting counted disk.images s.areas.side s.other d1 checkpoint
           (now_of disk.moment disk.images_since disk.images s.disk d1 (StandsForEither k) (g.met.D.Disk.counts_now d1 honest1)
           (since (c.turn.ensures.honest.0 honest1)))),
-      begun_broken s.base s.history.items s.generation s.areas.len s.areas.side s.other (disk.honest s.disk) s.failed
+      begun_broken s.base.value s.history.items s.generation s.areas.len s.areas.side s.other (disk.honest s.disk) s.failed
           (disk.seen s.disk) s.begun c.self.invariant.3 (disk.honest d1) (disk.seen d1),
     )
 

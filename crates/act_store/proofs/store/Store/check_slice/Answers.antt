@@ -22,7 +22,7 @@ invariant_of-self-in-Err g c =
     let b = c.in-Some-take.begun in
     let next = c.put_slice.new.begun in
     let live = slices s c.args.self.now c.self.view_is (search rules) in
-    let so = it_is s.begun b (IsBegun s.base s.history.items s.generation s.areas.len s.areas.side s.other (disk.honest s.disk) s.failed
+    let so = it_is s.begun b (IsBegun s.base.value s.history.items s.generation s.areas.len s.areas.side s.other (disk.honest s.disk) s.failed
     (disk.seen s.disk)) (search rules) c.self.invariant.3 in
     let same : next ≡ b = search rules in
     let since =
@@ -34,7 +34,7 @@ invariant_of-self-in-Err g c =
           (now_of disk.moment disk.images_since disk.images s.disk d1 (StandsForEither k) (g.met.D.Disk.counts_now d1 honest1)
           (since (c.put_slice.ensures.honest.0 honest1)))),
       (
-        subst (λ (x : Begun). IsSnapshot s.base s.history.items s.generation s.areas.len x) (sym same) so.0,
+        subst (λ (x : Begun). IsSnapshot s.base.value s.history.items s.generation s.areas.len x) (sym same) so.0,
         λ honest1 impossible. absurd (cc impossible),
       ),
     )
@@ -49,7 +49,7 @@ invariant_of-self-in-Ok g c =
     let b = c.in-Some-take.begun in
     let next = c.put_slice.new.begun in
     let live = slices s c.args.self.now c.self.view_is (search rules) in
-    let so = it_is s.begun b (IsBegun s.base s.history.items s.generation s.areas.len s.areas.side s.other (disk.honest s.disk) s.failed
+    let so = it_is s.begun b (IsBegun s.base.value s.history.items s.generation s.areas.len s.areas.side s.other (disk.honest s.disk) s.failed
     (disk.seen s.disk)) (search rules) c.self.invariant.3 in
     let within : next.put ≤ length b.front.items = search (rules, arith) in (
       counted_with k s.table s.waiting counted d1 (Some (as_checkpoint next)) s.failed,
@@ -63,7 +63,7 @@ invariant_of-self-in-Ok g c =
           (λ i. StandsWhole s.areas.len s.areas.side Closed i settled.head settled.bodies) (g.met.D.Disk.counts_now d1 honest1)
           (c.put_slice.ensures.any_moment settled.head settled.bodies honest each)))),
       (
-        snapshot_sliced s.base s.history.items s.generation s.areas.len b next c.put_slice.ensures.same_front
+        snapshot_sliced s.base.value s.history.items s.generation s.areas.len b next c.put_slice.ensures.same_front
             c.put_slice.ensures.same_place within so.0,
         λ honest1 live.
             let honest = c.put_slice.ensures.honest.0 honest1 in
@@ -81,7 +81,7 @@ returns-in-Err-clause-any_moment g c =
     let disk = g.D.Disk in
     let b = c.in-Some-take.begun in
     let live = slices s c.args.self.now c.self.view_is (search rules) in
-    let so = it_is s.begun b (IsBegun s.base s.history.items s.generation s.areas.len s.areas.side s.other (disk.honest s.disk) s.failed
+    let so = it_is s.begun b (IsBegun s.base.value s.history.items s.generation s.areas.len s.areas.side s.other (disk.honest s.disk) s.failed
     (disk.seen s.disk)) (search rules) c.self.invariant.3 in
     slice_moments disk.honest disk.images s c.self.invariant.0 live c.self.invariant.2 c.put_slice.new.disk disk.moment disk.images_since
     (λ honest. (so.1 honest live).closed) c.put_slice.ensures.any_moment c.args.self.now c.self.view_is
@@ -92,7 +92,7 @@ returns-in-Ok-clause-any_moment g c =
     let disk = g.D.Disk in
     let b = c.in-Some-take.begun in
     let live = slices s c.args.self.now c.self.view_is (search rules) in
-    let so = it_is s.begun b (IsBegun s.base s.history.items s.generation s.areas.len s.areas.side s.other (disk.honest s.disk) s.failed
+    let so = it_is s.begun b (IsBegun s.base.value s.history.items s.generation s.areas.len s.areas.side s.other (disk.honest s.disk) s.failed
     (disk.seen s.disk)) (search rules) c.self.invariant.3 in
     slice_moments disk.honest disk.images s c.self.invariant.0 live c.self.invariant.2 c.put_slice.new.disk disk.moment disk.images_since
     (λ honest. (so.1 honest live).closed) c.put_slice.ensures.any_moment c.args.self.now c.self.view_is

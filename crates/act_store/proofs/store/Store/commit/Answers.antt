@@ -70,7 +70,7 @@ invariant_of-self g c =
           standing_failed k s.table s.waiting counted disk.images s.areas.side s.other d1 k.begun
           (now_of disk.moment disk.images_since disk.images s.disk d1 (StandsForEither k) (g.met.D.Disk.counts_now d1 honest1)
           (since (c.grow.ensures.honest.0 honest1))),
-      begun_broken s.base s.history.items s.generation s.areas.len s.areas.side s.other (disk.honest s.disk) s.failed
+      begun_broken s.base.value s.history.items s.generation s.areas.len s.areas.side s.other (disk.honest s.disk) s.failed
           (disk.seen s.disk) s.begun c.self.invariant.3 (disk.honest d1) (disk.seen d1),
     )
 
@@ -120,7 +120,7 @@ invariant_of-self-in-Ok g c =
       three.0,
       three.1,
       three.2,
-      begun_grown s.base s.history.items s.generation s.areas.len s.areas.side s.other (disk.honest s.disk) s.failed
+      begun_grown s.base.value s.history.items s.generation s.areas.len s.areas.side s.other (disk.honest s.disk) s.failed
           (disk.seen s.disk) s.begun c.self.invariant.3 (disk.honest d1) (disk.seen d1) before
           (λ honest live. (((c.self.invariant.2 honest).settled live).each (disk.seen s.disk)
           (g.met.D.Disk.seen_is_image s.disk honest)).whole)

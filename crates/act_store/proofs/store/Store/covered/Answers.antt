@@ -10,7 +10,7 @@ pub returns-clause-groups : goal.returns-clause-groups
 returns-clause-groups g c =
     let s = c.self.inside in
     subst (λ (v : StoreState g.row.D.Denot). KeepsGroups v.base v.history) c.self.view_is
-    (keeps_groups s.base s.history.items c.self.invariant.0.sound)
+    (keeps_groups s.base.value s.history.items c.self.invariant.0.sound)
 
 pub returns-clause-exact : goal.returns-clause-exact
 returns-clause-exact g c =

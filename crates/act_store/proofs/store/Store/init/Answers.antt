@@ -1,4 +1,4 @@
-use Rattle.std.proofs.Common.{rules, false, ◌≡◌, ◌∙◌, [], sym, subst, arith}
+use Rattle.std.proofs.Common.{rules, false, ◌≡◌, [], sym, subst, arith}
 use Rattle.std.specs.Prelude.{None}
 use Rattle.run_table.specs.Sound.{IsSound}
 use Rattle.run_table.specs.Step.{empty}
@@ -17,16 +17,18 @@ invariant_of-result g c =
     let d1 = c.make_areas.new.disk in
     let area = c.args.area in
     let size : IsAreaLength area = record { least = c.requires.least; most = c.requires.most } in
-    let none : c.new-in-Ok-2.result.items ≡ [] = c.new-in-Ok-2.ensures.items in
-    let base : c.new.result ≡ empty = c.new.ensures in (
-      counted_begun d1 area c.new.result 30 1 None false c.new-in-Ok-2.result.items none
-          (subst (λ (t : TableState). IsSound t) (sym base) empty_is_sound) c.new-in-Ok.result (c.new-in-Ok.ensures ∙ sym base)
-          c.new-in-Ok-3.result c.new-in-Ok-3.ensures size (omega (arith, c.requires.least)),
+    let none : c.new.result.items ≡ [] = c.new.ensures.items in
+    let base = c.of.result.value in
+    let is_empty : base ≡ empty = search rules in
+    let same : c.new-table.result ≡ base = search rules in (
+      counted_begun d1 area base 30 1 None false c.new.result.items none
+          (subst (λ (t : TableState). IsSound t) (sym is_empty) empty_is_sound) c.new-table.result same
+          c.new-in-Ok.result c.new-in-Ok.ensures size (omega (arith, c.requires.least)),
       (λ _. search (rules, arith)),
       λ honest1.
           let honest = c.make_areas.ensures.honest.0 honest1 in
-          standing_begun d1 area c.new.result 30 1 None false c.new-in-Ok-2.result.items none disk.images First Closed size
-          (settled_at area First Closed 1 30 empty c.new.result (disk.images d1) (sym base)
+          standing_begun d1 area base 30 1 None false c.new.result.items none disk.images First Closed size
+          (settled_at area First Closed 1 30 empty base (disk.images d1) (sym is_empty)
           (first_settled area (disk.images d1) (c.in-Ok.ensures.made first_head [] honest (sym first_bytes) first_fits))),
       _,
     )

@@ -4,7 +4,7 @@ use Rattle.run_table.specs.Sound.{IsSound}
 use Rattle.run_table.specs.TableState.{TableState}
 use Rattle.act_store.specs.Images.{StandsAt, StandsFor}
 use Rattle.act_store.proofs.Beginning.{counted_begun, standing_begun}
-use Rattle.act_store.proofs.Opening.{found_at, found_one, found_settled, found_stands}
+use Rattle.act_store.proofs.Opening.{found_at, found_settled, found_stands}
 use Rattle.act_store.proofs.Settling.{settled_at}
 use Rattle.act_store.proofs.store.Store.open.Goals as goal
 
@@ -15,7 +15,7 @@ invariant_of-result g c =
     let file = disk.seen c.args.disk in
     let found = c.in-Ok.found in
     let spelled = found.spelled in
-    let base = c.in-Ok-copy.base in
+    let base = c.of.result.value in
     let same : spelled.table ≡ base = search rules in
     let none : c.new.result.items ≡ [] = c.new.ensures.items in
     let area = c.in-Ok.ensures.area in (
@@ -34,26 +34,22 @@ invariant_of-result g c =
 pub returns-clause-base : goal.returns-clause-base
 returns-clause-base g c = λ honest.
     let file = g.D.Disk.seen c.args.disk in
-    let same : c.in-Ok.found.spelled.table ≡ c.in-Ok-copy.base = search rules in
+    let same : c.in-Ok.found.spelled.table ≡ c.of.result.value = search rules in
     subst (λ (t : TableState). StandsFor t file) same
     (found_stands c.in-Ok.found file (c.in-Ok.ensures.found honest) c.in-Ok.ensures.area.0)
 
 pub returns-clause-stands : goal.returns-clause-stands
 returns-clause-stands g c = λ honest image now.
     let file = g.D.Disk.seen c.args.disk in
-    let same : c.in-Ok.found.spelled.table ≡ c.in-Ok-copy.base = search rules in
-    subst (λ (l : List ℕ). StandsFor c.in-Ok-copy.base l) (sym ((c.in-Ok.ensures.stable honest image).0 now))
+    let same : c.in-Ok.found.spelled.table ≡ c.of.result.value = search rules in
+    subst (λ (l : List ℕ). StandsFor c.of.result.value l) (sym ((c.in-Ok.ensures.stable honest image).0 now))
     (subst (λ (t : TableState). StandsFor t file) same
     (found_stands c.in-Ok.found file (c.in-Ok.ensures.found honest) c.in-Ok.ensures.area.0))
-
-pub returns-in-Err-copy-clause-nothing_stands : goal.returns-in-Err-copy-clause-nothing_stands
-returns-in-Err-copy-clause-nothing_stands g c = λ honest nothing.
-    absurd (found_one c.in-Ok.found (g.D.Disk.seen c.args.disk) (c.in-Ok.ensures.found honest) c.in-Ok.ensures.area.0 nothing)
 
 pub returns-clause-place : goal.returns-clause-place
 returns-clause-place g c = λ honest.
     let file = g.D.Disk.seen c.args.disk in
     let found = c.in-Ok.found in
-    let same : found.spelled.table ≡ c.in-Ok-copy.base = search rules in
+    let same : found.spelled.table ≡ c.of.result.value = search rules in
     subst (λ (t : TableState). StandsAt found.spelled.generation found.spelled.used t file) same
     (found_at found file (c.in-Ok.ensures.found honest) c.in-Ok.ensures.area.0)
