@@ -10,6 +10,7 @@ use Rattle.act_disk.specs.declared.disk.Disk.{Ghosts}
 use Rattle.act_desk.specs.declared.named.Named.{Ghosts as Names}
 use Rattle.act_desk.proofs.front.Front.TheSendSync as front
 use Rattle.act_desk.proofs.front.Head.TheSendSync as head
+use Rattle.act_desk.proofs.linger.Linger.TheSendSync as linger
 use Rattle.act_desk.proofs.seats.Seats.TheSendSync as seats
 use Rattle.act_desk.specs.contracts.desk.Desk.{the_row as desk, the_type as desk_type}
 use Rattle.act_desk.specs.contracts.desked.Desked.{the_row as desked}
@@ -33,11 +34,11 @@ module _ (D E T : RattleType) (d : Ghosts D.Denot) (n : Names E.Denot) (e : Coun
   line_send : IsSend (line D E T d n e t)
   line_send =
       declared_send (line_type D E T d n e t)
-      (search (sendable, desked_send) depth 6, (search (sendable, seats.the_send) depth 6, (search sendable depth 6, (search sendable depth 6, (search sendable depth 6, tt)))))
+      (search (sendable, desked_send) depth 6, (search (sendable, seats.the_send) depth 6, (search sendable depth 6, (search sendable depth 6, (search sendable depth 6, (search sendable depth 6, (search (sendable, linger.the_send) depth 6, tt)))))))
 
   pub desk_sync : IsSync (desk D E T n e d t)
   desk_sync =
       declared_sync (desk_type D E T n e d t) (
         search (sendable, head.the_sync) depth 6,
-        (search (sendable, mutex.the_sync, line_send) depth 6, (search (sendable, condvar.the_sync) depth 6, (search (sendable, mutex.the_sync) depth 6, (search (sendable, condvar.the_sync) depth 6, tt)))),
+        (search (sendable, mutex.the_sync, line_send) depth 6, (search (sendable, condvar.the_sync) depth 6, (search (sendable, condvar.the_sync) depth 6, (search (sendable, mutex.the_sync) depth 6, (search (sendable, condvar.the_sync) depth 6, tt))))),
       )

@@ -161,7 +161,7 @@ store_send D g disk =
         (
           search (parts, gate.the_send) depth 6,
           (
-            search (parts, table_send) depth 6,
+            search parts depth 6,
             (
               search (parts, table_send) depth 6,
               (search (parts, entry_send) depth 10, (search parts depth 6, (search parts depth 6, (search parts depth 6, (search (parts, waiting.the_send) depth 6, (search (parts, begun.the_send) depth 8, (search parts depth 6, tt))))))),

@@ -21,7 +21,8 @@ use act_store::Store;
 use run_plan::{Command, Reply};
 use std::alloc::Global;
 use std::sync::ledger::Ledger;
-use std::sync::{Condvar, Mutex, MutexGuard, Wait};
+use std::sync::{Condvar, CondvarTimeouts, Mutex, MutexGuard, Wait};
+use std::time::{Clock, Duration, Instant};
 use wf_value::Refusal;
 
 /// A store under a lock, and seats that share it: many threads, one history.
@@ -34,6 +35,8 @@ pub struct Desk<D: Disk, E: Named, T: Ledger> {
     line: Mutex<Line<D, E, T>>,
     /// A leader has done.
     turned: Condvar,
+    /// All whom a leader waits for are back.
+    gathered: Condvar,
     /// How many seats are on their way in or out.
     moving: Mutex<u64>,
     /// None is.
@@ -63,6 +66,7 @@ impl<D: Disk, E: Named, T: Ledger> Desk<D, E, T> {
             head,
             line: Mutex::new(Line::new(desked, seats)),
             turned: Condvar::new(),
+            gathered: Condvar::new(),
             moving: Mutex::new(0),
             still: Condvar::new(),
         }
@@ -143,9 +147,9 @@ impl<D: Disk, E: Named, T: Ledger> Desk<D, E, T> {
     /// It is refused with 51 where this seat led and the device failed in its commit; with 52 where the device had failed before, as for each
     /// that slept while a leader was refused 51; and with 60 where as many replies are out as entries are covered. The entry may then stand or
     /// not, and no reply is given.
-    pub fn cover(
+    pub fn cover<R: Wait + Clock>(
         &self,
-        rt: &impl Wait,
+        rt: &R,
         seat: &mut Seat<E, T>,
         pending: Pending<E>,
     ) -> Result<Reply, Refusal>
@@ -155,9 +159,13 @@ impl<D: Disk, E: Named, T: Ledger> Desk<D, E, T> {
         ensures cause { IfErr result (λ e. (e ≡ failed_earlier) ⊎ (e ≡ device_failed) ⊎ (e ≡ unsettled)) }
         ensures same { (seat.new.entered ≡ seat.old.entered) × (seat.new.number ≡ seat.old.number) × (seat.new.seen ≡ seat.old.seen) }
     {
-        let (mut guard, turn) = self.turn(rt, pending.place());
+        let (mut guard, turn) = self.turn(rt, seat.number(), pending.place());
         let line = &mut *guard;
+        let began = Instant::now(rt).ok();
         let (answer, woken) = line.finish(seat, pending, turn);
+        if turn == Turn::Leads && answer.is_ok() {
+            line.linger.has_committed(since(rt, began));
+        }
         self.moves(rt, woken);
         drop(guard);
         match turn {
@@ -168,8 +176,13 @@ impl<D: Disk, E: Named, T: Ledger> Desk<D, E, T> {
         answer
     }
 
-    /// Waits until the entry at a place is covered, or until this seat is to lead and all are still.
-    fn turn(&self, rt: &impl Wait, place: u64) -> (MutexGuard<'_, Line<D, E, T>>, Turn) {
+    /// Waits until the entry of a seat at a place is covered, or until the seat is to lead and all are still.
+    fn turn<R: Wait + Clock>(
+        &self,
+        rt: &R,
+        seat: u64,
+        place: u64,
+    ) -> (MutexGuard<'_, Line<D, E, T>>, Turn) {
         let mut guard = self.line.lock(rt);
         if guard.is_covered(place) {
             return (guard, Turn::Found);
@@ -178,9 +191,12 @@ impl<D: Disk, E: Named, T: Ledger> Desk<D, E, T> {
             if !guard.leading {
                 break;
             }
-            let turn = guard.sleeps();
+            let turn = guard.sleeps(seat);
+            if guard.linger.is_over() {
+                self.gathered.notify_one();
+            }
             guard = self.turned.wait(rt, guard);
-            let counted = guard.wakes(turn);
+            let counted = guard.wakes(seat, turn);
             if guard.is_covered(place) {
                 return (guard, if counted { Turn::Woke } else { Turn::Found });
             }
@@ -188,10 +204,20 @@ impl<D: Disk, E: Named, T: Ledger> Desk<D, E, T> {
                 self.moved(rt);
             }
         }
-        guard.leading = true;
-        drop(guard);
+        guard.leads(seat);
+        self.linger(rt, guard);
         self.wait_until_still(rt);
         (self.line.lock(rt), Turn::Leads)
+    }
+
+    /// Waits for those whom the last commit covered, until they are back, for a quarter of a commit at most.
+    fn linger<R: Wait + Clock>(&self, rt: &R, guard: MutexGuard<'_, Line<D, E, T>>) {
+        let mut guard = guard;
+        if let Some(limit) = guard.linger.begins() {
+            (guard, _) = self.gathered.wait_timeout(rt, guard, limit);
+            guard.linger.ends();
+        }
+        drop(guard);
     }
 
     fn wait_until_still(&self, rt: &impl Wait) {
@@ -232,13 +258,27 @@ impl<D: Disk, E: Named, T: Ledger> Desk<D, E, T> {
         flush.round(alloc, &mut line.desked)
     }
 
+    /// Rests until other than so many entries are covered, or the sessions have ended, and for so long at most.
+    pub(crate) fn rest<R: Wait + Clock>(&self, rt: &R, covered: u64, most: Duration) {
+        let guard = self.line.lock(rt);
+        if !guard.ended && guard.desked.covered() == covered {
+            drop(self.turned.wait_timeout(rt, guard, most));
+        }
+    }
+
+    /// Has a flusher that rests look whether it is to stop, now that the sessions have ended.
+    pub(crate) fn wake_flusher(&self, rt: &impl Wait) {
+        self.line.lock(rt).ended = true;
+        self.turned.notify_all();
+    }
+
     /// Enters a command, and gives its reply once its entry is covered.
     ///
     /// Refused with 46, 47 or 50 it has entered nothing. Refused with 51 or 60 its entry may stand or not, and with 52 too; no reply was
     /// given then.
-    pub fn submit(
+    pub fn submit<R: Wait + Clock>(
         &self,
-        rt: &impl Wait,
+        rt: &R,
         alloc: Global,
         seat: &mut Seat<E, T>,
         command: Command,
@@ -255,5 +295,13 @@ impl<D: Disk, E: Named, T: Ledger> Desk<D, E, T> {
     {
         let pending = self.enter(rt, alloc, seat, command)?;
         self.cover(rt, seat, pending)
+    }
+}
+
+/// How long ago that was. Where no clock can be read no time has passed.
+fn since(clock: &impl Clock, began: Option<Instant>) -> Duration {
+    match began {
+        Some(began) => began.elapsed(clock).unwrap_or(Duration::ZERO),
+        None => Duration::ZERO,
     }
 }

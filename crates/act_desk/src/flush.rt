@@ -14,6 +14,8 @@ use wf_value::{Code, Refusal};
 pub(crate) struct Flush {
     /// How many bytes are left to write of the checkpoint that is under way, if one is.
     left: Option<u64>,
+    /// How many entries were covered when it last looked whether to begin one.
+    seen: u64,
     /// How many entries were covered when it last tried to begin one.
     tried: Option<u64>,
     /// How many checkpoints it has finished.
@@ -24,6 +26,7 @@ impl Flush {
     pub(crate) fn new() -> Flush {
         Flush {
             left: None,
+            seen: 0,
             tried: None,
             finished: 0,
         }
@@ -37,6 +40,11 @@ impl Flush {
     /// Whether a checkpoint is begun, and not at its end.
     pub(crate) fn is_under_way(&self) -> bool {
         self.left.is_some()
+    }
+
+    /// How many entries were covered when it last looked whether to begin a checkpoint.
+    pub(crate) fn seen(&self) -> u64 {
+        self.seen
     }
 
     /// Calls the store at most once: goes on with the checkpoint that is under way, or begins one where it is time to. It answers whether the store
@@ -65,6 +73,7 @@ impl Flush {
         ensures { IfErr result (λ e. (e ≡ device_failed) ⊎ (e ≡ failed_earlier)) }
     {
         let covered = desked.covered();
+        self.seen = covered;
         if !desked.is_pressed() || self.tried == Some(covered) {
             return Ok(false);
         }

@@ -25,6 +25,9 @@ pub(crate) trait Host<S> {
 
     /// Makes checkpoints beside the sessions, until it is told to stop.
     fn flush(&self, stop: &Mutex<bool>);
+
+    /// Tells the flusher to stop.
+    fn stop_flushing(&self, stop: &Mutex<bool>);
 }
 
 /// A desk, with what a session at it needs.
@@ -51,5 +54,10 @@ impl<'a, D: Disk, E: Named, T: Ledger, G: Gate, R: Wait + Clock> Host<Seat<E, T>
     /// A device fault ends it, and shows in the answers of the sessions.
     fn flush(&self, stop: &Mutex<bool>) {
         let _ = flusher(self.rt, self.alloc, self.desk, stop);
+    }
+
+    fn stop_flushing(&self, stop: &Mutex<bool>) {
+        *stop.lock(self.rt) = true;
+        self.desk.wake_flusher(self.rt);
     }
 }

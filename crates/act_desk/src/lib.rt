@@ -14,6 +14,7 @@ mod gate;
 mod host;
 mod ledgers;
 mod line;
+mod linger;
 mod named;
 mod pending;
 mod running;

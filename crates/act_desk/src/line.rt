@@ -5,6 +5,7 @@ ghost use Rattle.act_desk.specs.Answered.{unsettled};
 ghost use Rattle.act_desk.specs.Shown.{IsReplyTo, StandsIn};
 
 use crate::desked::Desked;
+use crate::linger::Linger;
 use crate::named::Named;
 use crate::pending::Pending;
 use crate::seat::Seat;
@@ -35,6 +36,9 @@ pub(crate) struct Line<D: Disk, E: Named, T: Ledger> {
     waiting: u64,
     /// How often a leader has counted those that slept.
     turns: u64,
+    /// The sessions have ended, so that a flusher rests no more.
+    pub(crate) ended: bool,
+    pub(crate) linger: Linger,
 }
 
 impl<D: Disk, E: Named, T: Ledger> Line<D, E, T> {
@@ -45,6 +49,8 @@ impl<D: Disk, E: Named, T: Ledger> Line<D, E, T> {
             leading: false,
             waiting: 0,
             turns: 0,
+            ended: false,
+            linger: Linger::new(),
         }
     }
 
@@ -52,19 +58,27 @@ impl<D: Disk, E: Named, T: Ledger> Line<D, E, T> {
         self.desked.covered() >= place
     }
 
-    /// Goes to sleep. It answers the turn in which it does.
-    pub(crate) fn sleeps(&mut self) -> u64 {
+    /// A seat goes to sleep. It answers the turn in which it does.
+    pub(crate) fn sleeps(&mut self, seat: u64) -> u64 {
         self.waiting = self.waiting.saturating_add(1);
+        self.linger.comes(seat);
         self.turns
     }
 
-    /// Wakes from a sleep that began in a turn. It answers whether a leader has counted it among those on their way.
-    pub(crate) fn wakes(&mut self, turn: u64) -> bool {
+    /// A seat wakes from a sleep that began in a turn. It answers whether a leader has counted it among those on their way.
+    pub(crate) fn wakes(&mut self, seat: u64, turn: u64) -> bool {
         if self.turns != turn {
             return true;
         }
         self.waiting = self.waiting.saturating_sub(1);
+        self.linger.goes(seat);
         false
+    }
+
+    /// A seat leads from now on.
+    pub(crate) fn leads(&mut self, seat: u64) {
+        self.leading = true;
+        self.linger.comes(seat);
     }
 
     /// Covers the entry unless it is, and gives its reply. A leader leads no more, and where it has committed it also answers how many

@@ -11,6 +11,7 @@ use std::alloc::Global;
 use std::snapshot::Snapshot;
 use std::sync::Wait;
 use std::sync::ledger::Ledger;
+use std::time::Clock;
 use wf_value::Refusal;
 
 /// A command that was asked, and its answer, as contracts see them. It takes no memory.
@@ -22,7 +23,7 @@ pub(crate) struct Noted {
 
 /// Answers at a desk, by a seat, and calls the gate round each command.
 #[derive(Drop)]
-pub(crate) struct Seated<'a, D: Disk, E: Named, T: Ledger, G: Gate, R: Wait> {
+pub(crate) struct Seated<'a, D: Disk, E: Named, T: Ledger, G: Gate, R: Wait + Clock> {
     rt: &'a R,
     alloc: Global,
     desk: &'a Desk<D, E, T>,
@@ -31,7 +32,8 @@ pub(crate) struct Seated<'a, D: Disk, E: Named, T: Ledger, G: Gate, R: Wait> {
     noted: Vec<Noted>,
 }
 
-impl<'a, D: Disk, E: Named, T: Ledger, G: Gate, R: Wait> Answer for Seated<'a, D, E, T, G, R> {
+impl<'a, D: Disk, E: Named, T: Ledger, G: Gate, R: Wait + Clock> Answer
+    for Seated<'a, D, E, T, G, R> {
     ghost use Rattle.std.specs.Prelude.{map};
     ghost use Rattle.act_desk.specs.declared.seated.Noted.{Noted};
 
@@ -56,7 +58,7 @@ impl<'a, D: Disk, E: Named, T: Ledger, G: Gate, R: Wait> Answer for Seated<'a, D
 }
 
 /// Holds a session at a desk, to its end.
-pub(crate) fn hold<D: Disk, E: Named, T: Ledger, G: Gate, W: Work, R: Wait>(
+pub(crate) fn hold<D: Disk, E: Named, T: Ledger, G: Gate, W: Work, R: Wait + Clock>(
     rt: &R,
     alloc: Global,
     desk: &Desk<D, E, T>,

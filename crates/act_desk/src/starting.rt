@@ -44,8 +44,13 @@ fn join_all<W: Work>(
 }
 
 /// Tells the flusher to stop, and waits until it has, where its thread was started.
-fn end_flusher(rt: &(impl Threads + Wait), stop: &Mutex<bool>, flushing: Option<JoinHandle<()>>) {
-    *stop.lock(rt) = true;
+fn end_flusher<S, H: Host<S>>(
+    rt: &impl Threads,
+    host: &H,
+    stop: &Mutex<bool>,
+    flushing: Option<JoinHandle<()>>,
+) {
+    host.stop_flushing(stop);
     if let Some(handle) = flushing {
         handle.join(rt);
     }
@@ -78,7 +83,7 @@ pub(crate) fn hold_all<S: Send + Drop, H: Host<S> + Sync, W: Work + Send, R: Thr
             let flushing = scope.spawn(move || host.flush(shared)).ok();
             let started = start_all(scope, host, works, running);
             let ended = join_all(rt, alloc, started, transcripts);
-            end_flusher(rt, shared, flushing);
+            end_flusher(rt, host, shared, flushing);
             ended
         },
     )

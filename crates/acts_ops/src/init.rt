@@ -1,6 +1,6 @@
 //! What `acts init` does: it makes a store on an empty disk.
 
-ghost use Rattle.std.specs.Prelude.{◌≡◌, ◌↔◌, ◌<◌, ◌≤◌, ℕ, List, take, Err, IfErr, OnOk};
+ghost use Rattle.std.specs.Prelude.{◌≡◌, ◌↔◌, ◌+◌, ◌<◌, ◌≤◌, ℕ, List, take, Err, IfErr, OnOk};
 ghost use Rattle.std.specs.Io.KnownBytes.{Appends};
 ghost use Rattle.act_disk.specs.Failed.{stream_failed};
 ghost use Rattle.run_table.specs.Step.{empty};
@@ -40,6 +40,7 @@ pub fn run_init<D: Disk, W: Write>(
     requires most { area ≤ 1073741824 }
     ensures written { (out : List ℕ) × Appends (W.contents writer.old) (W.contents writer.new) out × Makes (D.size disk) out result.1 }
     ensures occupied { (D.size disk ≡ 0 → ⊥) → result ≡ (disk, Err disk_not_empty) }
+    ensures size { OnOk result.1 (D.size result.0 ≡ area + area) }
     // 51 is told exactly where a call of the disk failed; where none did, the store stands, written or not.
     ensures faults { TellsFault result.1 (D.fault_count disk) (D.fault_count result.0) }
     ensures stands { D.size disk ≡ 0 → D.fault_count result.0 ≡ D.fault_count disk

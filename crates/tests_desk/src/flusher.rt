@@ -28,7 +28,7 @@ const FETCH: &str = "FETCH 9\n";
 const REFUSED: &str = "refused 40\n";
 
 fn enter<E: Named, T: Ledger>(
-    rt: &(impl Wait + Abort),
+    rt: &(impl Wait + Clock + Abort),
     alloc: Global,
     desk: &Desk<MemoryDisk, E, T>,
     seat: &mut Seat<E, T>,
@@ -39,7 +39,7 @@ fn enter<E: Named, T: Ledger>(
 
 /// Enters a look-up of a run that is not there, and covers it.
 fn look<E: Named, T: Ledger>(
-    rt: &(impl Wait + Abort),
+    rt: &(impl Wait + Clock + Abort),
     alloc: Global,
     desk: &Desk<MemoryDisk, E, T>,
     seat: &mut Seat<E, T>,
@@ -51,7 +51,7 @@ fn look<E: Named, T: Ledger>(
 
 /// A seat that makes so many look-ups.
 fn looked<E: Named, T: Ledger>(
-    rt: &(impl Wait + Abort),
+    rt: &(impl Wait + Clock + Abort),
     alloc: Global,
     desk: &Desk<MemoryDisk, E, T>,
     count: u64,

@@ -11,6 +11,7 @@ use std::marker::Brand;
 use std::process::Abort;
 use std::sync::Wait;
 use std::sync::ledger::Ledger;
+use std::time::Clock;
 use tests_common::commands::Words;
 use wf_value::{JobResult, Outcome};
 
@@ -26,7 +27,7 @@ const BY_TURNS: &[(Words<'static>, &str)] = &[
 ];
 
 fn seat_of<E: Named, T: Ledger>(
-    rt: &(impl Wait + Abort),
+    rt: &(impl Wait + Clock + Abort),
     desk: &Desk<MemoryDisk, E, T>,
     number: u64,
 ) -> Seat<E, T> {
@@ -36,7 +37,7 @@ fn seat_of<E: Named, T: Ledger>(
 }
 
 fn submit<E: Named, T: Ledger>(
-    rt: &(impl Wait + Abort),
+    rt: &(impl Wait + Clock + Abort),
     alloc: Global,
     desk: &Desk<MemoryDisk, E, T>,
     seat: &mut Seat<E, T>,
@@ -48,7 +49,7 @@ fn submit<E: Named, T: Ledger>(
 }
 
 /// Two seats submit in turn, and give back as many entries as replies.
-fn by_turns<E: Named, T: Ledger, R: Wait + Abort>(rt: &R, alloc: Global, ledgers: Ledgers)
+fn by_turns<E: Named, T: Ledger, R: Wait + Clock + Abort>(rt: &R, alloc: Global, ledgers: Ledgers)
     requires entries { (ledgers.entries.name ≡ E.name) × (E.parts ≡ 64) }
     requires replies { (ledgers.replies.name ≡ T.name) × (T.parts ≡ 64) }
     requires history { ledgers.history.seen.book ≡ E.book }
@@ -88,7 +89,7 @@ fn two_seats_by_turns(rt: HostRuntime) {
 }
 
 /// 64 seats are given out, by their numbers, and no other.
-fn all_seats<E: Named, T: Ledger, R: Wait + Abort>(rt: &R, alloc: Global, ledgers: Ledgers)
+fn all_seats<E: Named, T: Ledger, R: Wait + Clock + Abort>(rt: &R, alloc: Global, ledgers: Ledgers)
     requires entries { (ledgers.entries.name ≡ E.name) × (E.parts ≡ 64) }
     requires replies { (ledgers.replies.name ≡ T.name) × (T.parts ≡ 64) }
     requires history { ledgers.history.seen.book ≡ E.book }
@@ -108,7 +109,7 @@ fn a_desk_has_64_seats(rt: HostRuntime) {
 }
 
 fn enter<E: Named, T: Ledger>(
-    rt: &(impl Wait + Abort),
+    rt: &(impl Wait + Clock + Abort),
     alloc: Global,
     desk: &Desk<MemoryDisk, E, T>,
     seat: &mut Seat<E, T>,
@@ -118,7 +119,7 @@ fn enter<E: Named, T: Ledger>(
 }
 
 fn cover<E: Named, T: Ledger>(
-    rt: &(impl Wait + Abort),
+    rt: &(impl Wait + Clock + Abort),
     alloc: Global,
     desk: &Desk<MemoryDisk, E, T>,
     seat: &mut Seat<E, T>,
@@ -129,7 +130,7 @@ fn cover<E: Named, T: Ledger>(
 }
 
 /// Three seats enter a look-up each. The first that covers writes all three; before the others cover, a fourth enters and covers one more.
-fn one_gate<E: Named, T: Ledger, R: Wait + Abort>(
+fn one_gate<E: Named, T: Ledger, R: Wait + Clock + Abort>(
     rt: &R,
     alloc: Global,
     ledgers: Ledgers,
