@@ -22,7 +22,8 @@ example: build
 	$(ACTS) play < examples/fan_out_fan_in.script | diff - examples/fan_out_fan_in.answers
 
 # The quick start by a trial run, on free ports of this machine: an event is posted by curl, two runners work, and what is printed is
-# compared. Needs bash, curl and jq, and says so where they are not here. `examples/serve_example $(ACTS)` plays it with the proved program.
+# compared. Then the runners of examples/ meet what a runner may meet: restarts, cut streams, kills, cancelled steps. Needs bash, curl, jq,
+# Python 3.9 and util-linux, and says so where they are not here. `examples/serve_example $(ACTS)` plays it with the proved program.
 serve-example:
 	examples/serve_example
 

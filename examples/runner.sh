@@ -1,23 +1,63 @@
 #!/bin/bash
-# A runner: claims legs until there is none, runs the steps of each with sh, beats while they run, and reports how they ended.
-# runner.sh PORT NAME LABELS: the port that `acts serve` has for runners, this runner's name, and its labels, joined by commas.
-LC_ALL=C
-ask() { printf '%s\n' "$*" >&3 && IFS= read -r -u 3 answer; }
-steps() { jq -r --arg job "$job" '.workflow.jobs[$job].steps[]?.run // empty' <<< "$body"; }
-exec 3<> "/dev/tcp/127.0.0.1/$1" || exit 1
-number=0 # the last number of this runner that the service has answered
-while ask CLAIM "$2" $((number + 1)) "$3"; do
-  case $answer in
-    'refused 43 '*) number=${answer##* }; continue ;;
-    lease*) read -r _ lease run job leg combo <<< "$answer" ;;
-    *) echo "$2: $answer"; exit ;;
-  esac
-  ask FETCH "$run" && IFS= read -r -u 3 -N "${answer#body }" body && IFS= read -r -u 3
-  COMBO=$combo sh -ec "$(steps)" 3>&- & pid=$!
-  while sleep 0.1; kill -0 $pid 2> /dev/null; do
-    ask BEAT "$2" "$lease" && [ "$answer" = 'go on' ] || kill $pid
+# A runner: claims legs, runs the steps of each with sh, beats while they run, and reports how they ended. docs/RUNNERS.md says why it does so.
+# runner.sh PORT NAME LABELS [PAUSE [BEAT]]: the port that `acts serve` has for runners, this runner's name, its labels, joined by commas, the seconds
+# until it asks again where there is nothing to do (none: it ends then), and those between two beats (20). What it needs after a kill is in $STATE/NAME.
+LC_ALL=C port=$1 name=$2 labels=$3 pause=${4-} beat=${5:-20} open='' forgotten='' kept=1 place=''
+STATE=${STATE:-$HOME/.local/state/acts}
+mkdir -p "$STATE/$name" && cd "$STATE/$name" && exec 9> lock && flock -w 5 9 || { echo "$name: it runs already" >&2; exit 1; }
+trap : PIPE
+ask() { # LINE: $answer, and $body of FETCH. It is said until it is answered: a numbered line that was carried out gets its answer again
+  until { [ $open ] || exec 3<> "/dev/tcp/127.0.0.1/$port"; } && open=1 && printf '%s\n' "$*" >&3 && IFS= read -r -t 60 -u 3 answer && case $answer in
+      'body '*) IFS= read -r -t 60 -u 3 -N "${answer#body }" body && read -r -t 60 -u 3 ;; refused\ 4[678] | refused\ [56]?) false ;; esac
+  do hang_up; sleep 1; done 2> /dev/null
+  spoke=$SECONDS
+}
+hang_up() { [ $open ] && exec 3>&-; open=''; }
+keep() { printf '%s\n' "$1" > words.new && sync words.new && mv words.new words && sync .; } # LINE
+left() { sed 's/.*) //' /proc/[0-9]*/stat 2> /dev/null | grep -q "^[^ZX] [0-9]* $group "; } # whether a process of the group is left, zombies aside
+end() { # what is left of the group, by TERM, and by KILL after ten seconds
+  local signal=TERM late=$((SECONDS + 10))
+  while left; do
+    [ $signal ] && kill -$signal -- "-$group"
+    if ((SECONDS > late)); then signal=KILL; else signal=''; fi
+    sleep 0.2
+  done 2> /dev/null
+}
+begin() { # the steps, in a group of their own, which goes on where this runner is killed; of two that are started only the first begins
+  jq -r --arg job "$job" '.workflow.jobs[$job].steps[]? | .run // "echo \"not run: uses \(.uses)\"; exit 1"' <<< "$body" > steps
+  ACTS_LEG="$PWD $lease" COMBO=$combo setsid bash -c 'echo "$$ $0" > begun.$$ && sync begun.$$ && ln begun.$$ begun && sync . || exit
+    rm -rf work; mkdir work; result=failure; (cd work; exec sh -e ../steps) && result=success
+    echo $result > status.new; mv status.new status' "$lease" 3>&- 9>&- &
+  until [ -e begun ] || ! kill -0 $! 2> /dev/null; do sleep 0.02; done
+}
+work() { # $result: how the steps of $lease ended; nothing where it was taken away
+  group='' begun=''
+  if [ -e begun ]; then read -r group begun < begun; grep -qszxF "ACTS_LEG=$PWD $begun" /proc/[0-9]*/environ || group=''; fi
+  if [ "$begun" != "$lease" ]; then end; rm -f status begun; fi
+  ask BEAT "$name" "$lease"
+  if [ "$answer" = 'go on' ] && [ ! -e begun ] && [ ! $forgotten ]; then ask FETCH "$run"; begin; read -r group begun < begun; answer='go on'; fi
+  while [ "$answer" = 'go on' ] && [ ! -e status ] && left; do
+    sleep 0.1
+    if ((SECONDS - spoke >= beat)); then ask BEAT "$name" "$lease"; elif ((SECONDS - spoke > 5)); then hang_up; fi
   done
-  if wait $pid; then result=success; elif [ "$answer" = stop ]; then result=cancelled; else result=failure; fi
-  number=$((number + 2))
-  ask DONE "$2" $number "$lease" $result && echo "$2: run $run $job $leg $result: $answer"
+  end
+  case $answer,$(cat status 2> /dev/null) in refused*) result='' ;; *,success) result=success ;; stop,*) result=cancelled ;; *) result=failure ;; esac
+  forgotten=''
+}
+claim() { words="CLAIM $name $1 $labels"; }
+words=$(cat words 2> /dev/null) || claim 999999999 # out of its turn: the last number is answered
+while keep "$words" && ask "$words" && read -r _ _ number lease result <<< "$words"; do
+  case $answer in
+    lease\ *) read -r _ lease run job leg combo <<< "$answer"; work; place="run $run $job $leg"
+      if [ $result ]; then words="DONE $name $((number + 1)) $lease $result"; else claim $((number + 1)); fi ;;
+    ok) echo "$name: ${place:-lease $lease} $result: ok"; rm -f status; rm -f begun*; claim $((number + 1)) ;;
+    nothing) claim $((number + 1)) # what an earlier life may have been told is asked anew at once
+      if [ ! $kept ]; then [ "$pause" ] || { echo "$name: nothing"; exit; }; hang_up; sleep "$pause" 9>&-; fi ;;
+    'refused 42') forgotten=1; claim $((number - 1)) ;; # a lease that was forgotten: the claim that got it gets it again
+    "refused 43 $number") echo "$name: $answer to $words" >&2; exit 1 ;;
+    'refused 43 '*) claim $((${answer##* } + 1)) ;;
+    'refused 44') claim "$number" ;;
+    *) echo "$name: $answer to $words" >&2; exit 1 ;;
+  esac
+  kept=''
 done
