@@ -14,7 +14,7 @@ ask() { # LINE: $answer, and $body of FETCH. It is said until it is answered: a 
 }
 hang_up() { [ $open ] && exec 3>&-; open=''; }
 keep() { printf '%s\n' "$1" > words.new && sync words.new && mv words.new words && sync .; } # LINE
-left() { sed 's/.*) //' /proc/[0-9]*/stat 2> /dev/null | grep -q "^[^ZX] [0-9]* $group "; } # whether a process of the group is left, zombies aside
+left() { grep -qs ") [^ZX] [0-9]* $group " /proc/[0-9]*/stat; } # whether a process of the group is left, zombies aside
 end() { # what is left of the group, by TERM, and by KILL after ten seconds
   local signal=TERM late=$((SECONDS + 10))
   while left; do
