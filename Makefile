@@ -3,7 +3,7 @@
 ACTS := crates/acts/out/acts
 FIRST := crates/first_run
 
-.PHONY: first-run test build example serve-example bench gate sweep hostile wrong-bodies tested-bodies definitions
+.PHONY: first-run test build install example serve-example bench gate sweep hostile wrong-bodies tested-bodies definitions
 
 # Plays the example by a trial run, and prints each line of the script with its answer. A trial interprets the program first, which ends
 # without an answer where this one reads; so that takes one step here in place of some seconds, and the compiled program answers as before.
@@ -16,6 +16,17 @@ first-run:
 # Proves and builds `acts` and the crates below it.
 build:
 	cd crates/acts && rt run -- play < /dev/null
+
+# Puts the program that `make build` has made, its manual page, which is made from its help texts, and the unit for systemd below PREFIX;
+# DESTDIR, where it is given, stands before all of them. `make install PREFIX=$HOME/.local`, and `make install ACTS=PATH` of another program.
+PREFIX ?= /usr/local
+
+install:
+	@test -x $(ACTS) || { echo 'install: make build first: there is no $(ACTS)' >&2; exit 1; }
+	install -D -m 755 $(ACTS) $(DESTDIR)$(PREFIX)/bin/acts
+	install -d $(DESTDIR)$(PREFIX)/share/man/man1 $(DESTDIR)$(PREFIX)/lib/systemd/system
+	docs/man_page $(DESTDIR)$(PREFIX)/bin/acts > $(DESTDIR)$(PREFIX)/share/man/man1/acts.1
+	sed 's,/usr/local/bin/acts,$(PREFIX)/bin/acts,g' examples/acts.service > $(DESTDIR)$(PREFIX)/lib/systemd/system/acts.service
 
 # Plays the fan-out and fan-in to its end, and compares the answers.
 example: build
@@ -45,7 +56,7 @@ bench: build
 sweep: build
 	sweeps/refused_growth/run $(ACTS)
 
-# Stops, failing calls, want of memory, hostile clients and damaged files, all of it with the proved program. Needs a C compiler.
+# Stops, failing calls, want of memory, hostile clients, damaged files and a second machine, all of it with the proved program. Needs a C compiler.
 hostile: build
 	sweeps/stops/run.sh
 	sweeps/stops/file.sh
@@ -55,6 +66,7 @@ hostile: build
 	sweeps/clients/run $(ACTS)
 	sweeps/crowd/run $(ACTS)
 	sweeps/damaged_files/run $(ACTS)
+	sweeps/failover/run $(ACTS)
 
 # The wrong bodies beyond those of the gate: of each crate, of CRATE, or the one of CRATE=NAME/EDIT.
 wrong-bodies:
