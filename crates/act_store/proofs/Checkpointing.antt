@@ -13,7 +13,7 @@ use Rattle.gated_journal.specs.declared.side.Side.{Side}
 use Rattle.run_table.specs.Sound.{IsSound}
 use Rattle.run_table.specs.Stored.{StoredRunner, stored_runner}
 use Rattle.run_table.specs.TableState.{TableState}
-use Rattle.run_table.proofs.ReachedTables.{after_is_sound}
+use Rattle.table_laws.proofs.ReachedTables.{after_is_sound}
 use Rattle.table_text.specs.Commands.{number}
 use Rattle.table_text.specs.Format.{pair, word_bytes, text_bytes}
 use Rattle.table_text.specs.Tables.{last_command, lease, runner, run}

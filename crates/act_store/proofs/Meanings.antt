@@ -7,9 +7,9 @@ use Rattle.gated_journal.specs.Layout.{Head}
 use Rattle.run_plan.specs.declared.command.Command.{Command}
 use Rattle.run_table.specs.Histories.{after}
 use Rattle.run_table.specs.TableState.{TableState}
+use Rattle.table_laws.proofs.LeasesStay.{after_both}
 use Rattle.table_text.specs.Commands.{batch}
 use Rattle.act_store.specs.Meaning.{SpellCommands, MeansTable}
-use Rattle.run_table.proofs.LeasesStay.{after_both}
 
 pub all_push : {X : Type 0} (P : X → Type 0) (xs : List X) (x : X) → AllByRecursion P xs → P x → AllByRecursion P (xs ++ x ∷ [])
 all_push P [] x all here = (here, tt)

@@ -7,13 +7,13 @@ use Rattle.run_plan.specs.declared.command.Command.{Command}
 use Rattle.run_plan.specs.declared.command.Command.TheVariants as command
 use Rattle.run_plan.specs.declared.reply.Reply.{Reply}
 use Rattle.run_plan.specs.declared.reply.Reply.TheVariants as reply
-use Rattle.run_table.specs.ExactlyOnce.{HasTurn, IsRefused}
 use Rattle.run_table.specs.Histories.{after, replies}
-use Rattle.run_table.specs.Remembered.{AreNoLaterTurns, KnowsDelivery, LastCommandIs}
 use Rattle.run_table.specs.Step.{step, stepped}
 use Rattle.run_table.specs.TableState.{TableState}
-use Rattle.run_table.proofs.LeasesStay.{after_both}
-use Rattle.run_table.proofs.Remembered.{answered_is_last, created_is_known, known_after, known_is_answered, last_after, last_is_answered}
+use Rattle.table_laws.specs.ExactlyOnce.{HasTurn, IsRefused}
+use Rattle.table_laws.specs.Remembered.{AreNoLaterTurns, KnowsDelivery, LastCommandIs}
+use Rattle.table_laws.proofs.LeasesStay.{after_both}
+use Rattle.table_laws.proofs.Remembered.{answered_is_last, created_is_known, known_after, known_is_answered, last_after, last_is_answered}
 use Rattle.act_store.specs.Entries.{IsLegal, commands_of, replies_of, table_after}
 use Rattle.act_store.specs.Reopened.{FindsAgain, IsAcknowledged, LeadTo, Life, asked_in}
 use Rattle.act_store.specs.declared.entry.Entry.{Entry}

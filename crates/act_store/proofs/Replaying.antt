@@ -9,6 +9,7 @@ use Rattle.gated_journal.proofs.Parting.{all_parted, parts_more}
 use Rattle.run_plan.specs.declared.command.Command.{Command}
 use Rattle.run_table.specs.Histories.{after}
 use Rattle.run_table.specs.TableState.{TableState}
+use Rattle.table_laws.proofs.LeasesStay.{after_both}
 use Rattle.table_text.specs.Commands.{batch}
 use Rattle.table_text.specs.Format.{OpensWith as BeginsWith, Spells}
 use Rattle.table_text.specs.ReadingCommands.{batch_at}
@@ -16,7 +17,6 @@ use Rattle.table_text.proofs.CommandReaders.{batch_reads}
 use Rattle.table_text.proofs.Readers.{none_begins}
 use Rattle.act_store.specs.Meaning.{SpellCommands}
 use Rattle.act_store.specs.Replayed.{IsCarried, IsReplayed}
-use Rattle.run_table.proofs.LeasesStay.{after_both}
 use Rattle.act_store.proofs.Meanings.{spell_more}
 use Rattle.act_store.proofs.WholeTexts.{none_longer, none_whole, whole}
 

@@ -7,7 +7,7 @@ use Rattle.gated_journal.proofs.OneReading.{one_reading}
 use Rattle.wf_value.specs.declared.refusal.Refusal.{Refusal}
 use Rattle.run_table.specs.Sound.{IsSound}
 use Rattle.run_table.specs.TableState.{TableState}
-use Rattle.run_table.proofs.ReachedTables.{after_is_sound}
+use Rattle.table_laws.proofs.ReachedTables.{after_is_sound}
 use Rattle.act_store.specs.Meaning.{MeansTable, SpellCommands}
 use Rattle.act_store.specs.Replayed.{IsReplayed}
 use Rattle.act_store.specs.Spelled.{IsSpelled, SpellsArea}

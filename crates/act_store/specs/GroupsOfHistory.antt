@@ -2,10 +2,10 @@
 -- a group is in progress and at most one is pending.
 use Rattle.std.specs.Prelude.{◌≡◌, ◌≤◌, List, ◌++◌, length}
 use Rattle.group_name.specs.Group.{Group}
-use Rattle.run_table.specs.GroupHistories.{all_moves, asks_for_cancelling}
-use Rattle.run_table.specs.GroupLaw.{KeepsLaw}
 use Rattle.workflow_runs.specs.Groups.{pending_in, running_in}
 use Rattle.run_table.specs.TableState.{TableState}
+use Rattle.table_laws.specs.GroupHistories.{all_moves, asks_for_cancelling}
+use Rattle.table_laws.specs.GroupLaw.{KeepsLaw}
 use Rattle.act_store.specs.Entries.{commands_of, table_after}
 use Rattle.act_store.specs.declared.entry.Entry.{Entry}
 

@@ -4,11 +4,11 @@ ghost use Rattle.std.specs.Prelude.{◌≡◌, ◌+◌, ℕ, List, length, drop}
 ghost use Rattle.run_plan.specs.Admitted.{Admitted};
 ghost use Rattle.run_plan.specs.declared.command.Command.TheVariants as command;
 ghost use Rattle.run_plan.specs.declared.reply.Reply.TheVariants as reply;
-ghost use Rattle.run_table.specs.ExactlyOnce.{HasTurn, IsRefused};
 ghost use Rattle.run_table.specs.Histories.{replies};
-ghost use Rattle.run_table.specs.Remembered.{AreNoLaterTurns};
 ghost use Rattle.run_table.specs.Step.{step, stepped};
 ghost use Rattle.run_table.specs.TableState.{TableState};
+ghost use Rattle.table_laws.specs.ExactlyOnce.{HasTurn, IsRefused};
+ghost use Rattle.table_laws.specs.Remembered.{AreNoLaterTurns};
 ghost use Rattle.act_store.specs.Entries.{table_after};
 ghost use Rattle.act_store.specs.Images.{StandsFor};
 ghost use Rattle.act_store.specs.Reopened.{IsAcknowledged, LeadTo, Life, asked_in};

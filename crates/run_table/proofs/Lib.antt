@@ -1,69 +1,28 @@
 pub mod AdmitKeeps
-pub mod AncestorsSettled
-pub mod ArrivalLaw
-pub mod ArrivalTold
 pub mod AtWork
 mod BeatRows
 pub mod BeforeSettling
 mod CancelRows
-pub mod ChangesTold
 pub mod ClaimKeeps
 pub mod CommandsOneEach
 mod ContextRows
 pub mod Copied
-pub mod Decided
-pub mod Deliveries
 pub mod Entered
 pub mod EnteredRests
-pub mod EventsStay
-pub mod GroupArrival
-pub mod GroupBase
-pub mod GroupChangeKeeps
-pub mod GroupFollows
-pub mod GroupLawTested
-pub mod GroupLawWalk
-mod GroupRows
-pub mod GroupSaid
-mod GroupScripts
-mod GroupTableRows
-pub mod GroupTruths
-pub mod GroupsKept
 pub mod HeldAtWork
-pub mod HistoryLaw
-pub mod HistoryWords
-pub mod HolderStatus
-pub mod HoldersOnce
-pub mod HoldersSaid
 pub mod JobsText
 pub mod JoinedLegs
 pub mod KeepsSound
 pub mod Kept
-pub mod KeptReplies
-pub mod LawSoFar
 pub mod Leased
-pub mod LeasesStay
-pub mod ListWalk
 pub mod OnTables
-pub mod OnlyStops
-pub mod OwnMoves
-pub mod OwnRun
-pub mod PlacedOne
-pub mod ReachedTables
-pub mod Remembered
 pub mod ReportKeeps
-pub mod RulesDecided
-pub mod RulesLaw
 pub mod RunnerOrder
 pub mod RunnerPut
 pub mod ServedNothing
-pub mod SkipsDue
 pub mod StepKeeps
-pub mod StepsLaw
-pub mod StopsTold
 pub mod Storable
 pub mod StepRows
-pub mod StopDecided
-pub mod Unbegun
 pub mod ViewRows
 pub mod GroupSetReads
 pub mod GroupsGathered

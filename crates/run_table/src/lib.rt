@@ -2,8 +2,6 @@
 #![tactic(auto)]
 
 mod content;
-pub mod group_laws;
-pub mod laws;
 mod parts;
 mod runner;
 mod runners;

@@ -1,5 +1,0 @@
-use Rattle.run_table.proofs.Deliveries.{delivery_again}
-use Rattle.run_table.proofs.laws.a_delivery_makes_one_run.Goals as goal
-
-pub returns : goal.returns
-returns c = delivery_again

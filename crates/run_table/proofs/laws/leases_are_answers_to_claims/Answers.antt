@@ -1,5 +1,0 @@
-use Rattle.run_table.proofs.ReachedTables.{leased_by_a_claim}
-use Rattle.run_table.proofs.laws.leases_are_answers_to_claims.Goals as goal
-
-pub returns : goal.returns
-returns c = λ commands p leg lease at is. leased_by_a_claim commands p leg lease at is

@@ -1,5 +1,0 @@
-use Rattle.run_table.proofs.OwnRun.{own_run_alone}
-use Rattle.run_table.proofs.laws.rules_touch_one_run.Goals as goal
-
-pub returns : goal.returns
-returns c = λ runs next place r is plain other. own_run_alone runs next place r is plain other

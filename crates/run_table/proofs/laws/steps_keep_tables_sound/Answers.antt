@@ -1,5 +1,0 @@
-use Rattle.run_table.proofs.StepKeeps.{stepped_is_sound}
-use Rattle.run_table.proofs.laws.steps_keep_tables_sound.Goals as goal
-
-pub returns : goal.returns
-returns c = λ t command sound. stepped_is_sound t command sound

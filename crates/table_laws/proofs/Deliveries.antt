@@ -1,0 +1,238 @@
+-- The runs of a table stay, each with what was admitted: so a delivery that made a run is found at its place in every later table.
+use Rattle.std.proofs.Common.{◌≡◌, ℕ, ◌+◌, ◌-◌, ◌<◌, ◌≤◌, Bool, true, false, List, [], ◌∷◌, ◌++◌, length, map, refl, sym, ◌∙◌, ap}
+use Rattle.std.proofs.Common.{append_assoc, length-append, arith, cond, not}
+use Rattle.std.specs.Prelude.{Option, Some, None, option_map, if◌then◌else◌, nat_le, nat_lt}
+use Rattle.std.specs.List.{position, prefix_len}
+use Rattle.std.specs.Option.{option_map_or, option_or}
+use Rattle.std.specs.Str.{bytes_eq}
+use Rattle.std.proofs.lemmas.Bool.{lt-ltb, ltb-true, ltb-false}
+use Rattle.std.proofs.lemmas.List.{append-nil, length-map, map-append}
+use Rattle.std.proofs.lemmas.Slice.Eq.{bytes_eq-Decides}
+use Rattle.wf_value.specs.declared.code.Code.TheVariants.{LastCounter, LeaseNotHeld, NoRunner}
+use Rattle.wf_value.specs.declared.outcome.Outcome.{Outcome}
+use Rattle.run_plan.specs.Admitted.{Admitted}
+use Rattle.run_plan.specs.declared.command.Claim.{Claim as Claimed}
+use Rattle.run_plan.specs.declared.command.Command.{Command}
+use Rattle.run_plan.specs.declared.command.Command.TheVariants as command
+use Rattle.run_plan.specs.declared.reply.Reply.{Reply}
+use Rattle.run_plan.specs.declared.reply.Reply.TheVariants as reply
+use Rattle.workflow_runs.specs.Fitting.{first_fit}
+use Rattle.run_table.specs.Histories.{after}
+use Rattle.workflow_runs.specs.Moves.{Holder}
+use Rattle.run_table.specs.TableState.{Step, TableState}
+use Rattle.workflow_runs.specs.Places.{with_leg}
+use Rattle.workflow_runs.specs.RunNumber.{events}
+use Rattle.workflow_runs.specs.Settling.{settled}
+use Rattle.run_table.specs.Step.{admission_answer, admitting, cancel_answer, cancelling, claim_answer, claiming, entered}
+use Rattle.workflow_runs.specs.NewRun.{is_delivered_as, leased_leg, new_run}
+use Rattle.run_table.specs.Step.{leasing, losing, lost, refused, released, report_answer, reporting, serving_nothing, step}
+use Rattle.run_table.specs.Step.{stepped, unchanged}
+use Rattle.workflow_runs.specs.StopMoves.{with_ended, stop_holder}
+use Rattle.workflow_runs.specs.Stops.{outcome_of_loss}
+use Rattle.workflow_runs.specs.RunState.{LegState, RunState}
+use Rattle.run_table.specs.Turns.{runner_named}
+use Rattle.workflow_runs.proofs.Optional.{if_some}
+use Rattle.table_laws.proofs.EventsStay.{arrived_events, ended_events, leg_events, settled_events, stop_events}
+
+-- ---- steps
+
+-- the runs of the one table are the first of the other
+abbrev pub Keeps : TableState → TableState → Type 0
+Keeps t next = (more : List Admitted) × (events next.runs ≡ events t.runs ++ more)
+
+keeps_all : (t next : TableState) → events next.runs ≡ events t.runs → Keeps t next
+keeps_all t next same = ([], same ∙ sym (append-nil (events t.runs)))
+
+keeps_itself : (t : TableState) → Keeps t t
+keeps_itself t = keeps_all t t refl
+
+answered : (t : TableState) (answer : Option Reply) (change : Step) → Keeps t change.table
+    → Keeps t (option_map_or (unchanged t) answer change).table
+answered t None change h = h
+answered t (Some given) change h = keeps_itself t
+
+entered_events : (t : TableState) (event : Admitted) → events (admitting t event).table.runs ≡ events t.runs ++ event ∷ []
+entered_events t event =
+    let more = t.runs ++ new_run event ∷ [] in
+    settled_events (entered t event).runs ∙ arrived_events (Holder.a_run (length t.runs)) more
+    ∙ map-append (λ (x : RunState). x.admitted) t.runs (new_run event ∷ [])
+
+admits : (t : TableState) (event : Admitted) → Keeps t (admitting t event).table
+admits t event = (event ∷ [], entered_events t event)
+
+claims : (t : TableState) (claim : Claimed) → Keeps t (claiming t claim).table
+claims t claim = elim (first_fit claim.labels t.runs) as
+    (λ o. Keeps t (option_map_or (leasing t claim) o (serving_nothing t claim)).table) [
+      | None ↦ keeps_all t (serving_nothing t claim).table (settled_events t.runs)
+      | Some p ↦ keeps_all t (leasing t claim p).table
+          (let f : LegState → LegState = λ x. leased_leg (t.last_lease + 1) in
+          settled_events (with_leg p f t.runs) ∙ leg_events p f t.runs)
+    ]
+
+ends : (t : TableState) (lease : ℕ) (outcome : Outcome) → events (settled (with_ended lease outcome t.runs)) ≡ events t.runs
+ends t lease outcome = settled_events (with_ended lease outcome t.runs) ∙ ended_events lease outcome t.runs
+
+cancels : (t : TableState) (id : ℕ) → events (settled (stop_holder (Holder.a_run (id - 1)) t.runs).runs) ≡ events t.runs
+cancels t id = settled_events (stop_holder (Holder.a_run (id - 1)) t.runs).runs ∙ stop_events (Holder.a_run (id - 1)) t.runs
+
+loses : (t : TableState) (name : List ℕ) → Keeps t (lost t name).table
+loses t name =
+    elim (runner_named t.runners name) as
+    (λ o. Keeps t (option_map_or (λ runner. option_map_or (losing t (released runner)) runner.holds (unchanged t (refused LeaseNotHeld))) o
+    (unchanged t (refused NoRunner))).table) [
+      | None ↦ keeps_itself t
+      | Some runner ↦ elim (runner.holds) as
+          (λ h. Keeps t (option_map_or (losing t (released runner)) h (unchanged t (refused LeaseNotHeld))).table) [
+            | None ↦ keeps_itself t
+            | Some lease ↦ keeps_all t (losing t (released runner) lease).table (ends t lease (outcome_of_loss t.runs lease))
+          ]
+    ]
+
+pub step_keeps : (t : TableState) (c : Command) → Keeps t (stepped t c).table
+step_keeps t (command.Admit event) = answered t (admission_answer t event) (admitting t event) (admits t event)
+step_keeps t (command.Claim claim) = answered t (claim_answer t claim) (claiming t claim) (claims t claim)
+step_keeps t (command.Done report) =
+    answered t (report_answer t report) (reporting t report)
+    (keeps_all t (reporting t report).table (ends t report.lease report.result))
+step_keeps t (command.Beat beat) = keeps_itself t
+step_keeps t (command.Cancel id) =
+    answered t (cancel_answer t id) (cancelling t id) (keeps_all t (cancelling t id).table (cancels t id))
+step_keeps t (command.Lost name) = loses t name
+step_keeps t (command.Fetch id) = keeps_itself t
+step_keeps t (command.Look id) = keeps_itself t
+
+pub after_keeps : (t : TableState) (cs : List Command) → Keeps t (after t cs)
+after_keeps t [] = keeps_itself t
+after_keeps t (c ∷ cs) =
+    let first = step_keeps t c in
+    let others = after_keeps (stepped t c).table cs in (
+      first.0 ++ others.0,
+      others.1 ∙ ap (λ (l : List Admitted). l ++ others.0) first.1 ∙ append_assoc (events t.runs) first.0 others.0,
+    )
+
+-- ---- the place of a delivery
+
+abbrev pub place_of : List ℕ → TableState → Option ℕ
+place_of delivery t = position (is_delivered_as delivery) t.runs
+
+abbrev is_event : List ℕ → Admitted → Bool
+is_event delivery event = bytes_eq event.delivery delivery
+
+len_map : {X Y : Type 0} (f : X → Y) (p : Y → Bool) (xs : List X) → prefix_len p (map f xs) ≡ prefix_len (λ x. p (f x)) xs
+len_map f p [] = refl
+len_map f p (x ∷ xs) = ap (λ (n : ℕ). cond (p (f x)) (1 + n) 0) (len_map f p xs)
+
+abbrev at_place : ℕ → ℕ → Option ℕ
+at_place n l = cond (nat_lt n l) (Some n) None
+
+by_events : (delivery : List ℕ) (runs : List RunState)
+    → position (is_event delivery) (events runs) ≡ position (is_delivered_as delivery) runs
+by_events delivery runs =
+    let adm = λ (x : RunState). x.admitted in
+    ap (λ (n : ℕ). at_place n (length (events runs))) (len_map adm (λ e. not (is_event delivery e)) runs)
+    ∙ ap (λ (l : ℕ). at_place (prefix_len (λ x. not (is_event delivery (adm x))) runs) l) (length-map runs adm)
+
+placed_at : (n l i : ℕ) → at_place n l ≡ Some i → (n < l) × (n ≡ i)
+placed_at n l i e = let two = if_some (nat_lt n l) n i e in (ltb-true n l two.0, two.1)
+
+placed_nowhere : (n l : ℕ) → at_place n l ≡ None → l ≤ n
+placed_nowhere n l e =
+    ltb-false n l (elim (nat_lt n l) as (λ b. cond b (Some n) None ≡ None → b ≡ false) [ true ↦ λ h. cc | false ↦ λ h. refl ] e)
+
+place_is : (n l : ℕ) → n < l → at_place n l ≡ Some n
+place_is n l less = ap (λ (b : Bool). cond b (Some n) None) (lt-ltb n l less)
+
+len_front : {X : Type 0} (p : X → Bool) (xs ys : List X) → prefix_len p xs < length xs → prefix_len p (xs ++ ys) ≡ prefix_len p xs
+len_front p [] ys less = absurd (omega (arith, less))
+len_front p (x ∷ xs) ys less =
+    elim (p x) as (λ b. cond b (1 + prefix_len p xs) 0 < length (x ∷ xs)
+    → cond b (1 + prefix_len p (xs ++ ys)) 0 ≡ cond b (1 + prefix_len p xs) 0) [
+      | true ↦ λ h. ap (λ (n : ℕ). 1 + n) (len_front p xs ys (omega (arith, h)))
+      | false ↦ λ h. refl
+    ] less
+
+len_all : {X : Type 0} (p : X → Bool) (xs : List X) (y : X) → length xs ≤ prefix_len p xs → p y ≡ false
+    → prefix_len p (xs ++ y ∷ []) ≡ length xs
+len_all p [] y all fails = ap (λ (b : Bool). cond b (1 + 0) 0) fails
+len_all p (x ∷ xs) y all fails =
+    elim (p x) as (λ b. length (x ∷ xs) ≤ cond b (1 + prefix_len p xs) 0 → cond b (1 + prefix_len p (xs ++ y ∷ [])) 0 ≡ length (x ∷ xs)) [
+      | true ↦ λ h. omega (arith, len_all p xs y (omega (arith, h)) fails)
+      | false ↦ λ h. absurd (omega (arith, h))
+    ] all
+
+-- what stands at a place stays there
+pub place_stays : (delivery : List ℕ) (t next : TableState) (i : ℕ) → Keeps t next → place_of delivery t ≡ Some i
+    → place_of delivery next ≡ Some i
+place_stays delivery t next i keeps is =
+    let p = is_event delivery in
+    let q = λ (e : Admitted). not (is_event delivery e) in
+    let old = events t.runs in
+    let there = placed_at (prefix_len q old) (length old) i (by_events delivery t.runs ∙ is) in
+    let same : prefix_len q (old ++ keeps.0) ≡ prefix_len q old = len_front q old keeps.0 there.0 in
+    let less : prefix_len q (old ++ keeps.0) < length (old ++ keeps.0) = omega (arith, same, there.0, length-append old keeps.0) in
+    sym (by_events delivery next.runs)
+    ∙ ap (λ (l : List Admitted). position p l) keeps.1
+    ∙ place_is (prefix_len q (old ++ keeps.0)) (length (old ++ keeps.0)) less
+    ∙ ap (λ (n : ℕ). Some n) (same ∙ there.1)
+
+-- ---- what an admission is answered
+
+abbrev admitted_by : TableState → Admitted → Option ℕ → Bool → Step
+admitted_by t event place full =
+    option_map_or (unchanged t) (option_or (option_map (λ i. reply.Created (i + 1)) place)
+    (if full then Some (refused LastCounter) else None))
+    (admitting t event)
+
+new_place : (t : TableState) (event : Admitted) → place_of event.delivery t ≡ None
+    → place_of event.delivery (admitting t event).table ≡ Some (length t.runs)
+new_place t event none =
+    let q = λ (e : Admitted). not (is_event event.delivery e) in
+    let old = events t.runs in
+    let now = (admitting t event).table.runs in
+    let is_new : q event ≡ false = ap not ((bytes_eq-Decides event.delivery event.delivery).1 refl) in
+    let length_is : length old ≡ length t.runs = length-map t.runs (λ (x : RunState). x.admitted) in
+    let behind = placed_nowhere (prefix_len q old) (length old) (by_events event.delivery t.runs ∙ none) in
+    let same : prefix_len q (old ++ event ∷ []) ≡ length old = len_all q old event behind is_new in
+    sym (by_events event.delivery now)
+    ∙ ap (λ (l : List Admitted). position (is_event event.delivery) l) (entered_events t event)
+    ∙ place_is (prefix_len q (old ++ event ∷ [])) (length (old ++ event ∷ [])) (omega (arith, same, length-append old (event ∷ [])))
+    ∙ ap (λ (n : ℕ). Some n) (same ∙ length_is)
+
+-- a delivery that was answered with a run stands at the run's place
+pub created_at : (t : TableState) (event : Admitted) (id : ℕ) → (stepped t (command.Admit event)).reply ≡ reply.Created id
+    → (i : ℕ) × (id ≡ i + 1) × (place_of event.delivery (stepped t (command.Admit event)).table ≡ Some i)
+created_at t event id given =
+    elim (place_of event.delivery t) as
+    (λ o. place_of event.delivery t ≡ o → (admitted_by t event o (nat_le 100000 (length t.runs))).reply ≡ reply.Created id
+    → (i : ℕ) × (id ≡ i + 1) × (place_of event.delivery (admitted_by t event o (nat_le 100000 (length t.runs))).table ≡ Some i)) [
+      | Some i ↦ λ is told. (i, cc, is)
+      | None ↦ λ is. elim (nat_le 100000 (length t.runs)) as
+          (λ b. (admitted_by t event None b).reply ≡ reply.Created id
+          → (i : ℕ) × (id ≡ i + 1) × (place_of event.delivery (admitted_by t event None b).table ≡ Some i)) [
+            | true ↦ λ told. absurd (cc told)
+            | false ↦ λ told. (length t.runs, cc, new_place t event is)
+          ]
+    ] refl given
+
+-- and is answered with it again
+pub created_again : (t : TableState) (event : Admitted) (i : ℕ) → place_of event.delivery t ≡ Some i
+    → step t (command.Admit event) ≡ (t, reply.Created (i + 1))
+created_again t event i is =
+    ap (λ (o : Option ℕ). (
+      (admitted_by t event o (nat_le 100000 (length t.runs))).table,
+      (admitted_by t event o (nat_le 100000 (length t.runs))).reply,
+    )) is
+
+-- ---- the law
+
+pub delivery_again : (t : TableState) (event again : Admitted) (run : ℕ) (later : List Command)
+    → (stepped t (command.Admit event)).reply ≡ reply.Created run → again.delivery ≡ event.delivery
+    → step (after (stepped t (command.Admit event)).table later) (command.Admit again)
+    ≡ (after (stepped t (command.Admit event)).table later, reply.Created run)
+delivery_again t event again run later given same =
+    let first = (stepped t (command.Admit event)).table in
+    let table = after first later in
+    let at = created_at t event run given in
+    let stays = place_stays event.delivery first table at.0 (after_keeps first later) at.2 in
+    created_again table again at.0 (ap (λ (d : List ℕ). place_of d table) same ∙ stays)
+    ∙ ap (λ (n : ℕ). (table, reply.Created n)) (sym at.1)

@@ -1,0 +1,112 @@
+-- The law played through by computation: pictures of the documentation, and lists that break each rule.
+use Rattle.std.specs.Prelude.{◌≡◌, [], ◌∷◌, ◌++◌, Bool, true, false, Some, refl}
+use Rattle.wf_value.specs.declared.outcome.Outcome.TheVariants.{Success, Failure, Cancelled}
+use Rattle.workflow_runs.specs.GroupState.{GroupState}
+use Rattle.workflow_runs.specs.Moves.{Holder, Move}
+use Rattle.table_laws.specs.GroupChanges.{base_moves, beyond_base}
+use Rattle.table_laws.specs.GroupLawTest.{keeps_law}
+
+abbrev pub run1 : Holder
+run1 = Holder.a_run 0
+
+abbrev pub run2 : Holder
+run2 = Holder.a_run 1
+
+abbrev pub run3 : Holder
+run3 = Holder.a_run 2
+
+abbrev leg : Holder
+leg = Holder.a_leg (record { run = 3; job = 1; leg = 2 })
+
+abbrev never : Holder → Bool
+never h = false
+
+abbrev always : Holder → Bool
+always h = true
+
+-- ---- lists that keep the law
+
+-- one run after another
+in_turn : keeps_law never (Move.arrive run1 ∷ Move.start run1 ∷ Move.arrive run2 ∷ Move.end_with Failure run1 ∷ Move.start run2 ∷ [])
+    ≡ true
+in_turn = refl
+
+-- a run and a leg of another share the group
+run_and_leg : keeps_law never (Move.arrive run1 ∷ Move.start run1 ∷ Move.arrive leg ∷ Move.end_with Success run1 ∷ Move.start leg ∷ [])
+    ≡ true
+run_and_leg = refl
+
+-- the third run takes the place of the second, which waits
+pending_is_replaced : keeps_law never (Move.arrive run1 ∷ Move.start run1 ∷ Move.arrive run2 ∷ Move.arrive run3
+    ∷ Move.end_with Cancelled run2 ∷ Move.end_with Success run1 ∷ Move.start run3 ∷ []) ≡ true
+pending_is_replaced = refl
+
+-- with cancel-in-progress the newcomer stops the run in progress, and waits until that has ended
+progress_is_cancelled : keeps_law always (Move.arrive run1 ∷ Move.start run1 ∷ Move.arrive run2 ∷ Move.stop run1
+    ∷ Move.end_with Cancelled run1 ∷ Move.start run2 ∷ []) ≡ true
+progress_is_cancelled = refl
+
+-- with both, the pending one ends first, and then the running one is stopped
+abbrev held : GroupState
+held = record { running = Some run1; stopping = false; pending = Some run2 }
+
+both_at_once : keeps_law (beyond_base always held) (base_moves held ++ Move.arrive run3 ∷ Move.end_with Cancelled run2
+    ∷ Move.stop run1 ∷ [])
+    ≡ true
+both_at_once = refl
+
+-- a pending holder that is told to stop
+told_to_stop : keeps_law never (Move.arrive run1 ∷ Move.start run1 ∷ Move.arrive run2 ∷ Move.stop run2 ∷ Move.end_with Cancelled run2
+    ∷ Move.end_with Success run1 ∷ []) ≡ true
+told_to_stop = refl
+
+-- a group that has holders already asks for no cancelling
+base_is_excepted : keeps_law (beyond_base always held)
+    (base_moves held) ≡ true
+base_is_excepted = refl
+
+-- ---- lists that break it
+
+-- two run at once
+starts_beside_another : keeps_law never (Move.arrive run1 ∷ Move.start run1 ∷ Move.arrive run2 ∷ Move.start run2 ∷ []) ≡ false
+starts_beside_another = refl
+
+-- a stopped holder frees the group only at its end
+freed_at_the_stop : keeps_law always (Move.arrive run1 ∷ Move.start run1 ∷ Move.arrive run2 ∷ Move.stop run1 ∷ Move.start run2 ∷ [])
+    ≡ false
+freed_at_the_stop = refl
+
+-- an ended holder starts again
+starts_after_its_end : keeps_law never (Move.arrive run1 ∷ Move.start run1 ∷ Move.end_with Success run1 ∷ Move.start run1 ∷ []) ≡ false
+starts_after_its_end = refl
+
+-- not the latest arrival starts
+starts_out_of_turn : keeps_law never (Move.arrive run1 ∷ Move.stop run1 ∷ Move.arrive run2 ∷ Move.end_with Cancelled run1
+    ∷ Move.start run1 ∷ []) ≡ false
+starts_out_of_turn = refl
+
+-- every newcomer is queued
+queues_every_newcomer : keeps_law never (Move.arrive run1 ∷ Move.start run1 ∷ Move.arrive run2 ∷ Move.arrive run3
+    ∷ Move.end_with Success run1 ∷ Move.start run3 ∷ []) ≡ false
+queues_every_newcomer = refl
+
+-- the displaced one ends as failure
+ends_otherwise : keeps_law never (Move.arrive run1 ∷ Move.start run1 ∷ Move.arrive run2 ∷ Move.arrive run3
+    ∷ Move.end_with Failure run2 ∷ []) ≡ false
+ends_otherwise = refl
+
+-- a pending holder ends though nobody came
+ends_without_cause : keeps_law never (Move.arrive run1 ∷ Move.start run1 ∷ Move.arrive run2 ∷ Move.end_with Cancelled run2 ∷ []) ≡ false
+ends_without_cause = refl
+
+-- a newcomer with cancel-in-progress stops nobody
+stops_nobody : keeps_law always (Move.arrive run1 ∷ Move.start run1 ∷ Move.arrive run2 ∷ Move.end_with Success run1 ∷ Move.start run2
+    ∷ [])
+    ≡ false
+stops_nobody = refl
+
+-- the stop stands before the end of the displaced one
+stops_too_early : keeps_law (beyond_base always held)
+    (Move.arrive run1 ∷ Move.start run1 ∷ Move.arrive run2 ∷ Move.arrive run3 ∷ Move.stop run1 ∷ Move.end_with Cancelled run2
+    ∷ []) ≡ false
+stops_too_early = refl

@@ -1,0 +1,264 @@
+-- Scripts in which runs and legs share concurrency groups, played by computation from the empty table.
+use Rattle.std.specs.Prelude.{◌≡◌, ℕ, List, [], ◌∷◌, ◌++◌, codes, map, Bool, true, refl}
+use Rattle.wf_value.specs.declared.outcome.Outcome.{Outcome}
+use Rattle.wf_value.specs.declared.outcome.Outcome.TheVariants.{Success, Failure, Cancelled}
+use Rattle.group_name.specs.Group.{Group}
+use Rattle.run_plan.specs.ReplyText.{reply_text}
+use Rattle.run_plan.specs.declared.command.Command.{Command}
+use Rattle.run_plan.specs.declared.command.Command.TheVariants as command
+use Rattle.run_table.specs.Histories.{replies}
+use Rattle.workflow_runs.specs.Moves.{Holder, Move}
+use Rattle.run_table.specs.Step.{empty}
+use Rattle.run_table.proofs.OnTables.{on_tables}
+use Rattle.table_laws.specs.GroupHistories.{all_moves, asks_for_cancelling, group_moves}
+use Rattle.table_laws.specs.GroupLawTest.{keeps_law}
+use Rattle.table_laws.proofs.GroupRows.{run1, run2, run3}
+use Rattle.table_laws.proofs.GroupTableRows.{group}
+
+-- a workflow of the one repository
+abbrev of_workflow : List ℕ → List ℕ
+of_workflow workflow = codes "{\"repo\":\"o/r\",\"path\":\"ci.json\",\"workflow\":" ++ workflow ++ codes "}"
+
+abbrev admit : List ℕ → List ℕ → Command
+admit delivery body = command.Admit (record { delivery = delivery; event = codes "push"; body = body })
+
+abbrev claim : List ℕ → ℕ → Command
+claim runner number = command.Claim (record { runner = runner; number = number; labels = codes "linux" ∷ [] })
+
+abbrev done : List ℕ → ℕ → ℕ → Outcome → Command
+done runner number lease result = command.Done (record { runner = runner; number = number; lease = lease; result = result })
+
+-- the texts of the replies
+abbrev answers : List Command → List (List ℕ)
+answers commands = map reply_text (replies empty commands)
+
+-- the law of the group as a test that computes
+abbrev plays_by_law : Group → List Command → Bool
+plays_by_law g commands = keeps_law (asks_for_cancelling g empty commands) (all_moves g empty commands)
+
+-- ---- runs that share a group
+
+abbrev deploys : List ℕ
+deploys = of_workflow (codes "{\"concurrency\":\"deploy\",\"jobs\":{\"go\":{\"runs-on\":\"linux\"}}}")
+
+-- The first runs, the second waits, and the third takes its place.
+abbrev three_deploys : List Command
+three_deploys =
+    admit (codes "a") deploys ∷ claim (codes "r1") 1 ∷ admit (codes "b") deploys ∷ admit (codes "c") deploys ∷ command.Look 2
+    ∷ command.Look 3 ∷ done (codes "r1") 2 1 Success ∷ command.Look 3 ∷ []
+
+pending_run_is_replaced : answers three_deploys
+    ≡ codes "created 1" ∷ codes "lease 1 1 go 0 {}" ∷ codes "created 2" ∷ codes "created 3"
+    ∷ codes "run 2 2 completed cancelled go:cancelled()" ∷ codes "run 3 3 pending - go:blocked" ∷ codes "ok"
+    ∷ codes "run 3 3 queued - go:open(ready)" ∷ []
+unfolding on_tables
+pending_run_is_replaced = refl
+
+moves_of_three_deploys : group_moves (group (codes "deploy")) empty three_deploys
+    ≡ Move.arrive run1 ∷ Move.start run1 ∷ Move.arrive run2 ∷ Move.arrive run3 ∷ Move.end_with Cancelled run2 ∷ Move.end_with Success run1
+    ∷ Move.start run3 ∷ []
+unfolding on_tables
+moves_of_three_deploys = refl
+
+three_deploys_keep_the_law : plays_by_law (group (codes "deploy")) three_deploys ≡ true
+unfolding on_tables
+three_deploys_keep_the_law = refl
+
+-- ---- cancel-in-progress
+
+abbrev prod : List ℕ
+prod = of_workflow (codes "{\"concurrency\":\"Prod\",\"jobs\":{\"go\":{\"runs-on\":\"linux\"}}}")
+
+abbrev prod_at_once : List ℕ
+prod_at_once =
+    of_workflow (codes "{\"concurrency\":{\"group\":\"prod\",\"cancel-in-progress\":true},\"jobs\":{\"go\":{\"runs-on\":\"linux\"}}}")
+
+-- The newcomer waits until the one that it stopped has ended.
+abbrev prod_twice : List Command
+prod_twice =
+    admit (codes "a") prod ∷ claim (codes "r1") 1 ∷ admit (codes "b") prod_at_once
+    ∷ command.Beat (record { runner = codes "r1"; lease = 1 }) ∷ command.Look 2 ∷ done (codes "r1") 2 1 Cancelled ∷ command.Look 1
+    ∷ command.Look 2 ∷ []
+
+running_run_is_stopped : answers prod_twice
+    ≡ codes "created 1" ∷ codes "lease 1 1 go 0 {}" ∷ codes "created 2" ∷ codes "stop" ∷ codes "run 2 2 pending - go:blocked"
+    ∷ codes "ok" ∷ codes "run 1 1 completed cancelled go:cancelled(cancelled)" ∷ codes "run 2 2 queued - go:open(ready)" ∷ []
+unfolding on_tables
+running_run_is_stopped = refl
+
+moves_of_prod_twice : group_moves (group (codes "prod")) empty prod_twice
+    ≡ Move.arrive run1 ∷ Move.start run1 ∷ Move.arrive run2 ∷ Move.stop run1 ∷ Move.end_with Cancelled run1 ∷ Move.start run2 ∷ []
+unfolding on_tables
+moves_of_prod_twice = refl
+
+prod_twice_keeps_the_law : plays_by_law (group (codes "prod")) prod_twice ≡ true
+unfolding on_tables
+prod_twice_keeps_the_law = refl
+
+-- ---- legs
+
+-- The legs of a job share a group: the first is ready, the last waits, and the one between was displaced.
+abbrev sharing_legs : List ℕ
+sharing_legs =
+    of_workflow (codes "{\"jobs\":{\"m\":{\"runs-on\":\"linux\",\"concurrency\":\"g\",\"strategy\":{\"matrix\":{\"n\":[1,2,3]}}}}}")
+
+legs_of_one_group : answers (admit (codes "d1") sharing_legs ∷ command.Look 1 ∷ [])
+    ≡ codes "created 1" ∷ codes "run 1 1 queued - m:open(ready,cancelled,waiting)" ∷ []
+unfolding on_tables
+legs_of_one_group = refl
+
+-- A leg whose group its own run holds is cancelled.
+abbrev leg_of_its_runs_group : List ℕ
+leg_of_its_runs_group =
+    of_workflow (codes "{\"concurrency\":\"x\",\"jobs\":{\"j\":{\"runs-on\":\"linux\",\"concurrency\":\"X\"}}}")
+
+own_group_cancels : answers (admit (codes "d1") leg_of_its_runs_group ∷ command.Look 1 ∷ [])
+    ≡ codes "created 1" ∷ codes "run 1 1 completed cancelled j:cancelled(cancelled)" ∷ []
+unfolding on_tables
+own_group_cancels = refl
+
+-- ---- in the midst of settling
+
+-- The first leg of the second run stops a leg of the first run. So another job of the first run arrives, and stops the second
+-- run, whose second leg has not arrived yet.
+abbrev first_of_two : List ℕ
+first_of_two =
+    of_workflow (codes "{\"jobs\":{\"a\":{\"runs-on\":\"linux\",\"concurrency\":\"g\"},\"b\":{\"runs-on\":\"linux\",\"needs\":\"a\","
+    ++ codes "\"if\":\"always()\",\"concurrency\":{\"group\":\"h\",\"cancel-in-progress\":true}}}}")
+
+abbrev second_of_two : List ℕ
+second_of_two =
+    of_workflow (codes "{\"concurrency\":\"h\",\"jobs\":{\"m\":{\"runs-on\":\"linux\",\"concurrency\":{\"group\":\"g\","
+    ++ codes "\"cancel-in-progress\":true},\"strategy\":{\"matrix\":{\"n\":[1,2]}}}}}")
+
+abbrev two_that_stop_each_other : List Command
+two_that_stop_each_other = admit (codes "a") first_of_two ∷ admit (codes "b") second_of_two ∷ command.Look 1 ∷ command.Look 2 ∷ []
+
+new_leg_of_a_stopped_run_ends : answers two_that_stop_each_other
+    ≡ codes "created 1" ∷ codes "created 2" ∷ codes "run 1 1 queued - a:cancelled(cancelled) b:open(ready)"
+    ∷ codes "run 2 2 completed cancelled m:cancelled(cancelled,cancelled)" ∷ []
+unfolding on_tables
+new_leg_of_a_stopped_run_ends = refl
+
+-- ---- their moves
+
+abbrev leg_at_place : ℕ → ℕ → ℕ → Holder
+leg_at_place r j l = Holder.a_leg (record { run = r; job = j; leg = l })
+
+moves_in_the_first_group : group_moves (group (codes "g")) empty two_that_stop_each_other
+    ≡ Move.arrive (leg_at_place 0 0 0) ∷ Move.start (leg_at_place 0 0 0) ∷ Move.arrive (leg_at_place 1 0 0)
+    ∷ Move.stop (leg_at_place 0 0 0) ∷ Move.end_with Cancelled (leg_at_place 0 0 0) ∷ Move.stop (leg_at_place 1 0 0)
+    ∷ Move.end_with Cancelled (leg_at_place 1 0 0) ∷ []
+unfolding on_tables
+moves_in_the_first_group = refl
+
+moves_in_the_second_group : group_moves (group (codes "h")) empty two_that_stop_each_other
+    ≡ Move.arrive run2 ∷ Move.start run2 ∷ Move.arrive (leg_at_place 0 1 0) ∷ Move.stop run2 ∷ Move.end_with Cancelled run2
+    ∷ Move.start (leg_at_place 0 1 0) ∷ []
+unfolding on_tables
+moves_in_the_second_group = refl
+
+they_keep_the_law : (plays_by_law (group (codes "g")) two_that_stop_each_other ≡ true)
+    × (plays_by_law (group (codes "h")) two_that_stop_each_other ≡ true)
+unfolding on_tables
+they_keep_the_law = (refl, refl)
+
+-- ---- a run that is cancelled
+
+abbrev run_of_group_and_legs : List ℕ
+run_of_group_and_legs =
+    of_workflow (codes "{\"concurrency\":\"x\",\"jobs\":{\"m\":{\"runs-on\":\"linux\",\"concurrency\":\"g\","
+    ++ codes "\"strategy\":{\"matrix\":{\"n\":[1,2]}}},\"z\":{\"runs-on\":\"linux\",\"if\":\"always()\"}}}")
+
+abbrev behind_it : List ℕ
+behind_it = of_workflow (codes "{\"concurrency\":\"x\",\"jobs\":{\"go\":{\"runs-on\":\"linux\"}}}")
+
+-- Its legs end with it, ready and waiting, but for those of a job that always runs. A pending run that is cancelled has ended.
+abbrev both_cancelled : List Command
+both_cancelled =
+    admit (codes "a") run_of_group_and_legs ∷ admit (codes "b") behind_it ∷ command.Cancel 1 ∷ command.Look 1 ∷ command.Cancel 2
+    ∷ command.Look 2 ∷ []
+
+cancelled_with_its_legs : answers both_cancelled
+    ≡ codes "created 1" ∷ codes "created 2" ∷ codes "ok" ∷ codes "run 1 1 queued - m:cancelled(cancelled,cancelled) z:open(ready)"
+    ∷ codes "ok" ∷ codes "run 2 2 completed cancelled go:cancelled()" ∷ []
+unfolding on_tables
+cancelled_with_its_legs = refl
+
+moves_of_the_runs : group_moves (group (codes "x")) empty both_cancelled
+    ≡ Move.arrive run1 ∷ Move.start run1 ∷ Move.arrive run2 ∷ Move.stop run1 ∷ Move.stop run2 ∷ Move.end_with Cancelled run2 ∷ []
+unfolding on_tables
+moves_of_the_runs = refl
+
+moves_of_the_legs : group_moves (group (codes "g")) empty both_cancelled
+    ≡ Move.arrive (leg_at_place 0 0 0) ∷ Move.start (leg_at_place 0 0 0) ∷ Move.arrive (leg_at_place 0 0 1)
+    ∷ Move.stop (leg_at_place 0 0 0) ∷ Move.end_with Cancelled (leg_at_place 0 0 0) ∷ Move.stop (leg_at_place 0 0 1)
+    ∷ Move.end_with Cancelled (leg_at_place 0 0 1) ∷ []
+unfolding on_tables
+moves_of_the_legs = refl
+
+cancelled_runs_keep_the_law : (plays_by_law (group (codes "x")) both_cancelled ≡ true)
+    × (plays_by_law (group (codes "g")) both_cancelled ≡ true)
+unfolding on_tables
+cancelled_runs_keep_the_law = (refl, refl)
+
+-- ---- a failure stops the other leg, which is in another group
+
+abbrev group_of_each_leg : List ℕ
+group_of_each_leg =
+    of_workflow (codes "{\"jobs\":{\"m\":{\"runs-on\":\"linux\",\"concurrency\":\"g${{ matrix.n }}\","
+    ++ codes "\"strategy\":{\"matrix\":{\"n\":[1,2]}}}}}")
+
+abbrev first_leg_fails : List Command
+first_leg_fails = admit (codes "a") group_of_each_leg ∷ claim (codes "r1") 1 ∷ done (codes "r1") 2 1 Failure ∷ command.Look 1 ∷ []
+
+failure_ends_the_ready_leg : answers first_leg_fails
+    ≡ codes "created 1" ∷ codes "lease 1 1 m 0 {\"n\":1}" ∷ codes "ok" ∷ codes "run 1 1 completed failure m:failure(failure,cancelled)" ∷ []
+unfolding on_tables
+failure_ends_the_ready_leg = refl
+
+moves_of_the_failed_leg : group_moves (group (codes "g1")) empty first_leg_fails
+    ≡ Move.arrive (leg_at_place 0 0 0) ∷ Move.start (leg_at_place 0 0 0) ∷ Move.end_with Failure (leg_at_place 0 0 0) ∷ []
+unfolding on_tables
+moves_of_the_failed_leg = refl
+
+moves_of_the_other_leg : group_moves (group (codes "g2")) empty first_leg_fails
+    ≡ Move.arrive (leg_at_place 0 0 1) ∷ Move.start (leg_at_place 0 0 1) ∷ Move.stop (leg_at_place 0 0 1)
+    ∷ Move.end_with Cancelled (leg_at_place 0 0 1) ∷ []
+unfolding on_tables
+moves_of_the_other_leg = refl
+
+-- ---- which names are one group
+
+abbrev named : List ℕ → List ℕ
+named name = of_workflow (codes "{\"concurrency\":\"" ++ name ++ codes "\",\"jobs\":{\"go\":{\"runs-on\":\"linux\"}}}")
+
+abbrev in_another_repository : List ℕ → List ℕ
+in_another_repository name =
+    codes "{\"repo\":\"o/q\",\"path\":\"ci.json\",\"workflow\":{\"concurrency\":\"" ++ name
+    ++ codes "\",\"jobs\":{\"go\":{\"runs-on\":\"linux\"}}}}"
+
+case_does_not_count : answers (admit (codes "a") (named (codes "Stra\\u00dfe")) ∷ admit (codes "b") (named (codes "STRASSE"))
+    ∷ admit (codes "c") (in_another_repository (codes "STRASSE")) ∷ command.Look 2 ∷ command.Look 3 ∷ [])
+    ≡ codes "created 1" ∷ codes "created 2" ∷ codes "created 3" ∷ codes "run 2 2 pending - go:blocked"
+    ∷ codes "run 3 1 queued - go:open(ready)" ∷ []
+unfolding on_tables
+case_does_not_count = refl
+
+-- an empty name is none
+empty_name_is_no_group : answers (admit (codes "a") (named []) ∷ admit (codes "b") (named []) ∷ command.Look 2 ∷ [])
+    ≡ codes "created 1" ∷ codes "created 2" ∷ codes "run 2 2 queued - go:open(ready)" ∷ []
+unfolding on_tables
+empty_name_is_no_group = refl
+
+-- a job may name its group by how the jobs that it needs ended
+abbrev group_of_a_result : List ℕ
+group_of_a_result =
+    of_workflow (codes "{\"jobs\":{\"a\":{\"runs-on\":\"linux\"},\"b\":{\"runs-on\":\"linux\",\"needs\":\"a\","
+    ++ codes "\"if\":\"always()\",\"concurrency\":\"${{ needs.a.result }}\"}}}")
+
+leg_in_the_group_of_a_result : group_moves (group (codes "failure")) empty
+    (admit (codes "a") group_of_a_result ∷ claim (codes "r1") 1 ∷ done (codes "r1") 2 1 Failure ∷ [])
+    ≡ Move.arrive (leg_at_place 0 1 0) ∷ Move.start (leg_at_place 0 1 0) ∷ []
+unfolding on_tables
+leg_in_the_group_of_a_result = refl

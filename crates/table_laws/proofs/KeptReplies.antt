@@ -1,0 +1,401 @@
+-- What is kept of a runner stays until a later command of it is carried out: its last number, the command, and the reply to it.
+use Rattle.std.proofs.Common.{◌≡◌, ℕ, ◌+◌, ◌<◌, ◌≤◌, Bool, true, false, List, [], ◌∷◌, refl, sym, ◌∙◌, ap, subst}
+use Rattle.std.proofs.Common.{arith}
+use Rattle.std.specs.Prelude.{Option, Some, None, option_map, if◌then◌else◌, nat_eq, nat_lt, ◌&&◌}
+use Rattle.std.specs.Option.{option_map_or, option_or}
+use Rattle.std.specs.Str.{bytes_eq}
+use Rattle.std.proofs.lemmas.Bool.{and_parts, eq-eqb, eqb-true, ltb-false, ltb-true, true≢false}
+use Rattle.std.proofs.lemmas.Slice.Eq.{bytes_eq-Decides}
+use Rattle.std.proofs.lemmas.Option.{same_Some}
+use Rattle.wf_value.specs.declared.code.Code.TheVariants.{HasLease, LastCounter, LeaseNotHeld, NoRunner}
+use Rattle.wf_value.specs.declared.refusal.Refusal.{Refusal}
+use Rattle.wf_value.specs.declared.refusal.Refusal.TheVariants.{Numbered, Turn}
+use Rattle.run_plan.proofs.SameCommands.{claims_decide, reports_decide}
+use Rattle.run_plan.specs.LastCommand.{is_last_claim, is_last_report, kept_reply}
+use Rattle.run_plan.specs.declared.command.Claim.{Claim as Claimed}
+use Rattle.run_plan.specs.declared.command.Command.{Command}
+use Rattle.run_plan.specs.declared.command.Command.TheVariants as command
+use Rattle.run_plan.specs.declared.command.Done.{Done as Reported}
+use Rattle.run_plan.specs.declared.last_command.ClaimReply.TheVariants as given
+use Rattle.run_plan.specs.declared.last_command.LastCommand.{LastCommand}
+use Rattle.run_plan.specs.declared.reply.Reply.{Reply}
+use Rattle.run_plan.specs.declared.reply.Reply.TheVariants as reply
+use Rattle.workflow_runs.specs.Fitting.{first_fit}
+use Rattle.run_table.specs.Histories.{after}
+use Rattle.run_table.specs.TableState.{Step, RunnerState, TableState}
+use Rattle.run_table.specs.Step.{admission_answer, admitting, cancel_answer, cancelling, claim_answer, claiming, claiming_runner}
+use Rattle.run_table.specs.Step.{has_no_lease_left}
+use Rattle.run_table.specs.Step.{lease_answer, lease_at, leasing, losing, lost, refused, released, report_answer, reporting}
+use Rattle.run_table.specs.Step.{reporting_runner, outcome, serving_nothing, step, stepped, unchanged}
+use Rattle.run_table.specs.Turns.{answer_of_turn, holds_lease, holds_this, is_repeated, number_of, runner_named, turn_answer, with_runner}
+use Rattle.run_table.proofs.RunnerPut.{found_new, found_other, has_the_name}
+use Rattle.table_laws.specs.ExactlyOnce.{HasTurn, HaveNoLaterTurn, IsRefused}
+
+-- ---- what is kept
+
+-- the runner's last command has this number, passes the test, and keeps this reply
+pub record HasKept (t : TableState) (name : List ℕ) (number : ℕ) (same : LastCommand → Bool) (kept : Reply) : Type 0 where
+  pub runner : RunnerState
+  pub found : runner_named t.runners name ≡ Some runner
+  pub number_is : runner.number ≡ number
+  pub passes : same runner.last ≡ true
+  pub keeps : kept_reply runner.last ≡ kept
+
+module _ (name : List ℕ) (number : ℕ) (same : LastCommand → Bool) (kept : Reply) where
+  abbrev Has : TableState → Type 0
+  Has t = HasKept t name number same kept
+
+  has_runners : (t next : TableState) → next.runners ≡ t.runners → Has t → Has next
+  has_runners t next is has = record {
+    runner = has.runner;
+    found = ap (λ (l : List RunnerState). runner_named l name) is ∙ has.found;
+    number_is = has.number_is;
+    passes = has.passes;
+    keeps = has.keeps;
+  }
+
+  -- a runner is put among them
+  has_beside : (t next : TableState) (new : RunnerState) → next.runners ≡ with_runner t.runners new
+      → ((has : Has t) → name ≡ new.name → Has next) → Has t → Has next
+  has_beside t next new is same_name has =
+      elim (bytes_eq name new.name) as (λ b. bytes_eq name new.name ≡ b → Has next) [
+        | true ↦ λ named. same_name has ((bytes_eq-Decides name new.name).0 named)
+        | false ↦ λ other. record {
+          runner = has.runner;
+          found = ap (λ (l : List RunnerState). runner_named l name) is
+              ∙ found_other t.runners new name (λ e. absurd (true≢false (sym ((bytes_eq-Decides name new.name).1 e) ∙ other)))
+              ∙ has.found;
+          number_is = has.number_is;
+          passes = has.passes;
+          keeps = has.keeps;
+        }
+      ] refl
+
+  -- a runner whose command is in turn
+  in_turn : (t next : TableState) (new : RunnerState) → next.runners ≡ with_runner t.runners new
+      → new.number ≡ number_of (runner_named t.runners new.name) + 1 → (new.name ≡ name → new.number ≤ number) → Has t → Has next
+  in_turn t next new is turn no_later has = has_beside t next new is (λ has named.
+      let found : runner_named t.runners new.name ≡ Some has.runner = ap (runner_named t.runners) (sym named) ∙ has.found in
+      let last : number_of (runner_named t.runners new.name) ≡ number = ap number_of found ∙ has.number_is in
+      absurd (omega (arith, turn, last, no_later (sym named)))) has
+
+  -- a runner that loses its lease
+  releasing : (t next : TableState) (lost_one : List ℕ) (runner : RunnerState) → runner_named t.runners lost_one ≡ Some runner
+      → next.runners ≡ with_runner t.runners (released runner) → Has t → Has next
+  releasing t next lost_one runner found is has =
+      has_beside t next (released runner) is (λ has named.
+      let same_one : has.runner ≡ runner = same_Some has.runner runner
+      (sym has.found ∙ ap (runner_named t.runners) (named ∙ has_the_name t.runners lost_one runner found) ∙ found) in
+      record {
+        runner = released runner;
+        found = ap (λ (l : List RunnerState). runner_named l name) is ∙ ap (runner_named (with_runner t.runners (released runner))) named
+            ∙ found_new t.runners (released runner);
+        number_is = ap (λ (x : RunnerState). x.number) (sym same_one) ∙ has.number_is;
+        passes = ap (λ (x : RunnerState). same x.last) (sym same_one) ∙ has.passes;
+        keeps = ap (λ (x : RunnerState). kept_reply x.last) (sym same_one) ∙ has.keeps;
+      }) has
+
+  answered : (t : TableState) (answer : Option Reply) (change : Step) → Has t → (answer ≡ None → Has change.table)
+      → Has (option_map_or (unchanged t) answer change).table
+  answered t None change has h = h refl
+  answered t (Some given) change has h = has
+
+  turn_is : (o : Option RunnerState) (n : ℕ) (test : LastCommand → Bool) (others : Option Reply)
+      → option_or (answer_of_turn o n test) others ≡ None
+      → n ≡ number_of o + 1
+  turn_is o n test others none =
+      elim (option_map_or (is_repeated n test) o false) as
+      (λ b. option_map_or (is_repeated n test) o false ≡ b
+      → option_or (if b then option_map (λ (r : RunnerState). kept_reply r.last) o else turn_answer (number_of o) n) others ≡ None
+      → n ≡ number_of o + 1) [
+        | true ↦ λ is h. absurd (repeated o is h)
+        | false ↦ λ is h. elim (nat_eq n (number_of o + 1)) as
+            (λ b. nat_eq n (number_of o + 1) ≡ b → option_or (if b then None else Some (reply.Refused (Turn (number_of o)))) others ≡ None
+            → n ≡ number_of o + 1) [
+              | true ↦ λ at h. eqb-true n (number_of o + 1) at
+              | false ↦ λ at h. cc
+            ] refl h
+      ] refl none
+    where
+      repeated : (o : Option RunnerState) → option_map_or (is_repeated n test) o false ≡ true
+          → option_or (option_map (λ (r : RunnerState). kept_reply r.last) o) others ≡ None → ⊥
+      repeated None is h = cc is
+      repeated (Some x) is h = cc h
+
+  has_claim : (t : TableState) (claim : Claimed) → (claim.runner ≡ name → claim.number ≤ number) → claim_answer t claim ≡ None → Has t
+      → Has (claiming t claim).table
+  has_claim t claim no_later none has =
+      let turn = turn_is (runner_named t.runners claim.runner) claim.number (is_last_claim claim)
+      (if holds_lease (runner_named t.runners claim.runner) then Some (refused HasLease) else lease_answer t claim) none in
+      elim (first_fit claim.labels t.runs) as (λ o. Has (option_map_or (leasing t claim) o (serving_nothing t claim)).table) [
+        | None ↦ in_turn t (serving_nothing t claim).table (claiming_runner claim None given.Nothing) refl turn no_later has
+        | Some p ↦ in_turn t (leasing t claim p).table
+            (claiming_runner claim (Some (t.last_lease + 1)) (given.Lease (lease_at t.runs p (t.last_lease + 1)))) refl turn no_later has
+      ]
+
+  has_report : (t : TableState) (report : Reported) → (report.runner ≡ name → report.number ≤ number)
+      → report_answer t report ≡ None → Has t
+      → Has (reporting t report).table
+  has_report t report no_later none has =
+      let turn = turn_is (runner_named t.runners report.runner) report.number (is_last_report report)
+      (if holds_this report.lease (runner_named t.runners report.runner) then None else Some (refused LeaseNotHeld)) none in
+      in_turn t (reporting t report).table (reporting_runner report) refl turn no_later has
+
+  has_lost : (t : TableState) (who : List ℕ) → Has t → Has (lost t who).table
+  has_lost t who has =
+      elim (runner_named t.runners who) as
+      (λ o. runner_named t.runners who ≡ o
+      → Has (option_map_or (λ runner. option_map_or (losing t (released runner)) runner.holds (unchanged t (refused LeaseNotHeld))) o
+      (unchanged t (refused NoRunner))).table) [
+        | None ↦ λ is. has
+        | Some runner ↦ λ is. elim (runner.holds) as
+            (λ h. Has (option_map_or (losing t (released runner)) h (unchanged t (refused LeaseNotHeld))).table) [
+              | None ↦ has
+              | Some lease ↦ releasing t (losing t (released runner) lease).table who runner is refl has
+            ]
+      ] refl
+
+  -- a claim that changes the table is no refusal, and no more is a report
+  claim_unrefused : (t : TableState) (claim : Claimed) → claim_answer t claim ≡ None → IsRefused (stepped t (command.Claim claim)).reply → ⊥
+  claim_unrefused t claim none =
+      subst (λ (o : Option Reply). IsRefused (option_map_or (unchanged t) o (claiming t claim)).reply → ⊥) (sym none)
+      (elim (first_fit claim.labels t.runs) as
+      (λ o. IsRefused (option_map_or (leasing t claim) o (serving_nothing t claim)).reply → ⊥) [
+        | None ↦ λ is. cc is.1
+        | Some p ↦ λ is. cc is.1
+      ])
+
+  report_unrefused : (t : TableState) (report : Reported) → report_answer t report ≡ None
+      → IsRefused (stepped t (command.Done report)).reply → ⊥
+  report_unrefused t report none =
+      subst (λ (o : Option Reply). IsRefused (option_map_or (unchanged t) o (reporting t report)).reply → ⊥) (sym none) (λ is. cc is.1)
+
+  at_most : (n : ℕ) → (number < n → ⊥) → n ≤ number
+  at_most n no_more =
+      elim (nat_lt number n) as (λ b. nat_lt number n ≡ b → n ≤ number) [
+        | true ↦ λ is. absurd (no_more (ltb-true number n is))
+        | false ↦ λ is. ltb-false number n is
+      ] refl
+
+  pub has_step : (t : TableState) (c : Command) → ((n : ℕ) → HasTurn c name n → number < n → IsRefused (stepped t c).reply) → Has t
+      → Has (stepped t c).table
+  has_step t (command.Admit event) no_later has =
+      answered t (admission_answer t event) (admitting t event) has (λ none. has_runners t (admitting t event).table refl has)
+  has_step t (command.Claim claim) no_later has =
+      answered t (claim_answer t claim) (claiming t claim) has
+      (λ none. has_claim t claim
+      (λ own. at_most claim.number (λ more. claim_unrefused t claim none (no_later claim.number (own, refl) more))) none has)
+  has_step t (command.Done report) no_later has =
+      answered t (report_answer t report) (reporting t report) has
+      (λ none. has_report t report
+      (λ own. at_most report.number (λ more. report_unrefused t report none (no_later report.number (own, refl) more))) none has)
+  has_step t (command.Beat beat) no_later has = has
+  has_step t (command.Cancel id) no_later has =
+      answered t (cancel_answer t id) (cancelling t id) has (λ none. has_runners t (cancelling t id).table refl has)
+  has_step t (command.Lost who) no_later has = has_lost t who has
+  has_step t (command.Fetch id) no_later has = has
+  has_step t (command.Look id) no_later has = has
+
+  pub has_after : (t : TableState) (cs : List Command) → HaveNoLaterTurn name number cs → Has t → Has (after t cs)
+  has_after t [] no_later has = has
+  has_after t (c ∷ cs) no_later has =
+      has_after (stepped t c).table cs no_later.1
+      (has_step t c (λ n turn later. absurd (omega (arith, no_later.0 n turn, later))) has)
+
+  -- the command again
+  pub answer_again : (t : TableState) → Has t → answer_of_turn (runner_named t.runners name) number same ≡ Some kept
+  answer_again t has =
+      let x = has.runner in
+      let repeats : is_repeated number same x ≡ true =
+      ap (λ (b : Bool). b && same x.last) (eq-eqb x.number number has.number_is) ∙ ap (λ (b : Bool). true && b) has.passes in
+      ap (λ (o : Option RunnerState). answer_of_turn o number same) has.found
+      ∙ ap (λ (b : Bool). if b then Some (kept_reply x.last) else turn_answer x.number number) repeats
+      ∙ ap (λ (r : Reply). Some r) has.keeps
+
+-- ---- what a command keeps that is not refused
+
+-- put among the runners
+put_has : (t next : TableState) (new : RunnerState) (same : LastCommand → Bool) (kept : Reply) → next.runners ≡ with_runner t.runners new
+    → same new.last ≡ true → kept_reply new.last ≡ kept → HasKept next new.name new.number same kept
+put_has t next new same kept is passes keeps = record {
+  runner = new;
+  found = ap (λ (l : List RunnerState). runner_named l new.name) is ∙ found_new t.runners new;
+  number_is = refl;
+  passes = passes;
+  keeps = keeps;
+}
+
+-- what was kept already
+repeated_has : (t : TableState) (name : List ℕ) (number : ℕ) (same : LastCommand → Bool) (x : RunnerState)
+    → runner_named t.runners name ≡ Some x
+    → is_repeated number same x ≡ true → HasKept t name number same (kept_reply x.last)
+repeated_has t name number same x found is =
+    let parts = and_parts (nat_eq x.number number) (same x.last) is in
+    record {
+      runner = x;
+      found = found;
+      number_is = eqb-true x.number number parts.0;
+      passes = parts.1;
+      keeps = refl;
+    }
+
+-- A numbered command is answered by what is kept, or is refused, or changes the table.
+abbrev turned : TableState → Option RunnerState → Bool → ℕ → Option Reply → Step → Step
+turned t o b number others change =
+    option_map_or (unchanged t)
+    (option_or (if b then option_map (λ (r : RunnerState). kept_reply r.last) o else turn_answer (number_of o) number) others) change
+
+module _ (t : TableState) (name : List ℕ) (number : ℕ) (same : LastCommand → Bool) (others : Option Reply) (change : Step)
+    (refuses : (r : Reply) → others ≡ Some r → IsRefused r)
+    (changes : others ≡ None → HasKept change.table name number same change.reply) where
+  others_has : (o : Option Reply) → others ≡ o → (IsRefused (option_map_or (unchanged t) o change).reply → ⊥)
+      → HasKept (option_map_or (unchanged t) o change).table name number same (option_map_or (unchanged t) o change).reply
+  others_has None is taken = changes is
+  others_has (Some r) is taken = absurd (taken (refuses r is))
+
+  first_has : (o : Option RunnerState) → runner_named t.runners name ≡ o → option_map_or (is_repeated number same) o false ≡ true
+      → HasKept (turned t o true number others change).table name number same (turned t o true number others change).reply
+  first_has None found is = cc is
+  first_has (Some x) found is = repeated_has t name number same x found is
+
+  pub taken_has : (IsRefused (option_map_or (unchanged t) (option_or (answer_of_turn (runner_named t.runners name) number same) others)
+      change).reply → ⊥)
+      → HasKept (option_map_or (unchanged t) (option_or (answer_of_turn (runner_named t.runners name) number same) others) change).table
+      name number
+      same (option_map_or (unchanged t) (option_or (answer_of_turn (runner_named t.runners name) number same) others) change).reply
+  taken_has taken =
+      let o = runner_named t.runners name in
+      elim (option_map_or (is_repeated number same) o false) as
+      (λ b. option_map_or (is_repeated number same) o false ≡ b → (IsRefused (turned t o b number others change).reply → ⊥)
+      → HasKept (turned t o b number others change).table name number same (turned t o b number others change).reply) [
+        | true ↦ λ is h. first_has o refl is
+        | false ↦ λ is h. elim (nat_eq number (number_of o + 1)) as
+            (λ b. (IsRefused (option_map_or (unchanged t) (option_or (if b then None else Some (reply.Refused (Turn (number_of o)))) others)
+            change).reply → ⊥)
+            → HasKept (option_map_or (unchanged t) (option_or (if b then None else Some (reply.Refused (Turn (number_of o)))) others)
+            change).table
+            name number same (option_map_or (unchanged t) (option_or (if b then None else Some (reply.Refused (Turn (number_of o)))) others)
+            change).reply) [
+              | true ↦ λ k. others_has others refl k
+              | false ↦ λ k. absurd (k (Turn (number_of o), refl))
+            ] h
+      ] refl taken
+
+if_refused : (b : Bool) (e : Refusal) (r : Reply) → (if b then Some (reply.Refused e) else None) ≡ Some r → IsRefused r
+if_refused true e r is = (e, cc is)
+if_refused false e r is = cc is
+
+claim_has : (t : TableState) (claim : Claimed) → (IsRefused (stepped t (command.Claim claim)).reply → ⊥)
+    → HasKept (stepped t (command.Claim claim)).table claim.runner claim.number (is_last_claim claim)
+    (stepped t (command.Claim claim)).reply
+claim_has t claim taken =
+    taken_has t claim.runner claim.number (is_last_claim claim) others (claiming t claim) refuses changes taken
+  where
+    others : Option Reply
+    others = if holds_lease (runner_named t.runners claim.runner) then Some (refused HasLease) else lease_answer t claim
+
+    refuses : (r : Reply) → others ≡ Some r → IsRefused r
+    refuses r is =
+        elim (holds_lease (runner_named t.runners claim.runner)) as
+        (λ b. (if b then Some (refused HasLease) else lease_answer t claim) ≡ Some r → IsRefused r) [
+          | true ↦ λ h. (Numbered HasLease, same_Some r (refused HasLease) (sym h))
+          | false ↦ λ h. if_refused (has_no_lease_left t claim) (Numbered LastCounter) r h
+        ] is
+
+    changes : others ≡ None → HasKept (claiming t claim).table claim.runner claim.number (is_last_claim claim) (claiming t claim).reply
+    changes none =
+        elim (first_fit claim.labels t.runs) as
+        (λ o. HasKept (option_map_or (leasing t claim) o (serving_nothing t claim)).table claim.runner claim.number (is_last_claim claim)
+        (option_map_or (leasing t claim) o (serving_nothing t claim)).reply) [
+          | None ↦ put_has t (serving_nothing t claim).table (claiming_runner claim None given.Nothing) (is_last_claim claim)
+              reply.Nothing refl
+              ((claims_decide claim claim).1 refl) refl
+          | Some p ↦ (let told = lease_at t.runs p (t.last_lease + 1) in
+              put_has t (leasing t claim p).table (claiming_runner claim (Some (t.last_lease + 1)) (given.Lease told)) (is_last_claim claim)
+              (reply.Lease told) refl ((claims_decide claim claim).1 refl) refl)
+        ]
+
+report_has : (t : TableState) (report : Reported) → (IsRefused (stepped t (command.Done report)).reply → ⊥)
+    → HasKept (stepped t (command.Done report)).table report.runner report.number (is_last_report report)
+    (stepped t (command.Done report)).reply
+report_has t report taken =
+    taken_has t report.runner report.number (is_last_report report) others (reporting t report) refuses changes taken
+  where
+    others : Option Reply
+    others = if holds_this report.lease (runner_named t.runners report.runner) then None else Some (refused LeaseNotHeld)
+
+    refuses : (r : Reply) → others ≡ Some r → IsRefused r
+    refuses r is =
+        elim (holds_this report.lease (runner_named t.runners report.runner)) as
+        (λ b. (if b then None else Some (refused LeaseNotHeld)) ≡ Some r → IsRefused r) [
+          | true ↦ λ h. absurd (cc h)
+          | false ↦ λ h. (Numbered LeaseNotHeld, same_Some r (refused LeaseNotHeld) (sym h))
+        ] is
+
+    changes : others ≡ None → HasKept (reporting t report).table report.runner report.number (is_last_report report)
+        (reporting t report).reply
+    changes none = put_has t (reporting t report).table (reporting_runner report) (is_last_report report) reply.Ok refl
+        ((reports_decide report report).1 refl) refl
+
+-- ---- both kinds of numbered commands
+
+abbrev pub test_of : Command → LastCommand → Bool
+test_of (command.Claim claim) = is_last_claim claim
+test_of (command.Done report) = is_last_report report
+test_of (command.Admit event) = λ l. false
+test_of (command.Beat beat) = λ l. false
+test_of (command.Cancel id) = λ l. false
+test_of (command.Lost name) = λ l. false
+test_of (command.Look id) = λ l. false
+test_of (command.Fetch id) = λ l. false
+
+at_turn : (P : List ℕ → ℕ → Type 0) (a b : List ℕ) (m n : ℕ) → a ≡ b → m ≡ n → P a m → P b n
+at_turn P a b m n names numbers h = subst (λ (x : List ℕ). P x n) names (subst (λ (k : ℕ). P a k) numbers h)
+
+pub turn_has : (t : TableState) (c : Command) (name : List ℕ) (number : ℕ) → HasTurn c name number → (IsRefused (stepped t c).reply → ⊥)
+    → HasKept (stepped t c).table name number (test_of c) (stepped t c).reply
+turn_has t (command.Claim claim) name number turn taken =
+    let s = stepped t (command.Claim claim) in
+    at_turn (λ x n. HasKept s.table x n (is_last_claim claim) s.reply) claim.runner name claim.number number turn.0 turn.1
+    (claim_has t claim taken)
+turn_has t (command.Done report) name number turn taken =
+    let s = stepped t (command.Done report) in
+    at_turn (λ x n. HasKept s.table x n (is_last_report report) s.reply) report.runner name report.number number turn.0 turn.1
+    (report_has t report taken)
+turn_has t (command.Admit event) name number turn taken = absurd turn
+turn_has t (command.Beat beat) name number turn taken = absurd turn
+turn_has t (command.Cancel id) name number turn taken = absurd turn
+turn_has t (command.Lost who) name number turn taken = absurd turn
+turn_has t (command.Look id) name number turn taken = absurd turn
+turn_has t (command.Fetch id) name number turn taken = absurd turn
+
+pub turn_again : (t : TableState) (c : Command) (name : List ℕ) (number : ℕ) (kept : Reply) → HasTurn c name number
+    → HasKept t name number (test_of c) kept → step t c ≡ (t, kept)
+turn_again t (command.Claim claim) name number kept turn has =
+    let own = at_turn (λ x n. HasKept t x n (is_last_claim claim) kept) name claim.runner number claim.number (sym turn.0)
+    (sym turn.1) has in
+    let others = if holds_lease (runner_named t.runners claim.runner) then Some (refused HasLease) else lease_answer t claim in
+    ap (λ (o : Option Reply). outcome (option_map_or (unchanged t) (option_or o others) (claiming t claim)))
+    (answer_again claim.runner claim.number (is_last_claim claim) kept t own)
+turn_again t (command.Done report) name number kept turn has =
+    let own = at_turn (λ x n. HasKept t x n (is_last_report report) kept) name report.runner number report.number (sym turn.0)
+    (sym turn.1) has in
+    let others = if holds_this report.lease (runner_named t.runners report.runner) then None else Some (refused LeaseNotHeld) in
+    ap (λ (o : Option Reply). outcome (option_map_or (unchanged t) (option_or o others) (reporting t report)))
+    (answer_again report.runner report.number (is_last_report report) kept t own)
+turn_again t (command.Admit event) name number kept turn has = absurd turn
+turn_again t (command.Beat beat) name number kept turn has = absurd turn
+turn_again t (command.Cancel id) name number kept turn has = absurd turn
+turn_again t (command.Lost who) name number kept turn has = absurd turn
+turn_again t (command.Look id) name number kept turn has = absurd turn
+turn_again t (command.Fetch id) name number kept turn has = absurd turn
+
+-- ---- the law
+
+pub reply_again : (t : TableState) (c : Command) (name : List ℕ) (number : ℕ) (later : List Command) → HasTurn c name number
+    → (IsRefused (stepped t c).reply → ⊥) → HaveNoLaterTurn name number later
+    → step (after (stepped t c).table later) c ≡ (after (stepped t c).table later, (stepped t c).reply)
+reply_again t c name number later turn taken no_later =
+    let s = stepped t c in
+    turn_again (after s.table later) c name number s.reply turn
+    (has_after name number (test_of c) s.reply s.table later no_later (turn_has t c name number turn taken))

@@ -1,0 +1,118 @@
+-- A leg that has a lease has it in every later table.
+use Rattle.std.specs.Prelude.{◌≡◌, ℕ, ◌+◌, ◌-◌, List, [], ◌∷◌, ◌++◌, Option, Some, None, refl}
+use Rattle.std.specs.Option.{option_map_or}
+use Rattle.std.proofs.Common.{ap, inl, inr, sym, ◌∙◌}
+use Rattle.std.proofs.lemmas.Option.{none-some}
+use Rattle.run_plan.specs.declared.command.Claim.{Claim as Claimed}
+use Rattle.run_plan.specs.declared.command.Command.{Command}
+use Rattle.run_plan.specs.declared.command.Command.TheVariants as command
+use Rattle.run_plan.specs.declared.reply.Reply.{Reply}
+use Rattle.wf_value.specs.declared.code.Code.TheVariants.{LeaseNotHeld, NoRunner}
+use Rattle.workflow_runs.specs.Fitting.{first_fit}
+use Rattle.run_table.specs.Histories.{after}
+use Rattle.run_table.specs.TableState.{Step, TableState}
+use Rattle.workflow_runs.specs.Places.{LegPlace, with_leg, with_run}
+use Rattle.workflow_runs.specs.Settling.{settled}
+use Rattle.run_table.specs.Sound.{IsSound}
+use Rattle.run_table.specs.Step.{admission_answer, admitting, cancel_answer, cancelling, claim_answer, claimed, claiming, entered}
+use Rattle.run_table.specs.Step.{leasing, losing, lost, refused, released, report_answer, reporting, serving_nothing}
+use Rattle.workflow_runs.specs.NewRun.{leased_leg}
+use Rattle.run_table.specs.Step.{stepped, unchanged}
+use Rattle.workflow_runs.specs.StopMoves.{with_ended}
+use Rattle.workflow_runs.specs.Stops.{outcome_of_loss, stopped_run}
+use Rattle.workflow_runs.specs.RunState.{LegState, RunState}
+use Rattle.run_table.specs.Turns.{runner_named}
+use Rattle.run_table.proofs.AdmitKeeps.{same_reads}
+use Rattle.run_table.proofs.ClaimKeeps.{fitting_leg, had_changes, leasing_keeps, ready_has_no_lease}
+use Rattle.run_table.proofs.Entered.{entered_keeps, entered_settles}
+use Rattle.workflow_runs.proofs.HoldersKeep.{run_stop_settles}
+use Rattle.run_table.proofs.Kept.{kept_from_sound}
+use Rattle.workflow_runs.proofs.LeaseReads.{place_or_another}
+use Rattle.workflow_runs.proofs.LegReads.{had_at, had_from_leg}
+use Rattle.run_table.proofs.ReportKeeps.{loss_keeps, report_keeps}
+use Rattle.workflow_runs.proofs.RunFits.{RunsFit, leases_fit}
+use Rattle.workflow_runs.proofs.SettlingKeeps.{settling_settles}
+use Rattle.run_table.proofs.StepKeeps.{stepped_is_sound}
+use Rattle.table_laws.proofs.ReachedTables.{with_ended_keeps_leases}
+
+abbrev pub HadStays : List RunState → List RunState → Type 0
+HadStays runs next = (p : LegPlace) (n : ℕ) → had_at runs p ≡ Some n → had_at next p ≡ Some n
+
+had_by : (t : TableState) (answer : Option Reply) (change : Step) → (answer ≡ None → HadStays t.runs change.table.runs)
+    → HadStays t.runs (option_map_or (unchanged t) answer change).table.runs
+had_by t None change h = h refl
+had_by t (Some r) change h = λ p n e. e
+
+had_at_rest : (runs next : List RunState) → RunsFit next → HadStays runs next → HadStays runs (settled next)
+had_at_rest runs next fit stays p n e = (settling_settles next fit).same_had p ∙ stays p n e
+
+-- a ready leg, which has none, is leased
+lease_had : (runs : List RunState) (labels : List (List ℕ)) (p : LegPlace) (lease : ℕ) → RunsFit runs → first_fit labels runs ≡ Some p
+    → HadStays runs (with_leg p (λ _. leased_leg lease) runs)
+lease_had runs labels p lease fit fits q n e =
+    let ready = fitting_leg labels runs p fits in
+    let z = ready.leg_of in
+    elim (place_or_another q p) [
+      | inl same ↦
+          let none = ready_has_no_lease z.phase z.lease ready.ready (leases_fit runs fit p z ready.is) in
+          absurd (none-some n (sym (had_from_leg runs p z ready.is ∙ none) ∙ ap (had_at runs) (sym same) ∙ e))
+      | inr other ↦ (had_changes runs p z (λ _. leased_leg lease) ready.is).elsewhere q other ∙ e
+    ]
+
+claim_had : (t : TableState) (claim : Claimed) → IsSound t → HadStays t.runs (claimed t claim).table.runs
+claim_had t claim s =
+    had_by t (claim_answer t claim) (claiming t claim) (λ none.
+    elim (first_fit claim.labels t.runs) as
+    (λ o. first_fit claim.labels t.runs ≡ o → HadStays t.runs (option_map_or (leasing t claim) o (serving_nothing t claim)).table.runs) [
+      | None ↦ λ is. had_at_rest t.runs t.runs (kept_from_sound t s).fit (λ p n e. e)
+      | Some p ↦ λ is.
+          had_at_rest t.runs (with_leg p (λ _. leased_leg (t.last_lease + 1)) t.runs) (leasing_keeps t claim p
+          (kept_from_sound t s) none is).fit
+          (lease_had t.runs claim.labels p (t.last_lease + 1) (kept_from_sound t s).fit is)
+    ] refl)
+
+loss_had : (t : TableState) (name : List ℕ) → IsSound t → HadStays t.runs (lost t name).table.runs
+loss_had t name s =
+    elim (runner_named t.runners name) as
+    (λ o. runner_named t.runners name ≡ o → HadStays t.runs (option_map_or
+    (λ runner. option_map_or (losing t (released runner)) runner.holds (unchanged t (refused LeaseNotHeld))) o
+    (unchanged t (refused NoRunner))).table.runs) [
+      | None ↦ λ is p n e. e
+      | Some runner ↦ λ is. elim (runner.holds) as
+          (λ h. runner.holds ≡ h
+          → HadStays t.runs (option_map_or (losing t (released runner)) h (unchanged t (refused LeaseNotHeld))).table.runs) [
+            | None ↦ λ none p n e. e
+            | Some lease ↦ λ holds.
+                let o = outcome_of_loss t.runs lease in
+                had_at_rest t.runs (with_ended lease o t.runs) (loss_keeps t name runner lease (kept_from_sound t s) is holds).fit
+                (λ p n e. with_ended_keeps_leases lease o p t.runs ∙ e)
+          ] refl
+    ] refl
+
+step_had : (t : TableState) (c : Command) → IsSound t → HadStays t.runs (stepped t c).table.runs
+step_had t (command.Admit event) s =
+    had_by t (admission_answer t event) (admitting t event) (λ none.
+    let kept = kept_from_sound t s in
+    had_at_rest t.runs (entered t event).runs (entered_keeps t event kept none).fit
+    (λ p n e. (entered_settles t event kept.fit).same_had p ∙ same_reads t.runs event (λ (z : LegState). z.lease) p ∙ e))
+step_had t (command.Claim claim) s = claim_had t claim s
+step_had t (command.Done report) s =
+    had_by t (report_answer t report) (reporting t report) (λ none.
+    had_at_rest t.runs (with_ended report.lease report.result t.runs) (report_keeps t report (kept_from_sound t s) none).fit
+    (λ p n e. with_ended_keeps_leases report.lease report.result p t.runs ∙ e))
+step_had t (command.Beat beat) s = λ p n e. e
+step_had t (command.Cancel id) s =
+    had_by t (cancel_answer t id) (cancelling t id) (λ none.
+    let stop = run_stop_settles t.runs (id - 1) (kept_from_sound t s).fit in
+    had_at_rest t.runs (with_run (id - 1) stopped_run t.runs) stop.stay.fit (λ p n e. stop.same_had p ∙ e))
+step_had t (command.Lost name) s = loss_had t name s
+step_had t (command.Fetch id) s = λ p n e. e
+step_had t (command.Look id) s = λ p n e. e
+
+pub after_had : (t : TableState) (cs : List Command) → IsSound t → HadStays t.runs (after t cs).runs
+after_had t [] s p n e = e
+after_had t (c ∷ cs) s p n e = after_had (stepped t c).table cs (stepped_is_sound t c s) p n (step_had t c s p n e)
+
+pub after_both : (t : TableState) (first second : List Command) → after t (first ++ second) ≡ after (after t first) second
+after_both t [] second = refl
+after_both t (c ∷ cs) second = after_both (stepped t c).table cs second

@@ -1,0 +1,41 @@
+pub mod AncestorsSettled
+pub mod ArrivalLaw
+pub mod ArrivalTold
+pub mod ChangesTold
+pub mod Decided
+pub mod Deliveries
+pub mod EventsStay
+pub mod GroupArrival
+pub mod GroupBase
+pub mod GroupChangeKeeps
+pub mod GroupFollows
+pub mod GroupLawTested
+pub mod GroupLawWalk
+mod GroupRows
+pub mod GroupSaid
+mod GroupScripts
+mod GroupTableRows
+pub mod GroupTruths
+pub mod GroupsKept
+pub mod HistoryLaw
+pub mod HistoryWords
+pub mod HolderStatus
+pub mod HoldersOnce
+pub mod HoldersSaid
+pub mod KeptReplies
+pub mod LawSoFar
+pub mod LeasesStay
+pub mod ListWalk
+pub mod OnlyStops
+pub mod OwnMoves
+pub mod OwnRun
+pub mod PlacedOne
+pub mod ReachedTables
+pub mod Remembered
+pub mod RulesDecided
+pub mod RulesLaw
+pub mod SkipsDue
+pub mod StepsLaw
+pub mod StopDecided
+pub mod StopsTold
+pub mod Unbegun

@@ -1,0 +1,318 @@
+-- What a list of commands leaves: a sound table, and leases that were answers to claims.
+use Rattle.std.specs.Prelude.{◌≡◌, ◌⊎◌, ℕ, zero, suc, ◌+◌, ◌-◌, List, [], ◌∷◌, ◌++◌, length, true, false, Option, Some, None}
+use Rattle.std.specs.Prelude.{option_map, option_and_then, slice_get, if◌then◌else◌, refl}
+use Rattle.std.specs.Option.{option_map_or}
+use Rattle.std.proofs.Common.{arith, ap, sym, ◌∙◌, inl, inr}
+use Rattle.std.proofs.lemmas.Bool.{cases_eq}
+use Rattle.std.proofs.lemmas.Option.{none-some, same_Some, slice_get_past}
+use Rattle.wf_value.specs.declared.code.Code.TheVariants.{LeaseNotHeld, NoRunner}
+use Rattle.wf_value.specs.declared.outcome.Outcome.{Outcome}
+use Rattle.run_plan.specs.Admitted.{Admitted}
+use Rattle.run_plan.specs.declared.command.Claim.{Claim as Claimed}
+use Rattle.run_plan.specs.declared.command.Done.{Done as Reported}
+use Rattle.run_plan.specs.declared.command.Command.{Command}
+use Rattle.run_plan.specs.declared.command.Command.TheVariants as command
+use Rattle.run_plan.specs.declared.last_command.ClaimReply.TheVariants as given
+use Rattle.run_plan.specs.declared.reply.Reply.{Reply}
+use Rattle.run_plan.specs.declared.reply.Reply.TheVariants as reply
+use Rattle.workflow_runs.specs.FirstOf.{changed_at}
+use Rattle.workflow_runs.specs.Fitting.{first_fit, place_of_lease}
+use Rattle.run_table.specs.Histories.{after, replies}
+use Rattle.workflow_runs.specs.Moves.{Holder, Move}
+use Rattle.run_table.specs.TableState.{Step, TableState}
+use Rattle.workflow_runs.specs.Places.{LegPlace, leg_at, with_job, with_leg, with_run}
+use Rattle.workflow_runs.specs.Rules.{leg_in_phase}
+use Rattle.run_table.specs.Sound.{IsSound}
+use Rattle.run_table.specs.Step.{empty, at_rest_after, entered, unchanged, admission_answer, admitting, admitted}
+use Rattle.workflow_runs.specs.StopMoves.{lease_end_moves, with_ended, stop_holder}
+use Rattle.workflow_runs.specs.NewRun.{new_run, leased_leg}
+use Rattle.run_table.specs.Step.{claim_answer, claiming_runner}
+use Rattle.run_table.specs.Step.{lease_at, leasing, serving_nothing, claiming, report_answer, reporting_runner}
+use Rattle.run_table.specs.Step.{reporting, reported, stepped, cancel_answer, cancelling, cancelled, losing, lost, refused, released}
+use Rattle.workflow_runs.specs.Stops.{after_end, outcome_of_loss, stopped_run, stops_others, with_stopped_legs}
+use Rattle.workflow_runs.specs.RunState.{LegState, JobState, RunState}
+use Rattle.run_table.specs.Turns.{runner_named, with_runner}
+use Rattle.workflow_runs.specs.declared.phases.LegPhase.TheVariants as leg
+use Rattle.run_table.proofs.AdmitKeeps.{same_reads}
+use Rattle.run_table.proofs.ClaimKeeps.{fitting_leg, had_changes, leasing_keeps, serving_keeps}
+use Rattle.run_table.proofs.Entered.{entered_keeps, entered_settles}
+use Rattle.workflow_runs.proofs.Found.{before_the_end}
+use Rattle.run_table.proofs.Kept.{IsKept, kept_from_sound, kept_settles, told_the_same}
+use Rattle.workflow_runs.proofs.JobKeeps.{leg_in, with_job_of, with_leg_of}
+use Rattle.workflow_runs.proofs.LeaseReads.{place_or_another}
+use Rattle.workflow_runs.proofs.LegReads.{had_at, had_in, had_in_job, had_from_leg}
+use Rattle.run_table.proofs.ReportKeeps.{loss_keeps, report_keeps}
+use Rattle.workflow_runs.proofs.RunFits.{admitted_at, plan_at_same}
+use Rattle.workflow_runs.proofs.SettlingKeeps.{settling_settles}
+use Rattle.run_table.proofs.StepKeeps.{empty_is_sound, run_to_cancel, stepped_is_sound}
+use Rattle.workflow_runs.proofs.StopKeeps.{same_reads as stopped_reads, stopped_run_settles}
+use Rattle.table_laws.specs.Answered.{WasAnswered}
+
+pub after_is_sound : (t : TableState) (commands : List Command) → IsSound t → IsSound (after t commands)
+after_is_sound t [] sound = sound
+after_is_sound t (c ∷ cs) sound = after_is_sound (stepped t c).table cs (stepped_is_sound t c sound)
+
+-- ---- what is read of an element that a change keeps
+
+kept_by_change : {X Y : Type 0} (read : X → Option Y) (f : X → X) → ((x : X) → read (f x) ≡ read x) → (i : ℕ) (xs : List X) (k : ℕ)
+    → option_and_then read (slice_get (changed_at i f xs) k) ≡ option_and_then read (slice_get xs k)
+kept_by_change read f same i [] k = refl
+kept_by_change read f same zero (x ∷ xs) zero = same x
+kept_by_change read f same zero (x ∷ xs) (suc k) = refl
+kept_by_change read f same (suc i) (x ∷ xs) zero = refl
+kept_by_change read f same (suc i) (x ∷ xs) (suc k) = kept_by_change read f same i xs k
+
+mapped_by_change : {X Y : Type 0} (h : X → Y) (f : X → X) → ((x : X) → h (f x) ≡ h x) → (i : ℕ) (xs : List X) (k : ℕ)
+    → option_map h (slice_get (changed_at i f xs) k) ≡ option_map h (slice_get xs k)
+mapped_by_change h f same i [] k = refl
+mapped_by_change h f same zero (x ∷ xs) zero = ap Some (same x)
+mapped_by_change h f same zero (x ∷ xs) (suc k) = refl
+mapped_by_change h f same (suc i) (x ∷ xs) zero = refl
+mapped_by_change h f same (suc i) (x ∷ xs) (suc k) = mapped_by_change h f same i xs k
+
+-- ---- no end and no stop changes a lease or an event
+
+job_keeps_leases : (r j : ℕ) (f : JobState → JobState) (q : LegPlace) → ((y : JobState) → had_in_job (f y) q.leg ≡ had_in_job y q.leg)
+    → (runs : List RunState) → had_at (with_job r j f runs) q ≡ had_at runs q
+job_keeps_leases r j f q same runs =
+    kept_by_change (λ (x : RunState). had_in x q.job q.leg) (with_job_of j f)
+    (λ x. kept_by_change (λ (y : JobState). had_in_job y q.leg) f same j x.jobs q.job) r runs q.run
+
+end_keeps_leases : (p : LegPlace) (o : Outcome) (q : LegPlace) (runs : List RunState)
+    → had_at (with_leg p (leg_in_phase (leg.Ended o)) runs) q ≡ had_at runs q
+end_keeps_leases p o q runs =
+    job_keeps_leases p.run p.job (with_leg_of p.leg (leg_in_phase (leg.Ended o))) q
+    (λ y. kept_by_change (λ (z : LegState). z.lease) (leg_in_phase (leg.Ended o)) (λ z. refl) p.leg y.legs q.leg) runs
+
+stop_keeps_leases : (r j : ℕ) (q : LegPlace) (runs : List RunState) → had_at (with_job r j with_stopped_legs runs) q ≡ had_at runs q
+stop_keeps_leases r j q runs =
+    job_keeps_leases r j with_stopped_legs q (λ y. stopped_reads (λ z. z.lease) (λ z. refl) y.legs q.leg) runs
+
+after_end_keeps_leases : (p : LegPlace) (o : Outcome) (q : LegPlace) (runs : List RunState) → had_at (after_end p o runs) q ≡ had_at runs q
+after_end_keeps_leases p o q runs =
+    let ended = with_leg p (leg_in_phase (leg.Ended o)) runs in
+    elim (stops_others runs p o) as
+    (λ b. had_at (if b then with_job p.run p.job with_stopped_legs ended else ended) q ≡ had_at runs q) [
+      | true ↦ stop_keeps_leases p.run p.job q ended ∙ end_keeps_leases p o q runs
+      | false ↦ end_keeps_leases p o q runs
+    ]
+
+after_end_keeps_events : (p : LegPlace) (o : Outcome) (r : ℕ) (runs : List RunState)
+    → admitted_at (after_end p o runs) r ≡ admitted_at runs r
+after_end_keeps_events p o r runs =
+    let ended = with_leg p (leg_in_phase (leg.Ended o)) runs in
+    let change = with_job_of p.job (with_leg_of p.leg (leg_in_phase (leg.Ended o))) in
+    let one = mapped_by_change (λ (x : RunState). x.admitted) change (λ x. refl) p.run runs r in
+    elim (stops_others runs p o) as
+    (λ b. admitted_at (if b then with_job p.run p.job with_stopped_legs ended else ended) r ≡ admitted_at runs r) [
+      | true ↦ mapped_by_change (λ (x : RunState). x.admitted) (with_job_of p.job with_stopped_legs) (λ x. refl) p.run ended r ∙ one
+      | false ↦ one
+    ]
+
+pub with_ended_keeps_leases : (lease : ℕ) (o : Outcome) (q : LegPlace) (runs : List RunState)
+    → had_at (with_ended lease o runs) q ≡ had_at runs q
+with_ended_keeps_leases lease o q runs =
+    elim (place_of_lease runs lease) as (λ place. had_at (option_map_or (λ p. after_end p o runs) place runs) q ≡ had_at runs q) [
+      | None ↦ refl
+      | Some p ↦ after_end_keeps_leases p o q runs
+    ]
+
+with_ended_keeps_events : (lease : ℕ) (o : Outcome) (r : ℕ) (runs : List RunState)
+    → admitted_at (with_ended lease o runs) r ≡ admitted_at runs r
+with_ended_keeps_events lease o r runs =
+    elim (place_of_lease runs lease) as (λ place. admitted_at (option_map_or (λ p. after_end p o runs) place runs) r ≡ admitted_at runs r) [
+      | None ↦ refl
+      | Some p ↦ after_end_keeps_events p o r runs
+    ]
+
+-- ---- what a step leaves
+
+-- a leg's lease was there before, or is the answer to this claim
+record NewLease (t : TableState) (c : Command) (s : Step) (p : LegPlace) (n : ℕ) : Type 0 where
+  claim : Claimed
+  claims : c ≡ command.Claim claim
+  answer : s.reply ≡ reply.Lease (lease_at t.runs p n)
+  event : Admitted
+  event_is : admitted_at t.runs p.run ≡ Some event
+
+record Reads (t : TableState) (c : Command) (s : Step) : Type 0 where
+  same_admitted : (r : ℕ) (a : Admitted) → admitted_at t.runs r ≡ Some a → admitted_at s.table.runs r ≡ Some a
+  had_before : (p : LegPlace) (n : ℕ) → had_at s.table.runs p ≡ Some n → (had_at t.runs p ≡ Some n) ⊎ NewLease t c s p n
+
+unchanged_reads : (t : TableState) (c : Command) (r : Reply) → Reads t c (unchanged t r)
+unchanged_reads t c r = record { same_admitted = (λ i a e. e); had_before = (λ p n e. inl e) }
+
+either_reads : (t : TableState) (c : Command) (answer : Option Reply) (change : Step) → (answer ≡ None → Reads t c change)
+    → Reads t c (option_map_or (unchanged t) answer change)
+either_reads t c None change h = h refl
+either_reads t c (Some r) change h = unchanged_reads t c r
+
+-- the table settles, with the leases that it had
+rest_reads : (t : TableState) (c : Command) (moves : List Move) (mid : TableState) (r : Reply) → IsKept mid
+    → ((i : ℕ) (a : Admitted) → admitted_at t.runs i ≡ Some a → admitted_at mid.runs i ≡ Some a)
+    → ((p : LegPlace) (n : ℕ) → had_at mid.runs p ≡ Some n → (had_at t.runs p ≡ Some n) ⊎ NewLease t c (at_rest_after moves mid r) p n)
+    → Reads t c (at_rest_after moves mid r)
+rest_reads t c moves mid r kept events leases =
+    let settling = settling_settles mid.runs kept.fit in
+    record {
+      same_admitted = (λ i a e. settling.stay.same_admitted i ∙ events i a e);
+      had_before = (λ p n e. leases p n (sym (settling.same_had p) ∙ e));
+    }
+
+admit_reads : (t : TableState) (event : Admitted) → IsSound t → Reads t (command.Admit event) (admitted t event)
+admit_reads t event s =
+    either_reads t (command.Admit event) (admission_answer t event) (admitting t event)
+    (λ none.
+    let arrival = entered_settles t event (kept_from_sound t s).fit in
+    rest_reads t (command.Admit event) (entered t event).moves (record t { runs = (entered t event).runs })
+    (reply.Created (length t.runs + 1)) (entered_keeps t event (kept_from_sound t s) none)
+    (λ i a e. arrival.stay.same_admitted i ∙ events_stay i a e)
+    (λ p n e. inl (sym (same_reads t.runs event (λ z. z.lease) p) ∙ sym (arrival.same_had p) ∙ e)))
+  where
+    events_stay : (i : ℕ) (a : Admitted) → admitted_at t.runs i ≡ Some a → admitted_at (t.runs ++ new_run event ∷ []) i ≡ Some a
+    events_stay i a e =
+        elim (cases_eq i (length t.runs)) [
+          | inl same ↦ absurd (none-some a
+              (sym (ap (option_map (λ (x : RunState). x.admitted)) (slice_get_past t.runs i (omega (arith, same)))) ∙ e))
+          | inr other ↦ ap (option_map (λ (x : RunState). x.admitted)) (before_the_end t.runs (new_run event) i other) ∙ e
+        ]
+
+leasing_reads : (t : TableState) (claim : Claimed) (p : LegPlace) → IsSound t → claim_answer t claim ≡ None
+    → first_fit claim.labels t.runs ≡ Some p → Reads t (command.Claim claim) (leasing t claim p)
+leasing_reads t claim p s none fit =
+    let lease = t.last_lease + 1 in
+    let told = lease_at t.runs p lease in
+    let ready = fitting_leg claim.labels t.runs p fit in
+    let changes = had_changes t.runs p ready.leg_of (λ _. leased_leg lease) ready.is in
+    let at = leg_in t.runs p ready.leg_of ready.is in
+    rest_reads t (command.Claim claim) []
+    (record {
+      last_lease = lease;
+      runs = with_leg p (λ _. leased_leg lease) t.runs;
+      runners =
+          with_runner t.runners (claiming_runner claim (Some lease) (given.Lease told));
+    }) (reply.Lease told) (leasing_keeps t claim p (kept_from_sound t s) none fit)
+    (λ i a e. mapped_by_change (λ (x : RunState). x.admitted) (with_job_of p.job (with_leg_of p.leg (λ _. leased_leg lease))) (λ x. refl)
+    p.run t.runs i ∙ e)
+    (λ q n e. elim (place_or_another q p) [
+      | inl same ↦
+          let number : lease ≡ n = same_Some lease n (sym changes.here
+          ∙ ap (had_at (with_leg p (λ _. leased_leg lease) t.runs)) (sym same) ∙ e) in
+          inr (record {
+            claim = claim;
+            claims = refl;
+            answer = ap (λ (v : LegPlace). reply.Lease (lease_at t.runs v lease)) (sym same)
+                ∙ ap (λ (m : ℕ). reply.Lease (lease_at t.runs q m)) number;
+            event = at.place.run.admitted;
+            event_is = ap (λ (v : LegPlace). admitted_at t.runs v.run) same
+                ∙ ap (option_map (λ (x : RunState). x.admitted)) at.place.run_is;
+          })
+      | inr other ↦ inl (sym (changes.elsewhere q other) ∙ e)
+    ])
+
+claiming_reads : (t : TableState) (claim : Claimed) → IsSound t → claim_answer t claim ≡ None
+    → Reads t (command.Claim claim) (claiming t claim)
+claiming_reads t claim s none =
+    elim (first_fit claim.labels t.runs) as (λ o. first_fit claim.labels t.runs ≡ o
+    → Reads t (command.Claim claim) (option_map_or (leasing t claim) o (serving_nothing t claim))) [
+      | None ↦ λ is. rest_reads t (command.Claim claim) []
+          (record t { runners = with_runner t.runners (claiming_runner claim None given.Nothing) }) reply.Nothing
+          (serving_keeps t claim (kept_from_sound t s) none) (λ i a e. e) (λ p n e. inl e)
+      | Some p ↦ λ is. leasing_reads t claim p s none is
+    ] refl
+
+report_reads : (t : TableState) (report : Reported) → IsSound t → Reads t (command.Done report) (reported t report)
+report_reads t report s =
+    either_reads t (command.Done report) (report_answer t report) (reporting t report)
+    (λ none. rest_reads t (command.Done report) (lease_end_moves report.lease report.result t.runs)
+    (record t { runs = with_ended report.lease report.result t.runs; runners = with_runner t.runners (reporting_runner report) }) reply.Ok
+    (report_keeps t report (kept_from_sound t s) none)
+    (λ i a e. with_ended_keeps_events report.lease report.result i t.runs ∙ e)
+    (λ p n e. inl (sym (with_ended_keeps_leases report.lease report.result p t.runs) ∙ e)))
+
+cancel_reads : (t : TableState) (id : ℕ) → IsSound t → Reads t (command.Cancel id) (cancelled t id)
+cancel_reads t id s =
+    either_reads t (command.Cancel id) (cancel_answer t id) (cancelling t id)
+    (λ none.
+    let found = run_to_cancel t id none in
+    let stop = stopped_run_settles t.runs (kept_from_sound t s).fit (id - 1) found.0 found.1 in
+    let next = with_run (id - 1) stopped_run t.runs in
+    rest_reads t (command.Cancel id) (stop_holder (Holder.a_run (id - 1)) t.runs).moves (record t { runs = next }) reply.Ok
+    (kept_settles t next (kept_from_sound t s) stop)
+    (λ i a e. stop.stay.same_admitted i ∙ e) (λ p n e. inl (sym (stop.same_had p) ∙ e)))
+
+loss_reads : (t : TableState) (name : List ℕ) → IsSound t → Reads t (command.Lost name) (lost t name)
+loss_reads t name s =
+    let asked = command.Lost name in
+    elim (runner_named t.runners name) as
+    (λ o. runner_named t.runners name ≡ o → Reads t asked (option_map_or
+    (λ runner. option_map_or (losing t (released runner)) runner.holds (unchanged t (refused LeaseNotHeld))) o
+    (unchanged t (refused NoRunner)))) [
+      | None ↦ λ is. unchanged_reads t asked (refused NoRunner)
+      | Some runner ↦ λ is. elim (runner.holds) as
+          (λ h. runner.holds ≡ h → Reads t asked (option_map_or (losing t (released runner)) h (unchanged t (refused LeaseNotHeld)))) [
+            | None ↦ λ none. unchanged_reads t asked (refused LeaseNotHeld)
+            | Some lease ↦ λ holds.
+                let outcome = outcome_of_loss t.runs lease in
+                rest_reads t asked (lease_end_moves lease outcome t.runs)
+                (record t { runs = with_ended lease outcome t.runs; runners = with_runner t.runners (released runner) }) reply.Ok
+                (loss_keeps t name runner lease (kept_from_sound t s) is holds)
+                (λ i a e. with_ended_keeps_events lease outcome i t.runs ∙ e)
+                (λ p n e. inl (sym (with_ended_keeps_leases lease outcome p t.runs) ∙ e))
+          ] refl
+    ] refl
+
+step_reads : (t : TableState) (c : Command) → IsSound t → Reads t c (stepped t c)
+step_reads t (command.Admit event) s = admit_reads t event s
+step_reads t (command.Claim claim) s =
+    either_reads t (command.Claim claim) (claim_answer t claim) (claiming t claim) (claiming_reads t claim s)
+step_reads t (command.Done report) s = report_reads t report s
+step_reads t (command.Beat beat) s = unchanged_reads t (command.Beat beat) (stepped t (command.Beat beat)).reply
+step_reads t (command.Cancel id) s = cancel_reads t id s
+step_reads t (command.Lost name) s = loss_reads t name s
+step_reads t (command.Fetch id) s = unchanged_reads t (command.Fetch id) (stepped t (command.Fetch id)).reply
+step_reads t (command.Look id) s = unchanged_reads t (command.Look id) (stepped t (command.Look id)).reply
+
+-- ---- what a list of commands leaves
+
+events_after : (t : TableState) (commands : List Command) → IsSound t → (r : ℕ) (a : Admitted) → admitted_at t.runs r ≡ Some a
+    → admitted_at (after t commands).runs r ≡ Some a
+events_after t [] s r a e = e
+events_after t (c ∷ cs) s r a e =
+    events_after (stepped t c).table cs (stepped_is_sound t c s) r a ((step_reads t c s).same_admitted r a e)
+
+-- what a runner is told of a leg follows from the plan
+same_lease : (runs next : List RunState) (p : LegPlace) (n : ℕ) (a : Admitted) → admitted_at runs p.run ≡ Some a
+    → admitted_at next p.run ≡ Some a → lease_at runs p n ≡ lease_at next p n
+same_lease runs next p n a before now =
+    told_the_same runs next p n (plan_at_same runs next p.run p.job (now ∙ sym before))
+
+leased_from : (t : TableState) (commands : List Command) → IsSound t → (p : LegPlace) (n : ℕ) → had_at (after t commands).runs p ≡ Some n
+    → (had_at t.runs p ≡ Some n) ⊎ WasAnswered commands (replies t commands) (lease_at (after t commands).runs p n)
+leased_from t [] s p n e = inl e
+leased_from t (c ∷ cs) s p n e =
+    let next = (stepped t c).table in
+    let sound = stepped_is_sound t c s in
+    let reads = step_reads t c s in
+    elim (leased_from next cs sound p n e) [
+      | inr w ↦ inr (suc w.0, w.1, w.2, w.3)
+      | inl had ↦ elim (reads.had_before p n had) [
+        | inl before ↦ inl before
+        | inr new ↦
+            let later = events_after next cs sound p.run new.event (reads.same_admitted p.run new.event new.event_is) in
+            inr (
+              0,
+              new.claim,
+              ap Some new.claims,
+              ap Some (new.answer ∙ ap (λ l. reply.Lease l) (same_lease t.runs (after next cs).runs p n new.event new.event_is later)),
+            )
+      ]
+    ]
+
+pub leased_by_a_claim : (commands : List Command) (p : LegPlace) (leg : LegState) (n : ℕ) → leg_at (after empty commands).runs p ≡ Some leg
+    → leg.lease ≡ Some n → WasAnswered commands (replies empty commands) (lease_at (after empty commands).runs p n)
+leased_by_a_claim commands p leg n at is =
+    elim (leased_from empty commands empty_is_sound p n (had_from_leg (after empty commands).runs p leg at ∙ is)) [
+      | inl had ↦ absurd (none-some n had)
+      | inr w ↦ w
+    ]

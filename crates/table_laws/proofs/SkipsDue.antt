@@ -1,0 +1,175 @@
+-- Every step keeps what was decided of jobs, so it holds in each table that commands lead to.
+use Rattle.std.specs.Prelude.{◌≡◌, ℕ, ◌+◌, ◌-◌, List, [], ◌∷◌, ◌++◌, length, Option, Some, None, option_map, option_and_then, slice_get}
+use Rattle.std.specs.Prelude.{true, false, if◌then◌else◌, refl}
+use Rattle.std.specs.Option.{option_map_or}
+use Rattle.std.proofs.Common.{ap, sym, ◌∙◌, subst, inl, inr}
+use Rattle.std.proofs.lemmas.Bool.{cases_eq}
+use Rattle.std.proofs.lemmas.Option.{same_Some}
+use Rattle.wf_value.specs.declared.code.Code.TheVariants.{LeaseNotHeld, NoRunner}
+use Rattle.wf_value.specs.declared.outcome.Outcome.{Outcome}
+use Rattle.run_plan.specs.Admitted.{Admitted}
+use Rattle.run_plan.specs.PlanOf.{plan_of}
+use Rattle.run_plan.specs.declared.command.Claim.{Claim as Claimed}
+use Rattle.run_plan.specs.declared.command.Done.{Done as Reported}
+use Rattle.run_plan.specs.declared.command.Command.{Command}
+use Rattle.run_plan.specs.declared.command.Command.TheVariants as command
+use Rattle.run_plan.specs.declared.reply.Reply.{Reply}
+use Rattle.workflow_runs.specs.Fitting.{first_fit, place_of_lease}
+use Rattle.run_table.specs.Histories.{after}
+use Rattle.workflow_runs.specs.Moves.{Holder}
+use Rattle.run_table.specs.TableState.{Step, TableState}
+use Rattle.workflow_runs.specs.Places.{LegPlace, with_job, with_leg, with_run}
+use Rattle.workflow_runs.specs.Rules.{leg_in_phase}
+use Rattle.run_table.specs.Sound.{IsSound}
+use Rattle.run_table.specs.Step.{empty, entered, unchanged, admission_answer, admitting, admitted, claim_answer, leasing}
+use Rattle.workflow_runs.specs.NewRun.{new_run, leased_leg}
+use Rattle.run_table.specs.Step.{serving_nothing, claiming, claimed, report_answer, reporting, reported, stepped}
+use Rattle.workflow_runs.specs.StopMoves.{with_ended}
+use Rattle.run_table.specs.Step.{cancel_answer, cancelling, cancelled, losing, lost, refused, released}
+use Rattle.workflow_runs.specs.Stops.{after_end, outcome_of_loss, stopped_run, stops_others, with_stopped_legs}
+use Rattle.workflow_runs.specs.RunState.{JobState, RunState}
+use Rattle.run_table.specs.Turns.{runner_named}
+use Rattle.workflow_runs.specs.declared.phases.LegPhase.TheVariants as leg
+use Rattle.run_table.proofs.AdmitKeeps.{all_fit, job_is_blocked}
+use Rattle.run_table.proofs.ClaimKeeps.{leasing_keeps}
+use Rattle.run_table.proofs.Entered.{entered_settles}
+use Rattle.workflow_runs.proofs.Found.{at_the_end, before_the_end}
+use Rattle.workflow_runs.proofs.JobKeeps.{job_in}
+use Rattle.run_table.proofs.Kept.{kept_from_sound}
+use Rattle.workflow_runs.proofs.NeedsSettled.{result_in}
+use Rattle.run_table.proofs.ReportKeeps.{loss_keeps, report_keeps}
+use Rattle.workflow_runs.proofs.RunFits.{job_in_run}
+use Rattle.run_table.proofs.StepKeeps.{empty_is_sound, run_to_cancel, stepped_is_sound}
+use Rattle.workflow_runs.proofs.StopKeeps.{stopped_run_settles}
+use Rattle.table_laws.specs.Skips.{SkipsAreDue}
+use Rattle.table_laws.proofs.Decided.{JobDecided, Decided, decided_stays, job_change_decided, leg_change_decided}
+use Rattle.table_laws.proofs.RulesDecided.{arrival_decided, settled_decided}
+use Rattle.table_laws.proofs.StopDecided.{stopped_decided}
+
+-- ---- a new run
+
+module _ (runs : List RunState) (event : Admitted) (all : Decided runs) where
+  blocked_decided : (r j : ℕ) (y : JobState) (x : RunState) → new_run event ≡ x → slice_get x.jobs j ≡ Some y
+      → JobDecided (runs ++ new_run event ∷ []) r j y.phase
+  blocked_decided r j y x is e =
+      subst (λ (v : JobState). JobDecided (runs ++ new_run event ∷ []) r j v.phase)
+      (job_is_blocked (plan_of event.body) j y (ap (λ (v : RunState). slice_get v.jobs j) is ∙ e)) tt
+
+  new_run_decided : Decided (runs ++ new_run event ∷ [])
+  new_run_decided r j y at =
+      let next = runs ++ new_run event ∷ [] in
+      let new = job_in next r j y at in
+      elim (cases_eq r (length runs)) [
+        | inl s ↦
+            blocked_decided r j y new.run
+            (same_Some (new_run event) new.run (sym (at_the_end runs (new_run event)) ∙ ap (slice_get next) (sym s) ∙ new.run_is))
+            new.job_is
+        | inr n ↦
+            let before = before_the_end runs (new_run event) r n in
+            decided_stays runs next all r (ap (option_map (λ (v : RunState). v.admitted)) before)
+            (λ i a had. ap (option_and_then (λ (v : RunState). result_in v i)) before ∙ had) j y.phase
+            (all r j y (job_in_run runs r j new.run (sym before ∙ new.run_is) ∙ new.job_is))
+      ]
+
+-- ---- the steps
+
+-- a command is answered from the table as it is, or changes it
+answered_or_changed : (t : TableState) (answer : Option Reply) (change : Step) → Decided t.runs
+    → (answer ≡ None → Decided change.table.runs) → Decided (option_map_or (unchanged t) answer change).table.runs
+answered_or_changed t None change all h = h refl
+answered_or_changed t (Some reply) change all h = all
+
+admitted_decided : (t : TableState) (event : Admitted) → IsSound t → Decided t.runs → Decided (admitted t event).table.runs
+admitted_decided t event s all =
+    answered_or_changed t (admission_answer t event) (admitting t event) all
+    (λ none.
+    let fit = (kept_from_sound t s).fit in
+    settled_decided (entered t event).runs (entered_settles t event fit).stay.fit
+    (arrival_decided (Holder.a_run (length t.runs)) (t.runs ++ new_run event ∷ []) (all_fit t.runs event fit)
+    (new_run_decided t.runs event all)))
+
+claiming_decided : (t : TableState) (claim : Claimed) → IsSound t → Decided t.runs → claim_answer t claim ≡ None
+    → Decided (claiming t claim).table.runs
+claiming_decided t claim s all none =
+    elim (first_fit claim.labels t.runs) as
+    (λ o. first_fit claim.labels t.runs ≡ o → Decided (option_map_or (leasing t claim) o (serving_nothing t claim)).table.runs) [
+      | None ↦ λ is. settled_decided t.runs (kept_from_sound t s).fit all
+      | Some p ↦ λ is. settled_decided (with_leg p (λ _. leased_leg (t.last_lease + 1)) t.runs)
+          (leasing_keeps t claim p (kept_from_sound t s) none is).fit (leg_change_decided t.runs p (λ _. leased_leg (t.last_lease + 1)) all)
+    ] refl
+
+claimed_decided : (t : TableState) (claim : Claimed) → IsSound t → Decided t.runs → Decided (claimed t claim).table.runs
+claimed_decided t claim s all =
+    answered_or_changed t (claim_answer t claim) (claiming t claim) all (claiming_decided t claim s all)
+
+after_end_decided : (runs : List RunState) (p : LegPlace) (o : Outcome) → Decided runs → Decided (after_end p o runs)
+after_end_decided runs p o all =
+    let ended = with_leg p (leg_in_phase (leg.Ended o)) runs in
+    let ended_decided = leg_change_decided runs p (leg_in_phase (leg.Ended o)) all in
+    elim (stops_others runs p o) as (λ stops. Decided (if stops then with_job p.run p.job with_stopped_legs ended else ended)) [
+      | true ↦ job_change_decided ended p.run p.job with_stopped_legs (λ y. refl) ended_decided
+      | false ↦ ended_decided
+    ]
+
+ended_decided : (runs : List RunState) (outcome : Outcome) (o : Option LegPlace) → Decided runs
+    → Decided (option_map_or (λ p. after_end p outcome runs) o runs)
+ended_decided runs outcome None all = all
+ended_decided runs outcome (Some p) all = after_end_decided runs p outcome all
+
+reported_decided : (t : TableState) (report : Reported) → IsSound t → Decided t.runs → Decided (reported t report).table.runs
+reported_decided t report s all =
+    answered_or_changed t (report_answer t report) (reporting t report) all
+    (λ none. settled_decided (with_ended report.lease report.result t.runs) (report_keeps t report (kept_from_sound t s) none).fit
+    (ended_decided t.runs report.result (place_of_lease t.runs report.lease) all))
+
+cancelled_decided : (t : TableState) (id : ℕ) → IsSound t → Decided t.runs → Decided (cancelled t id).table.runs
+cancelled_decided t id s all =
+    answered_or_changed t (cancel_answer t id) (cancelling t id) all
+    (λ none.
+    let found = run_to_cancel t id none in
+    let fit = (kept_from_sound t s).fit in
+    settled_decided (with_run (id - 1) stopped_run t.runs) (stopped_run_settles t.runs fit (id - 1) found.0 found.1).stay.fit
+    (stopped_decided t.runs fit all (id - 1) found.0 found.1))
+
+lost_decided : (t : TableState) (name : List ℕ) → IsSound t → Decided t.runs → Decided (lost t name).table.runs
+lost_decided t name s all =
+    elim (runner_named t.runners name) as
+    (λ o. runner_named t.runners name ≡ o → Decided (option_map_or
+    (λ runner. option_map_or (losing t (released runner)) runner.holds (unchanged t (refused LeaseNotHeld))) o
+    (unchanged t (refused NoRunner))).table.runs) [
+      | None ↦ λ is. all
+      | Some runner ↦ λ is. elim (runner.holds) as
+          (λ h. runner.holds ≡ h
+          → Decided (option_map_or (losing t (released runner)) h (unchanged t (refused LeaseNotHeld))).table.runs) [
+            | None ↦ λ none. all
+            | Some lease ↦ λ holds.
+                let outcome = outcome_of_loss t.runs lease in
+                settled_decided (with_ended lease outcome t.runs) (loss_keeps t name runner lease (kept_from_sound t s) is holds).fit
+                (ended_decided t.runs outcome (place_of_lease t.runs lease) all)
+          ] refl
+    ] refl
+
+stepped_decided : (t : TableState) (c : Command) → IsSound t → Decided t.runs → Decided (stepped t c).table.runs
+stepped_decided t (command.Admit event) s all = admitted_decided t event s all
+stepped_decided t (command.Claim claim) s all = claimed_decided t claim s all
+stepped_decided t (command.Done report) s all = reported_decided t report s all
+stepped_decided t (command.Beat beat) s all = all
+stepped_decided t (command.Cancel id) s all = cancelled_decided t id s all
+stepped_decided t (command.Lost name) s all = lost_decided t name s all
+stepped_decided t (command.Fetch id) s all = all
+stepped_decided t (command.Look id) s all = all
+
+-- ---- all commands
+
+after_decided : (commands : List Command) (t : TableState) → IsSound t → Decided t.runs → Decided (after t commands).runs
+after_decided [] t s all = all
+after_decided (c ∷ cs) t s all = after_decided cs (stepped t c).table (stepped_is_sound t c s) (stepped_decided t c s all)
+
+none_decided : Decided empty.runs
+none_decided r j y e = cc
+
+pub skips_due : (commands : List Command) → SkipsAreDue (after empty commands).runs
+skips_due commands r j x at is =
+    let runs = (after empty commands).runs in
+    let d = subst (JobDecided runs r j) is (after_decided commands empty empty_is_sound none_decided r j x at) in
+    (d.0, d.1 refl)

@@ -1,0 +1,9 @@
+pub mod Answered
+pub mod ExactlyOnce
+pub mod GroupChanges
+pub mod GroupHistories
+pub mod GroupHolders
+pub mod GroupLaw
+pub mod GroupLawTest
+pub mod Remembered
+pub mod Skips
