@@ -35,5 +35,5 @@ is_last_report done (last.Done earlier) = same_reports earlier done
 
 abbrev pub kept_reply : LastCommand → Reply
 kept_reply (last.Claim claim claimed.Nothing) = reply.Nothing
-kept_reply (last.Claim claim (claimed.Lease lease)) = reply.Lease lease
+kept_reply (last.Claim claim (claimed.Lease kept)) = reply.Lease kept.told
 kept_reply (last.Done done) = reply.Ok

@@ -5,15 +5,25 @@ ghost use Rattle.run_plan.specs.ReplyText.{carries_text};
 
 use crate::boxed_lease::BoxedLease;
 use crate::command::{Claim, Done};
+use crate::number::Number;
 use crate::reply::{Lease, Reply};
 use std::alloc::Global;
 use wf_value::{Refusal, Same, TryCopy};
+
+/// A lease that is kept as the reply to a claim, with what it does not tell: the attempt of its run, and the place of its job, from 0. So it
+/// can be given again once the run is at a later attempt, in which no leg has it.
+#[derive(Drop)]
+pub struct KeptLease {
+    pub told: Lease,
+    pub attempt: Number,
+    pub job: usize,
+}
 
 /// The reply to a claim that was in its turn.
 #[derive(Drop)]
 pub enum ClaimReply {
     Nothing,
-    Lease(Lease),
+    Lease(KeptLease),
 }
 
 /// The last numbered command of a runner, and the reply to it, which a repetition gets again.
@@ -22,6 +32,16 @@ pub enum LastCommand {
     Claim(Claim, ClaimReply),
     /// A report, whose reply is `ok`.
     Done(Done),
+}
+
+impl TryCopy for KeptLease {
+    fn copy(&self, alloc: Global) -> Result<Self, Refusal> {
+        Ok(KeptLease {
+            told: self.told.copy(alloc)?,
+            attempt: self.attempt,
+            job: self.job,
+        })
+    }
 }
 
 impl TryCopy for ClaimReply {
@@ -52,8 +72,9 @@ impl LastCommand {
     {
         match self {
             LastCommand::Claim(_, ClaimReply::Nothing) => Ok(Reply::Nothing),
-            LastCommand::Claim(_, ClaimReply::Lease(lease)) => {
-                Ok(Reply::Lease(BoxedLease::new(alloc, lease.copy(alloc)?)?))
+            LastCommand::Claim(_, ClaimReply::Lease(kept)) => {
+                let told = kept.told.copy(alloc)?;
+                Ok(Reply::Lease(BoxedLease::new(alloc, told)?))
             }
             LastCommand::Done(_) => Ok(Reply::Ok),
         }

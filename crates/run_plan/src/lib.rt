@@ -25,7 +25,7 @@ pub use command::{Beat, Claim, Command, Done};
 pub use form::{DeliveryForm, EventForm, Form, LabelForm, RunnerForm};
 pub use job_legs::JobLegs;
 pub use labels::{Labels, MOST_LABELS};
-pub use last_command::{ClaimReply, LastCommand};
+pub use last_command::{ClaimReply, KeptLease, LastCommand};
 pub use number::Number;
 pub use planned::{Plan, PlannedJob, PlannedLeg};
 pub use planning::plan;

@@ -5,7 +5,7 @@ use Rattle.std.specs.List.{position}
 use Rattle.std.proofs.Common.{arith, ap, sym, ◌∙◌, subst, inl, inr, length-append}
 use Rattle.std.proofs.lemmas.Bool.{cases_eq, leb-false, true≢false}
 use Rattle.std.proofs.lemmas.List.{length-map}
-use Rattle.std.proofs.lemmas.Option.{none-some, same_Some, slice_get-map, slice_get_past, slice_get_within}
+use Rattle.std.proofs.lemmas.Option.{same_Some, slice_get-map, slice_get_past, slice_get_within}
 use Rattle.std.proofs.lemmas.Slice.Eq.{bytes_eq-Decides}
 use Rattle.wf_value.specs.declared.code.Code.TheVariants.{LastCounter}
 use Rattle.wf_value.proofs.OptionOr.{or_nothing}
@@ -13,19 +13,19 @@ use Rattle.run_plan.specs.Admitted.{Admitted}
 use Rattle.run_plan.specs.PlanOf.{plan_of}
 use Rattle.run_plan.specs.declared.planned.PlannedJob.{PlannedJob}
 use Rattle.run_plan.specs.declared.reply.Reply.TheVariants as reply
-use Rattle.workflow_runs.specs.Places.{LegPlace, plan_at, run_at}
+use Rattle.workflow_runs.specs.Places.{LegPlace, run_at}
 use Rattle.workflow_runs.specs.Rules.{result_at}
 use Rattle.workflow_runs.specs.Parallel.{legs_at_work}
-use Rattle.run_table.specs.Sound.{DeliveriesDiffer, ParallelIsBounded}
-use Rattle.run_table.specs.Step.{admission_answer, refused}
-use Rattle.workflow_runs.specs.NewRun.{is_delivered_as, blocked_job, new_run}
+use Rattle.run_table.specs.Sound.{AttemptsAreGiven, DeliveriesDiffer, ParallelIsBounded}
+use Rattle.run_table.specs.Step.{admission_answer, last_attempt, refused}
+use Rattle.workflow_runs.specs.NewRun.{is_delivered_as, blocked_job, new_run, run_in_attempt}
 use Rattle.run_table.specs.TableState.{TableState}
 use Rattle.workflow_runs.specs.RunState.{LegState, JobState, RunState}
 use Rattle.workflow_runs.specs.Words.{planned_legs}
 use Rattle.workflow_runs.proofs.Found.{none_found, found_nowhere, each_at, at_the_end, before_the_end}
-use Rattle.run_table.proofs.Kept.{IsKept, kept_still_had}
+use Rattle.run_table.proofs.Kept.{IsKept, StillHad, kept_still_had}
 use Rattle.workflow_runs.proofs.LeaseReads.{leases_same}
-use Rattle.workflow_runs.proofs.LegReads.{work_of, had_at, had_in, works_at}
+use Rattle.workflow_runs.proofs.LegReads.{work_of, had_at, works_at}
 use Rattle.workflow_runs.proofs.NeedsSettled.{result_in}
 use Rattle.workflow_runs.proofs.Optional.{from_map, if_none}
 use Rattle.workflow_runs.proofs.RunFits.{JobFits, RunFits, RunsFit}
@@ -40,8 +40,8 @@ job_is_blocked plan j y e = (from_map (λ _. blocked_job) (slice_get plan j) y (
 blocked_fits : (planned : ℕ) (runs : List RunState) (r j : ℕ) → JobFits planned (result_at runs r j blocked_job) blocked_job
 blocked_fits planned runs r j = record { legs_fit = refl; leases_fit = (λ l z e. cc) }
 
-new_run_fits : (runs : List RunState) (r : ℕ) (event : Admitted) → RunFits runs r (new_run event)
-new_run_fits runs r event = record {
+pub attempt_fits : (runs : List RunState) (r attempt : ℕ) (event : Admitted) → RunFits runs r (run_in_attempt attempt event)
+attempt_fits runs r attempt event = record {
   has_its_jobs = length-map (plan_of event.body) (λ _. blocked_job);
   phase_fits = (refl, (λ j y e. sym (ap (λ (v : JobState). v.phase) (job_is_blocked (plan_of event.body) j y e))));
   jobs_fit = (λ j y e. subst (λ (v : JobState). JobFits (planned_legs runs r j) (result_at runs r j v) v)
@@ -71,13 +71,14 @@ module _ (runs : List RunState) (event : Admitted) where
         | inl s ↦
             let same : new_run event ≡ x = same_Some (new_run event) x
             (sym (at_the_end runs (new_run event)) ∙ ap (slice_get next) (sym s) ∙ e) in
-            subst (RunFits next r) same (new_run_fits next r event)
+            subst (RunFits next r) same (attempt_fits next r 1 event)
         | inr n ↦
             let before = before_the_end runs (new_run event) r n in
             let within : r < length runs = slice_get_within runs r x (sym before ∙ e) in
             fits_beside runs next r x
             (λ s le. ap (option_map (λ (v : RunState). v.admitted))
             (before_the_end runs (new_run event) s (λ m. absurd (omega (arith, le, within, m)))))
+            (ap (option_map (λ (v : RunState). v.attempt)) before)
             (λ j a had. ap (option_and_then (λ (v : RunState). result_in v j)) before ∙ had) (fit r x (sym before ∙ e))
       ]
 
@@ -137,15 +138,26 @@ module _ (runs : List RunState) (event : Admitted) where
           sym (ap (λ (v : RunState). v.admitted.delivery)
           (same_Some (new_run event) x (sym (at_the_end runs (new_run event)) ∙ ap (slice_get (runs ++ new_run event ∷ [])) (sym s) ∙ e)))
 
--- a leg with a lease was there, and its plan is as it was
-plan_was_there : (runs : List RunState) (event : Admitted) (p : LegPlace) (n : ℕ) → had_at runs p ≡ Some n
-    → plan_at (runs ++ new_run event ∷ []) p.run p.job ≡ plan_at runs p.run p.job
-plan_was_there runs event p n had =
-    elim (cases_eq p.run (length runs)) [
-      | inl s ↦ absurd (none-some n
-          (sym (ap (option_and_then (λ (run : RunState). had_in run p.job p.leg)) (slice_get_past runs p.run (omega (arith, s)))) ∙ had))
-      | inr m ↦ ap (option_and_then (λ (run : RunState). slice_get (plan_of run.admitted.body) p.job))
-          (before_the_end runs (new_run event) p.run m)
+-- what was kept of the runs that were there, they keep
+still_there : (runs : List RunState) (event : Admitted) → StillHad runs (runs ++ new_run event ∷ [])
+still_there runs event = record {
+  runs_stay = (λ r x at. (x, as_before r x at ∙ at, omega arith));
+  had = (λ p n x y at then_at same h. same_reads runs event (λ z. z.lease) p ∙ h);
+  plans = (λ r j x at. ap (option_and_then (λ (run : RunState). slice_get (plan_of run.admitted.body) j)) (as_before r x at));
+}
+  where
+    as_before : (r : ℕ) (x : RunState) → run_at runs r ≡ Some x → run_at (runs ++ new_run event ∷ []) r ≡ run_at runs r
+    as_before r x at =
+        let within = slice_get_within runs r x at in before_the_end runs (new_run event) r (λ m. absurd (omega (arith, within, m)))
+
+first_attempt : (runs : List RunState) (event : Admitted) → AttemptsAreGiven runs → AttemptsAreGiven (runs ++ new_run event ∷ [])
+first_attempt runs event given r y at =
+    elim (cases_eq r (length runs)) [
+      | inl s ↦
+          let same : new_run event ≡ y = same_Some (new_run event) y
+          (sym (at_the_end runs (new_run event)) ∙ ap (slice_get (runs ++ new_run event ∷ [])) (sym s) ∙ at) in
+          subst (λ (v : RunState). (1 ≤ v.attempt) × (v.attempt ≤ last_attempt)) same (omega arith, omega arith)
+      | inr n ↦ given r y (sym (before_the_end runs (new_run event) r n) ∙ at)
     ]
 
 -- ---- what was looked at first
@@ -170,6 +182,7 @@ admit_keeps t event s none =
     record {
       few_runs = omega (arith, more, room);
       deliveries_differ = deliveries t.runs event (fresh nowhere) s.deliveries_differ;
+      attempts_are_given = first_attempt t.runs event s.attempts_are_given;
       fit = all_fit t.runs event s.fit;
       parallel_bounded = still_bounded t.runs event s.parallel_bounded;
       agree = leases_same t.last_lease (had_at t.runs) (works_at t.runs) (had_at next) (works_at next) (holds_at t.runners)
@@ -178,8 +191,8 @@ admit_keeps t event s none =
       runners_in_order = s.runners_in_order;
       lasts_are_own = s.lasts_are_own;
       kept_are_had =
-          (λ k x e. kept_still_had t.runs next
-          (λ p n h. (same_reads t.runs event (λ z. z.lease) p ∙ h, plan_was_there t.runs event p n h)) x.last (s.kept_are_had k x e));
+          (λ k x e. kept_still_had t.last_lease t.last_lease t.runs next (omega arith) (still_there t.runs event) x.last
+          (s.kept_are_had k x e));
     }
   where
     fresh : find (is_delivered_as event.delivery) t.runs ≡ None → (r : ℕ) (x : RunState) → run_at t.runs r ≡ Some x

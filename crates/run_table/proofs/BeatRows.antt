@@ -22,6 +22,7 @@ table_with phase = record {
   last_lease = 1;
   runs = record {
     admitted = record { delivery = codes "d1"; event = codes "push"; body = codes "{}" };
+    attempt = 1;
     phase = run.Live;
     stopping = false;
     jobs = open_job (claimed phase ∷ []) ∷ [];

@@ -23,6 +23,7 @@ abbrev run_of : RunPhase → Bool → List JobState → RunState
 run_of phase stopping jobs =
     record {
       admitted = record { delivery = codes "d1"; event = codes "push"; body = codes "{}" };
+      attempt = 1;
       phase = phase;
       stopping = stopping;
       jobs = jobs;

@@ -1,10 +1,10 @@
 -- A claim keeps what a table keeps: the leg that it gets runs under the lease after the last, or nothing is ready.
-use Rattle.std.specs.Prelude.{◌≡◌, ℕ, ◌+◌, ◌<◌, ◌≤◌, ◌&&◌, List, nat_le, nat_lt, Bool, true, false, is_some, Option, Some, None}
-use Rattle.std.specs.Prelude.{option_and_then, slice_get, count_by, if◌then◌else◌, refl}
+use Rattle.std.specs.Prelude.{◌≡◌, ℕ, ◌+◌, ◌<◌, ◌≤◌, ◌&&◌, List, [], nat_le, nat_lt, Bool, true, false, is_some, Option, Some, None}
+use Rattle.std.specs.Prelude.{option_and_then, option_map, slice_get, count_by, if◌then◌else◌, refl}
 use Rattle.std.specs.Option.{option_map_or}
 use Rattle.std.proofs.Common.{arith, ap, sym, ◌∙◌, subst, inl, inr}
 use Rattle.std.proofs.lemmas.Bool.{cases_eq, and_parts, leb-false, ltb-true}
-use Rattle.std.proofs.lemmas.Option.{none-some}
+use Rattle.std.proofs.lemmas.Option.{none-some, slice_get_within}
 use Rattle.wf_value.specs.declared.code.Code.TheVariants.{HasLease, LastCounter}
 use Rattle.wf_value.proofs.OptionOr.{or_nothing}
 use Rattle.run_plan.specs.declared.command.Claim.{Claim as Claimed}
@@ -12,12 +12,17 @@ use Rattle.run_plan.specs.declared.reply.Reply.{Reply}
 use Rattle.workflow_runs.specs.FirstOf.{changed_at}
 use Rattle.workflow_runs.specs.Fitting.{is_ready, is_served, may_run_too, fits, first_fit}
 use Rattle.workflow_runs.specs.Parallel.{has_room, legs_at_work, most_at_work}
-use Rattle.workflow_runs.specs.Places.{LegPlace, job_at, leg_at, leg_places, with_leg}
-use Rattle.workflow_runs.specs.Rules.{leg_has_ended}
+use Rattle.workflow_runs.specs.Places.{LegPlace, job_at, leg_at, leg_places, run_at, with_leg}
+use Rattle.workflow_runs.specs.Rules.{leg_has_ended, result_at}
 use Rattle.run_plan.specs.LastCommand.{is_last_claim}
 use Rattle.run_table.specs.Sound.{IsLastOf, ParallelIsBounded}
-use Rattle.workflow_runs.specs.SoundRuns.{LeaseFits}
-use Rattle.run_table.specs.Step.{last_number, refused, has_no_lease_left, claim_answer, claiming_runner, lease_at}
+use Rattle.wf_value.specs.declared.outcome.JobResult.{JobResult}
+use Rattle.workflow_runs.specs.declared.phases.JobPhase.{JobPhase}
+use Rattle.workflow_runs.specs.declared.phases.JobPhase.TheVariants as job
+use Rattle.workflow_runs.specs.Words.{planned_legs}
+use Rattle.workflow_runs.proofs.Optional.{from_and_then, from_map}
+use Rattle.workflow_runs.specs.SoundRuns.{LeaseFits, LegsFit}
+use Rattle.run_table.specs.Step.{last_number, refused, has_no_lease_left, claim_answer, claiming_runner, kept_lease_at}
 use Rattle.workflow_runs.specs.NewRun.{leased_leg}
 use Rattle.run_table.specs.TableState.{RunnerState, TableState}
 use Rattle.workflow_runs.specs.RunState.{LegState, JobState, RunState}
@@ -29,10 +34,10 @@ use Rattle.workflow_runs.proofs.Found.{find_passes}
 use Rattle.run_table.proofs.AtWork.{at_work, one_at_work, at_most_one, fewer_in_job, most_same}
 use Rattle.workflow_runs.proofs.JobKeeps.{leg_in, leg_stays, leg_now, leg_elsewhere, job_is_now, with_leg_of}
 use Rattle.workflow_runs.proofs.Lowered.{sum_of_changed}
-use Rattle.run_table.proofs.Kept.{IsKept, KeptIsHad, kept_still_had, told_the_same, deliveries_still_differ}
+use Rattle.run_table.proofs.Kept.{IsKept, KeptIsHad, WasHad, attempts_still_given, kept_still_had, stay_still_had, told_the_same, deliveries_still_differ}
 use Rattle.workflow_runs.proofs.LeaseReads.{ChangesAt, names_same, place_or_another, lease_given, leases_same}
 use Rattle.workflow_runs.proofs.LegReads.{work_of, had_at, works_at, had_is, works_is, had_from_leg, works_from_leg}
-use Rattle.workflow_runs.proofs.RunFits.{RunsFit, admitted_at, plan_at_same, leases_fit}
+use Rattle.workflow_runs.proofs.RunFits.{RunsFit, admitted_at, plan_at_same, planned_legs_same, jobs_fit, leases_fit}
 use Rattle.run_table.proofs.RunnerOrder.{names_still_rise}
 use Rattle.run_table.proofs.RunnerPut.{each_put, holds_at, holds_changes}
 
@@ -181,6 +186,7 @@ serving_keeps t claim s none =
     record {
       few_runs = s.few_runs;
       deliveries_differ = s.deliveries_differ;
+      attempts_are_given = s.attempts_are_given;
       fit = s.fit;
       parallel_bounded = s.parallel_bounded;
       agree = leases_same t.last_lease (had_at t.runs) (works_at t.runs) (had_at t.runs) (works_at t.runs) (holds_at t.runners)
@@ -188,7 +194,7 @@ serving_keeps t claim s none =
       last_lease_in_range = s.last_lease_in_range;
       runners_in_order = names_still_rise t.runners new s.runners_in_order;
       lasts_are_own = each_put t.runners new (λ x. IsLastOf x.name x.number x.last) (refl, refl) s.lasts_are_own;
-      kept_are_had = each_put t.runners new (λ x. KeptIsHad t.runs x.last) tt s.kept_are_had;
+      kept_are_had = each_put t.runners new (λ x. KeptIsHad t.last_lease t.runs x.last) tt s.kept_are_had;
     }
   where
     same_holds : ChangesAt (holds_at t.runners) (holds_at (with_runner t.runners (claiming_runner claim None given.Nothing)))
@@ -216,17 +222,35 @@ still_had before after at new changes free p n e =
       | inr m ↦ changes.elsewhere p m ∙ e
     ]
 
+within_plan : (planned : ℕ) (gathered : JobResult) (phase : JobPhase) (legs : List LegState) (l : ℕ) (z : LegState)
+    → LegsFit planned gathered phase legs → slice_get legs l ≡ Some z → l < planned
+within_plan planned gathered job.Blocked legs l z fits at =
+    let no : slice_get [] l ≡ Some z = subst (λ (ls : List LegState). slice_get ls l ≡ Some z) fits at in cc
+within_plan planned gathered job.Open legs l z fits at = let within = slice_get_within legs l z at in omega (arith, within, fits)
+within_plan planned gathered (job.Settled r) legs l z (inl none) at =
+    let no : slice_get [] l ≡ Some z = subst (λ (ls : List LegState). slice_get ls l ≡ Some z) none.0 at in cc
+within_plan planned gathered (job.Settled r) legs l z (inr all) at =
+    let within = slice_get_within legs l z at in let as_many = all.0 in omega (arith, within, as_many)
+
+-- a leg that is there is one of the plan's
+pub leg_is_planned : (runs : List RunState) → RunsFit runs → (p : LegPlace) (z : LegState) → leg_at runs p ≡ Some z
+    → p.leg < planned_legs runs p.run p.job
+leg_is_planned runs fit p z e =
+    let f = from_and_then (λ (x : JobState). slice_get x.legs p.leg) (job_at runs p.run p.job) z e in
+    within_plan (planned_legs runs p.run p.job) (result_at runs p.run p.job f.value) f.value.phase f.value.legs p.leg z
+    (jobs_fit runs fit p.run p.job f.value f.is) f.gives
+
 pub leasing_keeps : (t : TableState) (claim : Claimed) (p : LegPlace) → IsKept t → claim_answer t claim ≡ None
     → first_fit claim.labels t.runs ≡ Some p
     → IsKept (record {
       last_lease = t.last_lease + 1;
       runs = with_leg p (λ _. leased_leg (t.last_lease + 1)) t.runs;
       runners =
-          with_runner t.runners (claiming_runner claim (Some (t.last_lease + 1)) (given.Lease (lease_at t.runs p (t.last_lease + 1))));
+          with_runner t.runners (claiming_runner claim (Some (t.last_lease + 1)) (given.Lease (kept_lease_at t.runs p (t.last_lease + 1))));
     })
 leasing_keeps t claim p s none fit =
     let lease = t.last_lease + 1 in
-    let new = claiming_runner claim (Some lease) (given.Lease (lease_at t.runs p lease)) in
+    let new = claiming_runner claim (Some lease) (given.Lease (kept_lease_at t.runs p lease)) in
     let next = with_leg p (λ _. leased_leg lease) t.runs in
     let runner = runner_named t.runners claim.runner in
     let looked = or_nothing (answer_of_turn runner claim.number (is_last_claim claim))
@@ -244,10 +268,27 @@ leasing_keeps t claim p s none fit =
     let free_runner : holds_at t.runners claim.runner ≡ None = holds_none runner tests.0 in
     let had = had_changes t.runs p z (λ _. leased_leg lease) ready.is in
     let still = still_had (had_at t.runs) (had_at next) p (Some lease) had free_leg in
-    let same_plan = λ (q : LegPlace). plan_at_same t.runs next q.run q.job (stay.same_admitted q.run) in
+    let attempt = λ (v : RunState). v.attempt in
+    let its = (leg_in t.runs p z ready.is).place in
+    let from = from_map attempt (run_at next p.run) its.run.attempt (stay.same_attempt p.run ∙ ap (option_map attempt) its.run_is) in
+    let kept_at : (kept_lease_at t.runs p lease).attempt ≡ its.run.attempt = ap (λ o. option_map_or attempt o 0) its.run_is in
+    let first : 1 ≤ its.run.attempt = (s.attempts_are_given p.run its.run its.run_is).0 in
+    let told_of : WasHad lease next (kept_lease_at t.runs p lease) = record {
+      place = p;
+      run = from.value;
+      run_is = from.is;
+      job_is = refl;
+      planned = subst (λ (n : ℕ). p.leg < n) (sym (planned_legs_same t.runs next p.run p.job (stay.same_admitted p.run)))
+          (leg_is_planned t.runs s.fit p z ready.is);
+      tells = told_the_same t.runs next p lease (plan_at_same t.runs next p.run p.job (stay.same_admitted p.run));
+      given = (omega arith, omega arith);
+      attempt = (omega (arith, kept_at, first), omega (arith, kept_at, from.gives));
+      had = (λ e. had.here);
+    } in
     record {
       few_runs = subst (λ (n : ℕ). n ≤ 100000) (sym stay.same_length) s.few_runs;
       deliveries_differ = deliveries_still_differ t.runs next stay.same_admitted s.deliveries_differ;
+      attempts_are_given = attempts_still_given t.runs next stay.same_attempt s.attempts_are_given;
       fit = stay.fit;
       parallel_bounded = leased_bounded t.runs p z (λ _. leased_leg lease) ready.is (fitting_room claim.labels t.runs p fit)
           stay.same_admitted stay.fit s.parallel_bounded;
@@ -258,6 +299,7 @@ leasing_keeps t claim p s none fit =
       runners_in_order = names_still_rise t.runners new s.runners_in_order;
       lasts_are_own = each_put t.runners new (λ x. IsLastOf x.name x.number x.last) (refl, refl) s.lasts_are_own;
       kept_are_had =
-          each_put t.runners new (λ x. KeptIsHad next x.last) (omega arith, p, had.here, told_the_same t.runs next p lease (same_plan p))
-          (λ k x e. kept_still_had t.runs next (λ q n h. (still q n h, same_plan q)) x.last (s.kept_are_had k x e));
+          each_put t.runners new (λ x. KeptIsHad lease next x.last) told_of
+          (λ k x e. kept_still_had t.last_lease lease t.runs next (omega arith)
+          (stay_still_had t.runs next stay.same_admitted stay.same_attempt still) x.last (s.kept_are_had k x e));
     }

@@ -34,7 +34,15 @@ abbrev needs : List (List ℕ × Option JobResult)
 needs = (codes "a", Some result.Failure) ∷ (codes "b", None) ∷ []
 
 abbrev leg_at : ℕ → LegFacts
-leg_at number = record { event = event; run_id = codes "7"; run_number = codes "3"; job = job; leg = number; needs = needs }
+leg_at number = record {
+  event = event;
+  run_id = codes "7";
+  run_number = codes "3";
+  run_attempt = codes "2";
+  job = job;
+  leg = number;
+  needs = needs;
+}
 
 own_member : context_of (leg_at 1) (codes "matrix" ∷ codes "gpu" ∷ []) ≡ Some (Truth false)
 own_member = refl
@@ -57,6 +65,9 @@ bound = refl
 
 run_id : context_of (leg_at 0) (codes "github" ∷ codes "run_id" ∷ []) ≡ Some (Text (codes "7"))
 run_id = refl
+
+run_attempt : context_of (leg_at 0) (codes "github" ∷ codes "run_attempt" ∷ []) ≡ Some (Text (codes "2"))
+run_attempt = refl
 
 event_name : context_of (leg_at 0) (codes "github" ∷ codes "event_name" ∷ []) ≡ Some (Text (codes "push"))
 event_name = refl

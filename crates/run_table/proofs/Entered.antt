@@ -90,14 +90,16 @@ module _ (runs : List RunState) (event : Admitted) where
 
   pub groups_before : RunsFit runs → GroupsStay runs (runs ++ new_run event ∷ [])
   groups_before fit (Holder.a_run r) there =
-      run_group_stays runs (runs ++ new_run event ∷ []) r (same_up_to r (slice_get_within runs r there.0 there.1))
+      let within = slice_get_within runs r there.0 there.1 in
+      run_group_stays runs (runs ++ new_run event ∷ []) r (same_up_to r within)
+      (ap (option_map (λ (v : RunState). v.attempt)) (before_the_end runs (new_run event) r (λ m. absurd (omega (arith, within, m)))))
   groups_before fit (Holder.a_leg p) there =
       let next = runs ++ new_run event ∷ [] in
       let at = leg_in runs p there.0 there.1 in
       let within = slice_get_within runs p.run at.place.run at.place.run_is in
       let before = before_the_end runs (new_run event) p.run (λ m. absurd (omega (arith, within, m))) in
       leg_group_same runs next p
-      (facts_stay runs next p (same_up_to p.run within) (leg_needs_settled runs fit p there.0 there.1)
+      (facts_stay runs next p (same_up_to p.run within) (ap (option_map (λ (v : RunState). v.attempt)) before) (leg_needs_settled runs fit p there.0 there.1)
       (λ j a had. ap (option_and_then (λ (v : RunState). result_in v j)) before ∙ had))
 
   pub beside_new_run : RunsFit runs → HasOneEach runs → HasOneBeside (runs ++ new_run event ∷ []) (Holder.a_run (length runs))

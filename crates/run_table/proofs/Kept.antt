@@ -1,8 +1,8 @@
 -- What every table keeps within a step too: all that it keeps at rest, but that no rule applies.
-use Rattle.std.specs.Prelude.{◌≡◌, ℕ, ◌+◌, ◌≤◌, List, [], length, Bool, true, Option, Some, None, option_map, option_and_then, slice_get}
+use Rattle.std.specs.Prelude.{◌≡◌, ℕ, ◌+◌, ◌<◌, ◌≤◌, List, [], length, Bool, true, Option, Some, None, option_map, option_and_then, slice_get}
 use Rattle.std.specs.Prelude.{if◌then◌else◌, refl}
 use Rattle.std.specs.Option.{option_map_or}
-use Rattle.std.proofs.Common.{ap, sym, ◌∙◌, subst}
+use Rattle.std.proofs.Common.{arith, ap, sym, ◌∙◌, subst}
 use Rattle.std.proofs.lemmas.Option.{same_Some}
 use Rattle.workflow_runs.specs.Groups.{HasOneEach}
 use Rattle.run_plan.specs.declared.planned.PlannedJob.{PlannedJob}
@@ -10,16 +10,19 @@ use Rattle.workflow_runs.specs.Places.{LegPlace, run_at, leg_at, plan_at}
 use Rattle.workflow_runs.specs.Settling.{first_place, settled}
 use Rattle.run_table.specs.Sound.{DeliveriesDiffer, LeasesAreGiven, LeasesDiffer, IsHeld, IsAtWork, WorkIsHeld}
 use Rattle.workflow_runs.specs.Parallel.{is_at_work}
-use Rattle.run_table.specs.Sound.{HeldIsAtWork, HeldOnce, LastsAreOwn, KeptIsALegs, IsSound, ParallelIsBounded}
-use Rattle.run_table.specs.Step.{last_number, lease_at}
+use Rattle.workflow_runs.specs.Words.{planned_legs}
+use Rattle.run_table.specs.Sound.{HeldIsAtWork, HeldOnce, LastsAreOwn, AttemptsAreGiven, KeptIsOfALeg, IsSound, ParallelIsBounded}
+use Rattle.run_table.specs.Step.{last_attempt, last_number, lease_at}
 use Rattle.run_table.specs.TableState.{RunnerState, TableState}
 use Rattle.workflow_runs.specs.RunState.{LegState, RunState}
 use Rattle.run_table.specs.Turns.{names_rise, runner_named}
 use Rattle.run_plan.specs.declared.last_command.LastCommand.{LastCommand}
 use Rattle.run_plan.specs.declared.last_command.LastCommand.TheVariants as last
 use Rattle.run_plan.specs.declared.last_command.ClaimReply.TheVariants as given
+use Rattle.run_plan.specs.declared.last_command.KeptLease.{KeptLease}
 use Rattle.run_table.proofs.AtWork.{settling_bounded}
 use Rattle.workflow_runs.proofs.LeaseReads.{LeasesAgree, leases_same}
+use Rattle.workflow_runs.proofs.LegFacts.{attempt_at}
 use Rattle.workflow_runs.proofs.LegReads.{had_at, works_at, had_from_leg, works_from_leg, leg_from_had, leg_from_works, work_parts}
 use Rattle.workflow_runs.proofs.OneEachRules.{settled_one_each}
 use Rattle.workflow_runs.proofs.Optional.{from_and_then, from_map}
@@ -30,26 +33,38 @@ use Rattle.run_table.proofs.RunnerPut.{apart, found_by_name, has_the_name, holds
 use Rattle.workflow_runs.proofs.Settles.{Settles}
 use Rattle.workflow_runs.proofs.SettlingKeeps.{settling_settles}
 
--- a kept lease is one that some leg had, and tells of that leg
-abbrev pub KeptIsHad : List RunState → LastCommand → Type 0
-KeptIsHad runs (last.Claim claim given.Nothing) = Unit {0}
-KeptIsHad runs (last.Claim claim (given.Lease told)) =
-    (1 ≤ told.lease) × (p : LegPlace) × (had_at runs p ≡ Some told.lease) × (told ≡ lease_at runs p told.lease)
-KeptIsHad runs (last.Done report) = Unit {0}
+-- A kept lease was given, and tells of a leg that the run's plan has, in an attempt up to the one at which the run is: in that one the leg
+-- had it.
+pub record WasHad (most : ℕ) (runs : List RunState) (kept : KeptLease) : Type 0 where
+  pub place : LegPlace
+  pub run : RunState
+  pub run_is : run_at runs place.run ≡ Some run
+  pub job_is : kept.job ≡ place.job
+  pub planned : place.leg < planned_legs runs place.run place.job
+  pub tells : kept.told ≡ lease_at runs place kept.told.lease
+  pub given : (1 ≤ kept.told.lease) × (kept.told.lease ≤ most)
+  pub attempt : (1 ≤ kept.attempt) × (kept.attempt ≤ run.attempt)
+  pub had : kept.attempt ≡ run.attempt → had_at runs place ≡ Some kept.told.lease
 
-abbrev pub KeptAreHad : List RunState → List RunnerState → Type 0
-KeptAreHad runs runners = (k : ℕ) (x : RunnerState) → slice_get runners k ≡ Some x → KeptIsHad runs x.last
+abbrev pub KeptIsHad : ℕ → List RunState → LastCommand → Type 0
+KeptIsHad most runs (last.Claim claim given.Nothing) = Unit {0}
+KeptIsHad most runs (last.Claim claim (given.Lease kept)) = WasHad most runs kept
+KeptIsHad most runs (last.Done report) = Unit {0}
+
+abbrev pub KeptAreHad : ℕ → List RunState → List RunnerState → Type 0
+KeptAreHad most runs runners = (k : ℕ) (x : RunnerState) → slice_get runners k ≡ Some x → KeptIsHad most runs x.last
 
 pub record IsKept (t : TableState) : Type 0 where
   pub few_runs : length t.runs ≤ 100000
   pub deliveries_differ : DeliveriesDiffer t.runs
+  pub attempts_are_given : AttemptsAreGiven t.runs
   pub fit : RunsFit t.runs
   pub parallel_bounded : ParallelIsBounded t.runs
   pub agree : LeasesAgree t.last_lease (had_at t.runs) (works_at t.runs) (holds_at t.runners)
   pub last_lease_in_range : t.last_lease ≤ last_number
   pub runners_in_order : names_rise t.runners ≡ true
   pub lasts_are_own : LastsAreOwn t.runners
-  pub kept_are_had : KeptAreHad t.runs t.runners
+  pub kept_are_had : KeptAreHad t.last_lease t.runs t.runners
 
 -- ---- the leases, by legs and by places
 
@@ -113,19 +128,35 @@ leases_agree last runs runners rise given differ work held once = record {
 
 -- ---- kept leases, by legs and by places
 
-kept_is_had : (runs : List RunState) (last : LastCommand) → KeptIsALegs runs last → KeptIsHad runs last
-kept_is_had runs (last.Claim claim given.Nothing) h = tt
-kept_is_had runs (last.Claim claim (given.Lease told)) h =
-    let (p, x, at, e, tells) = h.1 in
-    (h.0, p, some_lease runs p x told.lease at e, tells)
-kept_is_had runs (last.Done report) h = tt
+kept_is_had : (most : ℕ) (runs : List RunState) (last : LastCommand) → KeptIsOfALeg most runs last → KeptIsHad most runs last
+kept_is_had most runs (last.Claim claim given.Nothing) h = tt
+kept_is_had most runs (last.Claim claim (given.Lease kept)) h = record {
+  place = h.place;
+  run = h.run;
+  run_is = h.run_is;
+  job_is = h.job_is;
+  planned = h.planned;
+  tells = h.tells;
+  given = h.given;
+  attempt = h.attempt;
+  had = (λ e. let (x, at, lease) = h.has_it e in some_lease runs h.place x kept.told.lease at lease);
+}
+kept_is_had most runs (last.Done report) h = tt
 
-kept_is_a_legs : (runs : List RunState) (last : LastCommand) → KeptIsHad runs last → KeptIsALegs runs last
-kept_is_a_legs runs (last.Claim claim given.Nothing) h = tt
-kept_is_a_legs runs (last.Claim claim (given.Lease told)) h =
-    let f = leg_from_had runs h.1 told.lease h.2 in
-    (h.0, (h.1, f.value, f.is, f.gives, h.3))
-kept_is_a_legs runs (last.Done report) h = tt
+kept_is_of_a_leg : (most : ℕ) (runs : List RunState) (last : LastCommand) → KeptIsHad most runs last → KeptIsOfALeg most runs last
+kept_is_of_a_leg most runs (last.Claim claim given.Nothing) h = tt
+kept_is_of_a_leg most runs (last.Claim claim (given.Lease kept)) h = record {
+  place = h.place;
+  run = h.run;
+  run_is = h.run_is;
+  job_is = h.job_is;
+  planned = h.planned;
+  tells = h.tells;
+  given = h.given;
+  attempt = h.attempt;
+  has_it = (λ e. let f = leg_from_had runs h.place kept.told.lease (h.had e) in (f.value, f.is, f.gives));
+}
+kept_is_of_a_leg most runs (last.Done report) h = tt
 
 -- what is told of a leg follows from the plan
 pub told_the_same : (runs next : List RunState) (p : LegPlace) (n : ℕ) → plan_at next p.run p.job ≡ plan_at runs p.run p.job
@@ -139,17 +170,56 @@ told_the_same runs next p n same =
       combo = option_map_or (λ leg. leg.combo) (option_and_then (λ planned. slice_get planned.legs p.leg) o) [];
     }) (sym same)
 
--- what was had of a leg is had, and its plan is as it was
-abbrev pub StillHad : List RunState → List RunState → Type 0
-StillHad runs next =
-    (p : LegPlace) (n : ℕ) → had_at runs p ≡ Some n → (had_at next p ≡ Some n) × (plan_at next p.run p.job ≡ plan_at runs p.run p.job)
+-- Runs keep their plans, their attempts do not fall, and what was had of a leg is had as long as its run is at the same attempt.
+pub record StillHad (runs next : List RunState) : Type 0 where
+  pub runs_stay : (r : ℕ) (x : RunState) → run_at runs r ≡ Some x
+      → (y : RunState) × (run_at next r ≡ Some y) × (x.attempt ≤ y.attempt)
+  pub had : (p : LegPlace) (n : ℕ) (x y : RunState) → run_at runs p.run ≡ Some x → run_at next p.run ≡ Some y → y.attempt ≡ x.attempt
+      → had_at runs p ≡ Some n → had_at next p ≡ Some n
+  pub plans : (r j : ℕ) (x : RunState) → run_at runs r ≡ Some x → plan_at next r j ≡ plan_at runs r j
 
-pub kept_still_had : (runs next : List RunState) → StillHad runs next → (last : LastCommand) → KeptIsHad runs last → KeptIsHad next last
-kept_still_had runs next still (last.Claim claim given.Nothing) h = tt
-kept_still_had runs next still (last.Claim claim (given.Lease told)) h =
-    let now = still h.1 told.lease h.2 in
-    (h.0, h.1, now.0, h.3 ∙ told_the_same runs next h.1 told.lease now.1)
-kept_still_had runs next still (last.Done report) h = tt
+pub kept_still_had : (most more : ℕ) (runs next : List RunState) → most ≤ more → StillHad runs next → (last : LastCommand)
+    → KeptIsHad most runs last → KeptIsHad more next last
+kept_still_had most more runs next le still (last.Claim claim given.Nothing) h = tt
+kept_still_had most more runs next le still (last.Claim claim (given.Lease kept)) h =
+    let (y, there, later) = still.runs_stay h.place.run h.run h.run_is in
+    let plan = still.plans h.place.run h.place.job h.run h.run_is in
+    record {
+      place = h.place;
+      run = y;
+      run_is = there;
+      job_is = h.job_is;
+      planned = subst (λ (o : Option PlannedJob). h.place.leg < option_map_or (λ planned. length planned.legs) o 0) (sym plan) h.planned;
+      tells = h.tells ∙ told_the_same runs next h.place kept.told.lease plan;
+      given = (h.given.0, omega (arith, h.given.1, le));
+      attempt = (h.attempt.0, omega (arith, h.attempt.1, later));
+      had = (λ e.
+          let one : kept.attempt ≡ h.run.attempt = omega (arith, e, later, h.attempt.1) in
+          still.had h.place kept.told.lease h.run y h.run_is there (sym e ∙ one) (h.had one));
+    }
+kept_still_had most more runs next le still (last.Done report) h = tt
+
+-- attempts that are as they were are numbers up to the last
+pub attempts_still_given : (runs next : List RunState) → ((r : ℕ) → attempt_at next r ≡ attempt_at runs r) → AttemptsAreGiven runs
+    → AttemptsAreGiven next
+attempts_still_given runs next same given r y at =
+    let attempt = λ (v : RunState). v.attempt in
+    let f = from_map attempt (run_at runs r) y.attempt (sym (same r) ∙ ap (option_map attempt) at) in
+    subst (λ (n : ℕ). (1 ≤ n) × (n ≤ last_attempt)) f.gives (given r f.value f.is)
+
+-- runs of the same events at the same attempts
+pub stay_still_had : (runs next : List RunState) → ((r : ℕ) → admitted_at next r ≡ admitted_at runs r)
+    → ((r : ℕ) → attempt_at next r ≡ attempt_at runs r) → ((p : LegPlace) (n : ℕ) → had_at runs p ≡ Some n → had_at next p ≡ Some n)
+    → StillHad runs next
+stay_still_had runs next events attempts had =
+    let attempt = λ (v : RunState). v.attempt in
+    record {
+      runs_stay = (λ r x at.
+          let f = from_map attempt (run_at next r) x.attempt (attempts r ∙ ap (option_map attempt) at) in
+          (f.value, f.is, omega (arith, f.gives)));
+      had = (λ p n x y at then_at same h. had p n h);
+      plans = (λ r j x at. plan_at_same runs next r j (events r));
+    }
 
 -- ---- from and to what a table keeps at rest
 
@@ -157,6 +227,7 @@ pub kept_from_sound : (t : TableState) → IsSound t → IsKept t
 kept_from_sound t s = record {
   few_runs = s.few_runs;
   deliveries_differ = s.deliveries_differ;
+  attempts_are_given = s.attempts_are_given;
   fit = runs_fit t.runs s.jobs_are_the_plans s.run_phases_fit s.jobs_fit s.needs_settled_first s.leases_fit;
   parallel_bounded = s.parallel_bounded;
   agree = leases_agree t.last_lease t.runs t.runners s.runners_in_order s.leases_are_given s.leases_differ s.work_is_held
@@ -164,13 +235,14 @@ kept_from_sound t s = record {
   last_lease_in_range = s.last_lease_in_range;
   runners_in_order = s.runners_in_order;
   lasts_are_own = s.lasts_are_own;
-  kept_are_had = (λ k x e. kept_is_had t.runs x.last (s.kept_leases_are_legs k x e));
+  kept_are_had = (λ k x e. kept_is_had t.last_lease t.runs x.last (s.kept_leases_are_of_legs k x e));
 }
 
 pub sound_from_kept : (t : TableState) → IsKept t → HasOneEach t.runs → first_place t.runs ≡ None → IsSound t
 sound_from_kept t s each rests = record {
   few_runs = s.few_runs;
   deliveries_differ = s.deliveries_differ;
+  attempts_are_given = s.attempts_are_given;
   jobs_are_the_plans = jobs_are_the_plans t.runs s.fit;
   run_phases_fit = run_phases_fit t.runs s.fit;
   jobs_fit = jobs_fit t.runs s.fit;
@@ -192,7 +264,7 @@ sound_from_kept t s each rests = record {
       (held_by_name t.runners n b y s.runners_in_order bt f)));
   no_rule_applies = rests;
   lasts_are_own = s.lasts_are_own;
-  kept_leases_are_legs = (λ k x e. kept_is_a_legs t.runs x.last (s.kept_are_had k x e));
+  kept_leases_are_of_legs = (λ k x e. kept_is_of_a_leg t.last_lease t.runs x.last (s.kept_are_had k x e));
 }
 
 -- ---- runs of the same events
@@ -211,6 +283,7 @@ pub kept_settles : (t : TableState) (next : List RunState) → IsKept t → Sett
 kept_settles t next s settling = record {
   few_runs = subst (λ (n : ℕ). n ≤ 100000) (sym settling.stay.same_length) s.few_runs;
   deliveries_differ = deliveries_still_differ t.runs next settling.stay.same_admitted s.deliveries_differ;
+  attempts_are_given = attempts_still_given t.runs next settling.stay.same_attempt s.attempts_are_given;
   fit = settling.stay.fit;
   parallel_bounded = settling_bounded t.runs next settling s.parallel_bounded;
   agree = leases_same t.last_lease (had_at t.runs) (works_at t.runs) (had_at next) (works_at next) (holds_at t.runners)
@@ -219,8 +292,8 @@ kept_settles t next s settling = record {
   runners_in_order = s.runners_in_order;
   lasts_are_own = s.lasts_are_own;
   kept_are_had =
-      (λ k x e. kept_still_had t.runs next
-      (λ p n h. (settling.same_had p ∙ h, plan_at_same t.runs next p.run p.job (settling.stay.same_admitted p.run))) x.last
+      (λ k x e. kept_still_had t.last_lease t.last_lease t.runs next (omega arith)
+      (stay_still_had t.runs next settling.stay.same_admitted settling.stay.same_attempt (λ p n h. settling.same_had p ∙ h)) x.last
       (s.kept_are_had k x e));
 }
 

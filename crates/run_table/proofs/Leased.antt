@@ -8,7 +8,7 @@ use Rattle.run_plan.specs.declared.reply.Reply.{Reply}
 use Rattle.run_plan.specs.declared.reply.Reply.TheVariants as reply
 use Rattle.workflow_runs.specs.Places.{LegPlace, with_leg}
 use Rattle.workflow_runs.specs.Settling.{settled}
-use Rattle.run_table.specs.Step.{claiming_runner, lease_at, leasing, outcome}
+use Rattle.run_table.specs.Step.{claiming_runner, kept_lease_at, lease_at, leasing, outcome}
 use Rattle.workflow_runs.specs.NewRun.{leased_leg}
 use Rattle.run_table.specs.TableState.{RunnerState, TableState}
 use Rattle.workflow_runs.specs.RunState.{RunState}
@@ -20,7 +20,7 @@ made last runs runners told = (record { last_lease = last; runs = runs; runners 
 pub leased_table : (last : ℕ) (runs : List RunState) (runners : List RunnerState) (now : TableState) (claim : Claimed) (p : LegPlace)
     (lease got : ℕ) (told : Leased) (runner : RunnerState) (put : List RunnerState) (moved rest : List RunState)
     → record { last_lease = last; runs = runs; runners = runners } ≡ now → lease ≡ last + 1 → got ≡ lease → lease_at runs p lease ≡ told
-    → claiming_runner claim (Some told.lease) (given.Lease told) ≡ runner → with_runner runners runner ≡ put
+    → claiming_runner claim (Some lease) (given.Lease (kept_lease_at runs p lease)) ≡ runner → with_runner runners runner ≡ put
     → moved ≡ with_leg p (λ _. leased_leg lease) runs → rest ≡ settled moved
     → outcome (leasing now claim p) ≡ (record { last_lease = got; runs = rest; runners = put }, reply.Lease told)
 leased_table last runs runners now claim p lease got told runner put moved rest is-now is-lease is-got is-told is-runner is-put
@@ -28,9 +28,9 @@ leased_table last runs runners now claim p lease got told runner put moved rest 
     let P : TableState → Type 0 = λ t. outcome (leasing t claim p) ≡ made got rest put told in
     subst P is-now
     (ap (λ n. made n (settled (with_leg p (λ _. leased_leg n) runs))
-    (with_runner runners (claiming_runner claim (Some n) (given.Lease (lease_at runs p n)))) (lease_at runs p n)) (sym is-lease)
+    (with_runner runners (claiming_runner claim (Some n) (given.Lease (kept_lease_at runs p n)))) (lease_at runs p n)) (sym is-lease)
     ∙ ap (λ (t : Leased). made lease (settled (with_leg p (λ _. leased_leg lease) runs))
-    (with_runner runners (claiming_runner claim (Some t.lease) (given.Lease t))) t) is-told
+    (with_runner runners (claiming_runner claim (Some lease) (given.Lease (kept_lease_at runs p lease)))) t) is-told
     ∙ ap (λ r. made lease (settled (with_leg p (λ _. leased_leg lease) runs)) (with_runner runners r) told) is-runner
     ∙ ap (λ rs. made lease (settled (with_leg p (λ _. leased_leg lease) runs)) rs told) is-put
     ∙ ap (λ ms. made lease ms put told) (ap settled (sym is-moved) ∙ sym is-rest)

@@ -33,6 +33,7 @@ pub mod PhasesTested
 pub mod RestTested
 pub mod SoundOneByOne
 pub mod StoredOnce
+pub mod StoredParts
 pub mod PartsRead
 pub mod ClaimedCells
 pub mod ByNumberRead

@@ -2,7 +2,7 @@
 use Rattle.std.specs.Prelude.{◌≡◌, ℕ, ◌≤◌, List, nat_eq, Bool, true, false, is_some, Option, Some, None, option_and_then, if◌then◌else◌}
 use Rattle.std.specs.Prelude.{refl}
 use Rattle.std.specs.Option.{option_map_or}
-use Rattle.std.proofs.Common.{ap, sym, ◌∙◌, subst, inl, inr}
+use Rattle.std.proofs.Common.{arith, ap, sym, ◌∙◌, subst, inl, inr}
 use Rattle.std.proofs.lemmas.Bool.{eqb-true, eq-eqb, true≢false}
 use Rattle.std.proofs.lemmas.Slice.Eq.{bytes_eq-Decides}
 use Rattle.std.proofs.lemmas.Option.{none-some}
@@ -32,11 +32,10 @@ use Rattle.run_table.proofs.ClaimKeeps.{had_changes, works_changes}
 use Rattle.workflow_runs.proofs.Found.{find_passes, none_found}
 use Rattle.workflow_runs.proofs.HolderPlaces.{each_leg_place}
 use Rattle.workflow_runs.proofs.JobKeeps.{leg_in, leg_stays, job_is_now, job_is_open, with_leg_of}
-use Rattle.run_table.proofs.Kept.{IsKept, KeptIsHad, StillHad, kept_settles, kept_still_had, deliveries_still_differ}
+use Rattle.run_table.proofs.Kept.{IsKept, KeptIsHad, StillHad, attempts_still_given, stay_still_had, kept_settles, kept_still_had, deliveries_still_differ}
 use Rattle.workflow_runs.proofs.LeaseReads.{ChangesAt, place_or_another, lease_ended, leases_same}
 use Rattle.workflow_runs.proofs.LegReads.{had_at, works_at, had_is, had_from_leg, works_from_leg, leg_from_had, work_parts}
 use Rattle.workflow_runs.proofs.Settles.{StayFit, stay_on}
-use Rattle.workflow_runs.proofs.RunFits.{plan_at_same}
 use Rattle.run_table.proofs.RunnerOrder.{names_still_rise}
 use Rattle.run_table.proofs.RunnerPut.{each_put, holds_at, holds_changes, stood}
 use Rattle.workflow_runs.proofs.StopKeeps.{stop_settles}
@@ -85,7 +84,7 @@ ended_fits outcome.Cancelled lease n e = tt
 
 module _ (t : TableState) (new : RunnerState) (lease : ℕ) (result : Outcome) (s : IsKept t)
     (held : holds_this lease (runner_named t.runners new.name) ≡ true) (free : new.holds ≡ None)
-    (own : IsLastOf new.name new.number new.last) (kept_had : KeptIsHad t.runs new.last) where
+    (own : IsLastOf new.name new.number new.last) (kept_had : KeptIsHad t.last_lease t.runs new.last) where
   held_here : holds_at t.runners new.name ≡ Some lease
   held_here = holds_it lease (runner_named t.runners new.name) held
 
@@ -117,10 +116,11 @@ module _ (t : TableState) (new : RunnerState) (lease : ℕ) (result : Outcome) (
       (ended_fits result z.lease lease from.gives) in
       let changes = had_changes t.runs p z f from.is in
       let same = same_had p z from.is changes in
-      let still : StillHad t.runs next = λ q n h. (same q ∙ h, plan_at_same t.runs next q.run q.job (stay.same_admitted q.run)) in
+      let still : StillHad t.runs next = stay_still_had t.runs next stay.same_admitted stay.same_attempt (λ q n h. same q ∙ h) in
       record {
         few_runs = subst (λ (n : ℕ). n ≤ 100000) (sym stay.same_length) s.few_runs;
         deliveries_differ = deliveries_still_differ t.runs next stay.same_admitted s.deliveries_differ;
+        attempts_are_given = attempts_still_given t.runs next stay.same_attempt s.attempts_are_given;
         fit = stay.fit;
         parallel_bounded = fewer_at_work t.runs next stay.fit stay.same_admitted
             (λ q n e. worked_before q p n (works_changes t.runs p z f from.is) e) s.parallel_bounded;
@@ -133,8 +133,9 @@ module _ (t : TableState) (new : RunnerState) (lease : ℕ) (result : Outcome) (
         runners_in_order = names_still_rise t.runners new s.runners_in_order;
         lasts_are_own = each_put t.runners new (λ x. IsLastOf x.name x.number x.last) own s.lasts_are_own;
         kept_are_had =
-            each_put t.runners new (λ x. KeptIsHad next x.last) (kept_still_had t.runs next still new.last kept_had)
-            (λ k x e. kept_still_had t.runs next still x.last (s.kept_are_had k x e));
+            each_put t.runners new (λ x. KeptIsHad t.last_lease next x.last)
+            (kept_still_had t.last_lease t.last_lease t.runs next (omega arith) still new.last kept_had)
+            (λ k x e. kept_still_had t.last_lease t.last_lease t.runs next (omega arith) still x.last (s.kept_are_had k x e));
       }
     where
       worked_before : (q p : LegPlace) (n : ℕ)

@@ -10,7 +10,7 @@ use Rattle.run_table.specs.OneByOne.{EachRunIsSound, EachRunnerIsSound, HoldsWor
 use Rattle.workflow_runs.specs.Parallel.{is_at_work}
 use Rattle.workflow_runs.specs.Places.{LegPlace, leg_at, leg_place}
 use Rattle.workflow_runs.specs.Settling.{first_place}
-use Rattle.run_table.specs.Sound.{DeliveriesDiffer, IsAtWork, IsHeld, IsSound, KeptLeasesAreLegs}
+use Rattle.run_table.specs.Sound.{DeliveriesDiffer, IsAtWork, IsHeld, IsSound, KeptLeasesAreOfLegs}
 use Rattle.workflow_runs.specs.AsPlanned.{AreAsPlanned}
 use Rattle.run_table.specs.TableState.{RunnerState, TableState}
 use Rattle.workflow_runs.specs.RunState.{LegState, RunState}
@@ -60,6 +60,7 @@ module _ (leases : Leases) (runs : List RunState) (runners : List RunnerState)
 
     pub each_run : EachRunIsSound leases runs
     each_run r x at = record {
+      attempt_is_given = s.attempts_are_given r x at;
       phase_fits = s.run_phases_fit r x at;
       each_job = (λ j y at_j.
           let job = job_in_run runs r j x at ∙ at_j in
@@ -111,11 +112,13 @@ module _ (leases : Leases) (runs : List RunState) (runners : List RunnerState)
         let f = leg_from_had runs p n (found_has (lease_of_leg runs) n (leg_of leases n) p (legs n) is) in
         (p, f.value, f.is, f.gives, sym (ap (λ o. option_map_or (λ (y : LegState). is_at_work y.phase) o false) f.is) ∙ e)
 
-    pub to_sound : AreAsPlanned runs → names_rise runners ≡ true → KeptLeasesAreLegs runs runners → leases.last ≤ 999999999
+    pub to_sound : AreAsPlanned runs → names_rise runners ≡ true → KeptLeasesAreOfLegs leases.last runs runners
+        → leases.last ≤ 999999999
         → HasOneEach runs → first_place runs ≡ None → DeliveriesDiffer runs → IsSound (table_with leases runs runners)
     to_sound planned rise kept last one rests differ = record {
       few_runs = planned.few;
       deliveries_differ = differ;
+      attempts_are_given = (λ r x at. (each r x at).attempt_is_given);
       jobs_are_the_plans = (λ r x at. (planned.each r x at).as_many);
       run_phases_fit = (λ r x at. (each r x at).phase_fits);
       jobs_fit = (λ r j x at. let i = job_in runs r j x at in ((each r i.run i.run_is).each_job j x i.job_is).legs_fit);
@@ -135,5 +138,5 @@ module _ (leases : Leases) (runs : List RunState) (runners : List RunnerState)
           same_Some a b (sym ((each_of_runners a x at_a).holds_work n e).0 ∙ ((each_of_runners b y at_b).holds_work n f).0));
       no_rule_applies = rests;
       lasts_are_own = (λ k x at. (each_of_runners k x at).last_is_own);
-      kept_leases_are_legs = kept;
+      kept_leases_are_of_legs = kept;
     }

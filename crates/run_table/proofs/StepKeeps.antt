@@ -15,7 +15,7 @@ use Rattle.run_table.specs.TableState.{Step, TableState}
 use Rattle.workflow_runs.specs.Places.{LegPlace, run_at, with_leg, with_run}
 use Rattle.run_table.specs.Sound.{IsSound}
 use Rattle.run_table.specs.Step.{empty, entered, unchanged, admission_answer, admitting, admitted, claim_answer, claiming_runner}
-use Rattle.run_table.specs.Step.{lease_at, leasing, serving_nothing, claiming, claimed, report_answer, reporting_runner}
+use Rattle.run_table.specs.Step.{kept_lease_at, leasing, serving_nothing, claiming, claimed, report_answer, reporting_runner}
 use Rattle.workflow_runs.specs.NewRun.{leased_leg}
 use Rattle.run_table.specs.Step.{answer_of_run, cancel_answer, cancelling, cancelled, losing, lost, refused, released}
 use Rattle.workflow_runs.specs.Stops.{outcome_of_loss, stopped_run}
@@ -61,7 +61,7 @@ claiming_is_sound t claim s none =
           runs = with_leg p (λ _. leased_leg (t.last_lease + 1)) t.runs;
           runners =
               with_runner t.runners
-              (claiming_runner claim (Some (t.last_lease + 1)) (given.Lease (lease_at t.runs p (t.last_lease + 1))));
+              (claiming_runner claim (Some (t.last_lease + 1)) (given.Lease (kept_lease_at t.runs p (t.last_lease + 1))));
         })
         (leasing_keeps t claim p (kept_from_sound t s) none is)
         (leased_one_each t.runs (kept_from_sound t s).fit claim.labels p (t.last_lease + 1) is s.one_of_each_group)
@@ -138,6 +138,7 @@ pub empty_is_sound : IsSound empty
 empty_is_sound = record {
   few_runs = omega arith;
   deliveries_differ = (λ a b x y e f g. cc);
+  attempts_are_given = (λ r x e. absurd (none-some x e));
   jobs_are_the_plans = (λ r x e. cc);
   run_phases_fit = (λ r x e. absurd (none-some x e));
   jobs_fit = (λ r j x e. absurd (none-some x e));
@@ -154,5 +155,5 @@ empty_is_sound = record {
   one_of_each_group = none_of_each;
   no_rule_applies = refl;
   lasts_are_own = (λ k x e. absurd (none-some x e));
-  kept_leases_are_legs = (λ k x e. absurd (none-some x e));
+  kept_leases_are_of_legs = (λ k x e. absurd (none-some x e));
 }

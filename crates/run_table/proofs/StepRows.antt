@@ -41,7 +41,13 @@ use Rattle.run_table.proofs.OnTables.{on_tables}
 -- a run of the event with this body
 abbrev pub run_with : List ℕ → RunPhase → List JobState → RunState
 run_with body phase jobs =
-    record { admitted = record { delivery = codes "d1"; event = codes "push"; body = body }; phase = phase; stopping = false; jobs = jobs }
+    record {
+      admitted = record { delivery = codes "d1"; event = codes "push"; body = body };
+      attempt = 1;
+      phase = phase;
+      stopping = false;
+      jobs = jobs;
+    }
 
 abbrev run_of : RunPhase → List JobState → RunState
 run_of phase jobs = run_with [] phase jobs

@@ -162,6 +162,7 @@ by_phase (leg.Ended r) other = refl
 pub storable : (t : TableState) → IsSound t → IsStorable t.runs
 storable t s = record {
   few_runs = s.few_runs;
+  attempts_are_given = s.attempts_are_given;
   jobs_are_the_plans = s.jobs_are_the_plans;
   legs_are_few = legs_few t s;
   no_leg_is_new = (λ p x at. by_phase x.phase (not_new t s p x at));

@@ -1,86 +1,155 @@
 -- Of the parts of a table there is at most one table: what is not stored follows from the rest.
-use Rattle.std.specs.Prelude.{◌≡◌, ℕ, suc, ◌&&◌, List, [], ◌∷◌, length, map, Option, Some, option_and_then, slice_get, refl, true}
+use Rattle.std.specs.Prelude.{◌≡◌, ℕ, suc, ◌+◌, ◌-◌, ◌&&◌, List, [], ◌∷◌, length, Option, Some, None, option_and_then, slice_get, refl, true}
 use Rattle.std.specs.Cmp.Lexicographic.{slice_cmp}
 use Rattle.std.specs.Option.{option_map_or}
 use Rattle.std.specs.Ordering.{is_lt, nat_cmp}
-use Rattle.std.proofs.Common.{ap, ap₂, sym, subst, ◌∙◌, inl, inr}
+use Rattle.std.proofs.Common.{arith, ap, ap₂, sym, subst, ◌∙◌, inl, inr}
 use Rattle.wf_value.specs.Names.{rises_by}
 use Rattle.wf_value.specs.declared.outcome.JobResult.{JobResult}
 use Rattle.run_plan.specs.PlanOf.{plan_of}
+use Rattle.run_plan.specs.declared.last_command.ClaimReply.{ClaimReply}
 use Rattle.run_plan.specs.declared.last_command.ClaimReply.TheVariants as given
+use Rattle.run_plan.specs.declared.last_command.KeptLease.{KeptLease}
 use Rattle.run_plan.specs.declared.last_command.LastCommand.{LastCommand}
 use Rattle.run_plan.specs.declared.last_command.LastCommand.TheVariants as last
 use Rattle.run_plan.specs.declared.planned.PlannedJob.{PlannedJob}
 use Rattle.run_plan.specs.declared.reply.Lease.{Lease}
-use Rattle.workflow_runs.specs.Places.{plan_at, run_at}
-use Rattle.run_table.specs.Sound.{IsALegs, IsSound, KeptIsALegs, KeptLeasesAreLegs, LeasesDiffer}
+use Rattle.workflow_runs.specs.Places.{LegPlace, leg_at, plan_at, run_at}
+use Rattle.run_table.specs.Sound.{IsOfALeg, IsSound, LeasesDiffer}
 use Rattle.workflow_runs.specs.SoundRuns.{LegsFit}
 use Rattle.run_table.specs.Step.{lease_at}
-use Rattle.run_table.specs.Stored.{StoredRunner, StoredTable, stored_last, stored_runner}
-use Rattle.run_table.specs.TableOf.{AreRunnersAs, IsNoTable, IsStoredAs}
+use Rattle.run_table.specs.Stored.{StoredRunner, StoredTable, stored_place}
+use Rattle.run_table.specs.TableOf.{AreRunnersAs, IsLastAs, IsLeaseAs, IsNoTable, IsPlacedAs, IsReplyAs, IsRunnerAs, IsStoredAs}
 use Rattle.workflow_runs.specs.AsPlanned.{AreAsPlanned, HasRoom}
 use Rattle.run_table.specs.TableState.{RunnerState, TableState}
 use Rattle.workflow_runs.specs.RunState.{LegState, RunState}
 use Rattle.run_table.specs.Turns.{names_rise}
+use Rattle.run_table.specs.declared.parts.LastParts.{LastParts}
+use Rattle.run_table.specs.declared.parts.LastParts.TheVariants as stored
+use Rattle.run_table.specs.declared.parts.StoredLease.{StoredLease}
+use Rattle.run_table.specs.declared.parts.StoredPlace.{StoredPlace}
 use Rattle.workflow_runs.specs.declared.phases.JobPhase.{JobPhase}
 use Rattle.workflow_runs.specs.declared.phases.JobPhase.TheVariants as job
 use Rattle.workflow_runs.proofs.RunFits.{job_in_run}
 
 -- ---- a lease that is kept follows from the runs
 
-same_lease : (runs : List RunState) → LeasesDiffer runs → (s t : Lease) → s.lease ≡ t.lease → IsALegs runs s → IsALegs runs t → s ≡ t
-same_lease runs differ s t same (p, x, at_p, has_p, told_s) (q, y, at_q, has_q, told_t) =
-    let place : p ≡ q = differ p q x y t.lease at_p at_q (has_p ∙ ap Some same) has_q in
-    told_s ∙ ap₂ (lease_at runs) place same ∙ sym told_t
+-- what a kept lease tells of its place
+pub run_told : (most : ℕ) (runs : List RunState) (kept : KeptLease) (of : IsOfALeg most runs kept) → kept.told.run ≡ of.place.run + 1
+run_told most runs kept of = ap (λ (t : Lease). t.run) of.tells
 
-same_last : (runs : List RunState) → LeasesDiffer runs → (a b : LastCommand) → stored_last a ≡ stored_last b → KeptIsALegs runs a
-    → KeptIsALegs runs b → a ≡ b
-same_last runs differ (last.Claim c given.Nothing) (last.Claim d given.Nothing) e kept_a kept_b = cc
-same_last runs differ (last.Claim c given.Nothing) (last.Claim d (given.Lease t)) e kept_a kept_b = cc
-same_last runs differ (last.Claim c (given.Lease s)) (last.Claim d given.Nothing) e kept_a kept_b = cc
-same_last runs differ (last.Claim c (given.Lease s)) (last.Claim d (given.Lease t)) e kept_a kept_b =
-    let claim : c ≡ d = cc in
-    let number : s.lease ≡ t.lease = cc in
-    let told : s ≡ t = same_lease runs differ s t number kept_a.1 kept_b.1 in
-    cc
-same_last runs differ (last.Claim c r) (last.Done d) e kept_a kept_b = absurd (other c r d e)
-  where
-    other : (c : _) (r : _) (d : _) → stored_last (last.Claim c r) ≡ stored_last (last.Done d) → ⊥
-    other c given.Nothing d e = cc
-    other c (given.Lease t) d e = cc
-same_last runs differ (last.Done d) (last.Claim c r) e kept_a kept_b = absurd (other c r d e)
-  where
-    other : (c : _) (r : _) (d : _) → stored_last (last.Done d) ≡ stored_last (last.Claim c r) → ⊥
-    other c given.Nothing d e = cc
-    other c (given.Lease t) d e = cc
-same_last runs differ (last.Done c) (last.Done d) e kept_a kept_b = cc
+pub leg_told : (most : ℕ) (runs : List RunState) (kept : KeptLease) (of : IsOfALeg most runs kept) → kept.told.leg ≡ of.place.leg
+leg_told most runs kept of = ap (λ (t : Lease). t.leg) of.tells
 
-same_runner : (runs : List RunState) → LeasesDiffer runs → (x y : RunnerState) → stored_runner x ≡ stored_runner y
-    → KeptIsALegs runs x.last → KeptIsALegs runs y.last → x ≡ y
-same_runner runs differ x y e kept_x kept_y =
-    let name = ap (λ (r : StoredRunner). r.name) e in
-    let number = ap (λ (r : StoredRunner). r.number) e in
-    let holds = ap (λ (r : StoredRunner). r.holds) e in
-    let the_last = same_last runs differ x.last y.last (ap (λ (r : StoredRunner). r.last) e) kept_x kept_y in
+-- that of the attempt at which its run is, a leg has
+pub present_has_it : (most : ℕ) (runs : List RunState) (kept : KeptLease) (of : IsOfALeg most runs kept) → IsPlacedAs runs None kept
+    → (x : LegState) × (leg_at runs of.place ≡ Some x) × (x.lease ≡ Some kept.told.lease)
+present_has_it most runs kept of present =
+    let r : kept.told.run - 1 ≡ of.place.run = omega (arith, run_told most runs kept of) in
+    of.has_it (present ∙ ap (λ k. option_map_or (λ (x : RunState). x.attempt) (run_at runs k) 0) r
+    ∙ ap (λ o. option_map_or (λ (x : RunState). x.attempt) o 0) of.run_is)
+
+pub same_place : (p q : LegPlace) → p.run ≡ q.run → p.job ≡ q.job → p.leg ≡ q.leg → p ≡ q
+same_place p q run job leg = λ i. record { run = run i; job = job i; leg = leg i }
+
+place_is : (most : ℕ) (runs : List RunState) → LeasesDiffer runs → (parts : StoredLease) (o : Option StoredPlace) (a b : KeptLease)
+    → (of_a : IsOfALeg most runs a) (of_b : IsOfALeg most runs b) → a.told.lease ≡ b.told.lease → IsPlacedAs runs o a → IsPlacedAs runs o b
+    → (of_a.place ≡ of_b.place) × (a.attempt ≡ b.attempt)
+place_is most runs differ parts None a b of_a of_b same at_a at_b =
+    let (x, is_x, has_x) = present_has_it most runs a of_a at_a in
+    let (y, is_y, has_y) = present_has_it most runs b of_b at_b in
+    let place : of_a.place ≡ of_b.place = differ of_a.place of_b.place x y b.told.lease is_x is_y (has_x ∙ ap Some same) has_y in
+    let run : a.told.run ≡ b.told.run =
+    run_told most runs a of_a ∙ ap (λ (p : LegPlace). p.run + 1) place ∙ sym (run_told most runs b of_b) in
+    (place, at_a ∙ ap (λ n. option_map_or (λ (x : RunState). x.attempt) (run_at runs (n - 1)) 0) run ∙ sym at_b)
+place_is most runs differ parts (Some stored) a b of_a of_b same at_a at_b =
+    let one : stored_place a ≡ stored_place b = at_a ∙ sym at_b in
+    let run : a.told.run ≡ b.told.run = ap (λ (p : StoredPlace). p.run) one in
+    let first = run_told most runs a of_a in
+    let second = run_told most runs b of_b in (
+      same_place of_a.place of_b.place (omega (arith, run, first, second))
+          (sym of_a.job_is ∙ ap (λ (p : StoredPlace). p.job) one ∙ of_b.job_is)
+          (sym (leg_told most runs a of_a) ∙ ap (λ (p : StoredPlace). p.leg) one ∙ leg_told most runs b of_b),
+      ap (λ (p : StoredPlace). p.attempt) one,
+    )
+
+same_lease : (most : ℕ) (runs : List RunState) → LeasesDiffer runs → (parts : StoredLease) (a b : KeptLease)
+    → IsLeaseAs most runs parts a → IsLeaseAs most runs parts b → a ≡ b
+same_lease most runs differ parts a b is_a is_b =
+    let of_a = is_a.is_of_a_leg in
+    let of_b = is_b.is_of_a_leg in
+    let number : a.told.lease ≡ b.told.lease = is_a.lease ∙ sym is_b.lease in
+    let both = place_is most runs differ parts parts.place a b of_a of_b number is_a.place is_b.place in
+    let told : a.told ≡ b.told = of_a.tells ∙ ap₂ (lease_at runs) both.0 number ∙ sym of_b.tells in
+    let attempt : a.attempt ≡ b.attempt = both.1 in
+    let job : a.job ≡ b.job = of_a.job_is ∙ ap (λ (p : LegPlace). p.job) both.0 ∙ sym of_b.job_is in
+    λ i. record { told = told i; attempt = attempt i; job = job i }
+
+same_reply : (most : ℕ) (runs : List RunState) → LeasesDiffer runs → (parts : Option StoredLease) (a b : ClaimReply)
+    → IsReplyAs most runs parts a → IsReplyAs most runs parts b → a ≡ b
+same_reply most runs differ None given.Nothing given.Nothing is_a is_b = refl
+same_reply most runs differ None given.Nothing (given.Lease b) is_a is_b = absurd is_b
+same_reply most runs differ None (given.Lease a) given.Nothing is_a is_b = absurd is_a
+same_reply most runs differ None (given.Lease a) (given.Lease b) is_a is_b = absurd is_a
+same_reply most runs differ (Some parts) given.Nothing given.Nothing is_a is_b = refl
+same_reply most runs differ (Some parts) given.Nothing (given.Lease b) is_a is_b = absurd is_a
+same_reply most runs differ (Some parts) (given.Lease a) given.Nothing is_a is_b = absurd is_b
+same_reply most runs differ (Some parts) (given.Lease a) (given.Lease b) is_a is_b =
+    ap given.Lease (same_lease most runs differ parts a b is_a is_b)
+
+same_last : (most : ℕ) (runs : List RunState) → LeasesDiffer runs → (parts : LastParts) (a b : LastCommand) → IsLastAs most runs parts a
+    → IsLastAs most runs parts b → a ≡ b
+same_last most runs differ (stored.Claim claim parts) (last.Claim c r) (last.Claim d s) is_a is_b =
+    ap₂ last.Claim (is_a.0 ∙ sym is_b.0) (same_reply most runs differ parts r s is_a.1 is_b.1)
+same_last most runs differ (stored.Claim claim parts) (last.Claim c r) (last.Done d) is_a is_b = absurd is_b
+same_last most runs differ (stored.Claim claim parts) (last.Done c) b is_a is_b = absurd is_a
+same_last most runs differ (stored.Done report) (last.Claim c r) b is_a is_b = absurd is_a
+same_last most runs differ (stored.Done report) (last.Done c) (last.Claim d s) is_a is_b = absurd is_b
+same_last most runs differ (stored.Done report) (last.Done c) (last.Done d) is_a is_b = ap last.Done (is_a ∙ sym is_b)
+
+same_runner : (most : ℕ) (runs : List RunState) → LeasesDiffer runs → (part : StoredRunner) (x y : RunnerState)
+    → IsRunnerAs most runs part x → IsRunnerAs most runs part y → x ≡ y
+same_runner most runs differ part x y is_x is_y =
+    let name : x.name ≡ y.name = is_x.name ∙ sym is_y.name in
+    let number : x.number ≡ y.number = is_x.number ∙ sym is_y.number in
+    let holds : x.holds ≡ y.holds = is_x.holds ∙ sym is_y.holds in
+    let the_last : x.last ≡ y.last = same_last most runs differ part.last x.last y.last is_x.last is_y.last in
     λ i. record { name = name i; number = number i; last = the_last i; holds = holds i }
 
-pub same_runners : (runs : List RunState) → LeasesDiffer runs → (xs ys : List RunnerState) → map stored_runner xs ≡ map stored_runner ys
-    → KeptLeasesAreLegs runs xs → KeptLeasesAreLegs runs ys → xs ≡ ys
-same_runners runs differ [] [] e kept_x kept_y = refl
-same_runners runs differ [] (y ∷ ys) e kept_x kept_y = cc
-same_runners runs differ (x ∷ xs) [] e kept_x kept_y = cc
-same_runners runs differ (x ∷ xs) (y ∷ ys) e kept_x kept_y =
-    let head : stored_runner x ≡ stored_runner y = cc in
-    let tail : map stored_runner xs ≡ map stored_runner ys = cc in
-    ap₂ (λ z zs. z ∷ zs) (same_runner runs differ x y head (kept_x 0 x refl) (kept_y 0 y refl))
-    (same_runners runs differ xs ys tail (λ k z at. kept_x (suc k) z at) (λ k z at. kept_y (suc k) z at))
+-- those behind the first one
+others : (most : ℕ) (runs : List RunState) (part : StoredRunner) (parts : List StoredRunner) (x : RunnerState) (xs : List RunnerState)
+    → AreRunnersAs most runs (part ∷ parts) (x ∷ xs) → AreRunnersAs most runs parts xs
+others most runs part parts x xs are = record {
+  as_many = omega (arith, are.as_many);
+  each = (λ k p y at_p at_y. are.each (suc k) p y at_p at_y);
+}
+
+pub same_runners : (most : ℕ) (runs : List RunState) → LeasesDiffer runs → (parts : List StoredRunner) (xs ys : List RunnerState)
+    → AreRunnersAs most runs parts xs → AreRunnersAs most runs parts ys → xs ≡ ys
+same_runners most runs differ [] [] [] are_x are_y = refl
+same_runners most runs differ [] [] (y ∷ ys) are_x are_y = absurd (omega (arith, are_y.as_many))
+same_runners most runs differ [] (x ∷ xs) ys are_x are_y = absurd (omega (arith, are_x.as_many))
+same_runners most runs differ (part ∷ parts) [] ys are_x are_y = absurd (omega (arith, are_x.as_many))
+same_runners most runs differ (part ∷ parts) (x ∷ xs) [] are_x are_y = absurd (omega (arith, are_y.as_many))
+same_runners most runs differ (part ∷ parts) (x ∷ xs) (y ∷ ys) are_x are_y =
+    ap₂ (λ z zs. z ∷ zs) (same_runner most runs differ part x y (are_x.each 0 part x refl refl) (are_y.each 0 part y refl refl))
+    (same_runners most runs differ parts xs ys (others most runs part parts x xs are_x) (others most runs part parts y ys are_y))
 
 -- ---- names
 
-pub names_stored : (xs : List RunnerState) → rises_by (λ (r : StoredRunner). r.name) (map stored_runner xs) ≡ names_rise xs
-names_stored [] = refl
-names_stored (x ∷ []) = refl
-names_stored (x ∷ y ∷ ys) = ap (λ b. is_lt (slice_cmp nat_cmp x.name y.name) && b) (names_stored (y ∷ ys))
+pub names_stored : (most : ℕ) (runs : List RunState) (parts : List StoredRunner) (xs : List RunnerState) → AreRunnersAs most runs parts xs
+    → names_rise xs ≡ rises_by (λ (r : StoredRunner). r.name) parts
+names_stored most runs [] [] are = refl
+names_stored most runs [] (x ∷ xs) are = absurd (omega (arith, are.as_many))
+names_stored most runs (part ∷ parts) [] are = absurd (omega (arith, are.as_many))
+names_stored most runs (part ∷ []) (x ∷ []) are = refl
+names_stored most runs (part ∷ []) (x ∷ y ∷ ys) are = absurd (omega (arith, are.as_many))
+names_stored most runs (part ∷ other ∷ parts) (x ∷ []) are = absurd (omega (arith, are.as_many))
+names_stored most runs (part ∷ other ∷ parts) (x ∷ y ∷ ys) are =
+    ap₂ (λ a b. is_lt (slice_cmp nat_cmp a b) && names_rise (y ∷ ys)) (are.each 0 part x refl refl).name
+    (are.each 1 other y refl refl).name
+    ∙ ap (λ b. is_lt (slice_cmp nat_cmp part.name other.name) && b)
+    (names_stored most runs (other ∷ parts) (y ∷ ys) (others most runs part (other ∷ parts) x (y ∷ ys) are))
 
 -- ---- the runs of a table are as planned
 
@@ -109,36 +178,32 @@ as_planned t s = record {
 -- ---- the table of the parts
 
 module _ (parts : StoredTable) where
-  runs_are : (t : TableState) → IsStoredAs parts t → t.runs ≡ parts.runs
-  runs_are t is = ap (λ (s : StoredTable). s.runs) is.stored
-
-  runners_are : (t : TableState) → IsStoredAs parts t → AreRunnersAs t.runs parts.runners t.runners
-  runners_are t is = record { stored = ap (λ (s : StoredTable). s.runners) is.stored; are_legs = is.is_sound.kept_leases_are_legs }
-
   -- there is none where the runs are not as planned
   pub none_planned : (AreAsPlanned parts.runs → ⊥) → IsNoTable parts
-  none_planned not_planned t is = not_planned (subst AreAsPlanned (runs_are t is) (as_planned t is.is_sound))
+  none_planned not_planned t is = not_planned (subst AreAsPlanned is.runs (as_planned t is.is_sound))
 
-  -- the only one that there may be
-  the_one : (made : TableState) → made.last_lease ≡ parts.last_lease → made.runs ≡ parts.runs
-      → AreRunnersAs made.runs parts.runners made.runners → (t : TableState) → IsStoredAs parts t → t ≡ made
-  the_one made lease same runners t is =
-      let last_is : t.last_lease ≡ made.last_lease = ap (λ (s : StoredTable). s.last_lease) is.stored ∙ sym lease in
-      let all_is : t.runs ≡ made.runs = runs_are t is ∙ sym same in
-      let its = runners_are t is in
-      let are_is : t.runners ≡ made.runners =
-      same_runners t.runs is.is_sound.leases_differ t.runners made.runners (its.stored ∙ sym runners.stored) its.are_legs
-      (subst (λ (xs : List RunState). KeptLeasesAreLegs xs made.runners) (sym all_is) runners.are_legs) in
-      λ i. record { last_lease = last_is i; runs = all_is i; runners = are_is i }
+  module _ (last : ℕ) (runs : List RunState) (last_is : last ≡ parts.last_lease) (runs_are : runs ≡ parts.runs) where
+    -- the runners of a table of the parts are those of its last lease and its runs
+    runners_are : (t : TableState) → IsStoredAs parts t → AreRunnersAs last runs parts.runners t.runners
+    runners_are t is =
+        subst (λ (n : ℕ). AreRunnersAs n runs parts.runners t.runners) (is.last_lease ∙ sym last_is)
+        (subst (λ (xs : List RunState). AreRunnersAs t.last_lease xs parts.runners t.runners) (is.runs ∙ sym runs_are) is.runners)
 
-  pub none_sound : (made : TableState) → made.last_lease ≡ parts.last_lease → made.runs ≡ parts.runs
-      → AreRunnersAs made.runs parts.runners made.runners → (IsSound made → ⊥) → IsNoTable parts
-  none_sound made lease same runners not_sound t is = not_sound (subst IsSound (the_one made lease same runners t is) is.is_sound)
+    -- the only one that there may be
+    the_one : (runners : List RunnerState) → AreRunnersAs last runs parts.runners runners → (t : TableState) → IsStoredAs parts t
+        → t ≡ record { last_lease = last; runs = runs; runners = runners }
+    the_one runners are t is =
+        let lease : t.last_lease ≡ last = is.last_lease ∙ sym last_is in
+        let all : t.runs ≡ runs = is.runs ∙ sym runs_are in
+        let differ : LeasesDiffer runs = subst LeasesDiffer all is.is_sound.leases_differ in
+        let each : t.runners ≡ runners = same_runners last runs differ parts.runners t.runners runners (runners_are t is) are in
+        λ i. record { last_lease = lease i; runs = all i; runners = each i }
 
-  -- nor where no runners are stored so
-  pub none_listed : (runs : List RunState) → runs ≡ parts.runs
-      → ((runners : List RunnerState) → AreRunnersAs runs parts.runners runners → names_rise runners ≡ true → ⊥) → IsNoTable parts
-  none_listed runs same none t is =
-      none t.runners
-      (subst (λ (xs : List RunState). AreRunnersAs xs parts.runners t.runners) (runs_are t is ∙ sym same) (runners_are t is))
-      is.is_sound.runners_in_order
+    pub none_sound : (runners : List RunnerState) → AreRunnersAs last runs parts.runners runners
+        → (IsSound (record { last_lease = last; runs = runs; runners = runners }) → ⊥) → IsNoTable parts
+    none_sound runners are not_sound t is = not_sound (subst IsSound (the_one runners are t is) is.is_sound)
+
+    -- nor where no runners are stored so
+    pub none_listed : ((runners : List RunnerState) → AreRunnersAs last runs parts.runners runners → names_rise runners ≡ true → ⊥)
+        → IsNoTable parts
+    none_listed none t is = none t.runners (runners_are t is) is.is_sound.runners_in_order

@@ -93,6 +93,7 @@ abbrev completed_run : List ℕ → RunState
 completed_run body =
     record {
       admitted = admitted body;
+      attempt = 1;
       phase = phase.Ended;
       stopping = false;
       jobs =
@@ -103,6 +104,13 @@ look_at_a_completed_run : (body : List ℕ) → plan_of body ≡ build
     → seen_text (record { id = 1; number = 1; run = completed_run body }) ≡ codes "run 1 1 completed success build:success(success)"
 unfolding digits
 look_at_a_completed_run body planned_so = ap (λ plan. codes "run 1 1 " ++ run_text plan phase.Ended (completed_run body).jobs) planned_so
+
+-- from the second attempt on it stands behind the number
+look_at_a_second_attempt : (body : List ℕ) → plan_of body ≡ build
+    → seen_text (record { id = 1; number = 1; run = record (completed_run body) { attempt = 2 } })
+    ≡ codes "run 1 1.2 completed success build:success(success)"
+unfolding digits
+look_at_a_second_attempt body planned_so = ap (λ plan. codes "run 1 1.2 " ++ run_text plan phase.Ended (completed_run body).jobs) planned_so
 
 -- the number counts the runs of the same repository and path: here the third run is the second of its workflow
 numbered_by_workflow : (ci cd : List ℕ) → (event_of ci).repo ≡ codes "o/r" → (event_of cd).repo ≡ codes "o/r"

@@ -7,7 +7,7 @@ use Rattle.std.specs.Ordering.{nat_cmp}
 use Rattle.workflow_runs.specs.Parallel.{is_at_work, legs_at_work, most_at_work}
 use Rattle.workflow_runs.specs.Places.{LegPlace, leg_at, leg_place, run_at}
 use Rattle.workflow_runs.specs.Rules.{result_at}
-use Rattle.run_table.specs.Sound.{IsLastOf}
+use Rattle.run_table.specs.Sound.{AttemptIsGiven, IsLastOf}
 use Rattle.workflow_runs.specs.SoundRuns.{LeaseFits, LegsFit, PhaseFits}
 use Rattle.run_table.specs.TableState.{RunnerState}
 use Rattle.workflow_runs.specs.RunState.{LegState, JobState, RunState}
@@ -67,6 +67,7 @@ EachJobIsSound leases runs r jobs = (j : ℕ) (x : JobState) → slice_get jobs 
 -- ---- a run
 
 pub record RunIsSound (leases : Leases) (runs : List RunState) (r : ℕ) (x : RunState) : Type 0 where
+  pub attempt_is_given : AttemptIsGiven x
   pub phase_fits : PhaseFits x.phase x.stopping x.jobs
   pub each_job : EachJobIsSound leases runs r x.jobs
 

@@ -1,19 +1,20 @@
 -- What every table keeps, whatever its commands were: each rule in the words of GitHub Docs, "Workflow syntax for
 -- GitHub Actions" (jobs, jobs.<job_id>.strategy, jobs.<job_id>.runs-on), and "Control the concurrency of workflows and jobs",
 -- where these have them; leases, numbers of commands and kept replies are own.
-use Rattle.std.specs.Prelude.{◌≡◌, ℕ, ◌≤◌, List, length, true, slice_get, Some, None}
+use Rattle.std.specs.Prelude.{◌≡◌, ℕ, ◌<◌, ◌≤◌, List, length, true, slice_get, Some, None}
 use Rattle.workflow_runs.specs.Groups.{HasOneEach}
 use Rattle.workflow_runs.specs.Parallel.{is_at_work, legs_at_work, most_at_work}
 use Rattle.workflow_runs.specs.Places.{LegPlace, run_at, job_at, leg_at}
 use Rattle.workflow_runs.specs.Settling.{first_place}
-use Rattle.run_table.specs.Step.{last_number, lease_at}
+use Rattle.run_table.specs.Step.{last_attempt, last_number, lease_at}
 use Rattle.run_table.specs.TableState.{RunnerState, TableState}
 use Rattle.workflow_runs.specs.RunState.{LegState, JobState, RunState}
 use Rattle.run_table.specs.Turns.{names_rise}
 use Rattle.run_plan.specs.declared.last_command.LastCommand.{LastCommand}
 use Rattle.run_plan.specs.declared.last_command.LastCommand.TheVariants as last
 use Rattle.run_plan.specs.declared.last_command.ClaimReply.TheVariants as given
-use Rattle.run_plan.specs.declared.reply.Lease.{Lease}
+use Rattle.run_plan.specs.declared.last_command.KeptLease.{KeptLease}
+use Rattle.workflow_runs.specs.Words.{planned_legs}
 use Rattle.workflow_runs.specs.SoundRuns.{JobsAreThePlans, RunPhasesFit, JobsFit, NeedsComeFirst, LeasesFit}
 
 -- ---- runs
@@ -22,6 +23,13 @@ use Rattle.workflow_runs.specs.SoundRuns.{JobsAreThePlans, RunPhasesFit, JobsFit
 abbrev pub DeliveriesDiffer : List RunState → Type 0
 DeliveriesDiffer runs =
     (a b : ℕ) (x y : RunState) → run_at runs a ≡ Some x → run_at runs b ≡ Some y → x.admitted.delivery ≡ y.admitted.delivery → a ≡ b
+
+-- attempts are numbers from 1 to the last
+abbrev pub AttemptIsGiven : RunState → Type 0
+AttemptIsGiven x = (1 ≤ x.attempt) × (x.attempt ≤ last_attempt)
+
+abbrev pub AttemptsAreGiven : List RunState → Type 0
+AttemptsAreGiven runs = (r : ℕ) (x : RunState) → run_at runs r ≡ Some x → AttemptIsGiven x
 
 -- ---- jobs
 
@@ -75,25 +83,33 @@ IsLastOf name number (last.Done report) = (report.runner ≡ name) × (report.nu
 abbrev pub LastsAreOwn : List RunnerState → Type 0
 LastsAreOwn runners = (k : ℕ) (x : RunnerState) → slice_get runners k ≡ Some x → IsLastOf x.name x.number x.last
 
--- some leg has the lease, which tells its run, its job, its number and its combination
-abbrev pub IsALegs : List RunState → Lease → Type 0
-IsALegs runs told =
-    (p : LegPlace) × (x : LegState) × (leg_at runs p ≡ Some x) × (x.lease ≡ Some told.lease) × (told ≡ lease_at runs p told.lease)
+-- A kept lease is one that was given, of a leg that the run's plan has, in an attempt up to the one at which the run is: it tells that run,
+-- that job, the leg's number and its combination. In the attempt at which the run is the leg has the lease.
+pub record IsOfALeg (most : ℕ) (runs : List RunState) (kept : KeptLease) : Type 0 where
+  pub place : LegPlace
+  pub run : RunState
+  pub run_is : run_at runs place.run ≡ Some run
+  pub job_is : kept.job ≡ place.job
+  pub planned : place.leg < planned_legs runs place.run place.job
+  pub tells : kept.told ≡ lease_at runs place kept.told.lease
+  pub given : (1 ≤ kept.told.lease) × (kept.told.lease ≤ most)
+  pub attempt : (1 ≤ kept.attempt) × (kept.attempt ≤ run.attempt)
+  pub has_it : kept.attempt ≡ run.attempt → (x : LegState) × (leg_at runs place ≡ Some x) × (x.lease ≡ Some kept.told.lease)
 
--- a kept lease is some leg's
-abbrev pub KeptIsALegs : List RunState → LastCommand → Type 0
-KeptIsALegs runs (last.Claim claim given.Nothing) = Unit {0}
-KeptIsALegs runs (last.Claim claim (given.Lease told)) = (1 ≤ told.lease) × IsALegs runs told
-KeptIsALegs runs (last.Done report) = Unit {0}
+abbrev pub KeptIsOfALeg : ℕ → List RunState → LastCommand → Type 0
+KeptIsOfALeg most runs (last.Claim claim given.Nothing) = Unit {0}
+KeptIsOfALeg most runs (last.Claim claim (given.Lease kept)) = IsOfALeg most runs kept
+KeptIsOfALeg most runs (last.Done report) = Unit {0}
 
-abbrev pub KeptLeasesAreLegs : List RunState → List RunnerState → Type 0
-KeptLeasesAreLegs runs runners = (k : ℕ) (x : RunnerState) → slice_get runners k ≡ Some x → KeptIsALegs runs x.last
+abbrev pub KeptLeasesAreOfLegs : ℕ → List RunState → List RunnerState → Type 0
+KeptLeasesAreOfLegs most runs runners = (k : ℕ) (x : RunnerState) → slice_get runners k ≡ Some x → KeptIsOfALeg most runs x.last
 
 -- ---- all of it
 
 pub record IsSound (t : TableState) : Type 0 where
   pub few_runs : length t.runs ≤ 100000
   pub deliveries_differ : DeliveriesDiffer t.runs
+  pub attempts_are_given : AttemptsAreGiven t.runs
   pub jobs_are_the_plans : JobsAreThePlans t.runs
   pub run_phases_fit : RunPhasesFit t.runs
   pub jobs_fit : JobsFit t.runs
@@ -110,4 +126,4 @@ pub record IsSound (t : TableState) : Type 0 where
   pub held_once : HeldOnce t.runners
   pub no_rule_applies : first_place t.runs ≡ None
   pub lasts_are_own : LastsAreOwn t.runners
-  pub kept_leases_are_legs : KeptLeasesAreLegs t.runs t.runners
+  pub kept_leases_are_of_legs : KeptLeasesAreOfLegs t.last_lease t.runs t.runners

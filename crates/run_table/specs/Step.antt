@@ -36,6 +36,7 @@ use Rattle.workflow_runs.specs.Words.{job_id, combo_at}
 use Rattle.run_plan.specs.declared.last_command.LastCommand.TheVariants as last
 use Rattle.run_plan.specs.declared.last_command.ClaimReply.{ClaimReply}
 use Rattle.run_plan.specs.declared.last_command.ClaimReply.TheVariants as given
+use Rattle.run_plan.specs.declared.last_command.KeptLease.{KeptLease}
 use Rattle.workflow_runs.specs.declared.phases.RunPhase.{RunPhase}
 use Rattle.workflow_runs.specs.declared.phases.RunPhase.TheVariants as run
 use Rattle.workflow_runs.specs.NewRun.{is_delivered_as, new_run, leased_leg}
@@ -50,6 +51,10 @@ refused code = reply.Refused (Numbered code)
 -- the last number of a lease
 abbrev pub last_number : ℕ
 last_number = 999999999
+
+-- the last attempt of a run
+abbrev pub last_attempt : ℕ
+last_attempt = 1000
 
 -- the table as it was, with a reply
 abbrev pub unchanged : TableState → Reply → Step
@@ -104,6 +109,14 @@ claiming_runner claim holds given = record { name = claim.runner; number = claim
 abbrev pub lease_at : List RunState → LegPlace → ℕ → Leased
 lease_at runs p lease = record { lease = lease; run = p.run + 1; job = job_id runs p.run p.job; leg = p.leg; combo = combo_at runs p }
 
+-- what is kept of it: beside what is told, the attempt of the leg's run in which it was given, and the place of the job
+abbrev pub kept_lease : List RunState → ℕ → LegPlace → ℕ → KeptLease
+kept_lease runs attempt p lease = record { told = lease_at runs p lease; attempt = attempt; job = p.job }
+
+-- where it is given in the attempt at which the run is
+abbrev pub kept_lease_at : List RunState → LegPlace → ℕ → KeptLease
+kept_lease_at runs p lease = kept_lease runs (option_map_or (λ x. x.attempt) (run_at runs p.run) 0) p lease
+
 -- the leg runs under the lease after the last
 abbrev pub leasing : TableState → Claimed → LegPlace → Step
 leasing t claim p =
@@ -113,7 +126,7 @@ leasing t claim p =
       last_lease = lease;
       runs = with_leg p (λ _. leased_leg lease) t.runs;
       runners =
-          with_runner t.runners (claiming_runner claim (Some lease) (given.Lease told));
+          with_runner t.runners (claiming_runner claim (Some lease) (given.Lease (kept_lease_at t.runs p lease)));
     }) (reply.Lease told)
 
 -- no leg fits

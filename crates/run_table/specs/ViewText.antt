@@ -1,5 +1,5 @@
 -- The view of a run, and its text.
-use Rattle.std.specs.Prelude.{ℕ, ◌-◌, List, ◌++◌, map, flat_map, Bool, is_some, codes, Option, option_map}
+use Rattle.std.specs.Prelude.{ℕ, ◌-◌, List, ◌++◌, map, flat_map, Bool, is_some, nat_le, codes, Option, option_map}
 use Rattle.std.specs.Prelude.{slice_get, if◌then◌else◌}
 use Rattle.std.specs.List.{list_any, zip, join_with_byte}
 use Rattle.std.specs.Fmt.{decimal}
@@ -81,8 +81,12 @@ jobs_text plan jobs = flat_map planned_job_text (zip plan jobs)
 abbrev pub run_text : List PlannedJob → RunPhase → List JobState → List ℕ
 run_text plan phase jobs = status_text phase jobs ++ codes " " ++ conclusion_text phase jobs ++ jobs_text plan jobs
 
--- `run ID NUMBER` and the rest
+-- the number, and from the second attempt on the attempt behind it
+abbrev pub number_text : ℕ → ℕ → List ℕ
+number_text number attempt = if nat_le attempt 1 then decimal number else decimal number ++ codes "." ++ decimal attempt
+
+-- `run ID NUMBER`, or `run ID NUMBER.ATTEMPT`, and the rest
 abbrev pub seen_text : Seen → List ℕ
 seen_text seen =
-    codes "run " ++ decimal seen.id ++ codes " " ++ decimal seen.number ++ codes " "
+    codes "run " ++ decimal seen.id ++ codes " " ++ number_text seen.number seen.run.attempt ++ codes " "
     ++ run_text (plan_of seen.run.admitted.body) seen.run.phase seen.run.jobs

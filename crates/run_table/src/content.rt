@@ -8,10 +8,11 @@ ghost use Rattle.run_table.specs.Claims.{is_claim};
 ghost use Rattle.workflow_runs.specs.Fitting.{OnlyAtWork, first_fit};
 ghost use Rattle.workflow_runs.specs.Groups.{HasOneEach};
 ghost use Rattle.run_table.specs.Sound.{IsSound};
+ghost use Rattle.workflow_runs.specs.Places.{run_at};
 ghost use Rattle.workflow_runs.specs.SoundRuns.{RunsAreSound};
 ghost use Rattle.run_table.specs.Step.{admission_answer, admitted, admitting, answer_of_run, answered, beat_answer};
 ghost use Rattle.run_table.specs.Step.{cancel_answer, cancelled, claim_answer, fetch_answer, losing, loss_answer, lost};
-ghost use Rattle.run_table.specs.Step.{claimed, claiming, claiming_runner, empty, is_free};
+ghost use Rattle.run_table.specs.Step.{claimed, claiming, claiming_runner, empty, is_free, kept_lease, kept_lease_at};
 ghost use Rattle.run_table.specs.Step.{lease_answer, lease_at, leasing, look_answer, outcome, refused, report_answer};
 ghost use Rattle.run_table.specs.Step.{reported, reporting, seen, serving_nothing, step, unchanged};
 ghost use Rattle.workflow_runs.specs.StopMoves.{with_ended};
@@ -26,7 +27,8 @@ use crate::runners::Runners;
 use crate::turns::{answer_to_claim, answer_to_report};
 use crate::view::{RunView, look};
 use run_plan::{
-    Beat, BoxedLease, Claim, ClaimReply, Command, Done, Lease, Number, Prepared, Reply, RunnerName,
+    Beat, BoxedLease, Claim, ClaimReply, Command, Done, KeptLease, Lease, Number, Prepared, Reply,
+    RunnerName,
 };
 use std::alloc::Global;
 use std::marker::Model;
@@ -428,6 +430,9 @@ impl TryCopy for Content {
 /// The last number of a lease.
 pub(crate) const LAST_NUMBER: u32 = 999_999_999;
 
+/// The last attempt of a run.
+pub(crate) const LAST_ATTEMPT: u32 = 1000;
+
 fn refused(code: Code) -> Reply
     ensures { result ≡ refused code }
 {
@@ -477,27 +482,50 @@ fn told_twice(
     place: LegPlace,
     lease: Number,
 ) -> Result<(Runner, BoxedLease, BoxedLease), Refusal>
-    requires { place.run < 100000 }
-    ensures runner { let told = lease_at runs.now place lease in
-        IfOk result (λ kept. kept.0 ≡ claiming_runner claim.now (Some lease) (given.Lease told)) }
+    requires run { place.run < 100000 }
+    requires there { place.run < length runs.now }
+    ensures runner { let at = kept_lease_at runs.now place lease in
+        IfOk result (λ kept. kept.0 ≡ claiming_runner claim.now (Some lease) (given.Lease at)) }
     ensures told { IfOk result (λ kept. kept.1 ≡ lease_at runs.now place lease) }
     ensures copy { IfOk result (λ kept. kept.2 ≡ lease_at runs.now place lease) }
     ensures refused { IfErr result (λ e. e ≡ no_memory) }
 {
-    let told = lease_at(alloc, runs, place, lease)?;
-    let runner = Runner::leasing(alloc, claim, &told)?;
-    let told = BoxedLease::new(alloc, told)?;
+    let attempt = attempt_at(runs, place.run);
+    let kept = kept_lease(alloc, runs, attempt, place, lease)?;
+    let told = BoxedLease::new(alloc, kept.told.copy(alloc)?)?;
     let copy = told.copy(alloc)?;
+    let runner = Runner::claiming(alloc, claim, Some(lease), ClaimReply::Lease(kept))?;
     Ok((runner, told, copy))
 }
 
-/// What a runner is told of the leg that it gets.
-pub(crate) fn lease_at(
+/// The attempt at which the run at a place is.
+fn attempt_at(runs: &Runs, r: usize) -> Number
+    requires { r < length runs.now }
+    ensures { result ≡ option_map_or (λ x. x.attempt) (run_at runs.now r) 0 }
+{
+    runs.as_slice()[r].attempt()
+}
+
+/// What is kept of a lease that was given in an attempt of its run.
+pub(crate) fn kept_lease(
     alloc: Global,
     runs: &Runs,
+    attempt: Number,
     place: LegPlace,
     lease: Number,
-) -> Result<Lease, Refusal>
+) -> Result<KeptLease, Refusal>
+    requires { place.run < 100000 }
+    ensures { Gives (λ k. k) result (Ok (kept_lease runs.now attempt place lease)) }
+{
+    Ok(KeptLease {
+        told: lease_at(alloc, runs, place, lease)?,
+        attempt,
+        job: place.job,
+    })
+}
+
+/// What a runner is told of the leg that it gets.
+fn lease_at(alloc: Global, runs: &Runs, place: LegPlace, lease: Number) -> Result<Lease, Refusal>
     requires { place.run < 100000 }
     ensures { Gives (λ l. l) result (Ok (lease_at runs.now place lease)) }
 {

@@ -11,7 +11,7 @@ mod turns;
 mod view;
 mod view_text;
 
-pub use parts::{LastParts, Parts, RunnerParts, do_names_rise};
+pub use parts::{LastParts, Parts, RunnerParts, StoredLease, StoredPlace, do_names_rise};
 pub use runner::Runner;
 pub use table::Table;
 pub use view::RunView;

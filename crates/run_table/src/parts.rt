@@ -1,5 +1,5 @@
-//! A table in parts, as it is stored: what follows from the rest, as a run's number, a leg's labels and what a kept lease says
-//! beside its number, is not in them.
+//! A table in parts, as it is stored: what follows from the rest, as a run's number, a leg's labels and the combination that a kept lease
+//! tells, is not in them.
 
 ghost use Rattle.std.specs.Cmp.Lexicographic.{slice_cmp};
 ghost use Rattle.std.specs.Ordering.{is_lt, nat_cmp};
@@ -11,11 +11,31 @@ use std::marker::Model;
 use wf_value::Sequence;
 use workflow_runs::run_parts::RunParts;
 
+/// The place of a leg in an attempt of its run.
+#[derive(Clone, Copy)]
+pub struct StoredPlace {
+    /// The run's id.
+    pub run: Number,
+    pub attempt: Number,
+    /// The job's place in the plan, from 0.
+    pub job: usize,
+    /// The leg's number within its job, from 0.
+    pub leg: usize,
+}
+
+/// A lease that is kept as a reply.
+#[derive(Clone, Copy)]
+pub struct StoredLease {
+    pub lease: Number,
+    /// The place of its leg; where none is stored it is the leg that has the lease.
+    pub place: Option<StoredPlace>,
+}
+
 /// The last numbered command of a runner, with what is stored of the reply that is kept for it.
 #[derive(Drop)]
 pub enum LastParts {
     /// A claim, and the lease that it was given, where it was given one.
-    Claim(Claim, Option<Number>),
+    Claim(Claim, Option<StoredLease>),
     /// A report, whose reply is `ok`.
     Done(Done),
 }

@@ -1,9 +1,8 @@
 ghost use Rattle.std.specs.Prelude.{◌≡◌, Ok, None, Some, option_map, false};
 ghost use Rattle.wf_value.specs.Gives.{Gives};
-ghost use Rattle.run_plan.specs.declared.last_command.ClaimReply.TheVariants as given;
 ghost use Rattle.run_table.specs.Turns.{holds_lease, holds_this};
 
-use run_plan::{Claim, ClaimReply, Done, LastCommand, Lease, Number, RunnerName};
+use run_plan::{Claim, ClaimReply, Done, LastCommand, Number, RunnerName};
 use std::alloc::Global;
 use std::marker::Model;
 use wf_value::{Refusal, TryCopy};
@@ -45,14 +44,6 @@ impl Runner {
             last: LastCommand::Claim(claim.copy(alloc)?, reply),
             holds,
         })
-    }
-
-    /// What is kept of a runner after a claim that got a leg.
-    pub(crate) fn leasing(alloc: Global, claim: &Claim, told: &Lease) -> Result<Self, Refusal>
-        ensures { Gives (λ r. r) result (Ok (claiming_runner claim.now (Some told.now.lease) (given.Lease told.now))) }
-    {
-        let kept = ClaimReply::Lease(told.copy(alloc)?);
-        Runner::claiming(alloc, claim, Some(told.lease), kept)
     }
 
     /// What is kept of a runner after its report.

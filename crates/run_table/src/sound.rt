@@ -7,14 +7,14 @@ ghost use Rattle.std.specs.Prelude.{◌≡◌, ℕ, IfOk, true};
 ghost use Rattle.wf_value.specs.Gives.{ErrsOnlyByMemory};
 ghost use Rattle.run_table.specs.ByLease.{lease_of_leg, lease_of_runner};
 ghost use Rattle.run_table.specs.ByNumber.{Finds};
-ghost use Rattle.run_table.specs.Sound.{IsSound, KeptLeasesAreLegs};
+ghost use Rattle.run_table.specs.Sound.{IsSound, KeptLeasesAreOfLegs};
 ghost use Rattle.workflow_runs.specs.AsPlanned.{AreAsPlanned};
 ghost use Rattle.run_table.specs.Turns.{names_rise};
 
 mod deliveries;
 mod group_set;
 mod groups;
-mod jobs;
+pub(crate) mod jobs;
 pub(crate) mod leases;
 mod legs;
 mod rest;
@@ -45,7 +45,7 @@ pub(crate) fn is_sound(
     requires held { (n : ℕ) → Finds (lease_of_runner runners.now) n (get nat_cmp leases.now.held n) }
     requires planned { AreAsPlanned runs.now }
     requires rise { names_rise runners.now ≡ true }
-    requires kept { KeptLeasesAreLegs runs.now runners.now }
+    requires kept { KeptLeasesAreOfLegs leases.now.last runs.now runners.now }
     ensures err { ErrsOnlyByMemory result }
     ensures sound { IfOk result
         (λ b. Decides b (IsSound (record { last_lease = leases.now.last; runs = runs.now; runners = runners.now }))) }

@@ -1,10 +1,10 @@
-ghost use Rattle.std.specs.Prelude.{◌≡◌, Ok};
+ghost use Rattle.std.specs.Prelude.{◌≡◌, IfOk, Ok, string_bytes};
 ghost use Rattle.wf_value.specs.Gives.{Gives};
-ghost use Rattle.run_table.specs.ViewText.{seen_of, seen_text};
+ghost use Rattle.run_table.specs.ViewText.{number_text, seen_of, seen_text};
 
 use crate::view_text::{conclusion_word, push_jobs, status_word};
 use run_plan::Number;
-use std::alloc::Global;
+use std::alloc::{AllocError, Global};
 use std::marker::Model;
 use wf_value::{Chars, Refusal};
 use workflow_runs::run::Run;
@@ -37,9 +37,22 @@ impl<'a> RunView<'a> {
         let jobs = run.jobs();
         let status = status_word(run.phase(), jobs);
         let conclusion = conclusion_word(run.phase(), jobs);
+        let number = number_text(alloc, number, run.attempt().get())?;
+        let number = number.as_str();
         let mut text = format!(in alloc; "run {id} {number} {status} {conclusion}")?;
         push_jobs(run.prepared().plan().as_slice(), jobs, &mut text)?;
         Ok(Chars::new(text))
+    }
+}
+
+/// The number of a run, and from the second attempt on the attempt behind it.
+fn number_text(alloc: Global, number: usize, attempt: u32) -> Result<String, AllocError>
+    ensures { IfOk result (λ s. string_bytes s ≡ number_text number attempt) }
+{
+    if attempt <= 1 {
+        format!(in alloc; "{number}")
+    } else {
+        format!(in alloc; "{number}.{attempt}")
     }
 }
 

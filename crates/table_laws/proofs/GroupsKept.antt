@@ -18,29 +18,32 @@ use Rattle.workflow_runs.specs.RunState.{LegState, RunState}
 use Rattle.workflow_runs.proofs.Found.{before_the_end}
 use Rattle.workflow_runs.proofs.GroupStays.{leg_group_same, leg_needs_settled, run_facts_stay, run_group_stays}
 use Rattle.workflow_runs.proofs.JobKeeps.{leg_in}
-use Rattle.workflow_runs.proofs.LegFacts.{SameUpTo, facts_stay}
+use Rattle.workflow_runs.proofs.LegFacts.{SameUpTo, attempt_at, facts_stay}
 use Rattle.workflow_runs.proofs.NeedsSettled.{KeepsResults, result_in, result_so_far}
 use Rattle.workflow_runs.proofs.OneEach.{IsOneOf}
 use Rattle.workflow_runs.proofs.RunFits.{RunsFit, admitted_at}
 use Rattle.workflow_runs.proofs.Settles.{StayFit}
 
--- runs of before stand where they stood, with the same events, and settled jobs keep their results
+-- runs of before stand where they stood, with the same events, in the same attempts, and settled jobs keep their results
 pub record Grows (runs later : List RunState) : Type 0 where
   pub same_admitted : (r : ℕ) (a : Admitted) → admitted_at runs r ≡ Some a → admitted_at later r ≡ Some a
+  pub same_attempt : (r n : ℕ) → attempt_at runs r ≡ Some n → attempt_at later r ≡ Some n
   pub keeps_results : (r : ℕ) → KeepsResults runs later r
 
 pub grows_not : (runs : List RunState) → Grows runs runs
-grows_not runs = record { same_admitted = (λ r a e. e); keeps_results = (λ r j a e. e) }
+grows_not runs = record { same_admitted = (λ r a e. e); same_attempt = (λ r n e. e); keeps_results = (λ r j a e. e) }
 
 pub grows_on : (a b c : List RunState) → Grows a b → Grows b c → Grows a c
 grows_on a b c f g = record {
   same_admitted = (λ r x e. g.same_admitted r x (f.same_admitted r x e));
+  same_attempt = (λ r n e. g.same_attempt r n (f.same_attempt r n e));
   keeps_results = (λ r j x e. g.keeps_results r j x (f.keeps_results r j x e));
 }
 
 pub stays_grows : (runs next : List RunState) → StayFit runs next → Grows runs next
 stays_grows runs next stay = record {
   same_admitted = (λ r a e. stay.same_admitted r ∙ e);
+  same_attempt = (λ r n e. stay.same_attempt r ∙ e);
   keeps_results = stay.keeps_results;
 }
 
@@ -55,6 +58,10 @@ new_run_grows runs event = record {
   same_admitted = (λ r a e. elim (cases_eq r (length runs)) [
     | inl same ↦ absurd (none_is_none (admitted_at runs r) a (ap (option_map (λ (x : RunState). x.admitted)) (past_the_end runs r same)) e)
     | inr other ↦ ap (option_map (λ (x : RunState). x.admitted)) (before_the_end runs (new_run event) r other) ∙ e
+  ]);
+  same_attempt = (λ r n e. elim (cases_eq r (length runs)) [
+    | inl same ↦ absurd (none_is_none (attempt_at runs r) n (ap (option_map (λ (x : RunState). x.attempt)) (past_the_end runs r same)) e)
+    | inr other ↦ ap (option_map (λ (x : RunState). x.attempt)) (before_the_end runs (new_run event) r other) ∙ e
   ]);
   keeps_results = (λ r j a e. elim (cases_eq r (length runs)) [
     | inl same ↦
@@ -90,22 +97,28 @@ unfolding cancels_in_progress
 run_cancels_same runs later r same = ap (λ o. option_map_or run_cancels o false) same
 
 module _ (runs later : List RunState) (fit : RunsFit runs) (grows : Grows runs later) where
+  attempt_kept : (r : ℕ) (x : RunState) → run_at runs r ≡ Some x → attempt_at later r ≡ attempt_at runs r
+  attempt_kept r x at =
+      let is : attempt_at runs r ≡ Some x.attempt = ap (option_map (λ (y : RunState). y.attempt)) at in
+      grows.same_attempt r x.attempt is ∙ sym is
+
   leg_facts_kept : (p : LegPlace) (z : LegState) → leg_at runs p ≡ Some z → facts_at later p ≡ facts_at runs p
   leg_facts_kept p z at =
       let place = leg_in runs p z at in
       facts_stay runs later p (same_up_to runs later grows p.run (slice_get_within runs p.run place.place.run place.place.run_is))
+      (attempt_kept p.run place.place.run place.place.run_is)
       (leg_needs_settled runs fit p z at) (grows.keeps_results p.run)
 
   run_events_kept : (r : ℕ) (x : RunState) → run_at runs r ≡ Some x → SameUpTo r (events later) (events runs)
   run_events_kept r x at = same_up_to runs later grows r (slice_get_within runs r x at)
 
   pub group_kept : (h : Holder) → IsOneOf runs h → group_at later h ≡ group_at runs h
-  group_kept (Holder.a_run r) there = run_group_stays runs later r (run_events_kept r there.0 there.1)
+  group_kept (Holder.a_run r) there = run_group_stays runs later r (run_events_kept r there.0 there.1) (attempt_kept r there.0 there.1)
   group_kept (Holder.a_leg p) there = leg_group_same runs later p (leg_facts_kept p there.0 there.1)
 
   pub cancels_kept : (h : Holder) → IsOneOf runs h → cancels_in_progress later h ≡ cancels_in_progress runs h
   cancels_kept (Holder.a_run r) there =
-      run_cancels_same runs later r (run_facts_stay runs later r (run_events_kept r there.0 there.1))
+      run_cancels_same runs later r (run_facts_stay runs later r (run_events_kept r there.0 there.1) (attempt_kept r there.0 there.1))
   cancels_kept (Holder.a_leg p) there = leg_cancels_same runs later p (leg_facts_kept p there.0 there.1)
 
   pub is_in_kept : (g : Group) (h : Holder) → IsOneOf runs h → is_in later g h ≡ is_in runs g h

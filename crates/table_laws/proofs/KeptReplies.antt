@@ -25,7 +25,7 @@ use Rattle.run_table.specs.Histories.{after}
 use Rattle.run_table.specs.TableState.{Step, RunnerState, TableState}
 use Rattle.run_table.specs.Step.{admission_answer, admitting, cancel_answer, cancelling, claim_answer, claiming, claiming_runner}
 use Rattle.run_table.specs.Step.{has_no_lease_left}
-use Rattle.run_table.specs.Step.{lease_answer, lease_at, leasing, losing, lost, refused, released, report_answer, reporting}
+use Rattle.run_table.specs.Step.{kept_lease_at, lease_answer, lease_at, leasing, losing, lost, refused, released, report_answer, reporting}
 use Rattle.run_table.specs.Step.{reporting_runner, outcome, serving_nothing, step, stepped, unchanged}
 use Rattle.run_table.specs.Turns.{answer_of_turn, holds_lease, holds_this, is_repeated, number_of, runner_named, turn_answer, with_runner}
 use Rattle.run_table.proofs.RunnerPut.{found_new, found_other, has_the_name}
@@ -130,7 +130,7 @@ module _ (name : List ℕ) (number : ℕ) (same : LastCommand → Bool) (kept : 
       elim (first_fit claim.labels t.runs) as (λ o. Has (option_map_or (leasing t claim) o (serving_nothing t claim)).table) [
         | None ↦ in_turn t (serving_nothing t claim).table (claiming_runner claim None given.Nothing) refl turn no_later has
         | Some p ↦ in_turn t (leasing t claim p).table
-            (claiming_runner claim (Some (t.last_lease + 1)) (given.Lease (lease_at t.runs p (t.last_lease + 1)))) refl turn no_later has
+            (claiming_runner claim (Some (t.last_lease + 1)) (given.Lease (kept_lease_at t.runs p (t.last_lease + 1)))) refl turn no_later has
       ]
 
   has_report : (t : TableState) (report : Reported) → (report.runner ≡ name → report.number ≤ number)
@@ -310,9 +310,9 @@ claim_has t claim taken =
           | None ↦ put_has t (serving_nothing t claim).table (claiming_runner claim None given.Nothing) (is_last_claim claim)
               reply.Nothing refl
               ((claims_decide claim claim).1 refl) refl
-          | Some p ↦ (let told = lease_at t.runs p (t.last_lease + 1) in
-              put_has t (leasing t claim p).table (claiming_runner claim (Some (t.last_lease + 1)) (given.Lease told)) (is_last_claim claim)
-              (reply.Lease told) refl ((claims_decide claim claim).1 refl) refl)
+          | Some p ↦ (let lease = t.last_lease + 1 in
+              put_has t (leasing t claim p).table (claiming_runner claim (Some lease) (given.Lease (kept_lease_at t.runs p lease)))
+              (is_last_claim claim) (reply.Lease (lease_at t.runs p lease)) refl ((claims_decide claim claim).1 refl) refl)
         ]
 
 report_has : (t : TableState) (report : Reported) → (IsRefused (stepped t (command.Done report)).reply → ⊥)

@@ -27,7 +27,7 @@ use Rattle.run_table.specs.Step.{empty, at_rest_after, entered, unchanged, admis
 use Rattle.workflow_runs.specs.StopMoves.{lease_end_moves, with_ended, stop_holder}
 use Rattle.workflow_runs.specs.NewRun.{new_run, leased_leg}
 use Rattle.run_table.specs.Step.{claim_answer, claiming_runner}
-use Rattle.run_table.specs.Step.{lease_at, leasing, serving_nothing, claiming, report_answer, reporting_runner}
+use Rattle.run_table.specs.Step.{kept_lease_at, lease_at, leasing, serving_nothing, claiming, report_answer, reporting_runner}
 use Rattle.run_table.specs.Step.{reporting, reported, stepped, cancel_answer, cancelling, cancelled, losing, lost, refused, released}
 use Rattle.workflow_runs.specs.Stops.{after_end, outcome_of_loss, stopped_run, stops_others, with_stopped_legs}
 use Rattle.workflow_runs.specs.RunState.{LegState, JobState, RunState}
@@ -190,7 +190,7 @@ leasing_reads t claim p s none fit =
       last_lease = lease;
       runs = with_leg p (λ _. leased_leg lease) t.runs;
       runners =
-          with_runner t.runners (claiming_runner claim (Some lease) (given.Lease told));
+          with_runner t.runners (claiming_runner claim (Some lease) (given.Lease (kept_lease_at t.runs p lease)));
     }) (reply.Lease told) (leasing_keeps t claim p (kept_from_sound t s) none fit)
     (λ i a e. mapped_by_change (λ (x : RunState). x.admitted) (with_job_of p.job (with_leg_of p.leg (λ _. leased_leg lease))) (λ x. refl)
     p.run t.runs i ∙ e)

@@ -31,7 +31,7 @@ use Rattle.run_table.specs.Sound.{IsSound}
 use Rattle.workflow_runs.specs.StateWords.{leg_has_ended, leg_in_phase}
 use Rattle.run_table.specs.Step.{admission_answer, admitted, admitting, at_rest_after, cancel_answer, cancelled}
 use Rattle.workflow_runs.specs.NewRun.{blocked_job, leased_leg, new_run}
-use Rattle.run_table.specs.Step.{cancelling, claim_answer, claimed, claiming, claiming_runner, entered, lease_at, leasing, losing, lost}
+use Rattle.run_table.specs.Step.{cancelling, claim_answer, claimed, claiming, claiming_runner, entered, kept_lease_at, lease_at, leasing, losing, lost}
 use Rattle.workflow_runs.specs.StopMoves.{lease_end_moves, with_ended, end_moves, legs_stop_moves, others_stop_moves, stop_holder}
 use Rattle.run_table.specs.Step.{refused, released, report_answer, reported, reporting, reporting_runner, serving_nothing, stepped}
 use Rattle.run_table.specs.Step.{unchanged}
@@ -286,7 +286,7 @@ module _ (later : List RunState) (g : Group) (cancels : Holder → Bool) (asks :
           last_lease = lease;
           runs = next;
           runners =
-              with_runner t.runners (claiming_runner claim (Some lease) (given.Lease (lease_at t.runs p lease)));
+              with_runner t.runners (claiming_runner claim (Some lease) (given.Lease (kept_lease_at t.runs p lease)));
         }) [] (reply.Lease (lease_at t.runs p lease)) stay.fit (leased_one_each t.runs kept.fit claim.labels p lease is s.one_of_each_group)
         (stays_grows t.runs next stay)
         (λ on. quiet_goes_on (is_in (settled next) g) cancels t.runs (without_moves next)

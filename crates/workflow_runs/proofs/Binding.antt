@@ -113,6 +113,7 @@ facts_with run job l needs = record {
   event = run.event;
   run_id = run.run_id;
   run_number = run.run_number;
+  run_attempt = run.run_attempt;
   job = job;
   leg = l;
   needs = needs;
@@ -140,12 +141,12 @@ has_results_later run job j l needs results others (context ∷ inner ∷ name �
     (and_parts (bytes_eq context (codes "needs")) (bytes_eq name (codes "result")) both).0)
 has_results_later run job j l needs results others (context ∷ inner ∷ name ∷ more ∷ names) = refl
 
-abbrev pub told_of : RunState → List ℕ → List ℕ → RunFacts
-told_of run id number = record { event = run.admitted; run_id = id; run_number = number }
+abbrev pub told_of : RunState → List ℕ → List ℕ → List ℕ → RunFacts
+told_of run id number attempt = record { event = run.admitted; run_id = id; run_number = number; run_attempt = attempt }
 
 -- what is known of a leg when its run is admitted
-abbrev pub facts_now : RunState → List ℕ → List ℕ → PlannedJob → ℕ → ℕ → LegFacts
-facts_now run id number job j l = facts_with (told_of run id number) job l (direct_needs run j)
+abbrev pub facts_now : RunState → List ℕ → List ℕ → List ℕ → PlannedJob → ℕ → ℕ → LegFacts
+facts_now run id number attempt job j l = facts_with (told_of run id number attempt) job l (direct_needs run j)
 
 none_needed : (run : RunState) (j : ℕ) (id : List ℕ) → find (has_id (plan_of run.admitted.body) id) (needs_at (needs_in run) j) ≡ None
     → option_and_then (λ r. r) (under id (direct_needs run j)) ≡ None
@@ -154,11 +155,11 @@ none_needed run j id none =
     result_of_id id (plan_of run.admitted.body) (λ k. slice_index_or (results_so_far run.jobs) k None) (needs_at (needs_in run) j)
     ∙ ap (option_and_then (λ k. slice_index_or (results_so_far run.jobs) k None)) none
 
-pub leg_has_results : (run : RunState) (id number : List ℕ) (job : PlannedJob) (j l : ℕ) (results : Results)
-    → HasResults (context_of (facts_now run id number job j l)) (need_of_job (plan_of run.admitted.body) j) results
-    (context_of (facts_by (told_of run id number) j job l results))
-leg_has_results run id number job j l results =
-    has_results_later (told_of run id number) job j l (direct_needs run j) results (none_needed run j)
+pub leg_has_results : (run : RunState) (id number attempt : List ℕ) (job : PlannedJob) (j l : ℕ) (results : Results)
+    → HasResults (context_of (facts_now run id number attempt job j l)) (need_of_job (plan_of run.admitted.body) j) results
+    (context_of (facts_by (told_of run id number attempt) j job l results))
+leg_has_results run id number attempt job j l results =
+    has_results_later (told_of run id number attempt) job j l (direct_needs run j) results (none_needed run j)
 
 -- and so of a leg whose job's needs have no result yet
 pub leg_has_results_at_last : (run : RunFacts) (job : PlannedJob) (j l : ℕ) (results : Results)

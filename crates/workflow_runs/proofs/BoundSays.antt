@@ -55,6 +55,7 @@ facts_of_run runs r run = record {
   event = run.admitted;
   run_id = decimal (r + 1);
   run_number = decimal (run_number (events runs) r run.admitted);
+  run_attempt = decimal run.attempt;
 }
 
 pub run_told : (runs : List RunState) (r : ℕ) (x : RunState) → run_at runs r ≡ Some x → run_facts_at runs r ≡ Some (facts_of_run runs r x)

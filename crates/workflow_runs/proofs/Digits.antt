@@ -7,12 +7,15 @@ use Rattle.run_plan.specs.Admitted.{Admitted}
 use Rattle.run_plan.specs.declared.planned.PlannedJob.{PlannedJob}
 use Rattle.workflow_runs.specs.LegContext.{LegFacts}
 
-abbrev pub facts : Admitted → List ℕ → List ℕ → PlannedJob → ℕ → List (List ℕ × Option JobResult) → LegFacts
-facts event id number job leg needs =
-    record { event = event; run_id = id; run_number = number; job = job; leg = leg; needs = needs }
+abbrev pub facts : Admitted → List ℕ → List ℕ → List ℕ → PlannedJob → ℕ → List (List ℕ × Option JobResult) → LegFacts
+facts event id number attempt job leg needs =
+    record { event = event; run_id = id; run_number = number; run_attempt = attempt; job = job; leg = leg; needs = needs }
 
-pub told_in_digits : (event : Admitted) (id number : ℕ) (id_text number_text : List ℕ) (job : PlannedJob) (leg : ℕ)
+pub told_in_digits : (event : Admitted) (id number attempt : ℕ) (id_text number_text attempt_text : List ℕ) (job : PlannedJob) (leg : ℕ)
     (needs : List (List ℕ × Option JobResult)) (told : LegFacts) → id_text ≡ decimal id → number_text ≡ decimal number
-    → facts event (decimal id) (decimal number) job leg needs ≡ told → facts event id_text number_text job leg needs ≡ told
-told_in_digits event id number id_text number_text job leg needs told is_id is_number is =
-    ap (λ x. facts event x number_text job leg needs) is_id ∙ ap (λ y. facts event (decimal id) y job leg needs) is_number ∙ is
+    → attempt_text ≡ decimal attempt → facts event (decimal id) (decimal number) (decimal attempt) job leg needs ≡ told
+    → facts event id_text number_text attempt_text job leg needs ≡ told
+told_in_digits event id number attempt id_text number_text attempt_text job leg needs told is_id is_number is_attempt is =
+    ap (λ x. facts event x number_text attempt_text job leg needs) is_id
+    ∙ ap (λ y. facts event (decimal id) y attempt_text job leg needs) is_number
+    ∙ ap (λ z. facts event (decimal id) (decimal number) z job leg needs) is_attempt ∙ is

@@ -21,17 +21,18 @@ use Rattle.workflow_runs.proofs.BoundSays.{job_untold, leg_facts_of, leg_told, l
 
 -- ---- the name that is asked
 
-pub named_for_run : (run : RunFacts) (asked : Concurrency) (repository id number : List ℕ)
+pub named_for_run : (run : RunFacts) (asked : Concurrency) (repository id number attempt : List ℕ)
     → Some asked ≡ (event_of run.event.body).workflow.concurrency → repository ≡ (event_of run.event.body).repo → id ≡ run.run_id
-    → number ≡ run.run_number
-    → named_group repository (run_context (record { event = run.event; run_id = id; run_number = number })) asked ≡ run_group run
-named_for_run run asked repository id number asks same_repository same_id same_number =
-    ap (λ r. named_group r (run_context (record { event = run.event; run_id = id; run_number = number })) asked) same_repository
-    ∙ ap (λ i. named_group (event_of run.event.body).repo (run_context (record { event = run.event; run_id = i; run_number = number }))
-    asked) same_id
-    ∙ ap (λ n. named_group (event_of run.event.body).repo
-    (run_context (record { event = run.event; run_id = run.run_id; run_number = n })) asked)
-    same_number
+    → number ≡ run.run_number → attempt ≡ run.run_attempt
+    → named_group repository (run_context (record { event = run.event; run_id = id; run_number = number; run_attempt = attempt })) asked
+    ≡ run_group run
+named_for_run run asked repository id number attempt asks same_repository same_id same_number same_attempt =
+    let told : List ℕ → List ℕ → List ℕ → RunFacts =
+    λ i n a. record { event = run.event; run_id = i; run_number = n; run_attempt = a } in
+    ap (λ r. named_group r (run_context (told id number attempt)) asked) same_repository
+    ∙ ap (λ i. named_group (event_of run.event.body).repo (run_context (told i number attempt)) asked) same_id
+    ∙ ap (λ n. named_group (event_of run.event.body).repo (run_context (told run.run_id n attempt)) asked) same_number
+    ∙ ap (λ a. named_group (event_of run.event.body).repo (run_context (told run.run_id run.run_number a)) asked) same_attempt
     ∙ ap (option_and_then (named_group (event_of run.event.body).repo (run_context run))) asks
 
 pub named_for_leg : (leg context : LegFacts) (asked : Concurrency) (repository : List ℕ) → Some asked ≡ asked_of_leg leg.job leg.leg
@@ -53,14 +54,17 @@ pub has_number : (runs : List RunState) (r : ℕ) (x : RunState) → run_at runs
     → None ≡ option_map (run_number (events runs) r) (slice_get (events runs) r) → ⊥
 has_number runs r x at none = let no : None ≡ Some (run_number (events runs) r x.admitted) = none ∙ numbered runs r x at in cc
 
-pub group_of_that_run : (runs : List RunState) (r : ℕ) (x : RunState) (event : Admitted) (number : ℕ) → run_at runs r ≡ Some x
-    → event ≡ x.admitted → Some number ≡ option_map (run_number (events runs) r) (slice_get (events runs) r)
-    → run_group (record { event = event; run_id = decimal (r + 1); run_number = decimal number }) ≡ group_at runs (Holder.a_run r)
+pub group_of_that_run : (runs : List RunState) (r : ℕ) (x : RunState) (event : Admitted) (number attempt : ℕ) → run_at runs r ≡ Some x
+    → event ≡ x.admitted → Some number ≡ option_map (run_number (events runs) r) (slice_get (events runs) r) → attempt ≡ x.attempt
+    → run_group (record { event = event; run_id = decimal (r + 1); run_number = decimal number; run_attempt = decimal attempt })
+    ≡ group_at runs (Holder.a_run r)
 unfolding group_at
-group_of_that_run runs r x event number at same count =
+group_of_that_run runs r x event number attempt at same count same_attempt =
     let n = same_Some number (run_number (events runs) r x.admitted) (count ∙ numbered runs r x at) in
-    ap (λ e. run_group (record { event = e; run_id = decimal (r + 1); run_number = decimal number })) same
-    ∙ ap (λ m. run_group (record { event = x.admitted; run_id = decimal (r + 1); run_number = decimal m })) n
+    let told : Admitted → ℕ → ℕ → RunFacts =
+    λ e m a. record { event = e; run_id = decimal (r + 1); run_number = decimal m; run_attempt = decimal a } in
+    ap (λ e. run_group (told e number attempt)) same ∙ ap (λ m. run_group (told x.admitted m attempt)) n
+    ∙ ap (λ a. run_group (told x.admitted (run_number (events runs) r x.admitted) a)) same_attempt
     ∙ sym (ap (option_and_then run_group) (run_told runs r x at))
 
 -- ---- of a leg

@@ -1,9 +1,9 @@
 -- The group of a run, and of a leg once the jobs that its job needs have settled, stays what it is.
 use Rattle.std.specs.Prelude.{◌≡◌, ℕ, ◌+◌, List, take, count_by, true, Option, Some, None, option_map, option_and_then}
-use Rattle.std.specs.Prelude.{slice_get, refl}
+use Rattle.std.specs.Prelude.{refl}
 use Rattle.std.specs.Fmt.{decimal}
 use Rattle.std.proofs.Common.{arith, ap, sym, ◌∙◌}
-use Rattle.std.proofs.lemmas.Option.{slice_get-map}
+use Rattle.std.proofs.lemmas.Option.{same_Some, slice_get-map}
 use Rattle.run_plan.specs.Admitted.{Admitted}
 use Rattle.workflow_runs.specs.GroupOf.{RunFacts, group_at, leg_group, run_facts_at, run_group}
 use Rattle.workflow_runs.specs.LegContext.{facts_at}
@@ -13,49 +13,65 @@ use Rattle.workflow_runs.specs.RunNumber.{events, same_workflow}
 use Rattle.workflow_runs.specs.RunState.{LegState, RunState}
 use Rattle.workflow_runs.specs.Words.{needs_have_settled}
 use Rattle.workflow_runs.proofs.JobKeeps.{leg_in, no_leg}
-use Rattle.workflow_runs.proofs.LegFacts.{SameUpTo, facts_stay, taken_same}
+use Rattle.workflow_runs.proofs.LegFacts.{SameUpTo, attempt_at, facts_stay, taken_same}
 use Rattle.workflow_runs.proofs.RunFits.{RunsFit}
 use Rattle.workflow_runs.proofs.Settles.{StayFit, same_events}
 
 -- ---- what is told of a run
 
-abbrev told_run : ℕ → List Admitted → Option Admitted → Option RunFacts
-told_run r all o = option_map (λ event. record {
-  event = event;
+abbrev told_run : ℕ → List Admitted → Option (Admitted × ℕ) → Option RunFacts
+told_run r all o = option_map (λ told. record {
+  event = told.0;
   run_id = decimal (r + 1);
-  run_number = decimal (count_by (same_workflow event) all);
+  run_number = decimal (count_by (same_workflow told.0) all);
+  run_attempt = decimal told.1;
 }) o
+
+-- the event of a run, and its attempt
+abbrev course : Option RunState → Option (Admitted × ℕ)
+course o = option_map (λ (run : RunState). (run.admitted, run.attempt)) o
 
 told_twice : (r : ℕ) (all : List Admitted) (o : Option RunState)
     → option_map (λ (run : RunState). record {
       event = run.admitted;
       run_id = decimal (r + 1);
       run_number = decimal (count_by (same_workflow run.admitted) all);
+      run_attempt = decimal run.attempt;
     }) o
-    ≡ told_run r all (option_map (λ (run : RunState). run.admitted) o)
+    ≡ told_run r all (course o)
 told_twice r all None = refl
 told_twice r all (Some run) = refl
 
 run_facts_are : (runs : List RunState) (r : ℕ)
-    → run_facts_at runs r ≡ told_run r (take (r + 1) (events runs)) (slice_get (events runs) r)
+    → run_facts_at runs r ≡ told_run r (take (r + 1) (events runs)) (course (run_at runs r))
 unfolding run_facts_at
-run_facts_are runs r =
-    told_twice r (take (r + 1) (events runs)) (run_at runs r)
-    ∙ ap (told_run r (take (r + 1) (events runs))) (sym (slice_get-map (λ (run : RunState). run.admitted) runs r))
+run_facts_are runs r = told_twice r (take (r + 1) (events runs)) (run_at runs r)
+
+same_course : (o u : Option RunState) → option_map (λ (run : RunState). run.admitted) u ≡ option_map (λ (run : RunState). run.admitted) o
+    → option_map (λ (run : RunState). run.attempt) u ≡ option_map (λ (run : RunState). run.attempt) o → course u ≡ course o
+same_course None None event attempt = refl
+same_course None (Some y) event attempt = cc
+same_course (Some x) None event attempt = cc
+same_course (Some x) (Some y) event attempt =
+    ap (λ a. Some (a, y.attempt)) (same_Some y.admitted x.admitted event)
+    ∙ ap (λ n. Some (x.admitted, n)) (same_Some y.attempt x.attempt attempt)
 
 pub run_facts_stay : (runs next : List RunState) (r : ℕ) → SameUpTo r (events next) (events runs)
-    → run_facts_at next r ≡ run_facts_at runs r
-run_facts_stay runs next r same =
+    → attempt_at next r ≡ attempt_at runs r → run_facts_at next r ≡ run_facts_at runs r
+run_facts_stay runs next r same attempt =
+    let admitted = λ (run : RunState). run.admitted in
     run_facts_are next r
-    ∙ ap (λ es. told_run r es (slice_get (events next) r))
+    ∙ ap (λ es. told_run r es (course (run_at next r)))
     (taken_same (r + 1) (events next) (events runs) (λ s lt. same s (omega (arith, lt))))
-    ∙ ap (told_run r (take (r + 1) (events runs))) (same r (omega arith))
+    ∙ ap (told_run r (take (r + 1) (events runs)))
+    (same_course (run_at runs r) (run_at next r)
+    (sym (slice_get-map admitted next r) ∙ same r (omega arith) ∙ slice_get-map admitted runs r) attempt)
     ∙ sym (run_facts_are runs r)
 
 pub run_group_stays : (runs next : List RunState) (r : ℕ) → SameUpTo r (events next) (events runs)
-    → group_at next (Holder.a_run r) ≡ group_at runs (Holder.a_run r)
+    → attempt_at next r ≡ attempt_at runs r → group_at next (Holder.a_run r) ≡ group_at runs (Holder.a_run r)
 unfolding group_at
-run_group_stays runs next r same = ap (option_and_then run_group) (run_facts_stay runs next r same)
+run_group_stays runs next r same attempt = ap (option_and_then run_group) (run_facts_stay runs next r same attempt)
 
 -- ---- a leg
 
@@ -75,7 +91,7 @@ pub leg_group_stays : (runs next : List RunState) → RunsFit runs → StayFit r
     → leg_at runs p ≡ Some z → group_at next (Holder.a_leg p) ≡ group_at runs (Holder.a_leg p)
 leg_group_stays runs next fit stay p z was =
     leg_group_same runs next p
-    (facts_stay runs next p (same_events runs next p.run (λ s le. stay.same_admitted s)) (leg_needs_settled runs fit p z was)
+    (facts_stay runs next p (same_events runs next p.run (λ s le. stay.same_admitted s)) (stay.same_attempt p.run) (leg_needs_settled runs fit p z was)
     (stay.keeps_results p.run))
 
 -- ---- a run or a leg
@@ -88,5 +104,5 @@ IsThere runs (Holder.a_leg p) = (z : LegState) × (leg_at runs p ≡ Some z)
 pub group_stays : (runs next : List RunState) → RunsFit runs → StayFit runs next → (h : Holder) → IsThere runs h
     → group_at next h ≡ group_at runs h
 group_stays runs next fit stay (Holder.a_run r) there =
-    run_group_stays runs next r (same_events runs next r (λ s le. stay.same_admitted s))
+    run_group_stays runs next r (same_events runs next r (λ s le. stay.same_admitted s)) (stay.same_attempt r)
 group_stays runs next fit stay (Holder.a_leg p) there = leg_group_stays runs next fit stay p there.0 there.1

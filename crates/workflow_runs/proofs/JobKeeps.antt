@@ -91,6 +91,7 @@ module _ (runs : List RunState) (r : ℕ) (x : RunState) (fit : RunFits runs r x
       → NeedsStay runs r j y (f y) → StaysFit runs r x (record x { jobs = changed_at j f x.jobs })
   job_stays phase fits needs = record {
     same_admitted = refl;
+    same_attempt = refl;
     keeps_results = (λ k a e. reads_stay j f x.jobs y (λ z. settled_result z.phase) a was (needs.keeps_result a) k e);
     fits = record {
       has_its_jobs = length-changed_at j f x.jobs ∙ fit.has_its_jobs;

@@ -26,22 +26,23 @@ use Rattle.workflow_runs.specs.RunState.{LegState, JobState, RunState}
 use Rattle.workflow_runs.specs.Words.{all_have_results, is_set, label_texts, needs_have_settled, continues_on_error}
 use Rattle.workflow_runs.proofs.NeedsSettled.{KeepsResults, result_of_job}
 
--- what is told of a leg: by its run's event, the events up to it, and the needs of its job
-abbrev told_of : LegPlace → Admitted → List Admitted → List (List ℕ × Option JobResult) → PlannedJob → LegFacts
-told_of p event all needs job = record {
+-- what is told of a leg: by its run's event and attempt, the events up to it, and the needs of its job
+abbrev told_of : LegPlace → Admitted → ℕ → List Admitted → List (List ℕ × Option JobResult) → PlannedJob → LegFacts
+told_of p event attempt all needs job = record {
   event = event;
   run_id = decimal (p.run + 1);
   run_number = decimal (count_by (same_workflow event) all);
+  run_attempt = decimal attempt;
   job = job;
   leg = p.leg;
   needs = needs;
 }
 
-abbrev told : LegPlace → Admitted → List Admitted → List (List ℕ × Option JobResult) → Option LegFacts
-told p event all needs = option_map (told_of p event all needs) (slice_get (plan_of event.body) p.job)
+abbrev told : LegPlace → Admitted → ℕ → List Admitted → List (List ℕ × Option JobResult) → Option LegFacts
+told p event attempt all needs = option_map (told_of p event attempt all needs) (slice_get (plan_of event.body) p.job)
 
 abbrev told_in : LegPlace → List Admitted → RunState → Option LegFacts
-told_in p all run = told p run.admitted all (direct_needs run p.job)
+told_in p all run = told p run.admitted run.attempt all (direct_needs run p.job)
 
 facts_are : (runs : List RunState) (p : LegPlace)
     → facts_at runs p ≡ option_and_then (told_in p (take (p.run + 1) (events runs))) (run_at runs p.run)
@@ -50,16 +51,16 @@ facts_are runs p = refl
 
 -- ---- where it is told of a leg, its job is planned
 
-job_told : (p : LegPlace) (event : Admitted) (all : List Admitted) (needs : List (List ℕ × Option JobResult)) (o : Option PlannedJob)
-    → o ≡ option_map (λ (f : LegFacts). f.job) (option_map (told_of p event all needs) o)
-job_told p event all needs None = refl
-job_told p event all needs (Some job) = refl
+job_told : (p : LegPlace) (event : Admitted) (attempt : ℕ) (all : List Admitted) (needs : List (List ℕ × Option JobResult)) (o : Option PlannedJob)
+    → o ≡ option_map (λ (f : LegFacts). f.job) (option_map (told_of p event attempt all needs) o)
+job_told p event attempt all needs None = refl
+job_told p event attempt all needs (Some job) = refl
 
 plan_in : (p : LegPlace) (all : List Admitted) (o : Option RunState)
     → option_and_then (λ run. slice_get (plan_of run.admitted.body) p.job) o
     ≡ option_map (λ f. f.job) (option_and_then (told_in p all) o)
 plan_in p all None = refl
-plan_in p all (Some run) = job_told p run.admitted all (direct_needs run p.job) (slice_get (plan_of run.admitted.body) p.job)
+plan_in p all (Some run) = job_told p run.admitted run.attempt all (direct_needs run p.job) (slice_get (plan_of run.admitted.body) p.job)
 
 plan_told : (runs : List RunState) (p : LegPlace) → plan_at runs p.run p.job ≡ option_map (λ f. f.job) (facts_at runs p)
 plan_told runs p =
@@ -146,38 +147,46 @@ taken_same (suc n) (x ∷ all) (y ∷ others) same =
 abbrev admitted_in : Option RunState → Option Admitted
 admitted_in o = option_map (λ run. run.admitted) o
 
-told_same : (p : LegPlace) (all others : List Admitted) (o u : Option RunState) → admitted_in u ≡ admitted_in o → others ≡ all
+abbrev attempt_in : Option RunState → Option ℕ
+attempt_in o = option_map (λ run. run.attempt) o
+
+abbrev pub attempt_at : List RunState → ℕ → Option ℕ
+attempt_at runs r = attempt_in (run_at runs r)
+
+told_same : (p : LegPlace) (all others : List Admitted) (o u : Option RunState) → admitted_in u ≡ admitted_in o
+    → attempt_in u ≡ attempt_in o → others ≡ all
     → all_have_results (option_map_or (λ run. results_so_far run.jobs) o []) (needs_at (option_map_or needs_in o []) p.job) ≡ true
     → KeepResults (option_map_or (λ run. results_so_far run.jobs) o []) (option_map_or (λ run. results_so_far run.jobs) u [])
     → option_and_then (told_in p others) u ≡ option_and_then (told_in p all) o
-told_same p all others None None same front settled kept = refl
-told_same p all others None (Some y) same front settled kept = absurd (none_there y.admitted same)
-told_same p all others (Some x) None same front settled kept = absurd (none_there x.admitted (sym same))
-told_same p all others (Some x) (Some y) same front settled kept =
+told_same p all others None None same attempt front settled kept = refl
+told_same p all others None (Some y) same attempt front settled kept = absurd (none_there y.admitted same)
+told_same p all others (Some x) None same attempt front settled kept = absurd (none_there x.admitted (sym same))
+told_same p all others (Some x) (Some y) same attempt front settled kept =
     let event : y.admitted ≡ x.admitted = same_Some y.admitted x.admitted same in
-    ap (λ a. told p a others (direct_needs y p.job)) event
-    ∙ ap (λ es. told p x.admitted es (direct_needs y p.job)) front
-    ∙ ap (told p x.admitted all) (needs_kept x y p.job event settled kept)
+    ap (λ a. told p a y.attempt others (direct_needs y p.job)) event
+    ∙ ap (λ n. told p x.admitted n others (direct_needs y p.job)) (same_Some y.attempt x.attempt attempt)
+    ∙ ap (λ es. told p x.admitted x.attempt es (direct_needs y p.job)) front
+    ∙ ap (told p x.admitted x.attempt all) (needs_kept x y p.job event settled kept)
 
 -- What is told of a leg stays as it is from when the jobs that its job needs have settled, while those keep their results.
 pub facts_stay : (runs next : List RunState) (p : LegPlace) → SameUpTo p.run (events next) (events runs)
-    → needs_have_settled runs p.run p.job ≡ true → KeepsResults runs next p.run
+    → attempt_at next p.run ≡ attempt_at runs p.run → needs_have_settled runs p.run p.job ≡ true → KeepsResults runs next p.run
     → facts_at next p ≡ facts_at runs p
-facts_stay runs next p same settled kept =
+facts_stay runs next p same attempt settled kept =
     let admitted = λ (run : RunState). run.admitted in
     facts_are next p
     ∙ told_same p (take (p.run + 1) (events runs)) (take (p.run + 1) (events next)) (run_at runs p.run) (run_at next p.run)
-    (sym (slice_get-map admitted next p.run) ∙ same p.run (omega arith) ∙ slice_get-map admitted runs p.run)
+    (sym (slice_get-map admitted next p.run) ∙ same p.run (omega arith) ∙ slice_get-map admitted runs p.run) attempt
     (taken_same (p.run + 1) (events next) (events runs) (λ s lt. same s (omega (arith, lt)))) settled
     (λ k r e. result_of_job next p.run k ∙ kept k r (sym (result_of_job runs p.run k) ∙ e))
     ∙ sym (facts_are runs p)
 
 passes_stay : (runs next : List RunState) (p : LegPlace) → SameUpTo p.run (events next) (events runs)
-    → needs_have_settled runs p.run p.job ≡ true → KeepsResults runs next p.run
+    → attempt_at next p.run ≡ attempt_at runs p.run → needs_have_settled runs p.run p.job ≡ true → KeepsResults runs next p.run
     → continues_on_error next p ≡ continues_on_error runs p
-passes_stay runs next p same settled kept =
+passes_stay runs next p same attempt settled kept =
     passes_told next p
-    ∙ ap (λ o. option_map_or (λ f. is_set (context_of f) f.job.continue_on_error) o false) (facts_stay runs next p same settled kept)
+    ∙ ap (λ o. option_map_or (λ f. is_set (context_of f) f.job.continue_on_error) o false) (facts_stay runs next p same attempt settled kept)
     ∙ sym (passes_told runs p)
 
 -- ---- a job's result
@@ -189,17 +198,19 @@ ends_same f g (x ∷ xs) same =
     ap (λ o. cons_option o (filter_map f xs)) (same x) ∙ ap (cons_option (g x)) (ends_same f g xs same)
 
 result_of_legs : (runs next : List RunState) (r j : ℕ) (legs : List LegState) → SameUpTo r (events next) (events runs)
+    → attempt_at next r ≡ attempt_at runs r
     → ((legs ≡ [] → ⊥) → needs_have_settled runs r j ≡ true) → KeepsResults runs next r
     → gathered (filter_map (leg_end next r j) (placed legs)) ≡ gathered (filter_map (leg_end runs r j) (placed legs))
-result_of_legs runs next r j [] same first kept = refl
-result_of_legs runs next r j (x ∷ legs) same first kept =
+result_of_legs runs next r j [] same attempt first kept = refl
+result_of_legs runs next r j (x ∷ legs) same attempt first kept =
     let settled = first (λ e. cc) in
     ap gathered (ends_same (leg_end next r j) (leg_end runs r j) (placed (x ∷ legs))
     (λ l. ap (λ b. option_map (λ o. record { outcome = o; continue_on_error = b }) (outcome_of l.1.phase))
-    (passes_stay runs next (record { run = r; job = j; leg = l.0 }) same settled kept)))
+    (passes_stay runs next (record { run = r; job = j; leg = l.0 }) same attempt settled kept)))
 
 -- the result of a job from its legs, where one that has legs has its needs settled
 pub result_stays : (runs next : List RunState) (r j : ℕ) (y : JobState) → SameUpTo r (events next) (events runs)
+    → attempt_at next r ≡ attempt_at runs r
     → ((y.legs ≡ [] → ⊥) → needs_have_settled runs r j ≡ true) → KeepsResults runs next r
     → result_at next r j y ≡ result_at runs r j y
-result_stays runs next r j y same first kept = result_of_legs runs next r j y.legs same first kept
+result_stays runs next r j y same attempt first kept = result_of_legs runs next r j y.legs same attempt first kept

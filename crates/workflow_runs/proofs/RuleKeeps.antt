@@ -176,6 +176,7 @@ phase_settles runs r x to fit was phase_fits =
     (record {
       stays = record {
         same_admitted = refl;
+        same_attempt = refl;
         keeps_results = (λ j a e. e);
         fits = record {
           has_its_jobs = fits.has_its_jobs;

@@ -1,10 +1,10 @@
--- A change of a run leaves what was admitted.
+-- A change of a run leaves what was admitted, and the attempt.
 use Rattle.std.specs.Prelude.{◌≡◌, refl}
 use Rattle.workflow_runs.specs.Changes.{changed}
 use Rattle.workflow_runs.specs.RunState.{RunState}
 use Rattle.workflow_runs.specs.declared.change.Change.{Change}
 use Rattle.workflow_runs.specs.declared.change.Change.TheVariants as change
-use Rattle.workflow_runs.proofs.StoppedRuns.{stopped_admitted}
+use Rattle.workflow_runs.proofs.StoppedRuns.{stopped_admitted, stopped_attempt}
 
 pub changed_admitted : (c : Change) (run : RunState) → (changed c run).admitted ≡ run.admitted
 changed_admitted (change.Phase phase) run = refl
@@ -13,3 +13,11 @@ changed_admitted (change.Settle j settled) run = refl
 changed_admitted change.Stop run = stopped_admitted run
 changed_admitted (change.StopLegs j) run = refl
 changed_admitted (change.PutLeg j l leg) run = refl
+
+pub changed_attempt : (c : Change) (run : RunState) → (changed c run).attempt ≡ run.attempt
+changed_attempt (change.Phase phase) run = refl
+changed_attempt (change.Open j) run = refl
+changed_attempt (change.Settle j settled) run = refl
+changed_attempt change.Stop run = stopped_attempt run
+changed_attempt (change.StopLegs j) run = refl
+changed_attempt (change.PutLeg j l leg) run = refl

@@ -20,29 +20,41 @@ use Rattle.workflow_runs.specs.declared.runs.marks.RunMarks.{RunMarks}
 use Rattle.workflow_runs.proofs.Binding.{one_more as one_more_bound}
 use Rattle.workflow_runs.proofs.BoundSays.{run_told}
 use Rattle.workflow_runs.proofs.GroupStays.{run_facts_stay}
+use Rattle.workflow_runs.proofs.LegFacts.{attempt_at}
 use Rattle.workflow_runs.proofs.MarkedRuns.{marks_after}
 use Rattle.workflow_runs.proofs.RunNumbers.{events_kept, length_kept, number_at, one_more, still_numbered}
 
-facts_same : (runs next : List RunState) (r : ℕ) → events next ≡ events runs → run_facts_at next r ≡ run_facts_at runs r
-facts_same runs next r same = run_facts_stay runs next r (λ s le. ap (λ es. slice_get es s) same)
+facts_same : (runs next : List RunState) (r : ℕ) → events next ≡ events runs → attempt_at next r ≡ attempt_at runs r
+    → run_facts_at next r ≡ run_facts_at runs r
+facts_same runs next r same attempt = run_facts_stay runs next r (λ s le. ap (λ es. slice_get es s) same) attempt
+
+attempts_kept : (xs : List RunState) (r k : ℕ) (x y : RunState) → r < length xs → x ≡ get_or xs r x → y.attempt ≡ x.attempt
+    → attempt_at (slice_set xs r y) k ≡ attempt_at xs k
+attempts_kept [] r k x y lt is same = absurd (omega arith)
+attempts_kept (z ∷ xs) zero zero x y lt is same = ap (λ n. Some n) (same ∙ ap (λ (w : RunState). w.attempt) is)
+attempts_kept (z ∷ xs) zero (suc k) x y lt is same = refl
+attempts_kept (z ∷ xs) (suc r) zero x y lt is same = refl
+attempts_kept (z ∷ xs) (suc r) (suc k) x y lt is same = attempts_kept xs r k x y (omega arith) is same
 
 still_bound : (xs : List RunState) (kept : List RunBindings) (r : ℕ) (x y : RunState) → r < length xs → x ≡ get_or xs r x
-    → y.admitted ≡ x.admitted → AreBound xs kept → AreBound (slice_set xs r y) kept
-still_bound xs kept r x y lt is same are = record {
+    → y.admitted ≡ x.admitted → y.attempt ≡ x.attempt → AreBound xs kept → AreBound (slice_set xs r y) kept
+still_bound xs kept r x y lt is same attempt are = record {
   as_many = omega (arith, length_kept xs r y, are.as_many);
   each = (λ k run groups told is_kept.
-      are.each k run groups (sym (facts_same xs (slice_set xs r y) k (events_kept xs r x y lt is same)) ∙ told) is_kept);
+      are.each k run groups
+      (sym (facts_same xs (slice_set xs r y) k (events_kept xs r x y lt is same) (attempts_kept xs r k x y lt is attempt)) ∙ told) is_kept);
 }
 
--- a run is written of the event that stands at its place
+-- a run is written of the event that stands at its place, in its attempt
 pub still_kept : (xs : List RunState) (numbers : List ℕ) (kept : List RunBindings) (index : Index) (marks marks' : RunMarks) (r : ℕ)
-    (x y : RunState) → r < length xs → x ≡ get_or xs r x → y.admitted ≡ x.admitted → Stirs r (length xs) marks marks'
-    → RunsAreKept xs numbers kept index marks → RunsAreKept (slice_set xs r y) numbers kept index marks'
-still_kept xs numbers kept index marks marks' r x y lt is same stirs are =
+    (x y : RunState) → r < length xs → x ≡ get_or xs r x → y.admitted ≡ x.admitted → y.attempt ≡ x.attempt
+    → Stirs r (length xs) marks marks' → RunsAreKept xs numbers kept index marks
+    → RunsAreKept (slice_set xs r y) numbers kept index marks'
+still_kept xs numbers kept index marks marks' r x y lt is same attempt stirs are =
     let stay : events (slice_set xs r y) ≡ events xs = events_kept xs r x y lt is same in
     record {
       numbered = still_numbered xs numbers r x y lt is same are.numbered;
-      bound = still_bound xs kept r x y lt is same are.bound;
+      bound = still_bound xs kept r x y lt is same attempt are.bound;
       found = subst (λ (es : List Admitted). FindsFirst es index.places.places) (sym stay) are.found;
       counted = subst (λ (es : List Admitted). AreCounted es index.counts.counts) (sym stay) are.counted;
       marked = marks_after xs y marks marks' r stirs are.marked;
@@ -87,6 +99,7 @@ module _ (runs : List RunState) (run : RunState) (numbers : List ℕ) (n : ℕ) 
       let many : length (events runs) ≡ length runs = length-map runs (λ (x : RunState). x.admitted) in
       run_facts_stay runs (runs ++ run ∷ []) r
       (λ s le. ap (λ es. slice_get es s) its_events ∙ front_same (events runs) run.admitted s (omega (arith, many)))
+      (ap (option_map (λ (x : RunState). x.attempt)) (front_same runs run r lt))
 
   its_number : run_number (events (runs ++ run ∷ [])) (length runs) run.admitted ≡ n
   its_number =
@@ -100,16 +113,24 @@ module _ (runs : List RunState) (run : RunState) (numbers : List ℕ) (n : ℕ) 
       (sym (number_at (runs ++ run ∷ []) (numbers ++ n ∷ []) (length runs) are ∙ ap (option_map (run_number all (length runs))) event)
       ∙ at_end numbers n (length runs) (sym many))
 
+  abbrev its_facts : ℕ → RunFacts
+  its_facts m = record {
+    event = run.admitted;
+    run_id = decimal (length runs + 1);
+    run_number = decimal m;
+    run_attempt = decimal run.attempt;
+  }
+
   added_bound : (kept : List RunBindings) (asked : RunBindings) → AreBound runs kept
-      → RunSays (record { event = run.admitted; run_id = decimal (length runs + 1); run_number = decimal n }) asked
+      → RunSays (its_facts n) asked
       → AreBound (runs ++ run ∷ []) (kept ++ asked ∷ [])
   added_bound kept asked bound says =
       let next = runs ++ run ∷ [] in
       let many = bound.as_many in
       let told : run_facts_at next (length runs)
-      ≡ Some (record { event = run.admitted; run_id = decimal (length runs + 1); run_number = decimal n }) =
+      ≡ Some (its_facts n) =
       run_told next (length runs) run (at_end runs run (length runs) refl)
-      ∙ ap (λ m. Some (record { event = run.admitted; run_id = decimal (length runs + 1); run_number = decimal m })) its_number in
+      ∙ ap (λ m. Some (its_facts m)) its_number in
       record {
         as_many = omega (arith, length-append runs (run ∷ []), length-append kept (asked ∷ []), many);
         each = (λ r facts groups of_run is.
@@ -125,7 +146,12 @@ module _ (runs : List RunState) (run : RunState) (numbers : List ℕ) (n : ℕ) 
 -- a run that is added with its number and with what it asks
 pub all_added : (runs : List RunState) (run : RunState) (numbers : List ℕ) (kept : List RunBindings) (number : ℕ) (asked : RunBindings)
     → length runs < 100000 → AreNumbered runs numbers × AreBound runs kept → number ≡ number_of_next runs run.admitted
-    → RunSays (record { event = run.admitted; run_id = decimal (length runs + 1); run_number = decimal number }) asked
+    → RunSays (record {
+      event = run.admitted;
+      run_id = decimal (length runs + 1);
+      run_number = decimal number;
+      run_attempt = decimal run.attempt;
+    }) asked
     → AreNumbered (runs ++ run ∷ []) (numbers ++ number ∷ []) × AreBound (runs ++ run ∷ []) (kept ++ asked ∷ [])
 all_added runs run numbers kept number asked room are is says =
     let count = count_by (λ (other : RunState). same_workflow run.admitted other.admitted) runs in

@@ -158,7 +158,7 @@ where_no_legs b y none =
 keeps_nothing : (runs : List RunState) (r : ℕ) (x : RunState) → RunFits runs r x → Keeps runs r x x
 keeps_nothing runs r x fits =
     record {
-      stays = record { same_admitted = refl; keeps_results = (λ j a e. e); fits = fits };
+      stays = record { same_admitted = refl; same_attempt = refl; keeps_results = (λ j a e. e); fits = fits };
       same_had = (λ j l. refl);
       same_works = (λ j l. refl);
     }
@@ -170,6 +170,7 @@ told_keeps runs r x fits live =
     record {
       stays = record {
         same_admitted = refl;
+        same_attempt = refl;
         keeps_results = (λ j a e. ap (option_and_then (λ (y : JobState). settled_result y.phase)) (get_placed f x.jobs j)
             ∙ mapped_reads (λ y. settled_result y.phase) (λ z. f (j, z)) (where_result (not (may_run_in told j))) (slice_get x.jobs j) ∙ e);
         fits = record {
@@ -212,6 +213,7 @@ cancelled_keeps runs r x fits waiting =
     record {
       stays = record {
         same_admitted = refl;
+        same_attempt = refl;
         keeps_results = (λ j a e.
             let was = from_and_then (λ (y : JobState). settled_result y.phase) (slice_get x.jobs j) a e in
             absurd (blocked_has_none was.value.phase a

@@ -121,13 +121,24 @@ job_that_stays x j is =
     (changed_none x.jobs j (stopped_where (not (may_run_in x j)))
     (λ y at. ap (λ c. if c then with_stopped_legs y else y) (sym (asked_there x j y at) ∙ is)))
 
--- ---- the event stays
+-- ---- the event and the attempt stay
 
 pub stopped_admitted : (x : RunState) → (stopped_run x).admitted ≡ x.admitted
 stopped_admitted x =
     elim (x.phase) as (λ phase. (stopped_in phase x).admitted ≡ x.admitted) [
       | run.Waiting ↦ refl
       | run.Live ↦ elim (x.stopping) as (λ b. (if b then x else told_to_stop x).admitted ≡ x.admitted) [
+        | true ↦ refl
+        | false ↦ refl
+      ]
+      | run.Ended ↦ refl
+    ]
+
+pub stopped_attempt : (x : RunState) → (stopped_run x).attempt ≡ x.attempt
+stopped_attempt x =
+    elim (x.phase) as (λ phase. (stopped_in phase x).attempt ≡ x.attempt) [
+      | run.Waiting ↦ refl
+      | run.Live ↦ elim (x.stopping) as (λ b. (if b then x else told_to_stop x).attempt ≡ x.attempt) [
         | true ↦ refl
         | false ↦ refl
       ]

@@ -67,6 +67,7 @@ facts_by run j job l results =
       event = run.event;
       run_id = run.run_id;
       run_number = run.run_number;
+      run_attempt = run.run_attempt;
       job = job;
       leg = l;
       needs = filter_map (λ k. option_map (λ (planned : PlannedJob). (planned.id, results k)) (slice_get plan k))

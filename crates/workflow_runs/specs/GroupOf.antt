@@ -24,11 +24,12 @@ use Rattle.workflow_runs.specs.Words.{is_set}
 
 -- ---- the context of a run: what the workflow's own `concurrency` may use
 
--- what is told of a run: its event, and its id and its number in decimal
+-- what is told of a run: its event, and its id, its number and its attempt in decimal
 pub record RunFacts : Type 0 where
   pub event : Admitted
   pub run_id : List ℕ
   pub run_number : List ℕ
+  pub run_attempt : List ℕ
 
 -- the service's values: those of `github`
 abbrev pub value_in_github : List (List ℕ × Scalar) → Values
@@ -40,7 +41,7 @@ value_in_github github (context ∷ name ∷ inner ∷ names) = None
 -- they stand over those of the sender
 abbrev pub run_context : RunFacts → Values
 run_context run =
-    over (value_in_github (github_of_run run.event run.run_id run.run_number)) (sent_value (event_of run.event.body).contexts)
+    over (value_in_github (github_of_run run.event run.run_id run.run_number run.run_attempt)) (sent_value (event_of run.event.body).contexts)
 
 -- what is told of the run at a place
 unfoldable pub run_facts_at : List RunState → ℕ → Option RunFacts
@@ -49,6 +50,7 @@ run_facts_at runs r =
       event = run.admitted;
       run_id = decimal (r + 1);
       run_number = decimal (run_number (events runs) r run.admitted);
+      run_attempt = decimal run.attempt;
     }) (run_at runs r)
 
 -- ---- the group

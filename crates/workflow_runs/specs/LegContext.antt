@@ -21,12 +21,13 @@ use Rattle.workflow_runs.specs.Places.{LegPlace, run_at}
 use Rattle.workflow_runs.specs.RunNumber.{events, run_number}
 use Rattle.workflow_runs.specs.RunState.{RunState}
 
--- what is told of a leg: the event of its run, the id and the number of the run in decimal, the job as it is planned, the
+-- what is told of a leg: the event of its run, the id, the number and the attempt of the run in decimal, the job as it is planned, the
 -- leg's number in it, and the jobs that the job needs directly, each by its id with the result that it has so far
 pub record LegFacts : Type 0 where
   pub event : Admitted
   pub run_id : List ℕ
   pub run_number : List ℕ
+  pub run_attempt : List ℕ
   pub job : PlannedJob
   pub leg : ℕ
   pub needs : List (List ℕ × Option JobResult)
@@ -38,19 +39,19 @@ abbrev pub name_or_path : List ℕ → List ℕ → List ℕ
 name_or_path [] path = path
 name_or_path (c ∷ name) path = c ∷ name
 
--- the members of `github` that are the service's, in the run of an event that has this id and number
-abbrev pub github_of_run : Admitted → List ℕ → List ℕ → List (List ℕ × Scalar)
-github_of_run admitted id number =
+-- the members of `github` that are the service's, in the run of an event that has this id and number, in this attempt
+abbrev pub github_of_run : Admitted → List ℕ → List ℕ → List ℕ → List (List ℕ × Scalar)
+github_of_run admitted id number attempt =
     let event = event_of admitted.body in
     (codes "workflow", Text (name_or_path event.workflow.name event.path))
     ∷ (codes "repository", Text event.repo)
     ∷ (codes "event_name", Text admitted.event)
     ∷ (codes "run_id", Text id)
     ∷ (codes "run_number", Text number)
-    ∷ (codes "run_attempt", Text (codes "1")) ∷ []
+    ∷ (codes "run_attempt", Text attempt) ∷ []
 
 abbrev pub github_of : LegFacts → List (List ℕ × Scalar)
-github_of leg = github_of_run leg.event leg.run_id leg.run_number
+github_of leg = github_of_run leg.event leg.run_id leg.run_number leg.run_attempt
 
 -- `strategy`: as many legs as there are may run at once where the job sets no bound
 abbrev pub strategy_of : LegFacts → List (List ℕ × Scalar)
@@ -106,6 +107,7 @@ facts_at runs p =
       event = run.admitted;
       run_id = decimal (p.run + 1);
       run_number = decimal (run_number (events runs) p.run run.admitted);
+      run_attempt = decimal run.attempt;
       job = job;
       leg = p.leg;
       needs = direct_needs run p.job;

@@ -15,9 +15,19 @@ is_delivered_as delivery run = bytes_eq run.admitted.delivery delivery
 abbrev pub blocked_job : JobState
 blocked_job = record { phase = job.Blocked; legs = [] }
 
--- a run that is waiting, with all jobs of its plan blocked
+-- an attempt of a run that is waiting, with all jobs of its plan blocked
+abbrev pub run_in_attempt : ℕ → Admitted → RunState
+run_in_attempt attempt event = record {
+  admitted = event;
+  attempt = attempt;
+  phase = run.Waiting;
+  stopping = false;
+  jobs = map (λ _. blocked_job) (plan_of event.body);
+}
+
+-- the first one
 abbrev pub new_run : Admitted → RunState
-new_run event = record { admitted = event; phase = run.Waiting; stopping = false; jobs = map (λ _. blocked_job) (plan_of event.body) }
+new_run event = run_in_attempt 1 event
 
 -- a leg that runs under a lease
 abbrev pub leased_leg : ℕ → LegState

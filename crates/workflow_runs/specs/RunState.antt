@@ -16,9 +16,11 @@ pub record JobState : Type 0 where
   pub phase : JobPhase
   pub legs : List LegState
 
--- a run: what was admitted, how far it has come, and whether it has been told to stop
+-- a run: what was admitted, the attempt at which it is, how far this has come, and whether it has been told to stop. GitHub Docs, "Contexts
+-- reference", github.run_attempt: it begins at 1 and grows by 1 with each re-run.
 pub record RunState : Type 0 where
   pub admitted : Admitted
+  pub attempt : ℕ
   pub phase : RunPhase
   pub stopping : Bool
   pub jobs : List JobState

@@ -65,14 +65,21 @@ impl RunBindings {
     pub(crate) fn bind(alloc: Global, run: &Run, id: usize, number: usize) -> Result<Self, Refusal>
         ensures err { ErrsOnlyByMemory result }
         ensures says { IfOk result
-            (RunSays (record { event = run.now.admitted; run_id = decimal id; run_number = decimal number })) }
+            (RunSays (record {
+              event = run.now.admitted;
+              run_id = decimal id;
+              run_number = decimal number;
+              run_attempt = decimal run.now.attempt;
+            })) }
     {
         let mut id_digits = Buffer::new();
         let mut number_digits = Buffer::new();
+        let mut attempt_digits = Buffer::new();
         let told = RunIdentity {
             run,
             run_id: id_digits.format(id),
             run_number: number_digits.format(number),
+            run_attempt: attempt_digits.format(run.attempt().get() as usize),
         };
         bind_told(alloc, &told)
     }

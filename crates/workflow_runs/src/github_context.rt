@@ -8,14 +8,15 @@ ghost use Rattle.workflow_runs.specs.LegContext.{github_of_run, name_or_path, un
 use run_plan::Prepared;
 use wf_expr::ScalarView;
 
-/// A member of `github` in the run of an event that has this id and number, in decimal. GitHub Docs, "Contexts reference".
+/// A member of `github` in the run of an event that has this id and number, in this attempt, in decimal. GitHub Docs, "Contexts reference".
 pub(crate) fn github_member<'a>(
     event: &'a Prepared,
     run_id: &'a str,
     run_number: &'a str,
+    run_attempt: &'a str,
     name: &str,
 ) -> Option<ScalarView<'a>>
-    ensures { option_map shown result ≡ under name.now (github_of_run event.now run_id.now run_number.now) }
+    ensures { option_map shown result ≡ under name.now (github_of_run event.now run_id.now run_number.now run_attempt.now) }
 {
     match name {
         "workflow" => Some(ScalarView::Text(workflow_name(event))),
@@ -23,7 +24,7 @@ pub(crate) fn github_member<'a>(
         "event_name" => Some(ScalarView::Text(event.event().as_str())),
         "run_id" => Some(ScalarView::Text(run_id)),
         "run_number" => Some(ScalarView::Text(run_number)),
-        "run_attempt" => Some(ScalarView::Text("1")),
+        "run_attempt" => Some(ScalarView::Text(run_attempt)),
         _ => None,
     }
 }

@@ -117,7 +117,7 @@ impl Leg {
         self.phase.waits() || self.phase.holds()
     }
 
-    pub(crate) fn has_lease(&self, lease: Number) -> bool
+    pub fn has_lease(&self, lease: Number) -> bool
         ensures { result ≡ has_lease lease self.now }
     {
         match self.lease {

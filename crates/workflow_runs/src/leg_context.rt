@@ -23,6 +23,8 @@ pub(crate) struct LegContext<'a> {
     pub run_id: &'a str,
     /// The run's number among those of its workflow, in decimal.
     pub run_number: &'a str,
+    /// The attempt at which the run is, in decimal.
+    pub run_attempt: &'a str,
     pub job: &'a PlannedJob,
     /// The job's place in its run.
     pub place: usize,
@@ -41,6 +43,7 @@ impl<'a> Model for LegContext<'a> {
       event = c.run.now.admitted;
       run_id = c.run_id.now;
       run_number = c.run_number.now;
+      run_attempt = c.run_attempt.now;
       job = c.job.now;
       leg = c.leg;
       needs = direct_needs c.run.now c.place;
@@ -115,7 +118,13 @@ impl<'a> LegContext<'a> {
     fn github(&self, name: &str) -> Option<ScalarView<'_>>
         ensures { option_map shown result ≡ under name.now (github_of self.now) }
     {
-        github_member(self.event(), self.run_id, self.run_number, name)
+        github_member(
+            self.event(),
+            self.run_id,
+            self.run_number,
+            self.run_attempt,
+            name,
+        )
     }
 
     fn strategy(&self, name: &str) -> Option<ScalarView<'_>>

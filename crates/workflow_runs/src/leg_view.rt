@@ -47,6 +47,7 @@ impl<'a> Model for LegView<'a> {
       event = v.run.now.admitted;
       run_id = decimal v.run_id;
       run_number = decimal v.run_number;
+      run_attempt = decimal v.run.now.attempt;
       job = v.job.now;
       leg = v.leg;
       needs = direct_needs v.run.now v.place;
@@ -55,11 +56,12 @@ impl<'a> Model for LegView<'a> {
     ghost invariant = { λ v. v.leg < 2 ^ 63 };
 }
 
-/// Room for the digits of a run's id and number.
+/// Room for the digits of a run's id, number and attempt.
 #[derive(Drop)]
 struct Digits {
     run_id: Buffer,
     run_number: Buffer,
+    run_attempt: Buffer,
 }
 
 impl Digits {
@@ -67,12 +69,13 @@ impl Digits {
         Digits {
             run_id: Buffer::new(),
             run_number: Buffer::new(),
+            run_attempt: Buffer::new(),
         }
     }
 }
 
 impl<'a> LegView<'a> {
-    /// The leg's context, in which the run's id and number stand as these digits.
+    /// The leg's context, in which the run's id, number and attempt stand as these digits.
     fn context<'d>(&'d self, digits: &'d mut Digits) -> LegContext<'d>
         ensures { result ≡ self.now }
     {
@@ -80,6 +83,7 @@ impl<'a> LegView<'a> {
             run: self.run,
             run_id: digits.run_id.format(self.run_id),
             run_number: digits.run_number.format(self.run_number),
+            run_attempt: digits.run_attempt.format(self.run.attempt().get() as usize),
             job: self.job,
             place: self.place,
             leg: self.leg,

@@ -9,7 +9,7 @@ ghost use Rattle.workflow_runs.specs.LookAgain.{job_again};
 ghost use Rattle.workflow_runs.specs.MarkedRuns.{has_active_leg, has_ready_leg, has_waiting_leg, is_active, offers_legs, someone_waits};
 ghost use Rattle.workflow_runs.specs.Rules.{opened, settled_as, run_in_phase};
 ghost use Rattle.workflow_runs.specs.Settling.{legs_in_plan};
-ghost use Rattle.workflow_runs.specs.NewRun.{is_delivered_as, new_run};
+ghost use Rattle.workflow_runs.specs.NewRun.{is_delivered_as, new_run, run_in_attempt};
 ghost use Rattle.workflow_runs.specs.JobResults.{results_so_far};
 ghost use Rattle.workflow_runs.specs.Stops.{cancelled, is_open_at, stopped_run, told_to_stop, with_job_stopped};
 ghost use Rattle.workflow_runs.specs.Stops.{with_jobs_stopped, with_stopped_legs};
@@ -22,15 +22,16 @@ use crate::change::Change;
 use crate::job::Job;
 use crate::leg::Leg;
 use crate::phases::RunPhase;
-use run_plan::{DeliveryId, PlannedJob, Prepared};
+use run_plan::{DeliveryId, Number, PlannedJob, Prepared};
 use std::alloc::Global;
 use std::marker::Model;
 use wf_value::{Condition, JobResult, Refusal, TryCopy, copy_items};
 
-/// A run: what was admitted, and how far it has come.
+/// A run: what was admitted, and how far its present attempt has come.
 #[derive(Drop)]
 pub struct Run {
     prepared: Prepared,
+    attempt: Number,
     phase: RunPhase,
     /// Whether the run has been told to stop.
     stopping: bool,
@@ -45,19 +46,27 @@ impl Model for Run {
 
     ghost Value = { RunState };
 
-    ghost view = { λ r. record { admitted = r.prepared; phase = r.phase; stopping = r.stopping; jobs = states r.jobs.items } };
+    ghost view = { λ r. record { admitted = r.prepared; attempt = r.attempt; phase = r.phase; stopping = r.stopping; jobs = states r.jobs.items } };
 
     ghost invariant = { λ r. rooms r.jobs.items ≡ legs_planned (plan_of r.prepared.body) };
 }
 
 impl Run {
-    /// A run that is waiting, with all its jobs blocked.
+    /// A run that is waiting, in its first attempt, with all its jobs blocked.
     pub fn of_event(alloc: Global, prepared: &Prepared) -> Result<Self, Refusal>
         ensures { Gives (λ r. r) result (Ok (new_run prepared.now)) }
+    {
+        Run::in_attempt(alloc, prepared, Number::new(1))
+    }
+
+    /// An attempt of a run that is waiting, with all its jobs blocked.
+    fn in_attempt(alloc: Global, prepared: &Prepared, attempt: Number) -> Result<Self, Refusal>
+        ensures { Gives (λ r. r) result (Ok (run_in_attempt attempt prepared.now)) }
     {
         let jobs = blocked_jobs(alloc, prepared.plan().as_slice())?;
         Ok(Run {
             prepared: prepared.share()?,
+            attempt,
             phase: RunPhase::Waiting,
             stopping: false,
             jobs,
@@ -68,6 +77,12 @@ impl Run {
         ensures { result.now ≡ self.now.admitted }
     {
         &self.prepared
+    }
+
+    pub fn attempt(&self) -> Number
+        ensures { result ≡ self.now.attempt }
+    {
+        self.attempt
     }
 
     pub(crate) fn is_delivered_as(&self, delivery: &DeliveryId) -> bool
@@ -327,6 +342,7 @@ impl TryCopy for Run {
     fn copy(&self, alloc: Global) -> Result<Self, Refusal> {
         Ok(Run {
             prepared: self.prepared.share()?,
+            attempt: self.attempt,
             phase: self.phase,
             stopping: self.stopping,
             jobs: copy_items(alloc, &self.jobs)?,

@@ -20,6 +20,8 @@ pub(crate) struct RunContext<'a> {
     pub run_id: &'a str,
     /// The run's number among those of its workflow, in decimal.
     pub run_number: &'a str,
+    /// The attempt at which the run is, in decimal.
+    pub run_attempt: &'a str,
 }
 
 impl<'a> Model for RunContext<'a> {
@@ -27,7 +29,12 @@ impl<'a> Model for RunContext<'a> {
 
     ghost Value = { RunFacts };
 
-    ghost view = { λ c. record { event = c.event.now; run_id = c.run_id.now; run_number = c.run_number.now } };
+    ghost view = { λ c. record {
+      event = c.event.now;
+      run_id = c.run_id.now;
+      run_number = c.run_number.now;
+      run_attempt = c.run_attempt.now;
+    } };
 }
 
 impl<'a> Context for RunContext<'a> {
@@ -47,7 +54,7 @@ impl<'a> RunContext<'a> {
     /// The service's value of a path: that of a member of `github`.
     fn service_value(&self, path: &[Chars]) -> Option<ScalarView<'_>>
         ensures { option_map shown result
-            ≡ value_in_github (github_of_run self.now.event self.now.run_id self.now.run_number) path.now }
+            ≡ value_in_github (github_of_run self.now.event self.now.run_id self.now.run_number self.now.run_attempt) path.now }
     {
         match path {
             [context, name] => self.member(context.as_str(), name.as_str()),
@@ -57,11 +64,17 @@ impl<'a> RunContext<'a> {
 
     /// A member of `github`, the one context of which the service has members.
     fn member(&self, context: &str, name: &str) -> Option<ScalarView<'_>>
-        ensures { let github = github_of_run self.now.event self.now.run_id self.now.run_number in
+        ensures { let github = github_of_run self.now.event self.now.run_id self.now.run_number self.now.run_attempt in
             option_map shown result ≡ option_and_then (under name.now) (under context.now ((codes "github", github) ∷ [])) }
     {
         match context {
-            "github" => github_member(self.event, self.run_id, self.run_number, name),
+            "github" => github_member(
+                self.event,
+                self.run_id,
+                self.run_number,
+                self.run_attempt,
+                name,
+            ),
             _ => None,
         }
     }

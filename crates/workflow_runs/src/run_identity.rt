@@ -1,4 +1,4 @@
-//! What the templates of a run are told when it is admitted: its event, its id and its number. No job of it has a result yet.
+//! What the templates of a run are told when an attempt of it begins: its event, its id, its number and the attempt. No job of it has a result yet.
 
 ghost use Rattle.std.specs.Prelude.{◌≡◌, ◌<◌, ◌^◌};
 ghost use Rattle.wf_expr.specs.Bound.{HasResults, Results};
@@ -13,12 +13,13 @@ use crate::run_context::RunContext;
 use run_plan::{PlannedJob, Prepared};
 use std::marker::Model;
 
-/// A run with its id and its number among the runs of its workflow, in decimal.
+/// A run with its id, its number among the runs of its workflow and its attempt, in decimal.
 #[derive(Drop)]
 pub(crate) struct RunIdentity<'a> {
     pub run: &'a Run,
     pub run_id: &'a str,
     pub run_number: &'a str,
+    pub run_attempt: &'a str,
 }
 
 impl<'a> Model for RunIdentity<'a> {
@@ -26,7 +27,12 @@ impl<'a> Model for RunIdentity<'a> {
 
     ghost Value = { RunFacts };
 
-    ghost view = { λ t. record { event = t.run.now.admitted; run_id = t.run_id.now; run_number = t.run_number.now } };
+    ghost view = { λ t. record {
+      event = t.run.now.admitted;
+      run_id = t.run_id.now;
+      run_number = t.run_number.now;
+      run_attempt = t.run_attempt.now;
+    } };
 }
 
 impl<'a> RunIdentity<'a> {
@@ -43,6 +49,7 @@ impl<'a> RunIdentity<'a> {
             event: self.run.prepared(),
             run_id: self.run_id,
             run_number: self.run_number,
+            run_attempt: self.run_attempt,
         }
     }
 
@@ -61,6 +68,7 @@ impl<'a> RunIdentity<'a> {
             run: self.run,
             run_id: self.run_id,
             run_number: self.run_number,
+            run_attempt: self.run_attempt,
             job,
             place,
             leg,

@@ -2,7 +2,7 @@
 
 use crate::leg::Leg;
 use crate::phases::{JobPhase, RunPhase};
-use run_plan::Prepared;
+use run_plan::{Number, Prepared};
 use std::marker::Model;
 use wf_value::Sequence;
 
@@ -21,10 +21,11 @@ impl Model for JobParts {
     ghost view = { λ j. record { phase = j.phase; legs = j.legs } };
 }
 
-/// A run: what was admitted, how far it has come, and its jobs.
+/// A run: what was admitted, its attempt, how far this has come, and its jobs.
 #[derive(Drop)]
 pub struct RunParts {
     pub prepared: Prepared,
+    pub attempt: Number,
     pub phase: RunPhase,
     /// Whether the run has been told to stop.
     pub stopping: bool,
@@ -36,5 +37,5 @@ impl Model for RunParts {
 
     ghost Value = { RunState };
 
-    ghost view = { λ r. record { admitted = r.prepared; phase = r.phase; stopping = r.stopping; jobs = r.jobs } };
+    ghost view = { λ r. record { admitted = r.prepared; attempt = r.attempt; phase = r.phase; stopping = r.stopping; jobs = r.jobs } };
 }

@@ -23,20 +23,18 @@ impl Content {
             return Ok(None);
         };
         let legs = legs_by_lease(alloc, &runs)?;
-        let Some(runners) = Runners::of_parts(alloc, &runs, &legs, parts.runners.as_slice())? else {
+        let last = parts.last_lease;
+        let of_runners = parts.runners.as_slice();
+        let Some(runners) = Runners::of_parts(alloc, last, &runs, &legs, of_runners)? else {
             return Ok(None);
         };
         let held = runners_by_lease(alloc, runners.as_slice())?;
-        let leases = Leases {
-            last: parts.last_lease,
-            legs,
-            held,
-        };
+        let leases = Leases { last, legs, held };
         if !is_sound(alloc, &leases, &runs, runners.as_slice())? {
             return Ok(None);
         }
         Ok(Some(Content {
-            last_lease: parts.last_lease,
+            last_lease: last,
             runs,
             runners,
         }))

@@ -10,12 +10,13 @@ ghost use Rattle.run_table.specs.TableState.{RunnerState};
 ghost use Rattle.run_table.specs.Turns.{names_rise};
 ghost use Rattle.run_plan.specs.declared.last_command.ClaimReply.{ClaimReply as Reply};
 ghost use Rattle.run_plan.specs.declared.last_command.LastCommand.{LastCommand as Last};
+ghost use Rattle.workflow_runs.specs.AsPlanned.{AreAsPlanned};
 
-use crate::content::lease_at;
-use crate::parts::{LastParts, RunnerParts, do_names_rise};
+use crate::parts::{LastParts, RunnerParts, StoredLease, do_names_rise};
 use crate::runner::Runner;
 use crate::runners::Runners;
-use run_plan::{ClaimReply, LastCommand, Number};
+use crate::runners::leased::Leased;
+use run_plan::{ClaimReply, LastCommand};
 use std::alloc::Global;
 use std::collections::BTreeMap;
 use wf_value::{Refusal, TryCopy};
@@ -23,23 +24,30 @@ use workflow_runs::place::LegPlace;
 use workflow_runs::runs::Runs;
 
 impl Runners {
-    /// The runners of these parts, where their names rise and each lease that is kept is some leg's.
+    /// The runners of these parts, where their names rise and each lease that is kept is that of a leg.
     pub(crate) fn of_parts(
         alloc: Global,
+        last: u32,
         runs: &Runs,
         legs: &BTreeMap<u32, LegPlace>,
         parts: &[RunnerParts],
     ) -> Result<Option<Self>, Refusal>
-        requires { FindsLegs runs.now (get nat_cmp legs.now) }
+        requires legs { FindsLegs runs.now (get nat_cmp legs.now) }
+        requires planned { AreAsPlanned runs.now }
         ensures err { ErrsOnlyByMemory result }
         ensures of { IfOk result (λ found. MatchOption found
-            ((runners : List RunnerState) → AreRunnersAs runs.now parts.now runners → names_rise runners ≡ true → ⊥)
-            (λ runners. AreRunnersAs runs.now parts.now runners)) }
+            ((runners : List RunnerState) → AreRunnersAs last runs.now parts.now runners → names_rise runners ≡ true → ⊥)
+            (λ runners. AreRunnersAs last runs.now parts.now runners)) }
     {
         if !do_names_rise(parts) {
             return Ok(None);
         }
-        let leased = Leased { alloc, runs, legs };
+        let leased = Leased {
+            alloc,
+            last,
+            runs,
+            legs,
+        };
         let Some(runners) = leased.runners(parts)? else {
             return Ok(None);
         };
@@ -47,37 +55,32 @@ impl Runners {
     }
 }
 
-/// The runs, and the places of their legs by the leases.
-#[derive(Drop)]
-struct Leased<'a> {
-    alloc: Global,
-    runs: &'a Runs,
-    legs: &'a BTreeMap<u32, LegPlace>,
-}
-
 impl<'a> Leased<'a> {
-    /// The reply to a claim of which this lease is stored, or none: what the lease of a leg tells.
-    fn reply(&self, given: Option<Number>) -> Result<Option<ClaimReply>, Refusal>
-        requires { FindsLegs self.now.runs.now (get nat_cmp self.now.legs.now) }
+    /// The reply to a claim of which this lease is stored, or none.
+    fn reply(&self, given: Option<StoredLease>) -> Result<Option<ClaimReply>, Refusal>
+        requires legs { FindsLegs self.now.runs.now (get nat_cmp self.now.legs.now) }
+        requires planned { AreAsPlanned self.now.runs.now }
         ensures err { ErrsOnlyByMemory result }
-        ensures of { IfOk result (λ found. MatchOption found ((reply : Reply) → IsReplyAs self.now.runs.now given reply → ⊥)
-            (λ reply. IsReplyAs self.now.runs.now given reply)) }
+        ensures of { IfOk result (λ found. MatchOption found
+            ((reply : Reply) → IsReplyAs self.now.last self.now.runs.now given reply → ⊥)
+            (λ reply. IsReplyAs self.now.last self.now.runs.now given reply)) }
     {
-        let Some(lease) = given else {
+        let Some(parts) = given else {
             return Ok(Some(ClaimReply::Nothing));
         };
-        let Some(place) = self.legs.get(&lease.get()) else {
-            return Ok(None);
-        };
-        let told = lease_at(self.alloc, self.runs, *place, lease)?;
-        Ok(Some(ClaimReply::Lease(told)))
+        match self.lease(&parts)? {
+            Some(kept) => Ok(Some(ClaimReply::Lease(kept))),
+            None => Ok(None),
+        }
     }
 
     fn last(&self, parts: &LastParts) -> Result<Option<LastCommand>, Refusal>
-        requires { FindsLegs self.now.runs.now (get nat_cmp self.now.legs.now) }
+        requires legs { FindsLegs self.now.runs.now (get nat_cmp self.now.legs.now) }
+        requires planned { AreAsPlanned self.now.runs.now }
         ensures err { ErrsOnlyByMemory result }
-        ensures of { IfOk result (λ found. MatchOption found ((last : Last) → IsLastAs self.now.runs.now parts.now last → ⊥)
-            (λ last. IsLastAs self.now.runs.now parts.now last)) }
+        ensures of { IfOk result (λ found. MatchOption found
+            ((last : Last) → IsLastAs self.now.last self.now.runs.now parts.now last → ⊥)
+            (λ last. IsLastAs self.now.last self.now.runs.now parts.now last)) }
     {
         match parts {
             LastParts::Claim(claim, given) => {
@@ -91,11 +94,12 @@ impl<'a> Leased<'a> {
     }
 
     fn runner(&self, parts: &RunnerParts) -> Result<Option<Runner>, Refusal>
-        requires { FindsLegs self.now.runs.now (get nat_cmp self.now.legs.now) }
+        requires legs { FindsLegs self.now.runs.now (get nat_cmp self.now.legs.now) }
+        requires planned { AreAsPlanned self.now.runs.now }
         ensures err { ErrsOnlyByMemory result }
         ensures of { IfOk result (λ found. MatchOption found
-            ((runner : RunnerState) → IsRunnerAs self.now.runs.now parts.now runner → ⊥)
-            (λ runner. IsRunnerAs self.now.runs.now parts.now runner)) }
+            ((runner : RunnerState) → IsRunnerAs self.now.last self.now.runs.now parts.now runner → ⊥)
+            (λ runner. IsRunnerAs self.now.last self.now.runs.now parts.now runner)) }
     {
         let Some(last) = self.last(&parts.last)? else {
             return Ok(None);
@@ -109,11 +113,12 @@ impl<'a> Leased<'a> {
     }
 
     fn runners(&self, parts: &[RunnerParts]) -> Result<Option<Vec<Runner>>, Refusal>
-        requires { FindsLegs self.now.runs.now (get nat_cmp self.now.legs.now) }
+        requires legs { FindsLegs self.now.runs.now (get nat_cmp self.now.legs.now) }
+        requires planned { AreAsPlanned self.now.runs.now }
         ensures err { ErrsOnlyByMemory result }
         ensures of { IfOk result (λ found. MatchOption found
-            ((runners : List RunnerState) → AreRunnersAs self.now.runs.now parts.now runners → ⊥)
-            (λ runners. AreRunnersAs self.now.runs.now parts.now runners.items)) }
+            ((runners : List RunnerState) → AreRunnersAs self.now.last self.now.runs.now parts.now runners → ⊥)
+            (λ runners. AreRunnersAs self.now.last self.now.runs.now parts.now runners.items)) }
     {
         let mut runners = Vec::with_capacity(self.alloc, parts.len())?;
         for k in 0..parts.len() {

@@ -28,7 +28,7 @@ fn may_lack_legs(settled: JobResult) -> bool
 }
 
 /// How many legs the plan of its run has for the job.
-fn planned_legs(runs: &Runs, r: usize, j: usize) -> usize
+pub(crate) fn planned_legs(runs: &Runs, r: usize, j: usize) -> usize
     ensures { result ≡ planned_legs runs.now r j }
 {
     match runs.planned(r, j) {

@@ -1,12 +1,14 @@
-//! What each run keeps: jobs that have come as far as its own phase asks, and what each job keeps.
+//! What each run keeps: an attempt that it may have, jobs that have come as far as its own phase asks, and what each job keeps.
 
 ghost use Rattle.std.specs.Bool.{Decides};
 ghost use Rattle.std.specs.Prelude.{◌≡◌};
 ghost use Rattle.std.specs.List.{list_all};
 ghost use Rattle.run_table.specs.OneByOne.{EachRunIsSound, RunIsSound};
+ghost use Rattle.run_table.specs.Sound.{AttemptIsGiven};
 ghost use Rattle.workflow_runs.specs.SoundRuns.{PhaseFits};
 ghost use Rattle.workflow_runs.specs.StateWords.{is_blocked};
 
+use crate::content::LAST_ATTEMPT;
 use crate::sound::jobs::are_jobs_sound;
 use crate::sound::leases::Leases;
 use workflow_runs::first_place::has_settled_jobs;
@@ -27,6 +29,13 @@ fn has_blocked_jobs(run: &Run) -> bool
     are_blocked(run.jobs())
 }
 
+/// Whether the attempt at which the run is is one that a run may have: its number is from 1 on.
+fn attempt_is_given(run: &Run) -> bool
+    ensures { Decides result (AttemptIsGiven run.now) }
+{
+    run.attempt().get() <= LAST_ATTEMPT
+}
+
 /// Whether a waiting run has not been told to stop and has not opened a job, and an ended one has settled all.
 fn phase_fits(run: &Run) -> bool
     ensures { Decides result (PhaseFits run.now.phase run.now.stopping run.now.jobs) }
@@ -41,6 +50,9 @@ fn phase_fits(run: &Run) -> bool
 fn is_run_sound(leases: &Leases, runs: &Runs, r: usize, run: &Run) -> bool
     ensures { Decides result (RunIsSound leases.now runs.now r run.now) }
 {
+    if !attempt_is_given(run) {
+        return false;
+    }
     if !phase_fits(run) {
         return false;
     }

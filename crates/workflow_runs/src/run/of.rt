@@ -30,6 +30,7 @@ impl Run {
         };
         Ok(Some(Run {
             prepared: parts.prepared.share()?,
+            attempt: parts.attempt,
             phase: parts.phase,
             stopping: parts.stopping,
             jobs,

@@ -47,7 +47,13 @@ impl Runs {
             return Ok(None);
         };
         match self.number(r) {
-            Some(number) => group_of_event(alloc, run.prepared(), r + 1, number),
+            Some(number) => group_of_event(
+                alloc,
+                run.prepared(),
+                r + 1,
+                number,
+                run.attempt().get() as usize,
+            ),
             None => Ok(None),
         }
     }
@@ -77,25 +83,33 @@ impl Runs {
     }
 }
 
-/// The group of the run of an event that has this id and this number.
+/// The group of the run of an event that has this id and this number, in this attempt.
 fn group_of_event(
     alloc: Global,
     event: &Prepared,
     id: usize,
     number: usize,
+    attempt: usize,
 ) -> Result<Option<GroupKey>, Refusal>
     ensures { Gives (λ group. group) result
-        (Ok (run_group (record { event = event.now; run_id = decimal id; run_number = decimal number }))) }
+        (Ok (run_group (record {
+          event = event.now;
+          run_id = decimal id;
+          run_number = decimal number;
+          run_attempt = decimal attempt;
+        }))) }
 {
     let Some(asked) = event.concurrency() else {
         return Ok(None);
     };
     let mut id_digits = Buffer::new();
     let mut number_digits = Buffer::new();
+    let mut attempt_digits = Buffer::new();
     let context = RunContext {
         event,
         run_id: id_digits.format(id),
         run_number: number_digits.format(number),
+        run_attempt: attempt_digits.format(attempt),
     };
     named_group(alloc, event.repo().as_str(), asked, &context)
 }

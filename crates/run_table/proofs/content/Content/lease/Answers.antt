@@ -1,4 +1,5 @@
-use Rattle.std.proofs.Common.{◌≡◌, ap, refl, sym, ◌∙◌, Ok}
+use Rattle.std.proofs.Common.{◌≡◌, ◌<◌, ap, length, refl, subst, sym, ◌∙◌, Ok}
+use Rattle.std.proofs.lemmas.Option.{slice_get_within}
 use Rattle.run_plan.specs.declared.reply.Lease.{Lease as Leased}
 use Rattle.run_plan.specs.declared.reply.Reply.TheVariants as reply
 use Rattle.workflow_runs.specs.Places.{with_leg}
@@ -6,6 +7,8 @@ use Rattle.run_table.specs.Step.{lease_at}
 use Rattle.workflow_runs.specs.NewRun.{leased_leg}
 use Rattle.run_table.specs.TableState.{RunnerState, TableState}
 use Rattle.run_table.specs.PlaceNamed.{place_named}
+use Rattle.workflow_runs.proofs.JobKeeps.{leg_in}
+use Rattle.run_table.proofs.ClaimKeeps.{fitting_leg}
 use Rattle.run_table.proofs.Leased.{leased_table}
 use Rattle.run_table.proofs.BeforeSettling.{leased_may_settle, so_settles}
 use Rattle.run_table.proofs.content.Content.lease.Goals as goal
@@ -16,6 +19,14 @@ pub put-requires : goal.put-requires
 put-requires c =
     c.requires.place ∙ ap (λ (t : TableState). place_named t.runners c.args.claim.now.runner) (sym c.self.view_is)
     ∙ ap (λ (r : RunnerState). place_named c.self.inside.runners r.name) (sym c.in_ok-runner.ensures.runner)
+
+pub told_twice-requires-clause-there : goal.told_twice-requires-clause-there
+told_twice-requires-clause-there c =
+    let t = c.args.self.now in
+    let p = c.args.leg in
+    let ready = fitting_leg c.args.claim.now.labels t.runs p c.requires.fits in
+    let place = (leg_in t.runs p ready.leg_of ready.is).place in
+    subst (λ (s : TableState). p.run < length s.runs) (sym c.self.view_is) (slice_get_within t.runs p.run place.run place.run_is)
 
 -- the leg has the new lease
 moved : (c : After-set_leg)

@@ -1,13 +1,14 @@
 use Rattle.std.proofs.Common.{◌≡◌, List, Option, None, false, ap, sym, ◌∙◌, subst, rules}
 use Rattle.std.specs.Prelude.{MatchOption, true}
 use Rattle.run_table.specs.Stored.{StoredRunner, StoredTable}
-use Rattle.run_table.specs.Sound.{KeptLeasesAreLegs}
+use Rattle.run_table.specs.Sound.{KeptLeasesAreOfLegs}
 use Rattle.run_table.specs.TableOf.{AreRunnersAs}
 use Rattle.workflow_runs.specs.AsPlanned.{AreAsPlanned}
-use Rattle.run_table.specs.TableState.{RunnerState, TableState}
+use Rattle.run_table.specs.TableState.{RunnerState}
 use Rattle.workflow_runs.specs.RunState.{RunState}
 use Rattle.run_table.specs.Turns.{names_rise}
 use Rattle.workflow_runs.proofs.OneAfterAnother.{not_so}
+use Rattle.run_table.proofs.PartsRead.{kept_of_legs}
 use Rattle.run_table.proofs.StoredOnce.{none_listed, none_planned, none_sound}
 use Rattle.run_table.proofs.content.Content.of_parts.Goals as goal
 
@@ -28,25 +29,28 @@ returns-in_default-2-clause-of c =
     let these = subst
     (λ (o : Option (List RunState)). MatchOption o (AreAsPlanned given → ⊥) (λ runs. (runs ≡ given) × AreAsPlanned given)) c.in-Some.is
     c.in_ok-runs.ensures.of in
-    let of_runners = c.as_slice-2.result.now in
-    let parted : of_runners ≡ c.args.parts.now.runners = c.as_slice-2.ensures ∙ ap (λ (s : StoredTable). s.runners) c.parts.view_is in
+    let last = c.parts.inside.last_lease in
+    let of_runners = c.as_slice-of_runners.result.now in
+    let parted : of_runners ≡ c.args.parts.now.runners = c.as_slice-of_runners.ensures ∙ ap (λ (s : StoredTable). s.runners) c.parts.view_is in
     let nothing : c.in_ok-runners.field-0 ≡ None = search rules in
     let none = subst
     (λ (o : Option (List RunnerState)). MatchOption o
-    ((runners : List RunnerState) → AreRunnersAs c.in-Some.runs of_runners runners → names_rise runners ≡ true → ⊥)
-    (λ runners. AreRunnersAs c.in-Some.runs of_runners runners)) nothing c.in_ok-runners.ensures.of in
-    none_listed c.args.parts.now c.in-Some.runs (these.0 ∙ same)
+    ((runners : List RunnerState) → AreRunnersAs last c.in-Some.runs of_runners runners → names_rise runners ≡ true → ⊥)
+    (λ runners. AreRunnersAs last c.in-Some.runs of_runners runners)) nothing c.in_ok-runners.ensures.of in
+    none_listed c.args.parts.now last c.in-Some.runs (ap (λ (s : StoredTable). s.last_lease) c.parts.view_is) (these.0 ∙ same)
     (λ runners its. none runners
-    (subst (λ (ps : List StoredRunner). AreRunnersAs c.in-Some.runs ps runners) (sym parted) its))
+    (subst (λ (ps : List StoredRunner). AreRunnersAs last c.in-Some.runs ps runners) (sym parted) its))
 
 pub is_sound-requires-clause-kept : goal.is_sound-requires-clause-kept
 is_sound-requires-clause-kept c =
-    let of_runners = c.as_slice-2.result.now in
+    let last = c.parts.inside.last_lease in
+    let of_runners = c.as_slice-of_runners.result.now in
     let those = subst
     (λ (o : Option (List RunnerState)). MatchOption o
-    ((runners : List RunnerState) → AreRunnersAs c.in-Some.runs of_runners runners → names_rise runners ≡ true → ⊥)
-    (λ runners. AreRunnersAs c.in-Some.runs of_runners runners)) c.in-Some-2.is c.in_ok-runners.ensures.of in
-    subst (λ (rs : List RunnerState). KeptLeasesAreLegs c.in-Some.runs rs) (sym c.as_slice-4.ensures.runners) those.are_legs
+    ((runners : List RunnerState) → AreRunnersAs last c.in-Some.runs of_runners runners → names_rise runners ≡ true → ⊥)
+    (λ runners. AreRunnersAs last c.in-Some.runs of_runners runners)) c.in-Some-2.is c.in_ok-runners.ensures.of in
+    subst (λ (rs : List RunnerState). KeptLeasesAreOfLegs last c.in-Some.runs rs) (sym c.as_slice-3.ensures.runners)
+    (kept_of_legs last c.in-Some.runs of_runners c.in-Some-2.runners those)
 
 pub returns-then-not-branch-clause-of : goal.returns-then-not-branch-clause-of
 returns-then-not-branch-clause-of c =
@@ -55,16 +59,17 @@ returns-then-not-branch-clause-of c =
     let these = subst
     (λ (o : Option (List RunState)). MatchOption o (AreAsPlanned given → ⊥) (λ runs. (runs ≡ given) × AreAsPlanned given)) c.in-Some.is
     c.in_ok-runs.ensures.of in
-    let of_runners = c.as_slice-2.result.now in
-    let parted : of_runners ≡ c.args.parts.now.runners = c.as_slice-2.ensures ∙ ap (λ (s : StoredTable). s.runners) c.parts.view_is in
+    let last = c.parts.inside.last_lease in
+    let of_runners = c.as_slice-of_runners.result.now in
+    let parted : of_runners ≡ c.args.parts.now.runners = c.as_slice-of_runners.ensures ∙ ap (λ (s : StoredTable). s.runners) c.parts.view_is in
     let those = subst
     (λ (o : Option (List RunnerState)). MatchOption o
-    ((runners : List RunnerState) → AreRunnersAs c.in-Some.runs of_runners runners → names_rise runners ≡ true → ⊥)
-    (λ runners. AreRunnersAs c.in-Some.runs of_runners runners)) c.in-Some-2.is c.in_ok-runners.ensures.of in
-    let made : TableState = record { last_lease = c.parts.inside.last_lease; runs = c.in-Some.runs; runners = c.as_slice-4.result.now } in
-    let its : AreRunnersAs c.in-Some.runs c.args.parts.now.runners c.as_slice-4.result.now =
-    subst (λ (rs : List RunnerState). AreRunnersAs c.in-Some.runs c.args.parts.now.runners rs) (sym c.as_slice-4.ensures.runners)
-    (subst (λ (ps : List StoredRunner). AreRunnersAs c.in-Some.runs ps c.in-Some-2.runners) parted those) in
+    ((runners : List RunnerState) → AreRunnersAs last c.in-Some.runs of_runners runners → names_rise runners ≡ true → ⊥)
+    (λ runners. AreRunnersAs last c.in-Some.runs of_runners runners)) c.in-Some-2.is c.in_ok-runners.ensures.of in
+    let its : AreRunnersAs last c.in-Some.runs c.args.parts.now.runners c.as_slice-3.result.now =
+    subst (λ (rs : List RunnerState). AreRunnersAs last c.in-Some.runs c.args.parts.now.runners rs) (sym c.as_slice-3.ensures.runners)
+    (subst (λ (ps : List StoredRunner). AreRunnersAs last c.in-Some.runs ps c.in-Some-2.runners) parted those) in
     let fails : c.in_ok-is_sound.field-0 ≡ false = search rules in
-    none_sound c.args.parts.now made (ap (λ (s : StoredTable). s.last_lease) c.parts.view_is) (these.0 ∙ same) its
+    none_sound c.args.parts.now last c.in-Some.runs (ap (λ (s : StoredTable). s.last_lease) c.parts.view_is) (these.0 ∙ same)
+    c.as_slice-3.result.now its
     (λ s. not_so c.in_ok-is_sound.field-0 c.in_ok-is_sound.ensures.sound fails s)

@@ -1,13 +1,17 @@
-use Rattle.std.proofs.Common.{subst, List, ℕ}
+use Rattle.std.proofs.Common.{◌≡◌, subst, List, ℕ, rules}
 use Rattle.std.specs.Prelude.{IfOk}
 use Rattle.std.specs.Fmt.{decimal}
 use Rattle.workflow_runs.specs.Asks.{RunSays}
+use Rattle.workflow_runs.specs.GroupOf.{RunFacts}
 use Rattle.workflow_runs.proofs.asks.RunBindings.bind.Goals as goal
 
 pub returns-clause-says : goal.returns-clause-says
 returns-clause-says c =
-    let event = c.args.run.now.admitted in
-    subst (λ (n : List ℕ). IfOk c.bind_told.result (RunSays (record { event = event; run_id = decimal c.args.id; run_number = n })))
+    let told : List ℕ → List ℕ → List ℕ → RunFacts =
+    λ i n a. record { event = c.args.run.now.admitted; run_id = i; run_number = n; run_attempt = a } in
+    let attempt : c.format-3.result.now ≡ decimal c.args.run.now.attempt = search rules in
+    subst (λ (a : List ℕ). IfOk c.bind_told.result (RunSays (told (decimal c.args.id) (decimal c.args.number) a))) attempt
+    (subst (λ (n : List ℕ). IfOk c.bind_told.result (RunSays (told (decimal c.args.id) n c.format-3.result.now)))
     c.format-2.ensures.text
-    (subst (λ (id : List ℕ). IfOk c.bind_told.result (RunSays (record { event = event; run_id = id; run_number = c.format-2.result.now })))
-    c.format.ensures.text c.bind_told.ensures.says)
+    (subst (λ (i : List ℕ). IfOk c.bind_told.result (RunSays (told i c.format-2.result.now c.format-3.result.now)))
+    c.format.ensures.text c.bind_told.ensures.says))

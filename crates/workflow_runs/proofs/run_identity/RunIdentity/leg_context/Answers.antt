@@ -12,10 +12,11 @@ returns c = λ results.
     let run = c.self.inside.run.now in
     let id = c.self.inside.run_id.now in
     let number = c.self.inside.run_number.now in
+    let attempt = c.self.inside.run_attempt.now in
     let job = c.args.job.now in
     let j = c.args.place in
     let l = c.args.leg in
     subst
-    (λ (t : RunFacts). HasResults (context_of (facts_now run id number job j l)) (need_of_job (plan_of t.event.body) j) results
+    (λ (t : RunFacts). HasResults (context_of (facts_now run id number attempt job j l)) (need_of_job (plan_of t.event.body) j) results
     (context_of (facts_by t j job l results)))
-    c.self.view_is (leg_has_results run id number job j l results)
+    c.self.view_is (leg_has_results run id number attempt job j l results)

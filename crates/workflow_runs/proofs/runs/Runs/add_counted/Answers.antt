@@ -64,8 +64,12 @@ invariant_of-self-2 c =
     let number : c.in_ok-number.number ≡ count_of counts event + 1 =
     next ∙ ap (λ (n : ℕ). n + 1) (count_of_map (same_workflow event) (λ (run : RunState). run.admitted) items ∙ sym (counted event)) in
     let room : length items < 100000 = subst (λ (runs : List RunState). length runs < 100000) (sym c.self.view_is) c.requires.room in
-    let says : RunSays (record { event = event; run_id = decimal (length items + 1); run_number = decimal c.in_ok-number.number })
-    c.in_ok-asked.asked = search rules in
+    let says : RunSays (record {
+      event = event;
+      run_id = decimal (length items + 1);
+      run_number = decimal c.in_ok-number.number;
+      run_attempt = decimal c.args.run.attempt;
+    }) c.in_ok-asked.asked = search rules in
     let r = c.len-r.result in
     let end : r ≡ length items = search rules in
     let kept =

@@ -9,9 +9,10 @@ use Rattle.workflow_runs.proofs.runs.Runs.group_of_run.Goals as goal
 
 pub returns-in-Some-number : goal.returns-in-Some-number
 returns-in-Some-number c =
+    let attempt : c.get.result ≡ c.in-Some.run'.now.attempt = search rules in
     subst (λ (o : Option Group). Gives (λ group. group) c.group_of_event.result (Ok o))
-    (group_of_that_run c.args.self.now c.args.r c.in-Some.run'.now c.prepared.result.now c.in-Some-number.number (sym c.in-Some.ensures.run)
-    c.prepared.ensures c.in-Some-number.ensures)
+    (group_of_that_run c.args.self.now c.args.r c.in-Some.run'.now c.prepared.result.now c.in-Some-number.number c.get.result
+    (sym c.in-Some.ensures.run) c.prepared.ensures c.in-Some-number.ensures attempt)
     c.group_of_event.ensures
 
 pub returns-in-None : goal.returns-in-None

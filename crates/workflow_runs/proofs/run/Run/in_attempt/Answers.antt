@@ -1,10 +1,12 @@
-use Rattle.std.proofs.Common.{ap, ◌∙◌, sym, Ok}
+use Rattle.std.proofs.Common.{ap, ◌∙◌, sym, Ok, List}
 use Rattle.std.specs.Prelude.{map, false}
+use Rattle.run_plan.specs.Admitted.{Admitted}
 use Rattle.run_plan.specs.PlanOf.{plan_of}
 use Rattle.workflow_runs.specs.Cells.{blocked_cells, rooms, states, legs_planned}
+use Rattle.workflow_runs.specs.RunState.{JobState, RunState}
 use Rattle.workflow_runs.specs.declared.phases.RunPhase.TheVariants as run
 use Rattle.workflow_runs.proofs.Doors.{blocked_rooms, blocked_states}
-use Rattle.workflow_runs.proofs.run.Run.of_event.Goals as goal
+use Rattle.workflow_runs.proofs.run.Run.in_attempt.Goals as goal
 use Rattle.wf_value.proofs.PassedOn.{same_Ok}
 
 pub invariant_of-result : goal.invariant_of-result
@@ -18,5 +20,6 @@ returns c =
     let made = sym (same_Ok _ _ c.in_ok-jobs.ensures) ∙ ap (map blocked_cells) (c.as_slice.ensures ∙ c.plan.ensures) in
     let copied = same_Ok _ _ c.in_ok-share.ensures in
     let jobs = sym (blocked_states (plan_of c.args.prepared.now.body)) ∙ ap states (sym made) in
-    ap (λ js. Ok (record { admitted = c.args.prepared.now; phase = run.Waiting; stopping = false; jobs = js })) jobs
-    ∙ ap (λ a. Ok (record { admitted = a; phase = run.Waiting; stopping = false; jobs = states c.in_ok-jobs.jobs.items })) copied
+    let made_of : Admitted → List JobState → RunState =
+    λ a js. record { admitted = a; attempt = c.args.attempt; phase = run.Waiting; stopping = false; jobs = js } in
+    ap (λ js. Ok (made_of c.args.prepared.now js)) jobs ∙ ap (λ a. Ok (made_of a (states c.in_ok-jobs.jobs.items))) copied
