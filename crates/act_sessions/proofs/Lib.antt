@@ -1,6 +1,7 @@
 -- Lemmas on sessions.
 mod Closing
 mod Going
+pub mod Joining
 mod Listing
 mod One
 mod Rounds

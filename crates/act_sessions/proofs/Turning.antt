@@ -68,7 +68,7 @@ asked_one p old new c closes a (inr e) l = (inr ([], c, ap (λ (b : Response). (
 pub asked_none : {F : Type 0} (old : Moment) (f : F) (closes : Bool) → AsksTurn old old (Refused f closes)
 asked_none old f closes = (inl (sym (append-nil _)), sym (append-nil _))
 
-told_in_snoc : (asked : List Asked) (a : Asked) → told_in (asked ++ a ∷ []) ≡ told_in asked ++ (a.command, a.answer) ∷ []
+pub told_in_snoc : (asked : List Asked) (a : Asked) → told_in (asked ++ a ∷ []) ≡ told_in asked ++ (a.command, a.answer) ∷ []
 told_in_snoc [] a = refl
 told_in_snoc (b ∷ asked) a = ap (λ l. (b.command, b.answer) ∷ l) (told_in_snoc asked a)
 

@@ -11,8 +11,8 @@ use Rattle.act_sessions.specs.Told.{told_by}
 -- Where the ending is Done the session went to its end; else it stopped.
 abbrev pub HasEnded : {F : Type 0} → Rules F → Ending → List (Turn F) → List ℕ → List ℕ → List ℕ → Type 0
 HasEnded p Done turns rest unread out = IsWhole p turns rest (Some unread) out
-HasEnded p Memory turns rest unread out = HasStopped p Memory turns out
-HasEnded p Broken turns rest unread out = HasStopped p Broken turns out
+HasEnded p Memory turns rest unread out = HasStopped p 0 Memory turns out
+HasEnded p Broken turns rest unread out = HasStopped p 0 Broken turns out
 
 -- Some front of the bytes is the requests of turns, and a rest. The transcript lists the commands of these turns, in order, each once,
 -- with their answers, and counts the bytes that were written for them.

@@ -1,6 +1,7 @@
 -- What a session asks, and how bytes are requests.
 pub mod Ends
 pub mod Hearing
+pub mod Joined
 pub mod Last
 pub mod Rules
 pub mod Session

@@ -1,8 +1,10 @@
 -- What a session has done, at a moment and when it ends.
-use Rattle.std.specs.Prelude.{◌≡◌, ◌⊎◌, ℕ, ◌+◌, ◌≤◌, ◌-◌, ◌^◌, min, List, [], ◌∷◌, ◌++◌, length, take, Option, Some, None}
+use Rattle.std.specs.Prelude.{◌≡◌, ◌⊎◌, ℕ, ◌+◌, ◌≤◌, ◌<◌, ◌-◌, ◌^◌, min, List, [], ◌∷◌, ◌++◌, length, take, Option, Some, None}
 use Rattle.std.specs.Io.KnownBytes.{Consumes, Appends, IsAtEnd}
 use Rattle.act_sessions.specs.declared.transcript.Ending.{Ending}
 use Rattle.act_sessions.specs.declared.transcript.Ending.TheVariants.{Done, Memory, Broken}
+use Rattle.act_sessions.specs.declared.transcript.Part.{Part}
+use Rattle.act_sessions.specs.declared.transcript.Part.TheVariants.{Waits, Over}
 use Rattle.act_sessions.specs.declared.transcript.Transcript.{Transcript}
 use Rattle.act_sessions.specs.Rules.{Rules, Turn, Reads, is_last, IsOpen, IsEnded, turn_text, texts, told_of}
 use Rattle.act_sessions.specs.Told.{AreAsked, Told, told_by}
@@ -25,56 +27,98 @@ start output asked = record { output = output; count = 0; asked = asked; listed 
 abbrev pub Writes : Moment → Moment → List ℕ → Type 0
 Writes old new bytes = Appends old.output new.output bytes × (new.count ≡ min (old.count + length bytes) (2 ^ 64 - 1))
 
--- The bytes read are the requests of these turns, and a rest that is no longer than what may wait. The turns' commands were asked, in
--- order, each once, and are listed with their answers; and these bytes were written.
-pub record Did {F : Type 0} (p : Rules F) (input input_new : Option (List ℕ)) (old new : Moment) (turns : List (Turn F)) (rest out : List ℕ) : Type 0 where
+-- Where a session stands between two turns: how many turns it has had, and which bytes it holds that are no request yet.
+pub record Place : Type 0 where
+  pub turns : ℕ
+  pub held : List ℕ
+
+-- before a session
+abbrev pub first : Place
+first = record { turns = 0; held = [] }
+
+-- What a session did from a place on. The bytes that it held and those that were read are the requests of these turns, and a rest that is
+-- no longer than what may wait. The turns' commands were asked, in order, each once, and are listed with their answers; and these bytes
+-- were written.
+pub record Did {F : Type 0} (p : Rules F) (from : Place) (input input_new : Option (List ℕ)) (old new : Moment) (turns : List (Turn F)) (rest out : List ℕ) : Type 0 where
   pub read : List ℕ
   pub consumed : Consumes input input_new read
-  pub reads : Reads p read turns rest
+  pub reads : Reads p (from.held ++ read) turns rest
   pub held : length rest ≤ p.limit
-  pub counted : length turns ≤ p.most
+  pub counted : from.turns + length turns ≤ p.most
   pub asked_all : AreAsked old.asked new.asked (told_of turns)
-  pub listed_all : new.listed ≡ told_of turns
+  pub listed_all : new.listed ≡ old.listed ++ told_of turns
   pub wrote_all : Writes old new out
 
--- These turns are all, or all but the last, and none of them ended the session.
-abbrev pub ArePassed : {F : Type 0} → Rules F → List (Turn F) → List (Turn F) → Type 0
-ArePassed {F} p turns passed = IsOpen p 0 passed × ((turns ≡ passed) ⊎ ((t : Turn F) × (turns ≡ passed ++ t ∷ [])))
+-- A session between two turns, at a place to which it came from another: none of the turns is the last, and all were asked and noted.
+pub record Goes {F : Type 0} (p : Rules F) (from : Place) (input input_new : Option (List ℕ)) (old new : Moment) (to : Place) : Type 0 where
+  pub turns : List (Turn F)
+  pub read : List ℕ
+  pub consumed : Consumes input input_new read
+  pub reads : Reads p (from.held ++ read) turns to.held
+  pub held : length to.held ≤ p.limit
+  pub unended : IsOpen p from.turns turns
+  pub counted : from.turns + length turns ≡ to.turns
+  pub room : to.turns < p.most
+  pub asked_all : new.asked ≡ old.asked ++ told_of turns
+  pub listed_all : new.listed ≡ old.listed ++ told_of turns
+  pub wrote_all : Writes old new (texts p from.turns turns)
+
+-- These turns, after n others, are all, or all but the last, and none of them ended the session.
+abbrev pub ArePassed : {F : Type 0} → Rules F → ℕ → List (Turn F) → List (Turn F) → Type 0
+ArePassed {F} p n turns passed = IsOpen p n passed × ((turns ≡ passed) ⊎ ((t : Turn F) × (turns ≡ passed ++ t ∷ [])))
 
 -- Memory was wanting outside a command, and what stands for that came behind the texts of the turns that were passed.
-abbrev pub IsStarved : {F : Type 0} → Rules F → List (Turn F) → List ℕ → Type 0
-IsStarved {F} p turns out =
-    (passed : List (Turn F)) × ArePassed p turns passed × (text : List ℕ) × (p.starved ≡ Some text) × (out ≡ texts p 0 passed ++ text)
+abbrev pub IsStarved : {F : Type 0} → Rules F → ℕ → List (Turn F) → List ℕ → Type 0
+IsStarved {F} p n turns out =
+    (passed : List (Turn F)) × ArePassed p n turns passed × (text : List ℕ) × (p.starved ≡ Some text) × (out ≡ texts p n passed ++ text)
+
+-- A session is over by itself: the last turn, of these after n others, ended it, or memory was wanting.
+abbrev pub IsOver : {F : Type 0} → Rules F → ℕ → List (Turn F) → List ℕ → Type 0
+IsOver p n turns out = (IsEnded p n turns × (out ≡ texts p n turns)) ⊎ IsStarved p n turns out
 
 -- A session went to its end: the last turn ended it, or the input is at its end inside a request, or memory was wanting.
 abbrev pub IsWhole : {F : Type 0} → Rules F → List (Turn F) → List ℕ → Option (List ℕ) → List ℕ → Type 0
 IsWhole p turns rest input out =
     (IsEnded p 0 turns × (out ≡ texts p 0 turns))
-    ⊎ ((IsOpen p 0 turns × p.waits rest × IsAtEnd input × (out ≡ texts p 0 turns)) ⊎ IsStarved p turns out)
+    ⊎ ((IsOpen p 0 turns × p.waits rest × IsAtEnd input × (out ≡ texts p 0 turns)) ⊎ IsStarved p 0 turns out)
 
 -- what is written after the turns that were passed: the last turn's text, or what stands for want of memory
-abbrev pub ComesNext : {F : Type 0} → Rules F → List (Turn F) → List (Turn F) → List ℕ → Type 0
-ComesNext {F} p turns passed text =
-    (p.starved ≡ Some text) ⊎ ((t : Turn F) × (turns ≡ passed ++ t ∷ []) × (text ≡ turn_text p (is_last p (length passed) t) t))
+abbrev pub ComesNext : {F : Type 0} → Rules F → ℕ → List (Turn F) → List (Turn F) → List ℕ → Type 0
+ComesNext {F} p n turns passed text =
+    (p.starved ≡ Some text) ⊎ ((t : Turn F) × (turns ≡ passed ++ t ∷ []) × (text ≡ turn_text p (is_last p (n + length passed) t) t))
 
 -- The texts of the turns that were passed were written whole, and a front of what comes next, if anything.
-abbrev pub IsFront : {F : Type 0} → Rules F → List (Turn F) → List ℕ → Type 0
-IsFront {F} p turns out =
-    (passed : List (Turn F)) × ArePassed p turns passed
-    × ((out ≡ texts p 0 passed) ⊎ ((text : List ℕ) × ComesNext p turns passed text × (k : ℕ) × (out ≡ texts p 0 passed ++ take k text)))
+abbrev pub IsFront : {F : Type 0} → Rules F → ℕ → List (Turn F) → List ℕ → Type 0
+IsFront {F} p n turns out =
+    (passed : List (Turn F)) × ArePassed p n turns passed
+    × ((out ≡ texts p n passed) ⊎ ((text : List ℕ) × ComesNext p n turns passed text × (k : ℕ) × (out ≡ texts p n passed ++ take k text)))
 
--- How a session that did not go to its end stopped: for want of memory, where nothing is written for that; or by a failed read or write.
-abbrev pub HasStopped : {F : Type 0} → Rules F → Ending → List (Turn F) → List ℕ → Type 0
-HasStopped p Done turns out = ⊥
-HasStopped {F} p Memory turns out = (p.starved ≡ None) × (passed : List (Turn F)) × ArePassed p turns passed × (out ≡ texts p 0 passed)
-HasStopped p Broken turns out = IsFront p turns out
+-- How a session that did not go to its end stopped, in these turns after n others: for want of memory, where nothing is written for that;
+-- or by a failed read or write.
+abbrev pub HasStopped : {F : Type 0} → Rules F → ℕ → Ending → List (Turn F) → List ℕ → Type 0
+HasStopped p n Done turns out = ⊥
+HasStopped {F} p n Memory turns out = (p.starved ≡ None) × (passed : List (Turn F)) × ArePassed p n turns passed × (out ≡ texts p n passed)
+HasStopped p n Broken turns out = IsFront p n turns out
 
 -- a session that was answered Ok
 abbrev pub IsDone : {F : Type 0} → Rules F → Option (List ℕ) → Option (List ℕ) → Moment → Moment → Type 0
 IsDone {F} p input input_new old new =
-    (turns : List (Turn F)) × (rest : List ℕ) × (out : List ℕ) × Did p input input_new old new turns rest out × IsWhole p turns rest input_new out
+    (turns : List (Turn F)) × (rest : List ℕ) × (out : List ℕ) × Did p first input input_new old new turns rest out × IsWhole p turns rest input_new out
 
 -- a session that ended with a fault
 abbrev pub IsCut : {F : Type 0} → Rules F → Ending → Option (List ℕ) → Option (List ℕ) → Moment → Moment → Type 0
 IsCut {F} p ending input input_new old new =
-    (turns : List (Turn F)) × (rest : List ℕ) × (out : List ℕ) × Did p input input_new old new turns rest out × HasStopped p ending turns out
+    (turns : List (Turn F)) × (rest : List ℕ) × (out : List ℕ) × Did p first input input_new old new turns rest out × HasStopped p 0 ending turns out
+
+-- how a part of a session that is over came to its end
+abbrev pub EndsSo : {F : Type 0} → Rules F → ℕ → Ending → List (Turn F) → List ℕ → Type 0
+EndsSo p n Done turns out = IsOver p n turns out
+EndsSo p n Memory turns out = HasStopped p n Memory turns out
+EndsSo p n Broken turns out = HasStopped p n Broken turns out
+
+-- A part of a session, from a place on. It stands at another place, where it waits for more bytes than its input has; or the session is
+-- over, as its bytes say, or for want of memory, or since a read or a write failed.
+abbrev pub IsPart : {F : Type 0} → Rules F → Place → Option (List ℕ) → Option (List ℕ) → Moment → Moment → Place → Part → Type 0
+IsPart p from input input_new old new to Waits = Goes p from input input_new old new to × p.waits to.held × IsAtEnd input_new
+IsPart {F} p from input input_new old new to (Over how) =
+    (turns : List (Turn F)) × (rest : List ℕ) × (out : List ℕ) × Did p from input input_new old new turns rest out × EndsSo p from.turns how turns out

@@ -1,5 +1,5 @@
 -- What a session asks, and what it is answered.
-use Rattle.std.specs.Prelude.{◌≡◌, ◌⊎◌, List, [], ◌∷◌, ◌++◌, map, Result, Err}
+use Rattle.std.specs.Prelude.{◌≡◌, ◌≢◌, ◌⊎◌, List, [], ◌∷◌, ◌++◌, map, Result, Err}
 use Rattle.wf_value.specs.Gives.{no_memory}
 use Rattle.wf_value.specs.declared.refusal.Refusal.{Refusal}
 use Rattle.run_plan.specs.declared.command.Command.{Command}
@@ -24,6 +24,10 @@ abbrev pub AreAsked : List Told → List Told → List Told → Type 0
 AreAsked old new told =
     (new ≡ old ++ told)
     ⊎ ((front : List Told) × (c : Command) × (told ≡ front ++ (c, Err no_memory) ∷ []) × (new ≡ old ++ front))
+
+-- The last answer, if there is one, is not want of memory: so it is known that the command was asked.
+abbrev pub IsShut : List Asked → Type 0
+IsShut asked = (asked ≡ []) ⊎ ((front : List Asked) × (last : Asked) × (asked ≡ front ++ last ∷ []) × (last.answer ≢ Err no_memory))
 
 abbrev pub told_in : List Asked → List Told
 told_in asked = map (λ a. (a.command, a.answer)) asked

@@ -1,9 +1,12 @@
-ghost use Rattle.std.specs.Prelude.{◌≡◌, ℕ, List, []};
+ghost use Rattle.std.specs.Prelude.{◌≡◌, ◌≢◌, ℕ, List, [], ◌++◌, Option, Some};
 ghost use Rattle.run_plan.specs.declared.command.Command.{Command};
+ghost use Rattle.act_sessions.specs.Joined.{IsJoined};
+ghost use Rattle.act_sessions.specs.Session.{first, start, IsCut, IsDone, IsPart, Moment, Place};
 ghost use Rattle.act_sessions.specs.Told.{Response, Told};
 ghost use Rattle.act_sessions.specs.Rules.{AnsweredBy, IsEnded, Reads, Turn};
 
 use crate::protocol::Protocol;
+use crate::transcript::{Ending, Part};
 
 /// Two sessions that read the same bytes to their end, from answerers that answer alike, are one: so it doesn't matter in which pieces the
 /// bytes came.
@@ -11,4 +14,25 @@ pub fn one_session<P: Protocol>()
     ensures { (f : List Told → Command → Response) (bytes rest other : List ℕ) (ts us : List (Turn P.Fault)) → Reads P.rules bytes ts rest
         → Reads P.rules bytes us other → AnsweredBy f [] ts → AnsweredBy f [] us → IsEnded P.rules 0 ts → IsEnded P.rules 0 us
         → (ts ≡ us) × (rest ≡ other) }
+{}
+
+/// Two parts in a row are one: where a stream was cut anywhere, the first part waits at the end of the one piece, and the second goes on at
+/// its place with the other piece, behind what was written, with another answerer and another transcript, then both have asked and
+/// written what one part does over the whole stream.
+pub fn two_parts<P: Protocol>()
+    ensures { (from to last : Place) (x y : List ℕ) (i1 i2 : Option (List ℕ)) (old mid begin new : Moment) (end : Part)
+        → IsPart P.rules from (Some x) i1 old mid to Part.Waits → begin.output ≡ mid.output
+        → IsPart P.rules to (Some y) i2 begin new last end
+        → (whole : Moment) × IsJoined mid begin new whole × IsPart P.rules from (Some (x ++ y)) i2 old whole last end }
+{}
+
+/// A part that begins a session is what `run` says of one: that it is done, where the part waits at the end of its input or is over, and
+/// else that it is cut.
+pub fn first_part<P: Protocol>()
+    ensures waits { (i i2 output : Option (List ℕ)) (asked : List Told) (new : Moment) (last : Place)
+        → IsPart P.rules first i i2 (start output asked) new last Part.Waits → IsDone P.rules i i2 (start output asked) new }
+    ensures over { (i i2 output : Option (List ℕ)) (asked : List Told) (new : Moment) (last : Place)
+        → IsPart P.rules first i i2 (start output asked) new last (Part.Over Ending.Done) → IsDone P.rules i i2 (start output asked) new }
+    ensures cut { (ending : Ending) → ending ≢ Ending.Done → (i i2 output : Option (List ℕ)) (asked : List Told) (new : Moment) (last : Place)
+        → IsPart P.rules first i i2 (start output asked) new last (Part.Over ending) → IsCut P.rules ending i i2 (start output asked) new }
 {}

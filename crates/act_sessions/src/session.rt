@@ -1,8 +1,8 @@
 ghost use Rattle.std.specs.Prelude.{Option, ◌≡◌, ◌≢◌, ◌<◌, ◌≤◌, ◌+◌, ◌==◌, ◌||◌, ◌++◌, ◌∷◌, [], ℕ, List, IfOk, IfErr, OnErr, vec_len, vec_capacity};
 ghost use Rattle.act_sessions.specs.Ends.{Ends};
-ghost use Rattle.act_sessions.specs.Session.{moment, start, IsCut, IsDone, Moment};
+ghost use Rattle.act_sessions.specs.Session.{moment, start, Goes, IsCut, IsDone, IsPart, Moment, Place};
 ghost use Rattle.act_sessions.specs.Told.{AreAsked, Told, told_by};
-ghost use Rattle.act_sessions.specs.Turns.{EndsRound, GivesUp, Goes, Says, TakesTurn};
+ghost use Rattle.act_sessions.specs.Turns.{EndsRound, GivesUp, Says, TakesTurn};
 
 use crate::answer::Answer;
 use crate::input::await_request;
@@ -10,7 +10,7 @@ use crate::last::ends_turn;
 use crate::output::respond;
 use crate::protocol::Protocol;
 use crate::request::{Demand, Request};
-use crate::transcript::{Asked, Ending, SessionFault, Transcript};
+use crate::transcript::{Asked, Ending, Part, SessionFault, Transcript};
 use crate::trouble::Trouble;
 use run_plan::Command;
 use std::alloc::Global;
@@ -126,28 +126,23 @@ fn take_turn<P: Protocol, W: Write, A: Answer>(
 /// Ends a session that can't go on: for want of memory by saying so where the protocol has words for it, and else by a fault.
 fn give_up<P: Protocol, W: Write>(
     writer: &mut W,
-    transcript: Transcript,
+    transcript: &mut Transcript,
     trouble: Trouble,
-) -> Result<Transcript, SessionFault>
-    ensures written { (asked : List Told) → GivesUp P.rules trouble (moment (W.contents writer.old) asked transcript)
-        (moment (W.contents writer.new) asked) result }
-    ensures done { IfOk result (λ t. t.ending ≡ Ending.Done) }
+) -> Ending
+    ensures { (asked : List Told) → GivesUp P.rules trouble (moment (W.contents writer.old) asked transcript.old)
+        (moment (W.contents writer.new) asked transcript.new) result }
 {
-    let mut transcript = transcript;
-    let ending = match (trouble, P::starved()) {
-        (Trouble::Memory, Some(text)) => match respond(writer, &mut transcript, text) {
-            Ok(()) => return Ok(transcript.ended(Ending::Done)),
+    match (trouble, P::starved()) {
+        (Trouble::Memory, Some(text)) => match respond(writer, transcript, text) {
+            Ok(()) => Ending::Done,
             Err(_) => Ending::Broken,
         },
         (Trouble::Memory, None) => Ending::Memory,
         (Trouble::Broken, _) => Ending::Broken,
-    };
-    Err(SessionFault {
-        transcript: transcript.ended(ending),
-    })
+    }
 }
 
-/// Waits for one request, and answers it; true where it is the last of the session, and at the end of the input.
+/// Waits for one request, and answers it; true where it is the last of the session. None comes at the end of the input.
 fn take_round<P: Protocol, R: Read, W: Write, A: Answer>(
     alloc: Global,
     reader: &mut R,
@@ -156,18 +151,61 @@ fn take_round<P: Protocol, R: Read, W: Write, A: Answer>(
     buffer: &mut Vec<u8>,
     transcript: &mut Transcript,
     count: u64,
-) -> Result<bool, Trouble>
+) -> Result<Option<bool>, Trouble>
     requires room { count < P.rules.most }
     requires held { vec_len buffer.old ≤ P.rules.limit }
-    ensures { (input : Option (List ℕ)) (first : Moment)
-        → Goes P.rules input (R.remaining reader.old) first (moment (W.contents writer.old) (A.asked answerer.old) transcript.old) buffer.old.items count
-        → EndsRound P.rules input (R.remaining reader.new) first (moment (W.contents writer.new) (A.asked answerer.new) transcript.new)
-        buffer.new.items (count + 1) result }
+    ensures { (from : Place) (input : Option (List ℕ)) (begin : Moment)
+        → Goes P.rules from input (R.remaining reader.old) begin (moment (W.contents writer.old) (A.asked answerer.old) transcript.old)
+        (record { turns = count; held = buffer.old.items })
+        → EndsRound P.rules from input (R.remaining reader.new) begin (moment (W.contents writer.new) (A.asked answerer.new) transcript.new)
+        buffer.new.items count result }
 {
     match await_request::<P, R>(alloc, reader, buffer)? {
-        Some(request) => take_turn::<P, W, A>(alloc, writer, answerer, transcript, request, count),
-        None => Ok(true),
+        Some(request) => {
+            let last = take_turn::<P, W, A>(alloc, writer, answerer, transcript, request, count)?;
+            Ok(Some(last))
+        }
+        None => Ok(None),
     }
+}
+
+/// Goes on with a session: from the place that so many turns and the bytes in the buffer are, to the end of the input or of the session.
+/// What it asks is noted behind what the transcript has, whose ending stays as it is.
+///
+/// Where it waits, the count and the buffer are the place where it goes on once there are more bytes.
+pub fn run_part<P: Protocol, R: Read, W: Write, A: Answer>(
+    alloc: Global,
+    reader: &mut R,
+    writer: &mut W,
+    answerer: &mut A,
+    buffer: &mut Vec<u8>,
+    count: &mut u64,
+    transcript: &mut Transcript,
+) -> Part
+    requires room { count.old < P.rules.most }
+    requires held { vec_len buffer.old ≤ P.rules.limit }
+    ensures part { IsPart P.rules (record { turns = count.old; held = buffer.old.items }) (R.remaining reader.old) (R.remaining reader.new)
+        (moment (W.contents writer.old) (A.asked answerer.old) transcript.old)
+        (moment (W.contents writer.new) (A.asked answerer.new) transcript.new)
+        (record { turns = count.new; held = buffer.new.items }) result }
+    // What follows for whoever knows nothing of the bytes.
+    ensures told { (told : List Told) × AreAsked (A.asked answerer.old) (A.asked answerer.new) told
+        × (told_by transcript.new ≡ told_by transcript.old ++ told) }
+    ensures waits { result ≡ Part.Waits → (count.new < P.rules.most) × (vec_len buffer.new ≤ P.rules.limit) }
+{
+    let _written = transcript.written;
+    'rounds: for turns in *count..P::most() {
+        match take_round::<P, R, W, A>(alloc, reader, writer, answerer, buffer, transcript, turns) {
+            Ok(Some(true)) => return Part::Over(Ending::Done),
+            Ok(Some(false)) => {}
+            Ok(None) => {
+                *count = turns;
+                return Part::Waits;
+            }
+            Err(trouble) => return Part::Over(give_up::<P, W>(writer, transcript, trouble)),
+        }
+    }
+    unreachable!()
 }
 
 /// Reads requests from a stream of bytes, in whatever pieces they come, asks their commands and writes the answers, until the session ends.
@@ -191,21 +229,22 @@ pub fn run<P: Protocol, R: Read, W: Write, A: Answer>(
         × AreAsked (A.asked answerer.old) (A.asked answerer.new) (told_by f.transcript)) }
 {
     let mut buffer = Vec::new(alloc);
+    let mut count = 0;
     let mut transcript = Transcript::new(alloc);
-    'rounds: for count in 0..P::most() {
-        match take_round::<P, R, W, A>(
-            alloc,
-            reader,
-            writer,
-            answerer,
-            &mut buffer,
-            &mut transcript,
-            count,
-        ) {
-            Ok(true) => return Ok(transcript.ended(Ending::Done)),
-            Ok(false) => {}
-            Err(trouble) => return give_up::<P, W>(writer, transcript, trouble),
-        }
+    let end = run_part::<P, R, W, A>(
+        alloc,
+        reader,
+        writer,
+        answerer,
+        &mut buffer,
+        &mut count,
+        &mut transcript,
+    );
+    match end {
+        Part::Waits => Ok(transcript.ended(Ending::Done)),
+        Part::Over(Ending::Done) => Ok(transcript.ended(Ending::Done)),
+        Part::Over(ending) => Err(SessionFault {
+            transcript: transcript.ended(ending),
+        }),
     }
-    unreachable!()
 }

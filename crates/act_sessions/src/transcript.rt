@@ -22,6 +22,15 @@ pub enum Ending {
     Broken,
 }
 
+/// How a part of a session ended.
+#[derive(Clone, Copy, Debug, PartialEq, Eq)]
+pub enum Part {
+    /// Its input is at its end, before a request or inside one. With more bytes the session goes on.
+    Waits,
+    /// The session is over.
+    Over(Ending),
+}
+
 /// What a session asked, in order, and how many bytes it wrote.
 #[derive(Drop)]
 pub struct Transcript {

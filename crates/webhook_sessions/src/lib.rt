@@ -18,4 +18,5 @@ mod session;
 mod statuses;
 
 pub use hook::Hook;
+pub use protocol::Hooks;
 pub use session::Session;
