@@ -11,7 +11,8 @@ use Rattle.act_sessions.specs.declared.transcript.Transcript.{Transcript}
 use Rattle.act_sessions.specs.Ends.{Ends, EndsOver, HasEnded}
 use Rattle.act_sessions.specs.Rules.{Rules, Turn, texts, told_of}
 use Rattle.act_sessions.specs.Session.{Moment, moment, Place, start, first, Did, HasStopped, IsDone, IsCut, IsPart, IsWhole}
-use Rattle.act_sessions.specs.Told.{AreAsked, Told, told_by}
+use Rattle.act_sessions.specs.Told.{AreAsked, OnlyLastOpen, Told, told_by}
+use Rattle.act_sessions.proofs.Shut.{only_open, only_over}
 
 -- what a reader still holds, of the bytes that it held
 unread_of : (bytes read : List ℕ) (new : Option (List ℕ)) → Consumes (Some bytes) new read → (unread : List ℕ) × (new ≡ Some unread) × (bytes ≡ read ++ unread)
@@ -93,9 +94,11 @@ seen_cut p i i2 output written asked told f cut = (
 
 pub part_told : {F : Type 0} (p : Rules F) (from to : Place) (i i2 output written : Option (List ℕ)) (asked now : List Told) (old new : Transcript) (end : Part)
     → IsPart p from i i2 (moment output asked old) (moment written now new) to end
-    → (told : List Told) × AreAsked asked now told × (told_by new ≡ told_by old ++ told)
-part_told p from to i i2 output written asked now old new Waits (goes, waits, end) = (told_of goes.turns, inl goes.asked_all, goes.listed_all)
-part_told p from to i i2 output written asked now old new (Over how) (turns, rest, out, did, ends) = (told_of turns, did.asked_all, did.listed_all)
+    → (told : List Told) × AreAsked asked now told × (told_by new ≡ told_by old ++ told) × OnlyLastOpen told
+part_told p from to i i2 output written asked now old new Waits (goes, waits, end) =
+    (told_of goes.turns, inl goes.asked_all, goes.listed_all, only_open p from.turns goes.turns goes.unended)
+part_told p from to i i2 output written asked now old new (Over how) (turns, rest, out, did, ends) =
+    (told_of turns, did.asked_all, did.listed_all, only_over p from.turns how turns out ends)
 
 -- a session's only part, that waits at the end of the input
 pub waited : {F : Type 0} (p : Rules F) (to : Place) (i i2 output written : Option (List ℕ)) (asked told : List Told) (t : Transcript)

@@ -32,7 +32,7 @@ texts_append p n k [] us e = let same : n ≡ k = omega arith in ap (λ m. texts
 texts_append p n k (t ∷ ts) us e =
     ap (λ l. turn_text p (is_last p n t) t ++ l) (texts_append p (n + 1) k ts us (omega arith)) ∙ sym (append_assoc (turn_text p (is_last p n t) t) (texts p (n + 1) ts) (texts p k us))
 
-told_append : {F : Type 0} (ts us : List (Turn F)) → told_of (ts ++ us) ≡ told_of ts ++ told_of us
+pub told_append : {F : Type 0} (ts us : List (Turn F)) → told_of (ts ++ us) ≡ told_of ts ++ told_of us
 told_append [] us = refl
 told_append (t ∷ ts) us = ap (λ l. told_at t ++ l) (told_append ts us) ∙ sym (append_assoc (told_at t) (told_of ts) (told_of us))
 

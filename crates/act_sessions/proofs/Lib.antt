@@ -5,4 +5,5 @@ pub mod Joining
 mod Listing
 mod One
 mod Rounds
+mod Shut
 mod Turning

@@ -1,6 +1,8 @@
 -- What a session asks, and what it is answered.
-use Rattle.std.specs.Prelude.{◌≡◌, ◌≢◌, ◌⊎◌, List, [], ◌∷◌, ◌++◌, map, Result, Err}
+use Rattle.std.specs.Prelude.{◌≡◌, ◌⊎◌, ℕ, Bool, false, ◌==◌, List, [], ◌∷◌, ◌++◌, map, Result, Ok, Err, ⊤}
+use Rattle.std.specs.List.{list_any}
 use Rattle.wf_value.specs.Gives.{no_memory}
+use Rattle.wf_value.specs.RefusalText.{refusal_number}
 use Rattle.wf_value.specs.declared.refusal.Refusal.{Refusal}
 use Rattle.run_plan.specs.declared.command.Command.{Command}
 use Rattle.run_plan.specs.declared.reply.Reply.{Reply}
@@ -25,9 +27,28 @@ AreAsked old new told =
     (new ≡ old ++ told)
     ⊎ ((front : List Told) × (c : Command) × (told ≡ front ++ (c, Err no_memory) ∷ []) × (new ≡ old ++ front))
 
--- The last answer, if there is one, is not want of memory: so it is known that the command was asked.
+-- these answers do not say whether the command was entered
+abbrev pub open_numbers : List ℕ
+open_numbers = 50 ∷ 51 ∷ 52 ∷ 60 ∷ []
+
+abbrev pub leaves_open : Response → Bool
+leaves_open (Ok reply) = false
+leaves_open (Err refusal) = list_any (λ n. n == refusal_number refusal) open_numbers
+
+-- Each answer says whether its command was entered.
+abbrev pub NoneOpen : List Told → Type 0
+NoneOpen [] = ⊤
+NoneOpen (t ∷ told) = (leaves_open t.1 ≡ false) × NoneOpen told
+
+-- Each answer but the last says whether its command was entered.
+abbrev pub OnlyLastOpen : List Told → Type 0
+OnlyLastOpen [] = ⊤
+OnlyLastOpen (t ∷ []) = ⊤
+OnlyLastOpen (t ∷ u ∷ told) = (leaves_open t.1 ≡ false) × OnlyLastOpen (u ∷ told)
+
+-- The last answer, if there is one, says whether its command was entered.
 abbrev pub IsShut : List Asked → Type 0
-IsShut asked = (asked ≡ []) ⊎ ((front : List Asked) × (last : Asked) × (asked ≡ front ++ last ∷ []) × (last.answer ≢ Err no_memory))
+IsShut asked = (asked ≡ []) ⊎ ((front : List Asked) × (last : Asked) × (asked ≡ front ++ last ∷ []) × (leaves_open last.answer ≡ false))
 
 abbrev pub told_in : List Asked → List Told
 told_in asked = map (λ a. (a.command, a.answer)) asked

@@ -1,8 +1,7 @@
 //! Parts of many sessions, one after the other, whose commands one transcript notes.
 
-ghost use Rattle.std.specs.Prelude.{◌≡◌, ◌≢◌, ◌++◌, List, false, Err};
-ghost use Rattle.wf_value.specs.Gives.{no_memory};
-ghost use Rattle.act_sessions.specs.Told.{AreAsked, IsShut, Told, told_by};
+ghost use Rattle.std.specs.Prelude.{◌≡◌, ◌++◌, List, false};
+ghost use Rattle.act_sessions.specs.Told.{AreAsked, IsShut, OnlyLastOpen, Told, leaves_open, told_by};
 
 use crate::answer::Answer;
 use crate::transcript::{Asked, Ending, Transcript};
@@ -21,12 +20,12 @@ pub trait Parts {
         transcript: &mut Transcript,
     ) -> bool
         ensures { (told : List Told) × AreAsked (A.asked answerer.old) (A.asked answerer.new) told
-            × (told_by transcript.new ≡ told_by transcript.old ++ told) };
+            × (told_by transcript.new ≡ told_by transcript.old ++ told) × OnlyLastOpen told };
 }
 
 /// Whether an answer leaves open that its command was entered: 50, 51, 52 and 60 do.
 fn leaves_open(answer: &Result<Reply, Refusal>) -> bool
-    ensures { result ≡ false → answer.now ≢ Err no_memory }
+    ensures { result ≡ leaves_open answer.now }
 {
     match answer {
         Ok(_) => false,
@@ -45,7 +44,7 @@ pub fn is_open(asked: &[Asked]) -> bool
     }
 }
 
-/// Holds parts until there are no more, or an answer leaves open that its command was entered.
+/// Holds parts until there are no more, or an answer leaves open that its command was entered: that is the last one.
 pub fn run_parts<S: Parts, A: Answer>(
     rt: &impl Wait,
     alloc: Global,
@@ -54,6 +53,7 @@ pub fn run_parts<S: Parts, A: Answer>(
 ) -> Transcript
     ensures ending { result.ending ≡ Ending.Done }
     ensures asked { AreAsked (A.asked answerer.old) (A.asked answerer.new) (told_by result) }
+    ensures shut { OnlyLastOpen (told_by result) }
 {
     let mut transcript = Transcript::new(alloc);
     'parts: for _ in rt.forever() {

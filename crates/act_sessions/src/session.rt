@@ -1,7 +1,7 @@
 ghost use Rattle.std.specs.Prelude.{Option, ◌≡◌, ◌≢◌, ◌<◌, ◌≤◌, ◌+◌, ◌==◌, ◌||◌, ◌++◌, ◌∷◌, [], ℕ, List, IfOk, IfErr, OnErr, vec_len, vec_capacity};
 ghost use Rattle.act_sessions.specs.Ends.{Ends};
 ghost use Rattle.act_sessions.specs.Session.{moment, start, Goes, IsCut, IsDone, IsPart, Moment, Place};
-ghost use Rattle.act_sessions.specs.Told.{AreAsked, Told, told_by};
+ghost use Rattle.act_sessions.specs.Told.{AreAsked, OnlyLastOpen, Told, told_by};
 ghost use Rattle.act_sessions.specs.Turns.{EndsRound, GivesUp, Says, TakesTurn};
 
 use crate::answer::Answer;
@@ -190,7 +190,7 @@ pub fn run_part<P: Protocol, R: Read, W: Write, A: Answer>(
         (record { turns = count.new; held = buffer.new.items }) result }
     // What follows for whoever knows nothing of the bytes.
     ensures told { (told : List Told) × AreAsked (A.asked answerer.old) (A.asked answerer.new) told
-        × (told_by transcript.new ≡ told_by transcript.old ++ told) }
+        × (told_by transcript.new ≡ told_by transcript.old ++ told) × OnlyLastOpen told }
     ensures waits { result ≡ Part.Waits → (count.new < P.rules.most) × (vec_len buffer.new ≤ P.rules.limit) }
 {
     let _written = transcript.written;

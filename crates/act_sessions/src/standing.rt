@@ -1,6 +1,6 @@
 ghost use Rattle.std.specs.Prelude.{◌≡◌, ◌++◌, List};
 ghost use Rattle.act_sessions.specs.Session.{first, moment, IsPart};
-ghost use Rattle.act_sessions.specs.Told.{AreAsked, Told, told_by};
+ghost use Rattle.act_sessions.specs.Told.{AreAsked, OnlyLastOpen, Told, told_by};
 
 use crate::answer::Answer;
 use crate::protocol::Protocol;
@@ -58,7 +58,7 @@ impl<P: Protocol> Standing<P> {
             (moment (W.contents writer.new) (A.asked answerer.new) transcript.new) self.new result }
         // What follows for whoever knows nothing of the bytes.
         ensures told { (told : List Told) × AreAsked (A.asked answerer.old) (A.asked answerer.new) told
-            × (told_by transcript.new ≡ told_by transcript.old ++ told) }
+            × (told_by transcript.new ≡ told_by transcript.old ++ told) × OnlyLastOpen told }
     {
         let mut count = self.turns;
         let mut buffer = mem::replace(&mut self.held, Vec::new(alloc));
