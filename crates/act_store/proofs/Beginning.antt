@@ -14,6 +14,7 @@ use Rattle.run_table.specs.Step.{empty}
 use Rattle.run_table.specs.TableState.{TableState}
 use Rattle.act_store.specs.Entries.{table_after}
 use Rattle.act_store.specs.Images.{IsAreaLength, StandsFor}
+use Rattle.act_store.specs.Layouts.{current_version}
 use Rattle.act_store.specs.StoreState.{Checkpoint, StoreState}
 use Rattle.act_store.specs.Meaning.{MeansTable}
 use Rattle.act_store.specs.Promise.{IsCounted, IsSettled, IsStanding}
@@ -70,7 +71,7 @@ module _ {D : Type 0} (disk : D) (area : ℕ) (base : TableState) (used generati
 -- ---- a new store
 
 abbrev pub first_head : Head
-first_head = record { version = 1; generation = 1; text = empty_text }
+first_head = record { version = current_version; generation = 1; text = empty_text }
 
 pub means_first : MeansTable first_head [] empty
 means_first = record {
@@ -83,7 +84,7 @@ means_first = record {
 
 -- the bytes that the first area is made of
 pub first_bytes : 0 ∷ behind_gate first_head []
-    ≡ 0 ∷ 1 ∷ 0 ∷ 0 ∷ 0 ∷ 0 ∷ 0 ∷ 0 ∷ 0 ∷ 1 ∷ 0 ∷ 0 ∷ 0 ∷ 0 ∷ 0 ∷ 0 ∷ 0 ∷ 12 ∷ 0 ∷ 0 ∷ 0 ∷ 0 ∷ 0 ∷ 0 ∷ 0 ∷ 0 ∷ 0 ∷ 0 ∷ 0 ∷ 0 ∷ 0 ∷ []
+    ≡ 0 ∷ 2 ∷ 0 ∷ 0 ∷ 0 ∷ 0 ∷ 0 ∷ 0 ∷ 0 ∷ 1 ∷ 0 ∷ 0 ∷ 0 ∷ 0 ∷ 0 ∷ 0 ∷ 0 ∷ 12 ∷ 0 ∷ 0 ∷ 0 ∷ 0 ∷ 0 ∷ 0 ∷ 0 ∷ 0 ∷ 0 ∷ 0 ∷ 0 ∷ 0 ∷ 0 ∷ []
 first_bytes = refl
 
 pub first_fits : Fits first_head []

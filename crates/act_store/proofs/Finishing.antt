@@ -19,6 +19,7 @@ use Rattle.run_table.specs.TableState.{TableState}
 use Rattle.table_text.specs.Commands.{IsSpelled, batch, command_bytes}
 use Rattle.act_store.specs.Checkpoints.{first_gate, gate_behind, refusal_of_finish}
 use Rattle.act_store.specs.Entries.{commands_of, table_after}
+use Rattle.act_store.specs.Layouts.{current_version}
 use Rattle.act_store.specs.StoreState.{StoreState, StandsForEither, covered_table, table_of}
 use Rattle.act_store.specs.LastPart.{bodies_of, last_part}
 use Rattle.act_store.specs.Meaning.{MeansTable}
@@ -121,7 +122,7 @@ module _ {D : Type 0} (honest : D → Type 0) (images : D → List ℕ → Type 
   others = bodies_of cs
 
   abbrev next : Head
-  next = record { version = 1; generation = s.generation + 1; text = f.snapshot.text }
+  next = record { version = current_version; generation = s.generation + 1; text = f.snapshot.text }
 
   abbrev first : TableState
   first = table_after s.base.value (take f.b.place s.history.items)

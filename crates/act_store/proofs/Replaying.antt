@@ -15,6 +15,7 @@ use Rattle.table_text.specs.Format.{OpensWith as BeginsWith, Spells}
 use Rattle.table_text.specs.ReadingCommands.{batch_at}
 use Rattle.table_text.proofs.CommandReaders.{batch_reads}
 use Rattle.table_text.proofs.Readers.{none_begins}
+use Rattle.act_store.specs.Layouts.{current_version}
 use Rattle.act_store.specs.Meaning.{SpellCommands}
 use Rattle.act_store.specs.Replayed.{IsCarried, IsReplayed}
 use Rattle.act_store.proofs.Meanings.{spell_more}
@@ -45,7 +46,7 @@ pub record SoFar (records rest : List ℕ) (first table : TableState) : Type 0 w
   pub parted : List (List ℕ)
   pub commands : List Command
   pub parts : Parts records parted rest
-  pub spelled : SpellCommands 1 parted commands
+  pub spelled : SpellCommands current_version parted commands
   pub table_is : after first commands ≡ table
 
 pub none_so_far : (records : List ℕ) (first : TableState) → SoFar records records first first
@@ -66,15 +67,15 @@ module _ (records rest : List ℕ) (first table : TableState) (so : SoFar record
         parted = so.parted ++ body ∷ [];
         commands = so.commands ++ more;
         parts = parts_more records so.parted rest body behind so.parts opens;
-        spelled = subst (λ (b : List ℕ). SpellCommands 1 (so.parted ++ b ∷ []) (so.commands ++ more)) (sym carried.1.1)
-            (spell_more 1 so.parted so.commands more carried.1.0 so.spelled);
+        spelled = subst (λ (b : List ℕ). SpellCommands current_version (so.parted ++ b ∷ []) (so.commands ++ more)) (sym carried.1.1)
+            (spell_more current_version so.parted so.commands more carried.1.0 so.spelled);
         table_is = after_both first so.commands more ∙ ap (λ (t : TableState). after t more) so.table_is ∙ carried.2;
       }
 
-  pub at_end : ((body behind : List ℕ) → OpensWith rest body behind → ⊥) → IsReplayed 1 records first (Some table)
+  pub at_end : ((body behind : List ℕ) → OpensWith rest body behind → ⊥) → IsReplayed current_version records first (Some table)
   at_end none bodies short is =
       let all = all_parted bodies so.parted rest short (subst (λ (l : List ℕ). Parts l so.parted rest) is so.parts) none in
-      (so.commands, subst (λ (l : List (List ℕ)). SpellCommands 1 l so.commands) all so.spelled, so.table_is)
+      (so.commands, subst (λ (l : List (List ℕ)). SpellCommands current_version l so.commands) all so.spelled, so.table_is)
 
   -- records begin with those that were parted
   starts : (parted bodies : List (List ℕ)) (behind : List ℕ) → AreShort parted → AreShort bodies
@@ -98,7 +99,7 @@ module _ (records rest : List ℕ) (first table : TableState) (so : SoFar record
   among (b ∷ batches) (p ∷ parted) body more takes same =
       let tails : (parted ++ body ∷ []) ++ more ≡ map batch.spelling batches = cc same in among batches parted body more takes.1 tails
 
-  pub at_broken : (body behind : List ℕ) → OpensWith rest body behind → IsCarried body table None → IsReplayed 1 records first None
+  pub at_broken : (body behind : List ℕ) → OpensWith rest body behind → IsCarried body table None → IsReplayed current_version records first None
   at_broken body behind opens none bodies commands short is spelled =
       let parts = parts_more records so.parted rest body behind so.parts opens in
       let found = starts (so.parted ++ body ∷ []) bodies behind parts.short short (sym parts.split ∙ is) in

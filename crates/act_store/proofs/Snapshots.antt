@@ -14,6 +14,7 @@ use Rattle.run_table.specs.TableState.{TableState}
 use Rattle.table_text.specs.WholeTables.{whole_table}
 use Rattle.act_store.specs.Checkpoints.{first_gate, text_length}
 use Rattle.act_store.specs.Entries.{table_after}
+use Rattle.act_store.specs.Layouts.{current_version}
 use Rattle.act_store.specs.Promise.{IsBegun, IsPut, IsSnapshot}
 use Rattle.act_store.specs.TableText.{SpellsTable}
 use Rattle.act_store.specs.declared.begun.Begun.{Begun}
@@ -35,7 +36,7 @@ it_is {X} o x P is here = subst (λ (y : Option X). IfSome y P) is here
 -- ---- a head with a text is 17 bytes longer than the text
 
 pub length_head : (generation : ℕ) (text : List ℕ)
-    → length (head_bytes (record { version = 1; generation = generation; text = text })) ≡ 17 + length text
+    → length (head_bytes (record { version = current_version; generation = generation; text = text })) ≡ 17 + length text
 length_head generation text =
     let one : length (to_be_bytes w64 generation) ≡ 8 = refl in
     let two : length (to_be_bytes w64 (length text)) ≡ 8 = refl in
@@ -52,11 +53,11 @@ length_head generation text =
 pub snapshot_taken : (base table : TableState) (history : List Entry) (generation area : ℕ) (b : Begun)
     → table ≡ table_after base history → b.place ≡ length history → b.put ≡ 0 → generation < 18446744073709551615
     → first_gate (text_length table) + 1 ≤ area
-    → b.front.items ≡ head_bytes (record { version = 1; generation = generation + 1; text = whole_table.spelling table })
-    → SpellsTable 1 table (whole_table.spelling table) → IsSnapshot base history generation area b
+    → b.front.items ≡ head_bytes (record { version = current_version; generation = generation + 1; text = whole_table.spelling table })
+    → SpellsTable current_version table (whole_table.spelling table) → IsSnapshot base history generation area b
 snapshot_taken base table history generation area b is place put newer room front spells = record {
   text = whole_table.spelling table;
-  spells = subst (λ (t : TableState). SpellsTable 1 t (whole_table.spelling table))
+  spells = subst (λ (t : TableState). SpellsTable current_version t (whole_table.spelling table))
       (is ∙ ap (λ (l : List Entry). table_after base l) (sym (take_all b.place history (omega (arith, place))))) spells;
   front_is = front;
   place = omega (arith, place);
@@ -90,7 +91,7 @@ pub snapshot_sliced : (base : TableState) (history : List Entry) (generation are
     → IsSnapshot base history generation area b → IsSnapshot base history generation area next
 snapshot_sliced base history generation area b next front place put snapshot = record {
   text = snapshot.text;
-  spells = subst (λ (n : ℕ). SpellsTable 1 (table_after base (take n history)) snapshot.text) (sym place) snapshot.spells;
+  spells = subst (λ (n : ℕ). SpellsTable current_version (table_after base (take n history)) snapshot.text) (sym place) snapshot.spells;
   front_is = front ∙ snapshot.front_is;
   place = omega (arith, place, snapshot.place);
   put = omega (arith, put, ap (λ (l : List ℕ). length l) front);
@@ -112,7 +113,7 @@ snapshot_entered : (base : TableState) (history more : List Entry) (entry : Entr
     → more ≡ history ++ entry ∷ [] → IsSnapshot base history generation area b → IsSnapshot base more generation area b
 snapshot_entered base history more entry generation area b is snapshot = record {
   text = snapshot.text;
-  spells = subst (λ (l : List Entry). SpellsTable 1 (table_after base l) snapshot.text)
+  spells = subst (λ (l : List Entry). SpellsTable current_version (table_after base l) snapshot.text)
       (sym (ap (λ (l : List Entry). take b.place l) is ∙ take-append-le b.place history (entry ∷ []) snapshot.place)) snapshot.spells;
   front_is = snapshot.front_is;
   place = omega (arith, snapshot.place, ap (λ (l : List Entry). length l) is, length-append history (entry ∷ []));

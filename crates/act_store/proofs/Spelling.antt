@@ -8,6 +8,7 @@ use Rattle.wf_value.specs.declared.refusal.Refusal.{Refusal}
 use Rattle.run_table.specs.Sound.{IsSound}
 use Rattle.run_table.specs.TableState.{TableState}
 use Rattle.table_laws.proofs.ReachedTables.{after_is_sound}
+use Rattle.act_store.specs.Layouts.{current_version}
 use Rattle.act_store.specs.Meaning.{MeansTable, SpellCommands}
 use Rattle.act_store.specs.Replayed.{IsReplayed}
 use Rattle.act_store.specs.Spelled.{IsSpelled, SpellsArea}
@@ -37,28 +38,28 @@ module _ (area : List ℕ) (head : Head) (records : List ℕ) (gate : ℕ) (scan
   same : (other : Head) (others : List (List ℕ)) → Reads area other others → (other ≡ head) × (others ≡ scanned.bodies)
   same other others reads = one_reading area other head others scanned.bodies reads scanned.reads
 
-  -- what stands for a table has the first version
-  first_version : (other : Head) (others : List (List ℕ)) (table : TableState) → Reads area other others → MeansTable other others table
-      → head.version ≡ 1
-  first_version other others table reads means =
+  -- what stands for a table has the current version
+  version_here : (other : Head) (others : List (List ℕ)) (table : TableState) → Reads area other others → MeansTable other others table
+      → head.version ≡ current_version
+  version_here other others table reads means =
       ap (λ (h : Head). h.version) (sym (same other others reads).0) ∙ means.batched.version_is
 
-  pub none_version : (head.version ≡ 1 → ⊥) → SpellsNone area
-  none_version other_version other others table reads means = other_version (first_version other others table reads means)
+  pub none_version : (head.version ≡ current_version → ⊥) → SpellsNone area
+  none_version other_version other others table reads means = other_version (version_here other others table reads means)
 
-  pub none_text : ((table : TableState) → SpellsTable 1 table head.text → ⊥) → SpellsNone area
+  pub none_text : ((table : TableState) → SpellsTable current_version table head.text → ⊥) → SpellsNone area
   none_text none other others table reads means =
       let here = subst (λ (h : Head). SpellsTable h.version means.first h.text) (same other others reads).0 means.text in
-      none means.first (subst (λ (n : ℕ). SpellsTable n means.first head.text) (first_version other others table reads means) here)
+      none means.first (subst (λ (n : ℕ). SpellsTable n means.first head.text) (version_here other others table reads means) here)
 
-  pub none_replayed : (first : TableState) → IsReplayed 1 records first None → SpellsNone area
+  pub none_replayed : (first : TableState) → IsReplayed current_version records first None → SpellsNone area
   none_replayed first none other others table reads means =
       let here = subst (λ (n : ℕ). SpellCommands n others means.commands) means.batched.version_is means.batched in
       none scanned.bodies means.commands scanned.reads.fits.each scanned.records_are
-      (subst (λ (l : List (List ℕ)). SpellCommands 1 l means.commands) (same other others reads).1 here)
+      (subst (λ (l : List (List ℕ)). SpellCommands current_version l means.commands) (same other others reads).1 here)
 
-  module _ (first table : TableState) (version : head.version ≡ 1) where
-    pub some_replayed : SpellsTable 1 first head.text → IsReplayed 1 records first (Some table)
+  module _ (first table : TableState) (version : head.version ≡ current_version) where
+    pub some_replayed : SpellsTable current_version first head.text → IsReplayed current_version records first (Some table)
         → SpellsArea area head.generation gate table
     some_replayed text replayed =
         let carried = replayed scanned.bodies scanned.reads.fits.each scanned.records_are in

@@ -10,6 +10,7 @@ use Rattle.table_text.specs.Format.{OpensWith, StandsAtFront, word_bytes}
 use Rattle.table_text.specs.Tables.{table}
 use Rattle.table_text.specs.WholeTables.{whole_table}
 use Rattle.table_text.proofs.WholeTables.{whole_begins_none}
+use Rattle.act_store.specs.Layouts.{current_version}
 use Rattle.act_store.specs.TableText.{SpellsTable}
 use Rattle.act_store.proofs.WholeTexts.{none_longer, none_whole, one_value, whole}
 
@@ -18,16 +19,16 @@ unfolding SpellsTable
 one_text version one two text first second = one_value whole_table whole_begins_none text one two first.1 second.1
 
 pub whole_text : (text rest : List ℕ) (found : TableState) → OpensWith whole_table text found rest → length rest ≤ 0
-    → SpellsTable 1 found text
+    → SpellsTable current_version found text
 unfolding SpellsTable
 whole_text text rest found opens none = (refl, whole whole_table text rest found opens none)
 
 pub longer_text : (text rest : List ℕ) (found : TableState) → OpensWith whole_table text found rest → 0 < length rest
-    → (other : TableState) → SpellsTable 1 other text → ⊥
+    → (other : TableState) → SpellsTable current_version other text → ⊥
 unfolding SpellsTable
 longer_text text rest found opens some other spells = none_longer whole_table whole_begins_none text rest found opens some other spells.1
 
-pub no_text : (text : List ℕ) → StandsAtFront whole_table text None → (other : TableState) → SpellsTable 1 other text → ⊥
+pub no_text : (text : List ℕ) → StandsAtFront whole_table text None → (other : TableState) → SpellsTable current_version other text → ⊥
 unfolding SpellsTable
 no_text text none other spells = none_whole whole_table text none other spells.1
 
@@ -37,7 +38,7 @@ unfolding SpellsTable
 text_sound version t text spells = spells.1.0.0
 
 -- the spelling of a sound table that has one
-pub table_spells : (t : TableState) → IsSound t → table.Takes (stored_table t) → SpellsTable 1 t (whole_table.spelling t)
+pub table_spells : (t : TableState) → IsSound t → table.Takes (stored_table t) → SpellsTable current_version t (whole_table.spelling t)
 unfolding SpellsTable
 table_spells t sound takes = (refl, ((sound, takes), refl))
 
@@ -54,6 +55,6 @@ empty_spelled : empty_text ≡ table.spelling (stored_table empty)
 unfolding word_bytes
 empty_spelled = refl
 
-pub empty_spells : SpellsTable 1 empty empty_text
+pub empty_spells : SpellsTable current_version empty empty_text
 unfolding SpellsTable
 empty_spells = (refl, ((empty_is_sound, empty_takes), empty_spelled))

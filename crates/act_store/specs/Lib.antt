@@ -3,6 +3,7 @@ pub mod Entries
 pub mod GroupsOfHistory
 pub mod Images
 pub mod LastPart
+pub mod Layouts
 pub mod Meaning
 pub mod Opened
 pub mod Plain

@@ -6,12 +6,13 @@ use Rattle.run_plan.specs.declared.command.Command.{Command}
 use Rattle.run_table.specs.Histories.{after}
 use Rattle.run_table.specs.TableState.{TableState}
 use Rattle.table_text.specs.Commands.{batch}
+use Rattle.act_store.specs.Layouts.{current_version}
 use Rattle.act_store.specs.TableText.{SpellsTable}
 
 -- In this version of the layout each body is the spelling of a batch, and these are the commands of all of them, in order.
 pub record SpellCommands (version : ℕ) (bodies : List (List ℕ)) (commands : List Command) : Type 0 where
-  -- the only one yet
-  pub version_is : version ≡ 1
+  -- the current one
+  pub version_is : version ≡ current_version
   pub batches : List (List Command)
   pub takes : AllByRecursion batch.Takes batches
   pub spelled : bodies ≡ map batch.spelling batches

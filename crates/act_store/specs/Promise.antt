@@ -14,6 +14,7 @@ use Rattle.table_text.specs.Commands.{IsSpelled}
 use Rattle.act_store.specs.Entries.{IsLegal, table_after}
 use Rattle.act_store.specs.Images.{IsAreaLength}
 use Rattle.act_store.specs.StoreState.{StoreState, StandsForEither, covered_table, pending_commands, table_of}
+use Rattle.act_store.specs.Layouts.{current_version}
 use Rattle.act_store.specs.Meaning.{MeansTable}
 use Rattle.act_store.specs.Plain.{record_end}
 use Rattle.act_store.specs.TableText.{SpellsTable}
@@ -55,8 +56,8 @@ pub record IsCounted {D : Type 0} (s : StoreState D) (table : TableState) (waiti
 -- first entries lead to. It fits the area, with a gate before it and one behind.
 pub record IsSnapshot (base : TableState) (history : List Entry) (generation area : ℕ) (b : Begun) : Type 0 where
   pub text : List ℕ
-  pub spells : SpellsTable 1 (table_after base (take b.place history)) text
-  pub front_is : b.front.items ≡ head_bytes (record { version = 1; generation = generation + 1; text = text })
+  pub spells : SpellsTable current_version (table_after base (take b.place history)) text
+  pub front_is : b.front.items ≡ head_bytes (record { version = current_version; generation = generation + 1; text = text })
   pub place : b.place ≤ length history
   pub put : b.put ≤ length b.front.items
   pub newer : generation + 1 < 2 ^ 64

@@ -4,7 +4,8 @@ use Rattle.std.specs.Prelude.{◌≡◌, ℕ, List}
 use Rattle.run_table.specs.TableState.{TableState}
 use Rattle.table_text.specs.Format.{Spells}
 use Rattle.table_text.specs.WholeTables.{whole_table}
+use Rattle.act_store.specs.Layouts.{current_version}
 
--- Version 1 is the only one yet: in another no bytes spell a table.
+-- In the current version they do; in another no bytes spell a table.
 unfoldable pub SpellsTable : ℕ → TableState → List ℕ → Type 0
-SpellsTable version table text = (version ≡ 1) × Spells whole_table text table
+SpellsTable version table text = (version ≡ current_version) × Spells whole_table text table

@@ -6,13 +6,14 @@ ghost use Rattle.gated_journal.specs.Layout.{head_bytes};
 ghost use Rattle.run_table.specs.Sound.{IsSound};
 ghost use Rattle.table_text.specs.WholeTables.{whole_table};
 ghost use Rattle.act_store.specs.Checkpoints.{begun_at, first_gate, refusal_of_begin, text_length};
+ghost use Rattle.act_store.specs.Layouts.{current_version};
 ghost use Rattle.act_store.specs.StoreState.{StandsForEither, table_of};
 ghost use Rattle.act_store.specs.Plain.{broken};
 ghost use Rattle.act_store.specs.TableText.{SpellsTable};
 ghost use Rattle.act_store.specs.Told.{TellsFault};
 
 use crate::begun::Begun;
-use crate::decoded_area::VERSION;
+use crate::layout::Layout;
 use crate::store::Store;
 use act_disk::Disk;
 use gated_journal::Gate;
@@ -105,12 +106,12 @@ fn front_of(alloc: Global, generation: u64, table: &Table) -> Result<Vec<u8>, Re
     requires few { length table.now.runners ≤ 4294967295 }
     requires sound { IsSound table.now }
     ensures front { IfOk result (λ bytes. bytes.items
-        ≡ head_bytes (record { version = 1; generation = generation; text = whole_table.spelling table.now })) }
-    ensures spells { OnOk result (SpellsTable 1 table.now (whole_table.spelling table.now)) }
+        ≡ head_bytes (record { version = current_version; generation = generation; text = whole_table.spelling table.now })) }
+    ensures spells { OnOk result (SpellsTable current_version table.now (whole_table.spelling table.now)) }
     ensures refused { IfErr result (λ e. e ≡ no_memory) }
 {
     let text = table_length(table);
-    let mut bytes = vec![in alloc; VERSION; 1]?;
+    let mut bytes = vec![in alloc; Layout::Second.byte(); 1]?;
     bytes.extend_from_slice(&generation.to_be_bytes())?;
     bytes.extend_from_slice(&text.to_be_bytes())?;
     write_table(&mut bytes, table)?;

@@ -1,17 +1,16 @@
 ghost use Rattle.std.specs.Prelude.{◌≡◌, ◌<◌, IfErr, IfOk, length};
 ghost use Rattle.wf_value.specs.Gives.{no_memory};
 ghost use Rattle.run_table.specs.TableState.{TableState};
+ghost use Rattle.act_store.specs.Layouts.{current_version};
 ghost use Rattle.act_store.specs.Spelled.{IsSpelled, IsTextOf};
 
+use crate::layout::is_read;
 use crate::replay::replay;
 use gated_journal::scan;
 use run_table::Table;
 use std::alloc::Global;
 use table_text::read_table;
 use wf_value::Refusal;
-
-/// The version of an area's layout.
-pub(crate) const VERSION: u8 = 1;
 
 /// What an area spells: the generation of its head, the offset of its first closed gate, and its table.
 #[derive(Drop)]
@@ -30,7 +29,7 @@ pub(crate) fn spelled_in(alloc: Global, area: &[u8]) -> Result<Option<DecodedAre
     let Some(found) = scan(area) else {
         return Ok(None);
     };
-    if found.head.version != VERSION {
+    if !is_read(found.head.version) {
         return Ok(None);
     }
     let Some(first) = table_in(alloc, found.head.text)? else {
@@ -49,7 +48,7 @@ pub(crate) fn spelled_in(alloc: Global, area: &[u8]) -> Result<Option<DecodedAre
 /// The table that a text spells, or `None` where it spells none. Bytes behind a table make it the text of none.
 #[tactic(auto, using(crate::proofs::TextOfTable::whole_text, crate::proofs::TextOfTable::longer_text, crate::proofs::TextOfTable::no_text))]
 fn table_in(alloc: Global, text: &[u8]) -> Result<Option<Table>, Refusal>
-    ensures spelled { IfOk result (λ found. IsTextOf 1 text.now found) }
+    ensures spelled { IfOk result (λ found. IsTextOf current_version text.now found) }
     ensures refused { IfErr result (λ e. e ≡ no_memory) }
 {
     let Some((table, rest)) = read_table(alloc, text)? else {

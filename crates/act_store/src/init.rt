@@ -14,10 +14,10 @@ use std::alloc::Global;
 use std::snapshot::Snapshot;
 use wf_value::{Code, Refusal};
 
-/// What the first area of a new store holds, behind a closed gate: version 1, generation 1, the text of the empty table behind its
+/// What the first area of a new store holds, behind a closed gate: version 2, generation 1, the text of the empty table behind its
 /// length, and a closed gate.
 const FRONT: [u8; 31] = [
-    0, 1, 0, 0, 0, 0, 0, 0, 0, 1, 0, 0, 0, 0, 0, 0, 0, 12, 0, 0, 0, 0, 0, 0, 0, 0, 0, 0, 0, 0, 0,
+    0, 2, 0, 0, 0, 0, 0, 0, 0, 1, 0, 0, 0, 0, 0, 0, 0, 12, 0, 0, 0, 0, 0, 0, 0, 0, 0, 0, 0, 0, 0,
 ];
 
 /// Where the first record's gate is.

@@ -13,6 +13,7 @@ mod entry;
 mod init;
 mod last_part;
 pub mod laws;
+mod layout;
 mod located_area;
 mod open;
 mod playing;

@@ -4,6 +4,7 @@ ghost use Rattle.run_plan.specs.declared.command.Command.{Command};
 ghost use Rattle.run_table.specs.Histories.{after};
 ghost use Rattle.table_text.specs.Commands.{batch};
 ghost use Rattle.table_text.specs.Format.{Spells};
+ghost use Rattle.act_store.specs.Layouts.{current_version};
 ghost use Rattle.act_store.specs.Replayed.{IsCarried, IsReplayed};
 
 use gated_journal::record_at;
@@ -16,7 +17,7 @@ use wf_value::Refusal;
 /// Carries out the commands of records, one behind the other. `None` where a body spells no batch.
 #[tactic(auto, using(crate::proofs::Replaying::none_so_far, crate::proofs::Replaying::one_more, gated_journal::proofs::Parting::shorter))]
 pub(crate) fn replay(alloc: Global, first: Table, records: &[u8]) -> Result<Option<Table>, Refusal>
-    ensures replayed { IfOk result (λ last. IsReplayed 1 records.now first last) }
+    ensures replayed { IfOk result (λ last. IsReplayed current_version records.now first last) }
     ensures refused { IfErr result (λ e. e ≡ no_memory) }
 {
     let mut table = first;

@@ -1,9 +1,9 @@
--- What finds one byte, values that go by those before them, and a row of them.
+-- What finds one byte, a value that is there, values that go by those before them, and a row of them.
 use Rattle.std.proofs.Common.{◌≡◌, ℕ, List, [], ◌∷◌, ◌++◌, refl, sym, ◌∙◌, ap, subst, append_assoc}
-use Rattle.std.specs.Prelude.{Some}
+use Rattle.std.specs.Prelude.{Option, None, Some}
 use Rattle.std.proofs.lemmas.Option.{same_Some, none-some}
-use Rattle.table_text.specs.Format.{Format, byte, follow, row}
-use Rattle.table_text.specs.Reading.{◌>>=◌, Reader, byte_at, follow_at, items_at}
+use Rattle.table_text.specs.Format.{Format, byte, follow, present, row}
+use Rattle.table_text.specs.Reading.{◌>>=◌, Reader, byte_at, follow_at, items_at, present_at}
 use Rattle.wf_value.proofs.Bytes.{AreBytes, AreBytes-drop}
 use Rattle.table_text.proofs.Readers.{Fronts, Reads, bind_some, some_bind, items_sound, items_complete}
 
@@ -20,6 +20,26 @@ byte_sound (b ∷ rest) found are h =
 pub byte_reads : Reads byte byte_at
 unfolding byte_at
 byte_reads = record { sound = byte_sound; complete = λ b rest fits. refl }
+
+present_found : {A : Type 0} (format : Format A) (at : Reader A) → Reads format at → (o : Option A) (rest : List ℕ)
+    → (present format).Takes o → present_at at ((present format).spelling o ++ rest) ≡ Some (o, rest)
+present_found format at reads None rest takes = absurd takes
+present_found format at reads (Some x) rest takes =
+    some_bind (at (format.spelling x ++ rest)) (λ a. Some (Some a.0, a.1)) (x, rest) (reads.complete x rest takes)
+
+pub present_reads : {A : Type 0} (format : Format A) (at : Reader A) → Reads format at → Reads (present format) (present_at at)
+present_reads {A} format at reads = record {
+  sound = λ bytes found are h.
+      let step = bind_some (at bytes) (λ a. Some (Some a.0, a.1)) found h in
+      let a = step.0 in
+      let front = reads.sound bytes a are step.1 in
+      subst (λ (q : Option A × List ℕ). Fronts (present format) bytes q) (same_Some (Some a.0, a.1) found step.2) (record {
+        takes = front.takes;
+        split = front.split;
+        rest = front.rest;
+      });
+  complete = λ o rest takes. present_found format at reads o rest takes;
+}
 
 pub follow_reads : {A B : Type 0} (first : Format A) (second : A → Format B) (first_at : Reader A) (second_at : A → Reader B)
     → Reads first first_at

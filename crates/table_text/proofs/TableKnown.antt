@@ -1,13 +1,27 @@
 -- What is known of the parts of a table that is written.
-use Rattle.std.proofs.Common.{◌≡◌, ℕ, zero, suc, ◌≤◌, ◌<◌, List, [], ◌∷◌, length, get_or, ◌++◌, sym, ◌∙◌, ap, arith, append_assoc}
-use Rattle.std.specs.Prelude.{Bool, true, false, not, map, flat_map, Some, slice_get, option_and_then}
+use Rattle.std.proofs.Common.{◌≡◌, ℕ, zero, suc, ◌≤◌, ◌<◌, List, [], ◌∷◌, length, get_or, ◌++◌, ◌^◌, refl, sym, ◌∙◌, ap, ap₂, arith}
+use Rattle.std.proofs.Common.{append_assoc}
+use Rattle.std.specs.Prelude.{◌&&◌, Bool, true, false, not, map, flat_map, nat_le, Option, Some, None, slice_get, option_and_then}
 use Rattle.std.specs.List.{AllByRecursion}
+use Rattle.std.specs.Option.{option_map_or}
 use Rattle.std.proofs.lemmas.Bool.{le-leb}
 use Rattle.std.proofs.lemmas.List.{length-map}
+use Rattle.std.proofs.lemmas.Option.{slice_get_within}
 use Rattle.std.proofs.lemmas.List.Folds.{flat_map-map}
 use Rattle.wf_value.specs.declared.outcome.Outcome.TheVariants as outcome
 use Rattle.wf_value.proofs.Rising.{rises_over}
-use Rattle.workflow_runs.specs.Places.{job_at}
+use Rattle.wf_value.specs.declared.refusal.Refusal.{Refusal}
+use Rattle.run_plan.specs.PlanOf.{faults_of, plan_of}
+use Rattle.run_plan.specs.declared.last_command.ClaimReply.TheVariants as given
+use Rattle.run_plan.specs.declared.last_command.KeptLease.{KeptLease}
+use Rattle.run_plan.specs.declared.last_command.LastCommand.{LastCommand}
+use Rattle.run_plan.specs.declared.last_command.LastCommand.TheVariants as last
+use Rattle.run_plan.specs.declared.planned.PlannedJob.{PlannedJob}
+use Rattle.run_plan.specs.declared.reply.Lease.{Lease}
+use Rattle.run_plan.proofs.FewJobs.{few_jobs}
+use Rattle.run_plan.proofs.FewLegs.{few_planned}
+use Rattle.workflow_runs.specs.Places.{job_at, plan_at}
+use Rattle.run_table.specs.Sound.{IsOfALeg, IsSound, KeptIsOfALeg}
 use Rattle.run_table.specs.Stored.{IsStorable, stored_runner, stored_table}
 use Rattle.run_table.specs.TableState.{RunnerState, TableState}
 use Rattle.workflow_runs.specs.RunState.{LegState, JobState, RunState}
@@ -16,11 +30,12 @@ use Rattle.workflow_runs.specs.declared.phases.LegPhase.{LegPhase}
 use Rattle.workflow_runs.specs.declared.phases.LegPhase.TheVariants as leg_phase
 use Rattle.workflow_runs.specs.declared.phases.RunPhase.{RunPhase}
 use Rattle.workflow_runs.specs.declared.phases.RunPhase.TheVariants as run_phase
-use Rattle.table_text.specs.Commands.{admit}
-use Rattle.table_text.specs.Tables.{IsLease, flag_byte, job, jobs_planned, leg, leg_byte, run, run_byte, runner, table}
-use Rattle.table_text.specs.Format.{word_bytes}
-use Rattle.table_text.specs.Writing.{HasByte, JobHasBytes, RunHasBytes}
+use Rattle.table_text.specs.Commands.{admit, are_none, is_faultless}
+use Rattle.table_text.specs.Tables.{IsLease, flag_byte, is_attempt, job, leg, leg_byte, run, run_byte, runner, table}
+use Rattle.table_text.specs.Format.{only, word, word_bytes}
+use Rattle.table_text.specs.Writing.{HasByte, JobHasBytes, KeptHasBytes, RunHasBytes}
 use Rattle.run_table.proofs.RunnerPut.{all_from_each}
+use Rattle.workflow_runs.proofs.Found.{each_at}
 
 leg_byte_fits : (p : LegPhase) → leg_byte p < 256
 leg_byte_fits leg_phase.New = omega arith
@@ -44,9 +59,12 @@ flag_byte_fits true = omega arith
 pub leg_takes : (l : LegState) → HasByte l → IsLease l.lease → leg.Takes l
 leg_takes l old lease = ((leg_byte_fits l.phase, ap not old), lease)
 
-pub run_takes : (r : RunState) → length r.jobs ≡ jobs_planned r.admitted → admit.Takes r.admitted
-    → AllByRecursion job.Takes r.jobs → run.Takes r
-run_takes r many admitted all = (admitted, (run_byte_fits r.phase, (flag_byte_fits r.stopping, (many, all))))
+attempt_takes : (n : ℕ) → 1 ≤ n → n ≤ 1000 → (only is_attempt word).Takes n
+attempt_takes n low high = (omega (arith, high), ap (λ b. b && nat_le n 1000) (le-leb 1 n low) ∙ le-leb n 1000 high)
+
+pub run_takes : (r : RunState) → RunHasBytes r → admit.Takes r.admitted → AllByRecursion job.Takes r.jobs → run.Takes r
+run_takes r has admitted all =
+    (admitted, (attempt_takes r.attempt has.2.0 has.2.1, (run_byte_fits r.phase, (flag_byte_fits r.stopping, (has.0, all)))))
 
 -- ---- lists
 
@@ -73,14 +91,57 @@ runs_have_bytes runs s =
             s.no_leg_is_new (record { run = r; job = j; leg = l }) z
             (ap (option_and_then (λ (w : JobState). slice_get w.legs l)) (job_is j y there) ∙ here)),
       )),
+      s.attempts_are_given r x at,
     ))
+
+-- ---- the leases that are kept of a table have bytes
+
+no_fault : (fs : List Refusal) → are_none fs ≡ true → fs ≡ []
+no_fault [] h = refl
+no_fault (f ∷ fs) h = absurd (cc)
+
+-- a job that has a planned leg is one of the plan
+planned_place : (o : Option PlannedJob) (l : ℕ) → l < option_map_or (λ (planned : PlannedJob). length planned.legs) o 0
+    → (planned : PlannedJob) × (o ≡ Some planned) × (l < length planned.legs)
+planned_place None l h = absurd (omega (arith, h))
+planned_place (Some planned) l h = (planned, refl, h)
+
+-- its job and its leg are of the plan of a body without a fault
+of_a_leg_fits : (runs : List RunState) → AllByRecursion run.Takes runs → (most : ℕ) (kept : KeptLease) → IsOfALeg most runs kept
+    → (kept.job < 2 ^ 32) × (kept.told.leg < 2 ^ 32)
+unfolding is_faultless
+of_a_leg_fits runs takes most kept of =
+    let body : List ℕ = of.run.admitted.body in
+    let here : plan_at runs of.place.run of.place.job ≡ slice_get (plan_of body) of.place.job =
+    ap (option_and_then (λ (x : RunState). slice_get (plan_of x.admitted.body) of.place.job)) of.run_is in
+    let at = planned_place (plan_at runs of.place.run of.place.job) of.place.leg of.planned in
+    let in_plan : slice_get (plan_of body) of.place.job ≡ Some at.0 = sym here ∙ at.1 in
+    let taken : run.Takes of.run = each_at run.Takes runs of.place.run of.run takes of.run_is in
+    let faultless : faults_of body ≡ [] = no_fault (faults_of body) taken.0.1.1.1 in
+    let few_jobs_there = few_jobs body faultless in
+    let below = slice_get_within (plan_of body) of.place.job at.0 in_plan in
+    let few_legs = few_planned body of.place.job at.0 in_plan in
+    let leg : kept.told.leg ≡ of.place.leg = ap (λ (t : Lease). t.leg) of.tells in
+    (omega (arith, of.job_is, below, few_jobs_there), omega (arith, leg, at.2, few_legs))
+
+kept_has_bytes : (runs : List RunState) → AllByRecursion run.Takes runs → (most : ℕ) (x : LastCommand) → KeptIsOfALeg most runs x
+    → KeptHasBytes x
+kept_has_bytes runs takes most (last.Claim claim given.Nothing) of = tt
+kept_has_bytes runs takes most (last.Claim claim (given.Lease kept)) of = of_a_leg_fits runs takes most kept of
+kept_has_bytes runs takes most (last.Done report) of = tt
+
+pub runners_have_bytes : (t : TableState) → IsSound t → AllByRecursion run.Takes t.runs
+    → AllByRecursion (λ (r : RunnerState). KeptHasBytes r.last) t.runners
+runners_have_bytes t s takes =
+    all_from_each (λ (r : RunnerState). KeptHasBytes r.last) t.runners (λ k x at.
+        kept_has_bytes t.runs takes t.last_lease x.last (s.kept_leases_are_of_legs k x at))
 
 -- ---- one part behind another
 
-pub run_bytes : (old a b c d event event' jobs jobs' : List ℕ) (x x' y y' : ℕ) → a ≡ old ++ event → b ≡ a ++ x ∷ [] → c ≡ b ++ y ∷ []
+front_bytes : (old a b c d event event' jobs jobs' : List ℕ) (x x' y y' : ℕ) → a ≡ old ++ event → b ≡ a ++ x ∷ [] → c ≡ b ++ y ∷ []
     → d ≡ c ++ jobs
     → event ≡ event' → x ≡ x' → y ≡ y' → jobs ≡ jobs' → d ≡ old ++ (event' ++ x' ∷ y' ∷ jobs')
-run_bytes old a b c d event event' jobs jobs' x x' y y' one two three four e f g h =
+front_bytes old a b c d event event' jobs jobs' x x' y y' one two three four e f g h =
     four
     ∙ ap (λ (l : List ℕ). l ++ jobs) (three ∙ ap (λ (l : List ℕ). l ++ y ∷ []) (two ∙ ap (λ (l : List ℕ). l ++ x ∷ []) one))
     ∙ append_assoc ((old ++ event) ++ x ∷ []) (y ∷ []) jobs
@@ -90,6 +151,16 @@ run_bytes old a b c d event event' jobs jobs' x x' y y' one two three four e f g
     ∙ ap (λ n. old ++ (event' ++ n ∷ y ∷ jobs)) f
     ∙ ap (λ n. old ++ (event' ++ x' ∷ n ∷ jobs)) g
     ∙ ap (λ (l : List ℕ). old ++ (event' ++ x' ∷ y' ∷ l)) h
+
+-- an event, an attempt, two bytes and jobs
+pub run_bytes : (old a b c d e event event' jobs jobs' : List ℕ) (n n' x x' y y' : ℕ) → a ≡ old ++ event → b ≡ a ++ word_bytes n
+    → c ≡ b ++ x ∷ [] → d ≡ c ++ y ∷ [] → e ≡ d ++ jobs → event ≡ event' → n ≡ n' → x ≡ x' → y ≡ y' → jobs ≡ jobs'
+    → e ≡ old ++ (event' ++ (word_bytes n' ++ x' ∷ y' ∷ jobs'))
+run_bytes old a b c d e event event' jobs jobs' n n' x x' y y' one two three four five f g h i j =
+    front_bytes old b c d e (event ++ word_bytes n) (event' ++ word_bytes n') jobs jobs' x x' y y'
+    (two ∙ ap (λ (l : List ℕ). l ++ word_bytes n) one ∙ append_assoc old event (word_bytes n)) three four five
+    (ap₂ (λ (l : List ℕ) (k : ℕ). l ++ word_bytes k) f g) h i j
+    ∙ ap (λ (l : List ℕ). old ++ l) (append_assoc event' (word_bytes n') (x' ∷ y' ∷ jobs'))
 
 five_parts : (old a b c d e l n rs m qs : List ℕ) → a ≡ old ++ l → b ≡ a ++ n → c ≡ b ++ rs → d ≡ c ++ m → e ≡ d ++ qs
     → e ≡ old ++ (l ++ ((n ++ rs) ++ (m ++ qs)))

@@ -1,6 +1,7 @@
 -- The length of a table's spelling is the sum over its fields.
 use Rattle.std.proofs.Common.{◌≡◌, ℕ, ◌+◌, ◌*◌, List, [], ◌∷◌, ◌++◌, length, refl, sym, ◌∙◌, ap, arith}
 use Rattle.std.specs.Prelude.{flat_map, map, sum_by, Option, Some, None}
+use Rattle.std.specs.Option.{option_map_or}
 use Rattle.std.proofs.lemmas.List.Concat.{length-flat_map}
 use Rattle.std.proofs.lemmas.List.Sums.{sum_by-cons}
 use Rattle.run_plan.specs.declared.command.Command.TheVariants as asked
@@ -8,11 +9,13 @@ use Rattle.run_table.specs.Stored.{StoredRunner, StoredTable}
 use Rattle.workflow_runs.specs.RunState.{LegState, JobState, RunState}
 use Rattle.run_table.specs.declared.parts.LastParts.{LastParts}
 use Rattle.run_table.specs.declared.parts.LastParts.TheVariants as last
+use Rattle.run_table.specs.declared.parts.StoredLease.{StoredLease}
+use Rattle.run_table.specs.declared.parts.StoredPlace.{StoredPlace}
 use Rattle.table_text.specs.Commands.{admit, command_bytes}
-use Rattle.table_text.specs.Format.{text_bytes, word_bytes}
+use Rattle.table_text.specs.Format.{present, text_bytes, word_bytes}
 use Rattle.table_text.specs.Lengths.{command_length, fields_length, length_of, text_length}
-use Rattle.table_text.specs.TableLengths.{job_length, last_length, run_length, runner_length, table_length}
-use Rattle.table_text.specs.Tables.{flag_byte, job, kept, last_command, lease, leg, run, run_byte, runner, table}
+use Rattle.table_text.specs.TableLengths.{job_length, last_length, lease_length, run_length, runner_length, table_length}
+use Rattle.table_text.specs.Tables.{flag_byte, job, kept, kept_lease, last_command, lease, leg, place, run, run_byte, runner, table}
 use Rattle.table_text.specs.declared.kept.Kept.TheVariants as replied
 use Rattle.table_text.proofs.LengthLaws.{behind_one, length_admit, length_command, length_counted, length_text, length_two, length_word}
 use Rattle.table_text.proofs.LengthLaws.{sum_same}
@@ -47,30 +50,38 @@ length_run : (r : RunState) → length_of run r ≡ run_length r
 length_run r =
     let jobs : length (flat_map job.spelling r.jobs) ≡ sum_by job_length r.jobs =
     length-flat_map job.spelling r.jobs ∙ sum_same (λ j. length (job.spelling j)) job_length r.jobs length_job in
-    length_two (admit.spelling r.admitted) (run_byte r.phase ∷ flag_byte r.stopping ∷ flat_map job.spelling r.jobs)
+    length_two (admit.spelling r.admitted) (word_bytes r.attempt ++ run_byte r.phase ∷ flag_byte r.stopping ∷ flat_map job.spelling r.jobs)
     (fields_length (asked.Admit r.admitted))
-    (1 + (1 + sum_by job_length r.jobs)) (length_admit r.admitted)
-    (behind_one (flag_byte r.stopping ∷ flat_map job.spelling r.jobs) (behind_one (flat_map job.spelling r.jobs) jobs))
+    (4 + (1 + (1 + sum_by job_length r.jobs))) (length_admit r.admitted)
+    (length_two (word_bytes r.attempt) (run_byte r.phase ∷ flag_byte r.stopping ∷ flat_map job.spelling r.jobs) 4
+    (1 + (1 + sum_by job_length r.jobs)) (length_word r.attempt)
+    (behind_one (flag_byte r.stopping ∷ flat_map job.spelling r.jobs) (behind_one (flat_map job.spelling r.jobs) jobs)))
     ∙ omega arith
+
+length_place : (o : Option StoredPlace) → length_of (present place) o ≡ option_map_or (λ _. 16) o 0
+length_place None = refl
+length_place (Some p) =
+    length_two (word_bytes p.run) (word_bytes p.attempt ++ (word_bytes p.job ++ word_bytes p.leg)) 4 12 (length_word p.run)
+    (length_two (word_bytes p.attempt) (word_bytes p.job ++ word_bytes p.leg) 4 8 (length_word p.attempt)
+    (length_two (word_bytes p.job) (word_bytes p.leg) 4 4 (length_word p.job) (length_word p.leg)))
+
+length_kept_lease : (l : StoredLease) → length_of kept_lease l ≡ lease_length l
+length_kept_lease l =
+    length_two (word_bytes l.lease) ((present place).spelling l.place) 4 (option_map_or (λ _. 16) l.place 0) (length_word l.lease)
+    (length_place l.place)
 
 length_last : (l : LastParts) → length_of last_command l ≡ last_length l
 length_last (last.Claim claim None) =
-    length_two (command_bytes (asked.Claim claim)) (kept.spelling replied.Nothing) (command_length (asked.Claim claim)) 5
-    (length_command (asked.Claim claim)) (length_kept 0 0)
-    ∙ omega arith
-  where
-    length_kept : (b n : ℕ) → length (b ∷ word_bytes n) ≡ 5
-    length_kept b n = behind_one (word_bytes n) (length_word n) ∙ omega arith
-length_last (last.Claim claim (Some n)) =
-    length_two (command_bytes (asked.Claim claim)) (kept.spelling (replied.Leased n)) (command_length (asked.Claim claim)) 5
-    (length_command (asked.Claim claim))
-    (behind_one (word_bytes n) (length_word n) ∙ omega arith)
+    length_two (command_bytes (asked.Claim claim)) (kept.spelling replied.Nothing) (command_length (asked.Claim claim)) 1
+    (length_command (asked.Claim claim)) refl
+length_last (last.Claim claim (Some l)) =
+    length_two (command_bytes (asked.Claim claim)) (kept.spelling (replied.Leased l)) (command_length (asked.Claim claim))
+    (1 + lease_length l)
+    (length_command (asked.Claim claim)) (behind_one (kept_lease.spelling l) (length_kept_lease l))
     ∙ omega arith
 length_last (last.Done report) =
-    length_two (command_bytes (asked.Done report)) (kept.spelling replied.Done) (command_length (asked.Done report)) 5
-    (length_command (asked.Done report))
-    (behind_one (word_bytes 0) (length_word 0) ∙ omega arith)
-    ∙ omega arith
+    length_two (command_bytes (asked.Done report)) (kept.spelling replied.Done) (command_length (asked.Done report)) 1
+    (length_command (asked.Done report)) refl
 
 length_runner : (r : StoredRunner) → length_of runner r ≡ runner_length r
 length_runner r =

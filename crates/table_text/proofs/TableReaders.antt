@@ -1,5 +1,5 @@
 -- What reading of tables finds is what is spelled there, and nothing else.
-use Rattle.std.proofs.Common.{◌≡◌, inl, inr, ℕ, ◌≤◌, ◌<◌, ◌^◌, List, [], ◌∷◌, refl, sym, ◌∙◌, ap, subst, arith}
+use Rattle.std.proofs.Common.{◌≡◌, inl, inr, ℕ, ◌≤◌, ◌<◌, ◌^◌, List, [], ◌∷◌, ◌++◌, refl, sym, ◌∙◌, ap, subst, arith}
 use Rattle.std.specs.Prelude.{◌==◌, Bool, true, false, not, nat_le, Option, Some, None, if◌then◌else◌}
 use Rattle.std.proofs.lemmas.Bool.{and_parts, cases_Bool, eqb-true, leb-true}
 use Rattle.std.proofs.lemmas.Option.{same_Some, none-some, cond_some}
@@ -15,6 +15,8 @@ use Rattle.run_table.specs.Stored.{StoredRunner, StoredTable, is_new}
 use Rattle.workflow_runs.specs.RunState.{LegState, JobState, RunState}
 use Rattle.run_table.specs.declared.parts.LastParts.{LastParts}
 use Rattle.run_table.specs.declared.parts.LastParts.TheVariants as last
+use Rattle.run_table.specs.declared.parts.StoredLease.{StoredLease}
+use Rattle.run_table.specs.declared.parts.StoredPlace.{StoredPlace}
 use Rattle.workflow_runs.specs.declared.phases.JobPhase.{JobPhase}
 use Rattle.workflow_runs.specs.declared.phases.JobPhase.TheVariants as job_phase
 use Rattle.workflow_runs.specs.declared.phases.LegPhase.{LegPhase}
@@ -22,22 +24,22 @@ use Rattle.workflow_runs.specs.declared.phases.LegPhase.TheVariants as leg_phase
 use Rattle.workflow_runs.specs.declared.phases.RunPhase.{RunPhase}
 use Rattle.workflow_runs.specs.declared.phases.RunPhase.TheVariants as run_phase
 use Rattle.table_text.specs.Commands.{admit, command, is_numbered, number, small_text}
-use Rattle.table_text.specs.Format.{Format, byte, counted, follow, only, pair, parts, row, word}
-use Rattle.table_text.specs.Reading.{byte_at, counted_at, follow_at, items_at, pair_at, some_at, word_at}
+use Rattle.table_text.specs.Format.{Format, byte, counted, follow, only, pair, parts, present, row, word}
+use Rattle.table_text.specs.Reading.{byte_at, counted_at, follow_at, items_at, pair_at, parts_at, present_at, some_at, word_at}
 use Rattle.table_text.specs.ReadingCommands.{admit_at, command_at, number_at, small_text_at}
-use Rattle.table_text.specs.ReadingTables.{course_at, flag_at, job_at, job_phase_at, job_phases, kept_at, kept_of, last_at, last_lease_at}
-use Rattle.table_text.specs.ReadingTables.{last_of, last_with, lease_at}
-use Rattle.table_text.specs.ReadingTables.{claim_with, lease_of, leg_at, leg_phase_at, leg_phases, of_byte, report_with, run_at}
-use Rattle.table_text.specs.ReadingTables.{run_phase_at, run_phases, runner_at, runners_at, runs_at}
-use Rattle.table_text.specs.ReadingTables.{table_at, with_lease, without_lease}
-use Rattle.table_text.specs.Tables.{IsLease, flag_byte, is_last_lease, job, job_byte, jobs_planned, kept, kept_parts, last_command}
-use Rattle.table_text.specs.Tables.{last_parts, lease}
-use Rattle.table_text.specs.Tables.{lease_word, leg, leg_byte, names_rise, run, run_byte, runner, table}
+use Rattle.table_text.specs.ReadingTables.{attempt_at, claim_with, course_at, flag_at, job_at, job_phase_at, job_phases, kept_at}
+use Rattle.table_text.specs.ReadingTables.{kept_lease_at, kept_of, last_at, last_lease_at, last_of, last_with, lease_at, lease_of}
+use Rattle.table_text.specs.ReadingTables.{leg_at, leg_phase_at, leg_phases, of_byte, place_at, report_with, run_at, run_phase_at}
+use Rattle.table_text.specs.ReadingTables.{run_phases, runner_at, runners_at, runs_at, table_at}
+use Rattle.table_text.specs.Tables.{IsKept, IsLease, flag_byte, is_attempt, is_last_lease, job, job_byte, jobs_planned, kept, kept_bytes}
+use Rattle.table_text.specs.Tables.{kept_lease, last_command, last_parts, lease, lease_word, leg, leg_byte, names_rise, place, run}
+use Rattle.table_text.specs.Tables.{run_byte, runner, table}
 use Rattle.table_text.specs.declared.kept.Kept.{Kept}
 use Rattle.table_text.specs.declared.kept.Kept.TheVariants as replied
 use Rattle.table_text.proofs.CommandReaders.{admit_reads, chosen, command_reads, number_reads, small_text_reads}
-use Rattle.table_text.proofs.FormReaders.{byte_reads, follow_reads, row_reads}
-use Rattle.table_text.proofs.Readers.{Reads, counted_reads, only_reads, pair_reads, parts_reads, some_reads}
+use Rattle.wf_value.proofs.Bytes.{AreBytes, AreBytes-drop}
+use Rattle.table_text.proofs.FormReaders.{byte_reads, follow_reads, present_reads, row_reads}
+use Rattle.table_text.proofs.Readers.{Fronts, Reads, bind_some, counted_reads, only_reads, pair_reads, parts_reads, some_bind, some_reads}
 use Rattle.table_text.proofs.Readers.{these_read, word_reads}
 use Rattle.workflow_runs.proofs.Found.{find_passes}
 
@@ -147,78 +149,126 @@ job_reads =
     (pair_reads (parts job_byte byte) (counted 0 4294967295 leg) job_phase_at (counted_at 0 4294967295 leg_at) job_phase_reads
     (counted_reads 0 4294967295 leg leg_at (omega arith) leg_reads))
 
+pub attempt_reads : Reads (only is_attempt word) attempt_at
+unfolding attempt_at
+attempt_reads = only_reads is_attempt word word_at word_reads
+
+-- the format of what stands behind an attempt
+abbrev state : Admitted → Format (RunPhase × (Bool × List JobState))
+state a = pair (parts run_byte byte) (pair (parts flag_byte byte) (row (jobs_planned a) job))
+
 -- the format of what stands behind an event
-abbrev course : Admitted → Format (RunPhase × (Bool × List JobState))
-course a = pair (parts run_byte byte) (pair (parts flag_byte byte) (row (jobs_planned a) job))
+abbrev course : Admitted → Format (ℕ × (RunPhase × (Bool × List JobState)))
+course a = pair (only is_attempt word) (state a)
 
 course_reads : (a : Admitted) → Reads (course a) (course_at a)
 unfolding course_at
 course_reads a =
-    pair_reads (parts run_byte byte) (pair (parts flag_byte byte) (row (jobs_planned a) job)) run_phase_at
+    pair_reads (only is_attempt word) (state a) attempt_at (pair_at run_phase_at (pair_at flag_at (items_at job_at (jobs_planned a))))
+    attempt_reads
+    (pair_reads (parts run_byte byte) (pair (parts flag_byte byte) (row (jobs_planned a) job)) run_phase_at
     (pair_at flag_at (items_at job_at (jobs_planned a)))
     run_phase_reads
     (pair_reads (parts flag_byte byte) (row (jobs_planned a) job) flag_at (items_at job_at (jobs_planned a)) flag_reads
-    (row_reads (jobs_planned a) job job_at job_reads))
+    (row_reads (jobs_planned a) job job_at job_reads)))
 
 pub run_reads : Reads run run_at
 unfolding run_at
 run_reads =
-    parts_reads (λ (r : RunState). (r.admitted, (r.phase, (r.stopping, r.jobs))))
-    (λ (p : Admitted × (RunPhase × (Bool × List JobState))). record { admitted = p.0; phase = p.1.0; stopping = p.1.1.0; jobs = p.1.1.1 })
+    parts_reads (λ (r : RunState). (r.admitted, (r.attempt, (r.phase, (r.stopping, r.jobs)))))
+    (λ (p : Admitted × (ℕ × (RunPhase × (Bool × List JobState)))). record
+    { admitted = p.0; attempt = p.1.0; phase = p.1.1.0; stopping = p.1.1.1.0; jobs = p.1.1.1.1 })
     (follow admit course) (follow_at admit_at course_at) (λ _. refl) (λ _. refl)
     (follow_reads admit course admit_at course_at admit_reads course_reads)
 
 -- ---- runners
 
-kept_there : (k : Kept) → kept_of (kept_parts k) ≡ Some k
-kept_there replied.Nothing = refl
-kept_there (replied.Leased n) = refl
-kept_there replied.Done = refl
+pub place_reads : Reads place place_at
+unfolding place_at
+place_reads =
+    parts_reads (λ (p : StoredPlace). (p.run, (p.attempt, (p.job, p.leg))))
+    (λ (p : ℕ × (ℕ × (ℕ × ℕ))). record { run = p.0; attempt = p.1.0; job = p.1.1.0; leg = p.1.1.1 })
+    (pair number (pair number (pair word word))) (pair_at number_at (pair_at number_at (pair_at word_at word_at))) (λ _. refl) (λ _. refl)
+    (pair_reads number (pair number (pair word word)) number_at (pair_at number_at (pair_at word_at word_at)) number_reads
+    (pair_reads number (pair word word) number_at (pair_at word_at word_at) number_reads
+    (pair_reads word word word_at word_at word_reads word_reads)))
 
-bare : (k : Kept) (l : Option ℕ) (found : Kept) → without_lease k l ≡ Some found → (k ≡ found) × (l ≡ None)
-bare k None found h = (same_Some k found h, refl)
-bare k (Some n) found h = absurd (none-some found h)
+pub kept_lease_reads : Reads kept_lease kept_lease_at
+unfolding kept_lease_at
+kept_lease_reads =
+    parts_reads (λ (l : StoredLease). (l.lease, l.place)) (λ (p : ℕ × Option StoredPlace). record { lease = p.0; place = p.1 })
+    (pair number (present place)) (pair_at number_at (present_at place_at)) (λ _. refl) (λ _. refl)
+    (pair_reads number (present place) number_at (present_at place_at) number_reads (present_reads place place_at place_reads))
 
-with_one : (l : Option ℕ) (found : Kept) → with_lease l ≡ Some found → (n : ℕ) × (l ≡ Some n) × (replied.Leased n ≡ found)
-with_one None found h = absurd (none-some found h)
-with_one (Some n) found h = (n, refl, same_Some (replied.Leased n) found h)
+-- a reply without a lease is one byte
+bare : (reply b : ℕ) (k : Kept) (rest : List ℕ) (found : Kept × List ℕ) → IsKept k → kept_bytes k ≡ b ∷ [] → AreBytes rest
+    → (reply == b) ≡ true → Some (k, rest) ≡ Some found → Fronts kept (reply ∷ rest) found
+bare reply b k rest found takes spelled are is h =
+    subst (λ (q : Kept × List ℕ). Fronts kept (reply ∷ rest) q) (same_Some (k, rest) found h) (record {
+      takes = takes;
+      split = ap (λ (n : ℕ). n ∷ rest) (eqb-true reply b is) ∙ ap (λ (l : List ℕ). l ++ rest) (sym spelled);
+      rest = are;
+    })
 
-kept_back : (a : ℕ × Option ℕ) (k : Kept) → kept_of a ≡ Some k → kept_parts k ≡ a
-kept_back (b, l) k h =
-    let third : Option Kept = if b == 2 then without_lease replied.Done l else None in
-    let second : Option Kept = if b == 1 then with_lease l else third in
-    let same : (c : ℕ) (m : Option ℕ) (of : Kept) → (b == c) ≡ true → kept_parts of ≡ (c, m) → l ≡ m → of ≡ k → kept_parts k ≡ (b, l) =
-    λ c m of is parts same_lease found.
-    ap kept_parts (sym found) ∙ parts ∙ ap (λ n. (n, m)) (sym (eqb-true b c is)) ∙ ap (λ (o : Option ℕ). (b, o)) (sym same_lease) in
-    elim (chosen (b == 0) (without_lease replied.Nothing l) second (Some k) h) [
-      | inl zero ↦ (let by = bare replied.Nothing l k zero.1 in same 0 None replied.Nothing zero.0 refl by.1 by.0)
-      | inr more ↦ elim (chosen (b == 1) (with_lease l) third (Some k) more.1) [
-        | inl one ↦ (let by = with_one l k one.1 in same 1 (Some by.0) (replied.Leased by.0) one.0 refl by.1 by.2)
-        | inr most ↦ elim (chosen (b == 2) (without_lease replied.Done l) None (Some k) most.1) [
-          | inl two ↦ (let by = bare replied.Done l k two.1 in same 2 None replied.Done two.0 refl by.1 by.0)
-          | inr none ↦ absurd (none-some k none.1)
+with_one : (reply : ℕ) (rest : List ℕ) (found : Kept × List ℕ) → AreBytes rest → (reply == 1) ≡ true
+    → parts_at (λ (l : StoredLease). replied.Leased l) kept_lease_at rest ≡ Some found → Fronts kept (reply ∷ rest) found
+with_one reply rest found are is h =
+    let step = bind_some (kept_lease_at rest) (λ l. Some (replied.Leased l.0, l.1)) found h in
+    let l = step.0 in
+    let front = kept_lease_reads.sound rest l are step.1 in
+    subst (λ (q : Kept × List ℕ). Fronts kept (reply ∷ rest) q) (same_Some (replied.Leased l.0, l.1) found step.2) (record {
+      takes = front.takes;
+      split = ap (λ (n : ℕ). n ∷ rest) (eqb-true reply 1 is) ∙ ap (λ (t : List ℕ). 1 ∷ t) front.split;
+      rest = front.rest;
+    })
+
+kept_behind : (reply : ℕ) (rest : List ℕ) (found : Kept × List ℕ) → AreBytes rest → kept_of reply rest ≡ Some found
+    → Fronts kept (reply ∷ rest) found
+unfolding kept_of
+kept_behind reply rest found are h =
+    let third : Option (Kept × List ℕ) = if reply == 2 then Some (replied.Done, rest) else None in
+    let one : Option (Kept × List ℕ) = parts_at (λ (l : StoredLease). replied.Leased l) kept_lease_at rest in
+    let second : Option (Kept × List ℕ) = if reply == 1 then one else third in
+    elim (chosen (reply == 0) (Some (replied.Nothing, rest)) second (Some found) h) [
+      | inl zero ↦ bare reply 0 replied.Nothing rest found tt refl are zero.0 zero.1
+      | inr more ↦ elim (chosen (reply == 1) one third (Some found) more.1) [
+        | inl leased ↦ with_one reply rest found are leased.0 leased.1
+        | inr most ↦ elim (chosen (reply == 2) (Some (replied.Done, rest)) None (Some found) most.1) [
+          | inl two ↦ bare reply 2 replied.Done rest found tt refl are two.0 two.1
+          | inr none ↦ absurd (none-some found none.1)
         ]
       ]
     ]
 
-pub kept_reads : Reads kept kept_at
+kept_finds : (bytes : List ℕ) (found : Kept × List ℕ) → AreBytes bytes → kept_at bytes ≡ Some found → Fronts kept bytes found
 unfolding kept_at
-kept_reads = some_reads kept_parts kept_of (pair byte lease) (pair_at byte_at lease_at) kept_there kept_back
-    (pair_reads byte lease byte_at lease_at byte_reads lease_reads)
+kept_finds [] found are h = absurd (none-some found h)
+kept_finds (reply ∷ rest) found are h = kept_behind reply rest found (AreBytes-drop 1 (reply ∷ rest) are) h
+
+kept_found : (k : Kept) (rest : List ℕ) → IsKept k → kept_at (kept_bytes k ++ rest) ≡ Some (k, rest)
+unfolding kept_at kept_of
+kept_found replied.Nothing rest takes = refl
+kept_found (replied.Leased l) rest takes =
+    some_bind (kept_lease_at (kept_lease.spelling l ++ rest)) (λ x. Some (replied.Leased x.0, x.1)) (l, rest)
+    (kept_lease_reads.complete l rest takes)
+kept_found replied.Done rest takes = refl
+
+pub kept_reads : Reads kept kept_at
+kept_reads = record { sound = kept_finds; complete = kept_found }
 
 last_there : (l : LastParts) → last_of (last_parts l) ≡ Some l
 last_there (last.Claim claim None) = refl
-last_there (last.Claim claim (Some n)) = refl
+last_there (last.Claim claim (Some l)) = refl
 last_there (last.Done report) = refl
 
 claim_back : (claim : Claim) (k : Kept) (l : LastParts) → claim_with claim k ≡ Some l → last_parts l ≡ (asked.Claim claim, k)
 claim_back claim replied.Nothing l h = ap last_parts (sym (same_Some (last.Claim claim None) l h))
-claim_back claim (replied.Leased n) l h = ap last_parts (sym (same_Some (last.Claim claim (Some n)) l h))
+claim_back claim (replied.Leased given) l h = ap last_parts (sym (same_Some (last.Claim claim (Some given)) l h))
 claim_back claim replied.Done l h = absurd (none-some l h)
 
 report_back : (report : Done) (k : Kept) (l : LastParts) → report_with report k ≡ Some l → last_parts l ≡ (asked.Done report, k)
 report_back report replied.Nothing l h = absurd (none-some l h)
-report_back report (replied.Leased n) l h = absurd (none-some l h)
+report_back report (replied.Leased given) l h = absurd (none-some l h)
 report_back report replied.Done l h = ap last_parts (sym (same_Some (last.Done report) l h))
 
 last_back_of : (c : Command) (k : Kept) (l : LastParts) → last_with c k ≡ Some l → last_parts l ≡ (c, k)

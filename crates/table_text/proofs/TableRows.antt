@@ -5,6 +5,7 @@ use Rattle.wf_value.specs.declared.outcome.Outcome.TheVariants as outcome
 use Rattle.run_table.specs.Stored.{StoredRunner, StoredTable}
 use Rattle.workflow_runs.specs.RunState.{LegState, JobState, RunState}
 use Rattle.run_table.specs.declared.parts.LastParts.TheVariants as last
+use Rattle.run_table.specs.declared.parts.StoredLease.{StoredLease}
 use Rattle.workflow_runs.specs.declared.phases.JobPhase.{JobPhase}
 use Rattle.workflow_runs.specs.declared.phases.JobPhase.TheVariants as job_phase
 use Rattle.workflow_runs.specs.declared.phases.LegPhase.{LegPhase}
@@ -13,7 +14,7 @@ use Rattle.workflow_runs.specs.declared.phases.RunPhase.{RunPhase}
 use Rattle.workflow_runs.specs.declared.phases.RunPhase.TheVariants as run_phase
 use Rattle.table_text.specs.Format.{text_bytes, word_bytes}
 use Rattle.table_text.specs.TableLengths.{table_length}
-use Rattle.table_text.specs.Tables.{job, names_rise, runner, run, table}
+use Rattle.table_text.specs.Tables.{is_attempt, job, names_rise, runner, run, table}
 
 -- without runs and runners: twelve zero bytes
 abbrev empty : StoredTable
@@ -31,6 +32,7 @@ first_run = record {
     event = codes "push";
     body = codes "{\"repo\":\"o/r\",\"path\":\"ci.json\",\"workflow\":{\"jobs\":{\"build\":{\"runs-on\":\"linux\"}}}}";
   };
+  attempt = 1;
   phase = run_phase.Live;
   stopping = false;
   jobs = record { phase = job_phase.Open; legs = record { phase = leg_phase.Ready; lease = None } ∷ [] } ∷ [];
@@ -39,14 +41,14 @@ first_run = record {
 abbrev admitted : StoredTable
 admitted = record { last_lease = 0; runs = first_run ∷ []; runners = [] }
 
-after_the_first_admission : table_length admitted ≡ 123
+after_the_first_admission : table_length admitted ≡ 127
 after_the_first_admission = refl
 
 -- the ready leg has no lease, which is 0
 admitted_bytes : table.spelling admitted
     ≡ (0 ∷ 0 ∷ 0 ∷ 0 ∷ 0 ∷ 0 ∷ 0 ∷ 1 ∷ 0 ∷ 0 ∷ 0 ∷ 2 ∷ 100 ∷ 49 ∷ 0 ∷ 0 ∷ 0 ∷ 4 ∷ 112 ∷ 117 ∷ 115 ∷ 104 ∷ 0 ∷ 0 ∷ 0 ∷ 81 ∷ [])
     ++ first_run.admitted.body
-    ++ (1 ∷ 0 ∷ 1 ∷ 0 ∷ 0 ∷ 0 ∷ 1 ∷ 2 ∷ 0 ∷ 0 ∷ 0 ∷ 0 ∷ 0 ∷ 0 ∷ 0 ∷ 0 ∷ [])
+    ++ (0 ∷ 0 ∷ 0 ∷ 1 ∷ 1 ∷ 0 ∷ 1 ∷ 0 ∷ 0 ∷ 0 ∷ 1 ∷ 2 ∷ 0 ∷ 0 ∷ 0 ∷ 0 ∷ 0 ∷ 0 ∷ 0 ∷ 0 ∷ [])
 unfolding text_bytes word_bytes
 admitted_bytes = refl
 
@@ -56,34 +58,40 @@ claimed_run = record first_run {
   jobs = record { phase = job_phase.Open; legs = record { phase = leg_phase.Running; lease = Some 1 } ∷ [] } ∷ [];
 }
 
+-- a lease that is kept, of a leg in an attempt of a run
+abbrev kept_at_place : ℕ → ℕ → ℕ → ℕ → ℕ → StoredLease
+kept_at_place lease run attempt job leg =
+    record { lease = lease; place = Some (record { run = run; attempt = attempt; job = job; leg = leg }) }
+
 -- which the first runner holds
 abbrev first_runner : StoredRunner
 first_runner = record {
   name = codes "r1";
   number = 1;
-  last = last.Claim (record { runner = codes "r1"; number = 1; labels = codes "linux" ∷ [] }) (Some 1);
+  last = last.Claim (record { runner = codes "r1"; number = 1; labels = codes "linux" ∷ [] }) (Some (kept_at_place 1 1 1 0 0));
   holds = Some 1;
 }
 
 abbrev claimed : StoredTable
 claimed = record { last_lease = 1; runs = claimed_run ∷ []; runners = first_runner ∷ [] }
 
-after_the_first_claim : table_length claimed ≡ 166
+after_the_first_claim : table_length claimed ≡ 186
 after_the_first_claim = refl
 
 claimed_bytes : table.spelling claimed
     ≡ (0 ∷ 0 ∷ 0 ∷ 1 ∷ 0 ∷ 0 ∷ 0 ∷ 1 ∷ 0 ∷ 0 ∷ 0 ∷ 2 ∷ 100 ∷ 49 ∷ 0 ∷ 0 ∷ 0 ∷ 4 ∷ 112 ∷ 117 ∷ 115 ∷ 104 ∷ 0 ∷ 0 ∷ 0 ∷ 81 ∷ [])
     ++ first_run.admitted.body
-    ++ (1 ∷ 0 ∷ 1 ∷ 0 ∷ 0 ∷ 0 ∷ 1 ∷ 3 ∷ 0 ∷ 0 ∷ 0 ∷ 1 ∷ 0 ∷ 0 ∷ 0 ∷ 1 ∷ 0 ∷ 0 ∷ 0 ∷ 2 ∷ 114 ∷ 49 ∷ 0 ∷ 0 ∷ 0 ∷ 1
+    ++ (0 ∷ 0 ∷ 0 ∷ 1 ∷ 1 ∷ 0 ∷ 1 ∷ 0 ∷ 0 ∷ 0 ∷ 1 ∷ 3 ∷ 0 ∷ 0 ∷ 0 ∷ 1 ∷ 0 ∷ 0 ∷ 0 ∷ 1 ∷ 0 ∷ 0 ∷ 0 ∷ 2 ∷ 114 ∷ 49 ∷ 0 ∷ 0 ∷ 0 ∷ 1
     ∷ 2 ∷ 0 ∷ 0 ∷ 0 ∷ 2 ∷ 114 ∷ 49 ∷ 0 ∷ 0 ∷ 0 ∷ 1 ∷ 0 ∷ 0 ∷ 0 ∷ 1 ∷ 0 ∷ 0 ∷ 0 ∷ 5 ∷ 108 ∷ 105 ∷ 110 ∷ 117 ∷ 120
-    ∷ 1 ∷ 0 ∷ 0 ∷ 0 ∷ 1 ∷ 0 ∷ 0 ∷ 0 ∷ 1 ∷ [])
+    ∷ 1 ∷ 0 ∷ 0 ∷ 0 ∷ 1 ∷ 0 ∷ 0 ∷ 0 ∷ 1 ∷ 0 ∷ 0 ∷ 0 ∷ 1 ∷ 0 ∷ 0 ∷ 0 ∷ 0 ∷ 0 ∷ 0 ∷ 0 ∷ 0 ∷ 0 ∷ 0 ∷ 0 ∷ 1 ∷ [])
 unfolding text_bytes word_bytes
 claimed_bytes = refl
 
--- a stopping run of no event that counts here, with one job settled and one open
+-- a stopping run of no event that counts here, at the last attempt, with one job settled and one open
 abbrev stopping_run : RunState
 stopping_run = record {
   admitted = record { delivery = codes "d"; event = codes "e"; body = codes "b" };
+  attempt = 1000;
   phase = run_phase.Live;
   stopping = true;
   jobs =
@@ -93,7 +101,7 @@ stopping_run = record {
 }
 
 stopping_run_bytes : run.spelling stopping_run
-    ≡ 0 ∷ 0 ∷ 0 ∷ 1 ∷ 100 ∷ 0 ∷ 0 ∷ 0 ∷ 1 ∷ 101 ∷ 0 ∷ 0 ∷ 0 ∷ 1 ∷ 98 ∷ 1 ∷ 1
+    ≡ 0 ∷ 0 ∷ 0 ∷ 1 ∷ 100 ∷ 0 ∷ 0 ∷ 0 ∷ 1 ∷ 101 ∷ 0 ∷ 0 ∷ 0 ∷ 1 ∷ 98 ∷ 0 ∷ 0 ∷ 3 ∷ 232 ∷ 1 ∷ 1
     ∷ 3 ∷ 0 ∷ 0 ∷ 0 ∷ 1 ∷ 6 ∷ 0 ∷ 0 ∷ 0 ∷ 1
     ∷ 1 ∷ 0 ∷ 0 ∷ 0 ∷ 1 ∷ 4 ∷ 0 ∷ 0 ∷ 1 ∷ 2
     ∷ 0 ∷ 0 ∷ 0 ∷ 0 ∷ 0 ∷ []
@@ -136,7 +144,7 @@ run_in phase = record stopping_run {
 
 -- what stands before the run's phase, and behind its stop flag
 abbrev before_phase : List ℕ
-before_phase = 0 ∷ 0 ∷ 0 ∷ 1 ∷ 100 ∷ 0 ∷ 0 ∷ 0 ∷ 1 ∷ 101 ∷ 0 ∷ 0 ∷ 0 ∷ 1 ∷ 98 ∷ []
+before_phase = 0 ∷ 0 ∷ 0 ∷ 1 ∷ 100 ∷ 0 ∷ 0 ∷ 0 ∷ 1 ∷ 101 ∷ 0 ∷ 0 ∷ 0 ∷ 1 ∷ 98 ∷ 0 ∷ 0 ∷ 3 ∷ 232 ∷ []
 
 abbrev six_jobs : List ℕ
 six_jobs = 0 ∷ 0 ∷ 0 ∷ 0 ∷ 0 ∷ 1 ∷ 0 ∷ 0 ∷ 0 ∷ 0 ∷ 2 ∷ 0 ∷ 0 ∷ 0 ∷ 0 ∷ 3 ∷ 0 ∷ 0 ∷ 0 ∷ 0 ∷ 4 ∷ 0 ∷ 0 ∷ 0 ∷ 0 ∷ 5 ∷ 0 ∷ 0 ∷ 0 ∷ 0 ∷ []
@@ -153,19 +161,32 @@ ended_run_bytes : run.spelling (run_in run_phase.Ended) ≡ before_phase ++ 2 �
 unfolding text_bytes word_bytes
 ended_run_bytes = refl
 
--- a runner that was given lease 2 by its third command and has it
+-- before the first and behind the last there is none
+no_attempt_zero : is_attempt 0 ≡ false
+no_attempt_zero = refl
+
+the_first_attempt : is_attempt 1 ≡ true
+the_first_attempt = refl
+
+the_last_attempt : is_attempt 1000 ≡ true
+the_last_attempt = refl
+
+none_behind_the_last : is_attempt 1001 ≡ false
+none_behind_the_last = refl
+
+-- a runner that was given lease 2 by its third command and has it: leg 255 of the second job of run 258, in its second attempt
 abbrev leased_runner : StoredRunner
 leased_runner = record {
   name = codes "r1";
   number = 3;
-  last = last.Claim (record { runner = codes "r1"; number = 3; labels = codes "x" ∷ [] }) (Some 2);
+  last = last.Claim (record { runner = codes "r1"; number = 3; labels = codes "x" ∷ [] }) (Some (kept_at_place 2 258 2 1 255));
   holds = Some 2;
 }
 
 leased_runner_bytes : runner.spelling leased_runner
     ≡ 0 ∷ 0 ∷ 0 ∷ 2 ∷ 114 ∷ 49 ∷ 0 ∷ 0 ∷ 0 ∷ 3
     ∷ 2 ∷ 0 ∷ 0 ∷ 0 ∷ 2 ∷ 114 ∷ 49 ∷ 0 ∷ 0 ∷ 0 ∷ 3 ∷ 0 ∷ 0 ∷ 0 ∷ 1 ∷ 0 ∷ 0 ∷ 0 ∷ 1 ∷ 120
-    ∷ 1 ∷ 0 ∷ 0 ∷ 0 ∷ 2
+    ∷ 1 ∷ 0 ∷ 0 ∷ 0 ∷ 2 ∷ 0 ∷ 0 ∷ 1 ∷ 2 ∷ 0 ∷ 0 ∷ 0 ∷ 2 ∷ 0 ∷ 0 ∷ 0 ∷ 1 ∷ 0 ∷ 0 ∷ 0 ∷ 255
     ∷ 0 ∷ 0 ∷ 0 ∷ 2 ∷ []
 unfolding text_bytes word_bytes
 leased_runner_bytes = refl
@@ -182,7 +203,7 @@ idle_runner = record {
 idle_runner_bytes : runner.spelling idle_runner
     ≡ 0 ∷ 0 ∷ 0 ∷ 1 ∷ 114 ∷ 0 ∷ 0 ∷ 0 ∷ 1
     ∷ 2 ∷ 0 ∷ 0 ∷ 0 ∷ 1 ∷ 114 ∷ 0 ∷ 0 ∷ 0 ∷ 1 ∷ 0 ∷ 0 ∷ 0 ∷ 1 ∷ 0 ∷ 0 ∷ 0 ∷ 1 ∷ 120
-    ∷ 0 ∷ 0 ∷ 0 ∷ 0 ∷ 0
+    ∷ 0
     ∷ 0 ∷ 0 ∷ 0 ∷ 0 ∷ []
 unfolding text_bytes word_bytes
 idle_runner_bytes = refl
@@ -199,7 +220,7 @@ reporting_runner = record {
 reporting_runner_bytes : runner.spelling reporting_runner
     ≡ 0 ∷ 0 ∷ 0 ∷ 2 ∷ 114 ∷ 49 ∷ 0 ∷ 0 ∷ 0 ∷ 2
     ∷ 3 ∷ 0 ∷ 0 ∷ 0 ∷ 2 ∷ 114 ∷ 49 ∷ 0 ∷ 0 ∷ 0 ∷ 2 ∷ 0 ∷ 0 ∷ 0 ∷ 1 ∷ 2
-    ∷ 2 ∷ 0 ∷ 0 ∷ 0 ∷ 0
+    ∷ 2
     ∷ 0 ∷ 0 ∷ 0 ∷ 0 ∷ []
 unfolding text_bytes word_bytes
 reporting_runner_bytes = refl

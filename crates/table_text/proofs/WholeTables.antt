@@ -1,15 +1,21 @@
 -- Whole tables are spelled by what is stored of them, which tells sound ones apart.
 use Rattle.std.proofs.Common.{◌≡◌, List, ℕ, ◌++◌, refl, sym, ◌∙◌, ap, subst}
-use Rattle.std.specs.Prelude.{None}
-use Rattle.run_table.specs.Sound.{IsSound, KeptLeasesAreLegs}
-use Rattle.run_table.specs.Stored.{StoredTable, stored_table}
-use Rattle.run_table.specs.TableOf.{IsNoTable}
+use Rattle.std.specs.Prelude.{true, is_some, Option, None, Some}
+use Rattle.std.specs.List.{AllByRecursion}
+use Rattle.run_table.specs.Sound.{IsSound}
+use Rattle.run_table.specs.Stored.{StoredRunner, StoredTable, stored_table}
+use Rattle.run_table.specs.TableOf.{AreRunnersAs, IsNoTable, IsStoredAs}
 use Rattle.run_table.specs.TableState.{TableState}
+use Rattle.run_table.specs.declared.parts.LastParts.{LastParts}
+use Rattle.run_table.specs.declared.parts.LastParts.TheVariants as last
+use Rattle.run_table.specs.declared.parts.StoredPlace.{StoredPlace}
 use Rattle.workflow_runs.specs.RunState.{RunState}
+use Rattle.workflow_runs.proofs.Found.{each_at}
 use Rattle.run_table.proofs.StoredOnce.{same_runners}
-use Rattle.table_text.specs.Format.{NoneBeginsAnother, OpensWith, StandsAtFront}
+use Rattle.run_table.proofs.StoredParts.{HasPlace, HavePlaces, is_stored, stored_again}
+use Rattle.table_text.specs.Format.{NoneBeginsAnother, OpensWith, StandsAtFront, present}
 use Rattle.table_text.specs.ReadingTables.{table_at}
-use Rattle.table_text.specs.Tables.{table}
+use Rattle.table_text.specs.Tables.{last_command, place, runner, table}
 use Rattle.table_text.specs.WholeTables.{whole_table}
 use Rattle.table_text.proofs.Readers.{none_begins}
 use Rattle.table_text.proofs.TableReaders.{table_reads}
@@ -17,11 +23,15 @@ use Rattle.table_text.proofs.TableReaders.{table_reads}
 -- sound tables of which the same is stored are one
 one_stored : (one two : TableState) → IsSound one → IsSound two → stored_table one ≡ stored_table two → one ≡ two
 one_stored one two first second same =
-    let lease : one.last_lease ≡ two.last_lease = ap (λ (s : StoredTable). s.last_lease) same in
-    let runs : one.runs ≡ two.runs = ap (λ (s : StoredTable). s.runs) same in
+    let again : IsStoredAs (stored_table one) two = subst (λ (s : StoredTable). IsStoredAs s two) (sym same) (is_stored two second) in
+    let lease : one.last_lease ≡ two.last_lease = sym again.last_lease in
+    let runs : one.runs ≡ two.runs = sym again.runs in
+    let here : AreRunnersAs one.last_lease one.runs (stored_table one).runners two.runners =
+    subst (λ (n : ℕ). AreRunnersAs n one.runs (stored_table one).runners two.runners) again.last_lease
+    (subst (λ (xs : List RunState). AreRunnersAs two.last_lease xs (stored_table one).runners two.runners) again.runs again.runners) in
     let runners : one.runners ≡ two.runners =
-    same_runners one.runs first.leases_differ one.runners two.runners (ap (λ (s : StoredTable). s.runners) same) first.kept_leases_are_legs
-    (subst (λ (xs : List RunState). KeptLeasesAreLegs xs two.runners) (sym runs) second.kept_leases_are_legs) in
+    same_runners one.last_lease one.runs first.leases_differ (stored_table one).runners one.runners two.runners
+    (is_stored one first).runners here in
     λ i. record { last_lease = lease i; runs = runs i; runners = runners i }
 
 pub whole_begins_none : NoneBeginsAnother whole_table
@@ -42,4 +52,26 @@ none_of_parts bytes rest parts opens none t other again =
     let one = none_begins table table_at table_reads (table.spelling (stored_table t)) (table.spelling parts) other rest
     (stored_table t) parts
     (again.0.1, refl) (opens.0, refl) same in
-    none t (record { is_sound = again.0.0; stored = one.1 })
+    none t (subst (λ (s : StoredTable). IsStoredAs s t) one.1 (is_stored t again.0.0))
+
+-- and the table of the parts is the one that stands there: where a lease is kept, its place is
+has_place : (o : Option StoredPlace) → (present place).Takes o → is_some o ≡ true
+has_place None takes = absurd takes
+has_place (Some p) takes = refl
+
+last_has_place : (l : LastParts) → last_command.Takes l → HasPlace l
+last_has_place (last.Claim claim None) takes = tt
+last_has_place (last.Claim claim (Some l)) takes = has_place l.place takes.1.1
+last_has_place (last.Done report) takes = tt
+
+have_places : (runners : List StoredRunner) → AllByRecursion runner.Takes runners → HavePlaces runners
+have_places runners takes k part at = last_has_place part.last (each_at runner.Takes runners k part takes at).1.1.0
+
+pub one_of_parts : (bytes rest : List ℕ) (parts : StoredTable) (t : TableState) → OpensWith table bytes parts rest → IsStoredAs parts t
+    → OpensWith whole_table bytes t rest
+one_of_parts bytes rest parts t opens is =
+    let same : stored_table t ≡ parts = stored_again parts t (have_places parts.runners opens.0.1.1.0.2) is in
+    (
+      (is.is_sound, subst table.Takes (sym same) opens.0),
+      opens.1 ∙ ap (λ (s : StoredTable). table.spelling s ++ rest) (sym same),
+    )

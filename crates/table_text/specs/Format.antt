@@ -1,7 +1,8 @@
 -- Formats of bytes: which values have a spelling, and which one that is. Own: there is no public source.
-use Rattle.std.specs.Prelude.{◌≡◌, ℕ, ◌<◌, ◌≤◌, ◌^◌, List, [], ◌∷◌, ◌++◌, length, flat_map, Bool, IsTrue, Option, Some, None}
+use Rattle.std.specs.Prelude.{◌≡◌, ℕ, ◌<◌, ◌≤◌, ◌^◌, List, [], ◌∷◌, ◌++◌, length, flat_map, Bool, IsTrue, Option, Some, None, IsSomeAnd}
 use Rattle.std.specs.List.{AllByRecursion}
 use Rattle.std.specs.Int.{to_be_bytes, w32}
+use Rattle.std.specs.Option.{option_map_or}
 
 -- the values that have a spelling, and what it is
 pub record Format (A : Type 0) : Type 1 where
@@ -80,6 +81,10 @@ follow first second = record {
   Takes = λ p. first.Takes p.0 × (second p.0).Takes p.1;
   spelling = λ p. first.spelling p.0 ++ (second p.0).spelling p.1;
 }
+
+-- a value that could be missing: it is there
+abbrev pub present : {A : Type 0} → Format A → Format (Option A)
+present format = record { Takes = λ o. IsSomeAnd o format.Takes; spelling = λ o. option_map_or format.spelling o [] }
 
 -- just so many values, one behind the other, without a count
 abbrev pub row : {A : Type 0} → ℕ → Format A → Format (List A)

@@ -65,5 +65,9 @@ byte_at (b ∷ rest) = Some (b, rest)
 abbrev pub some_at : {A B : Type 0} → (A → Option B) → Reader A → Reader B
 some_at whole_of at bytes = at bytes >>= (λ a. whole_of a.0 >>= (λ b. Some (b, a.1)))
 
+-- a value that is there
+abbrev pub present_at : {A : Type 0} → Reader A → Reader (Option A)
+present_at {A} at bytes = parts_at (λ (x : A). Some x) at bytes
+
 abbrev pub follow_at : {A B : Type 0} → Reader A → (A → Reader B) → Reader (A × B)
 follow_at first second bytes = first bytes >>= (λ a. second a.0 a.1 >>= (λ b. Some ((a.0, b.0), b.1)))

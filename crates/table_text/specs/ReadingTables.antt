@@ -12,6 +12,8 @@ use Rattle.run_table.specs.Stored.{StoredRunner, StoredTable, is_new}
 use Rattle.workflow_runs.specs.RunState.{LegState, JobState, RunState}
 use Rattle.run_table.specs.declared.parts.LastParts.{LastParts}
 use Rattle.run_table.specs.declared.parts.LastParts.TheVariants as last
+use Rattle.run_table.specs.declared.parts.StoredLease.{StoredLease}
+use Rattle.run_table.specs.declared.parts.StoredPlace.{StoredPlace}
 use Rattle.workflow_runs.specs.declared.phases.JobPhase.{JobPhase}
 use Rattle.workflow_runs.specs.declared.phases.JobPhase.TheVariants as job_phase
 use Rattle.workflow_runs.specs.declared.phases.LegPhase.{LegPhase}
@@ -21,9 +23,9 @@ use Rattle.workflow_runs.specs.declared.phases.RunPhase.TheVariants as run_phase
 use Rattle.table_text.specs.declared.kept.Kept.{Kept}
 use Rattle.table_text.specs.declared.kept.Kept.TheVariants as replied
 use Rattle.table_text.specs.Commands.{is_numbered}
-use Rattle.table_text.specs.Reading.{Reader, byte_at, counted_at, follow_at, items_at, only_at, pair_at, parts_at, some_at, word_at}
+use Rattle.table_text.specs.Reading.{Reader, byte_at, counted_at, follow_at, items_at, only_at, pair_at, parts_at, present_at, some_at, word_at}
 use Rattle.table_text.specs.ReadingCommands.{admit_at, command_at, number_at, small_text_at}
-use Rattle.table_text.specs.Tables.{flag_byte, is_last_lease, job_byte, jobs_planned, leg_byte, names_rise, run_byte}
+use Rattle.table_text.specs.Tables.{flag_byte, is_attempt, is_last_lease, job_byte, jobs_planned, leg_byte, names_rise, run_byte}
 
 -- 0 is none
 abbrev pub lease_told : ℕ → Option ℕ
@@ -76,43 +78,49 @@ unfoldable pub job_at : Reader JobState
 job_at bytes = parts_at (λ (p : JobPhase × List LegState). record { phase = p.0; legs = p.1 })
     (pair_at job_phase_at (counted_at 0 4294967295 leg_at)) bytes
 
--- the phase, the stop flag and the jobs that the plan has
-unfoldable pub course_at : Admitted → Reader (RunPhase × (Bool × List JobState))
-course_at a bytes = pair_at run_phase_at (pair_at flag_at (items_at job_at (jobs_planned a))) bytes
+unfoldable pub attempt_at : Reader ℕ
+attempt_at bytes = only_at is_attempt word_at bytes
+
+-- the attempt, the phase, the stop flag and the jobs that the plan has
+unfoldable pub course_at : Admitted → Reader (ℕ × (RunPhase × (Bool × List JobState)))
+course_at a bytes = pair_at attempt_at (pair_at run_phase_at (pair_at flag_at (items_at job_at (jobs_planned a)))) bytes
 
 unfoldable pub run_at : Reader RunState
 run_at bytes =
-    parts_at (λ (p : Admitted × (RunPhase × (Bool × List JobState))). record
-    { admitted = p.0; phase = p.1.0; stopping = p.1.1.0; jobs = p.1.1.1 })
+    parts_at (λ (p : Admitted × (ℕ × (RunPhase × (Bool × List JobState)))). record
+    { admitted = p.0; attempt = p.1.0; phase = p.1.1.0; stopping = p.1.1.1.0; jobs = p.1.1.1.1 })
     (follow_at admit_at course_at) bytes
 
 -- ---- runners
 
-abbrev pub without_lease : Kept → Option ℕ → Option Kept
-without_lease kept None = Some kept
-without_lease kept (Some n) = None
+unfoldable pub place_at : Reader StoredPlace
+place_at bytes =
+    parts_at (λ (p : ℕ × (ℕ × (ℕ × ℕ))). record { run = p.0; attempt = p.1.0; job = p.1.1.0; leg = p.1.1.1 })
+    (pair_at number_at (pair_at number_at (pair_at word_at word_at))) bytes
 
-abbrev pub with_lease : Option ℕ → Option Kept
-with_lease None = None
-with_lease (Some n) = Some (replied.Leased n)
+unfoldable pub kept_lease_at : Reader StoredLease
+kept_lease_at bytes =
+    parts_at (λ (p : ℕ × Option StoredPlace). record { lease = p.0; place = p.1 }) (pair_at number_at (present_at place_at)) bytes
 
-abbrev pub kept_of : ℕ × Option ℕ → Option Kept
-kept_of p =
-    if p.0 == 0 then without_lease replied.Nothing p.1
-    else (if p.0 == 1 then with_lease p.1
-    else (if p.0 == 2 then without_lease replied.Done p.1 else None))
+-- what stands behind the byte of a kept reply
+unfoldable pub kept_of : ℕ → Reader Kept
+kept_of reply rest =
+    if reply == 0 then Some (replied.Nothing, rest)
+    else (if reply == 1 then parts_at (λ (l : StoredLease). replied.Leased l) kept_lease_at rest
+    else (if reply == 2 then Some (replied.Done, rest) else None))
 
 unfoldable pub kept_at : Reader Kept
-kept_at bytes = some_at kept_of (pair_at byte_at lease_at) bytes
+kept_at [] = None
+kept_at (reply ∷ rest) = kept_of reply rest
 
 abbrev pub claim_with : Claim → Kept → Option LastParts
 claim_with claim replied.Nothing = Some (last.Claim claim None)
-claim_with claim (replied.Leased n) = Some (last.Claim claim (Some n))
+claim_with claim (replied.Leased l) = Some (last.Claim claim (Some l))
 claim_with claim replied.Done = None
 
 abbrev pub report_with : Done → Kept → Option LastParts
 report_with report replied.Nothing = None
-report_with report (replied.Leased n) = None
+report_with report (replied.Leased l) = None
 report_with report replied.Done = Some (last.Done report)
 
 abbrev pub last_with : Command → Kept → Option LastParts

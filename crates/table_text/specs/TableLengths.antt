@@ -1,24 +1,31 @@
 -- How many bytes a table is spelled in, as a sum over its fields. Own: there is no public source.
-use Rattle.std.specs.Prelude.{ℕ, ◌+◌, ◌*◌, length, sum_by}
+use Rattle.std.specs.Prelude.{ℕ, ◌+◌, ◌*◌, length, sum_by, Option, Some, None}
+use Rattle.std.specs.Option.{option_map_or}
 use Rattle.run_plan.specs.declared.command.Command.TheVariants as asked
 use Rattle.run_table.specs.Stored.{StoredRunner, StoredTable}
 use Rattle.workflow_runs.specs.RunState.{JobState, RunState}
 use Rattle.run_table.specs.declared.parts.LastParts.{LastParts}
 use Rattle.run_table.specs.declared.parts.LastParts.TheVariants as last
+use Rattle.run_table.specs.declared.parts.StoredLease.{StoredLease}
 use Rattle.table_text.specs.Lengths.{command_length, fields_length, text_length}
 
 -- a phase, the count of the legs, and of each leg its phase and its lease
 abbrev pub job_length : JobState → ℕ
 job_length j = 1 + 4 + 5 * length j.legs
 
--- what was admitted, a phase, a flag and the jobs
+-- what was admitted, an attempt, a phase, a flag and the jobs
 abbrev pub run_length : RunState → ℕ
-run_length r = fields_length (asked.Admit r.admitted) + 1 + 1 + sum_by job_length r.jobs
+run_length r = fields_length (asked.Admit r.admitted) + 4 + 1 + 1 + sum_by job_length r.jobs
 
--- a command, a byte for its reply and a lease
+-- a lease, and the four numbers of its place
+abbrev pub lease_length : StoredLease → ℕ
+lease_length l = 4 + option_map_or (λ _. 16) l.place 0
+
+-- a command, a byte for its reply, and the lease where that is one
 abbrev pub last_length : LastParts → ℕ
-last_length (last.Claim claim given) = command_length (asked.Claim claim) + 1 + 4
-last_length (last.Done report) = command_length (asked.Done report) + 1 + 4
+last_length (last.Claim claim None) = command_length (asked.Claim claim) + 1
+last_length (last.Claim claim (Some l)) = command_length (asked.Claim claim) + 1 + lease_length l
+last_length (last.Done report) = command_length (asked.Done report) + 1
 
 -- a name, a number, a last command and a lease
 abbrev pub runner_length : StoredRunner → ℕ

@@ -1,6 +1,6 @@
 -- The spelling of a table, field by field. The bytes of a run say how many jobs it has only through their body, whose plan
 -- has so many. Own: there is no public source.
-use Rattle.std.specs.Prelude.{ℕ, List, length, Bool, true, false, not, nat_le, Option, Some, None}
+use Rattle.std.specs.Prelude.{ℕ, List, [], ◌∷◌, length, ◌&&◌, Bool, true, false, not, nat_le, Option, Some, None}
 use Rattle.wf_value.specs.Names.{rises_by}
 use Rattle.wf_value.specs.declared.outcome.JobResult.TheVariants as result
 use Rattle.wf_value.specs.declared.outcome.Outcome.TheVariants as outcome
@@ -13,6 +13,8 @@ use Rattle.run_table.specs.Stored.{StoredRunner, StoredTable, is_new}
 use Rattle.workflow_runs.specs.RunState.{LegState, JobState, RunState}
 use Rattle.run_table.specs.declared.parts.LastParts.{LastParts}
 use Rattle.run_table.specs.declared.parts.LastParts.TheVariants as last
+use Rattle.run_table.specs.declared.parts.StoredLease.{StoredLease}
+use Rattle.run_table.specs.declared.parts.StoredPlace.{StoredPlace}
 use Rattle.workflow_runs.specs.declared.phases.JobPhase.{JobPhase}
 use Rattle.workflow_runs.specs.declared.phases.JobPhase.TheVariants as job_phase
 use Rattle.workflow_runs.specs.declared.phases.LegPhase.{LegPhase}
@@ -22,7 +24,7 @@ use Rattle.workflow_runs.specs.declared.phases.RunPhase.TheVariants as run_phase
 use Rattle.table_text.specs.declared.kept.Kept.{Kept}
 use Rattle.table_text.specs.declared.kept.Kept.TheVariants as replied
 use Rattle.table_text.specs.Commands.{admit, command, number, small_text}
-use Rattle.table_text.specs.Format.{Format, byte, counted, follow, only, pair, parts, row, word, word_bytes}
+use Rattle.table_text.specs.Format.{Format, byte, counted, follow, only, pair, parts, present, row, word, word_bytes}
 
 -- ---- leases
 
@@ -76,31 +78,48 @@ leg = parts (λ (l : LegState). (l.phase, l.lease)) (pair (only (λ p. not (is_n
 abbrev pub job : Format JobState
 job = parts (λ (j : JobState). (j.phase, j.legs)) (pair (parts job_byte byte) (counted 0 4294967295 leg))
 
+-- an attempt of a run: 1 to 1,000
+abbrev pub is_attempt : ℕ → Bool
+is_attempt n = nat_le 1 n && nat_le n 1000
+
 -- how many jobs the plan of an admitted body has
 abbrev pub jobs_planned : Admitted → ℕ
 jobs_planned a = length (plan_of a.body)
 
--- what was admitted, the phase, the stop flag and the jobs of the plan
+-- what was admitted, the attempt, the phase, the stop flag and the jobs of the plan
 abbrev pub run : Format RunState
-run = parts (λ (r : RunState). (r.admitted, (r.phase, (r.stopping, r.jobs))))
-    (follow admit (λ a. pair (parts run_byte byte) (pair (parts flag_byte byte) (row (jobs_planned a) job))))
+run = parts (λ (r : RunState). (r.admitted, (r.attempt, (r.phase, (r.stopping, r.jobs)))))
+    (follow admit (λ a. pair (only is_attempt word) (pair (parts run_byte byte) (pair (parts flag_byte byte) (row (jobs_planned a) job)))))
 
 -- ---- runners
 
--- What is kept of the reply to a last command: nothing to a claim, a lease, or ok to a report. Its byte, and its lease.
-abbrev pub kept_parts : Kept → ℕ × Option ℕ
-kept_parts replied.Nothing = (0, None)
-kept_parts (replied.Leased n) = (1, Some n)
-kept_parts replied.Done = (2, None)
+-- the place of a leg in an attempt: the run's id, the attempt, the place of the job, and the leg's number
+abbrev pub place : Format StoredPlace
+place = parts (λ (p : StoredPlace). (p.run, (p.attempt, (p.job, p.leg)))) (pair number (pair number (pair word word)))
 
--- its spelling
+-- a lease that is kept, with the place of its leg
+abbrev pub kept_lease : Format StoredLease
+kept_lease = parts (λ (l : StoredLease). (l.lease, l.place)) (pair number (present place))
+
+-- What is kept of the reply to a last command: nothing to a claim, a lease, or ok to a report.
+abbrev pub IsKept : Kept → Type 0
+IsKept replied.Nothing = Unit {0}
+IsKept (replied.Leased l) = kept_lease.Takes l
+IsKept replied.Done = Unit {0}
+
+-- Its byte, and the lease where it is one.
+abbrev pub kept_bytes : Kept → List ℕ
+kept_bytes replied.Nothing = 0 ∷ []
+kept_bytes (replied.Leased l) = 1 ∷ kept_lease.spelling l
+kept_bytes replied.Done = 2 ∷ []
+
 abbrev pub kept : Format Kept
-kept = parts kept_parts (pair byte lease)
+kept = record { Takes = IsKept; spelling = kept_bytes }
 
 -- the command, and what is kept of its reply
 abbrev pub last_parts : LastParts → Command × Kept
 last_parts (last.Claim claim None) = (asked.Claim claim, replied.Nothing)
-last_parts (last.Claim claim (Some n)) = (asked.Claim claim, replied.Leased n)
+last_parts (last.Claim claim (Some l)) = (asked.Claim claim, replied.Leased l)
 last_parts (last.Done report) = (asked.Done report, replied.Done)
 
 abbrev pub last_command : Format LastParts

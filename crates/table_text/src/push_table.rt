@@ -1,18 +1,19 @@
 //! The parts of a table's spelling, each appended to bytes.
 #![tactic(auto, using(crate::proofs::Keeping::unchanged, crate::proofs::Keeping::longer))]
 
-ghost use Rattle.std.specs.Prelude.{◌≡◌, [], ◌∷◌, ◌++◌, ◌≤◌, length, OnErr, OnOk};
+ghost use Rattle.std.specs.Prelude.{◌≡◌, [], ◌∷◌, ◌++◌, ◌<◌, ◌≤◌, ◌^◌, length, OnErr, OnOk};
 ghost use Rattle.run_plan.specs.declared.last_command.LastCommand.TheVariants as last;
-ghost use Rattle.run_table.specs.Stored.{is_new, stored_last, stored_runner, stored_table};
+ghost use Rattle.run_table.specs.Stored.{is_new, stored_last, stored_lease, stored_runner, stored_table};
 ghost use Rattle.run_table.specs.TableState.{RunnerState};
 ghost use Rattle.workflow_runs.specs.RunState.{JobState, RunState};
 ghost use Rattle.table_text.specs.Format.{word_bytes};
-ghost use Rattle.table_text.specs.Tables.{flag_byte, job, job_byte, last_command, lease, leg, leg_byte, run, run_byte, runner, table};
-ghost use Rattle.table_text.specs.Writing.{HasByte, JobHasBytes, Keeps, RunHasBytes};
+ghost use Rattle.table_text.specs.Tables.{flag_byte, job, job_byte, kept_lease, last_command, lease, leg, leg_byte, run, run_byte, runner};
+ghost use Rattle.table_text.specs.Tables.{table};
+ghost use Rattle.table_text.specs.Writing.{HasByte, JobHasBytes, Keeps, KeptHasBytes, RunHasBytes};
 
 use crate::push::{push_admit, push_claim, push_done, push_number, push_small_text, push_word};
 use crate::push_list::{Push, push_list};
-use run_plan::{Claim, ClaimReply, Done, LastCommand, Number};
+use run_plan::{Claim, ClaimReply, Done, KeptLease, LastCommand, Number};
 use run_table::{Runner, Table};
 use std::alloc::AllocError;
 use wf_value::{JobResult, Outcome};
@@ -122,6 +123,7 @@ impl Push for Run {
 
     fn push_to(&self, out: &mut Vec<u8>) -> Result<(), AllocError> {
         push_admit(out, self.prepared())?;
+        push_number(out, self.attempt())?;
         push_byte(out, run_byte(self.phase()))?;
         push_byte(out, flag_byte(self.is_stopping()))?;
         push_list(out, self.jobs())?;
@@ -131,18 +133,24 @@ impl Push for Run {
 
 // ---- runners
 
-/// Appends the byte of a kept reply, and the lease that it gave.
-fn push_kept(out: &mut Vec<u8>, reply: u8, given: Option<Number>) -> Result<(), AllocError>
-    ensures takes { lease.Takes given }
-    ensures bytes { OnOk result (out.new.items ≡ out.old.items ++ reply ∷ lease.spelling given) }
+/// Appends a lease that is kept, with the place of its leg.
+fn push_kept_lease(out: &mut Vec<u8>, kept: &KeptLease) -> Result<(), AllocError>
+    requires job { kept.now.job < 2 ^ 32 }
+    requires leg { kept.now.told.leg < 2 ^ 32 }
+    ensures takes { OnOk result (kept_lease.Takes (stored_lease kept.now)) }
+    ensures bytes { OnOk result (out.new.items ≡ out.old.items ++ kept_lease.spelling (stored_lease kept.now)) }
     ensures kept { OnErr result (Keeps out.old.items out.new.items) }
 {
-    push_byte(out, reply)?;
-    push_lease(out, given)?;
+    push_number(out, kept.told.lease)?;
+    push_number(out, kept.told.run)?;
+    push_number(out, kept.attempt)?;
+    push_word(out, kept.job as u32)?;
+    push_word(out, kept.told.leg as u32)?;
     Ok(())
 }
 
 fn push_last_claim(out: &mut Vec<u8>, claim: &Claim, reply: &ClaimReply) -> Result<(), AllocError>
+    requires { KeptHasBytes (last.Claim claim.now reply.now) }
     ensures takes { OnOk result (last_command.Takes (stored_last (last.Claim claim.now reply.now))) }
     ensures bytes { OnOk result
         (out.new.items ≡ out.old.items ++ last_command.spelling (stored_last (last.Claim claim.now reply.now))) }
@@ -151,8 +159,11 @@ fn push_last_claim(out: &mut Vec<u8>, claim: &Claim, reply: &ClaimReply) -> Resu
     push_byte(out, 2)?;
     push_claim(out, claim)?;
     match reply {
-        ClaimReply::Nothing => push_kept(out, 0, None),
-        ClaimReply::Lease(given) => push_kept(out, 1, Some(given.lease)),
+        ClaimReply::Nothing => push_byte(out, 0),
+        ClaimReply::Lease(given) => {
+            push_byte(out, 1)?;
+            push_kept_lease(out, given)
+        }
     }
 }
 
@@ -163,10 +174,11 @@ fn push_last_report(out: &mut Vec<u8>, report: &Done) -> Result<(), AllocError>
 {
     push_byte(out, 3)?;
     push_done(out, report)?;
-    push_kept(out, 2, None)
+    push_byte(out, 2)
 }
 
 fn push_last(out: &mut Vec<u8>, value: &LastCommand) -> Result<(), AllocError>
+    requires { KeptHasBytes value.now }
     ensures takes { OnOk result (last_command.Takes (stored_last value.now)) }
     ensures bytes { OnOk result (out.new.items ≡ out.old.items ++ last_command.spelling (stored_last value.now)) }
     ensures kept { OnErr result (Keeps out.old.items out.new.items) }
@@ -178,7 +190,7 @@ fn push_last(out: &mut Vec<u8>, value: &LastCommand) -> Result<(), AllocError>
 }
 
 impl Push for Runner {
-    ghost can_push = { λ r. Unit {0} };
+    ghost can_push = { λ r. KeptHasBytes r.last };
 
     ghost takes = { λ r. runner.Takes (stored_runner r) };
 

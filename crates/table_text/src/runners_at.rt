@@ -1,14 +1,14 @@
 //! The runners of a table at the front of bytes.
 
 ghost use Rattle.table_text.specs.Reading.{Finds, kept};
-ghost use Rattle.table_text.specs.ReadingTables.{claim_with, kept_at, last_at, last_with, report_with, runner_at, runners_at};
+ghost use Rattle.table_text.specs.ReadingTables.{claim_with, last_at, last_with, report_with, runner_at, runners_at};
 ghost use Rattle.table_text.specs.Tables.{names_rise};
 
 use crate::command_at::command_at;
 use crate::decode_error::DecodeError;
 use crate::fields::{lease_at, lease_told, number_at, small_text_at};
-use crate::front::{byte_at, word_at};
-use crate::kept::{Kept, kept_of};
+use crate::front::word_at;
+use crate::kept::{Kept, kept_at};
 use crate::list_at::{ReadAt, list_at};
 use run_plan::{Claim, Command, Done, Number, RunnerForm};
 use run_table::{LastParts, RunnerParts, do_names_rise};
@@ -20,7 +20,7 @@ fn claim_with(claim: Claim, kept: Kept) -> Result<LastParts, DecodeError>
 {
     match kept {
         Kept::Nothing => Ok(LastParts::Claim(claim, None)),
-        Kept::Leased(given) => Ok(LastParts::Claim(claim, Some(given))),
+        Kept::Leased(lease) => Ok(LastParts::Claim(claim, Some(lease))),
         Kept::Done => Err(DecodeError::NoSpelling),
     }
 }
@@ -44,17 +44,6 @@ fn last_with(command: Command, kept: Kept) -> Result<LastParts, DecodeError>
         Command::Done(report) => report_with(report, kept),
         _ => Err(DecodeError::NoSpelling),
     }
-}
-
-/// What is kept of a reply, at the front, and what stands behind it.
-#[tactic(auto, unfolding(crate::specs::ReadingTables::kept_at))]
-fn kept_at(bytes: &[u8]) -> Result<(Kept, &[u8]), DecodeError>
-    ensures { Finds (λ f. (f.0, f.1.now)) result (kept_at bytes.now) }
-{
-    let (reply, rest) = byte_at(bytes)?;
-    let (lease, rest) = lease_at(rest)?;
-    let kept = kept_of(reply, lease_told(lease))?;
-    Ok((kept, rest))
 }
 
 /// The last command of a runner, with what is kept of its reply.

@@ -1,9 +1,9 @@
 //! The runs of a table at the front of bytes, with their jobs and legs.
 
 ghost use Rattle.std.specs.Prelude.{◌≤◌, IfOk};
-ghost use Rattle.table_text.specs.Reading.{Finds, items_at};
-ghost use Rattle.table_text.specs.ReadingTables.{job_at, leg_at, lease_told, run_at, runs_at};
-ghost use Rattle.table_text.specs.Tables.{jobs_planned};
+ghost use Rattle.table_text.specs.Reading.{Finds, items_at, kept};
+ghost use Rattle.table_text.specs.ReadingTables.{attempt_at, job_at, leg_at, lease_told, run_at, runs_at};
+ghost use Rattle.table_text.specs.Tables.{is_attempt, jobs_planned};
 
 use crate::command_at::admit_at;
 use crate::decode_error::DecodeError;
@@ -11,11 +11,14 @@ use crate::fields::{lease_at, lease_told};
 use crate::front::word_at;
 use crate::list_at::{ReadAt, list_at};
 use crate::phases_at::{flag_at, job_phase_at, leg_phase_at, run_phase_at};
-use run_plan::Prepared;
+use run_plan::{Number, Prepared};
 use std::alloc::Global;
 use wf_value::Sequence;
 use workflow_runs::runs::MOST_RUNS;
 use workflow_runs::{JobParts, Leg, LegPhase, RunParts};
+
+/// The last attempt of a run.
+const MOST_ATTEMPTS: u32 = 1000;
 
 /// The leg at the front, its phase and the number of its lease, 0 where it has none, and what stands behind it.
 #[tactic(auto, unfolding(crate::specs::ReadingTables::leg_at))]
@@ -54,6 +57,28 @@ impl ReadAt for JobParts {
     }
 }
 
+/// The number, where it is one of an attempt.
+fn attempt_of(value: u32) -> Result<u32, DecodeError>
+    ensures gives { Finds (λ n. n) result (kept is_attempt value) }
+    ensures range { IfOk result (λ n. (1 ≤ n) × (n ≤ 1000)) }
+{
+    if 1 <= value && value <= MOST_ATTEMPTS {
+        return Ok(value);
+    }
+    Err(DecodeError::NoSpelling)
+}
+
+/// The attempt at the front, and what stands behind it.
+#[tactic(auto, unfolding(crate::specs::ReadingTables::attempt_at))]
+fn attempt_at(bytes: &[u8]) -> Result<(u32, &[u8]), DecodeError>
+    ensures gives { Finds (λ f. (f.0, f.1.now)) result (attempt_at bytes.now) }
+    ensures range { IfOk result (λ f. (1 ≤ f.0) × (f.0 ≤ 1000)) }
+{
+    let (value, rest) = word_at(bytes)?;
+    let attempt = attempt_of(value)?;
+    Ok((attempt, rest))
+}
+
 /// As many jobs as the plan has.
 fn planned_jobs_at<'a>(
     alloc: Global,
@@ -72,11 +97,13 @@ impl ReadAt for RunParts {
     #[tactic(auto, unfolding(crate::specs::ReadingTables::run_at, crate::specs::ReadingTables::course_at))]
     fn read_at(alloc: Global, bytes: &[u8]) -> Result<(RunParts, &[u8]), DecodeError> {
         let (prepared, rest) = admit_at(alloc, bytes)?;
+        let (attempt, rest) = attempt_at(rest)?;
         let (phase, rest) = run_phase_at(rest)?;
         let (stopping, rest) = flag_at(rest)?;
         let (jobs, rest) = planned_jobs_at(alloc, &prepared, rest)?;
         let run = RunParts {
             prepared,
+            attempt: Number::new(attempt),
             phase,
             stopping,
             jobs: Sequence::new(jobs),

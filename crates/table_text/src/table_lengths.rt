@@ -9,12 +9,15 @@ ghost use Rattle.table_text.specs.Tables.{table};
 ghost use Rattle.table_text.specs.Writing.{JobHasBytes, RunHasBytes};
 
 use crate::lengths::{WORD, admit_length, claim_length, done_length, small_text_length};
-use run_plan::LastCommand;
+use run_plan::{ClaimReply, LastCommand};
 use run_table::{Runner, Table};
 use workflow_runs::{Job, Run};
 
 /// The byte of a phase, of a flag and of a kept reply.
 const BYTE: u64 = 1;
+
+/// A lease that is kept, and the run, the attempt, the job and the leg of its place.
+const LEASE: u64 = 20;
 
 /// The bytes of a job: of each leg its phase and its lease.
 fn job_length(value: &Job) -> u64
@@ -42,9 +45,9 @@ fn job_list_length(list: &[Job]) -> u64
 fn run_length(value: &Run) -> u64
     requires { RunHasBytes value.now }
     ensures length { result ≡ run_length value.now }
-    ensures most { result ≤ 394638 }
+    ensures most { result ≤ 394642 }
 {
-    admit_length(value.prepared()) + BYTE + BYTE + job_list_length(value.jobs())
+    admit_length(value.prepared()) + WORD + BYTE + BYTE + job_list_length(value.jobs())
 }
 
 /// The bytes of each run.
@@ -52,7 +55,7 @@ fn run_list_length(list: &[Run]) -> u64
     requires few { length list.now ≤ 100000 }
     requires each { AllByRecursion RunHasBytes list.now }
     ensures length { result ≡ sum_by run_length list.now }
-    ensures most { result ≤ 100000 * 394638 }
+    ensures most { result ≤ 100000 * 394642 }
 {
     let mut total = 0;
     for value in list {
@@ -61,21 +64,21 @@ fn run_list_length(list: &[Run]) -> u64
     total
 }
 
-/// The bytes of a last command, of its kept reply and of the lease that this gave.
+/// The bytes of a last command, and of what is kept of its reply.
 fn last_length(value: &LastCommand) -> u64
     ensures length { result ≡ last_length (stored_last value.now) }
-    ensures most { result ≤ 1170 }
+    ensures most { result ≤ 1186 }
 {
-    let command = match value {
-        LastCommand::Claim(claim, _) => BYTE + claim_length(claim),
-        LastCommand::Done(report) => BYTE + done_length(report),
-    };
-    command + BYTE + WORD
+    match value {
+        LastCommand::Claim(claim, ClaimReply::Nothing) => BYTE + claim_length(claim) + BYTE,
+        LastCommand::Claim(claim, ClaimReply::Lease(_)) => BYTE + claim_length(claim) + BYTE + LEASE,
+        LastCommand::Done(report) => BYTE + done_length(report) + BYTE,
+    }
 }
 
 fn runner_length(value: &Runner) -> u64
     ensures length { result ≡ runner_length (stored_runner value.now) }
-    ensures most { result ≤ 1246 }
+    ensures most { result ≤ 1262 }
 {
     small_text_length(&value.name) + WORD + last_length(&value.last) + WORD
 }
@@ -84,7 +87,7 @@ fn runner_length(value: &Runner) -> u64
 fn runner_list_length(list: &[Runner]) -> u64
     requires { length list.now ≤ 4294967295 }
     ensures length { result ≡ sum_by (λ r. runner_length (stored_runner r)) list.now }
-    ensures most { result ≤ 4294967295 * 1246 }
+    ensures most { result ≤ 4294967295 * 1262 }
 {
     let mut total = 0;
     for value in list {

@@ -58,22 +58,22 @@ fn gate_is_found_behind_the_last_record(rt: HostRuntime) {
     }
 }
 
-/// The second half of a disk of 8,192 bytes: of generation 2, with a text of 123 bytes and a record of 44 behind it, whose gate is byte 4,237
+/// The second half of a disk of 8,192 bytes: of generation 2, with a text of 127 bytes and a record of 44 behind it, whose gate is byte 4,241
 /// of the disk.
 fn second_half() -> [u8; 4096] {
     let mut area = [0xFF; 4096];
-    area[..18].copy_from_slice(&[0xA5, 1, 0, 0, 0, 0, 0, 0, 0, 2, 0, 0, 0, 0, 0, 0, 0, 123]);
-    area[141..146].copy_from_slice(&[0xA5, 0, 0, 0, 0x2C]);
-    area[190] = 0;
+    area[..18].copy_from_slice(&[0xA5, 2, 0, 0, 0, 0, 0, 0, 0, 2, 0, 0, 0, 0, 0, 0, 0, 127]);
+    area[145..150].copy_from_slice(&[0xA5, 0, 0, 0, 0x2C]);
+    area[194] = 0;
     area
 }
 
 #[test]
-fn second_half_has_its_next_gate_at_4286(rt: HostRuntime) {
+fn second_half_has_its_next_gate_at_4290(rt: HostRuntime) {
     let area = second_half();
     let found = scan(&area).expect(&rt, "an area that reads");
-    holds!(rt; found.head.generation == 2 && found.head.text.len() == 123);
-    holds!(rt; found.records.len() == 49 && found.gate == 4286 - 4096);
+    holds!(rt; found.head.generation == 2 && found.head.text.len() == 127);
+    holds!(rt; found.records.len() == 49 && found.gate == 4290 - 4096);
 }
 
 /// The first half of a disk of 8,192 bytes.
@@ -82,9 +82,9 @@ const FIRST: Area = Area {
     len: 4096,
 };
 
-/// An open area of version 1 and generation 1 with twelve zeros as its text, up to its first gate, and that gate.
+/// An open area of version 2 and generation 1 with twelve zeros as its text, up to its first gate, and that gate.
 const FRONT: [u8; 31] = [
-    0xA5, 1, 0, 0, 0, 0, 0, 0, 0, 1, 0, 0, 0, 0, 0, 0, 0, 12, 0, 0, 0, 0, 0, 0, 0, 0, 0, 0, 0, 0, 0,
+    0xA5, 2, 0, 0, 0, 0, 0, 0, 0, 1, 0, 0, 0, 0, 0, 0, 0, 12, 0, 0, 0, 0, 0, 0, 0, 0, 0, 0, 0, 0, 0,
 ];
 
 /// A body of nine bytes behind its length, and a closed gate.

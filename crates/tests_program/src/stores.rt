@@ -118,8 +118,8 @@ fn shows_the_runs_of_a_store(rt: HostRuntime) {
     expect_showing(&rt, alloc, two, 0, TWO_RUNS);
 }
 
-/// The bytes of a new store that are no zeros: an open gate, version 1, generation 1, and the length of the empty table's text.
-const FRONT: &[(usize, u8)] = &[(0, 0xA5), (1, 1), (9, 1), (17, 12)];
+/// The bytes of a new store that are no zeros: an open gate, version 2, generation 1, and the length of the empty table's text.
+const FRONT: &[(usize, u8)] = &[(0, 0xA5), (1, 2), (9, 1), (17, 12)];
 
 fn set(bytes: &mut [u8], place: usize, byte: u8) {
     if let Some(there) = bytes.get_mut(place) {
@@ -146,7 +146,8 @@ fn zeros(alloc: Global) -> Result<MemoryDisk, Refusal> {
 /// of range, and the gate of the first record, which is closed by any byte but one, and by that opens a record without a batch.
 const BYTES: &[(usize, u8, u64)] = &[
     (0, 0, 53),
-    (1, 2, 54),
+    (1, 1, 54),
+    (1, 3, 54),
     (18, 0xFF, 54),
     (30, 1, 0),
     (30, 0xA5, 54),

@@ -17,7 +17,7 @@ const ASKED: &[Row] = &[
 
 /// The first bytes of the file; all others are zeros.
 const FILE: &[u8] = &[
-    0xA5, 1, 0, 0, 0, 0, 0, 0, 0, 1, 0, 0, 0, 0, 0, 0, 0, 12, 0, 0, 0, 0, 0, 0, 0, 0, 0, 0, 0, 0,
+    0xA5, 2, 0, 0, 0, 0, 0, 0, 0, 1, 0, 0, 0, 0, 0, 0, 0, 12, 0, 0, 0, 0, 0, 0, 0, 0, 0, 0, 0, 0,
     // from 30 on: an open gate, 9 bytes, a batch of one command, and run 1 is looked at
     0xA5, 0, 0, 0, 9, 0, 0, 0, 1, 7, 0, 0, 0, 1,
     // from 44 on: an open gate, 21 bytes, and a batch of three
@@ -38,7 +38,7 @@ const CALLS: &[Did] = &[
     Did::Wrote(
         0,
         &[
-            0, 1, 0, 0, 0, 0, 0, 0, 0, 1, 0, 0, 0, 0, 0, 0, 0, 12, 0, 0, 0, 0, 0, 0, 0, 0, 0, 0, 0,
+            0, 2, 0, 0, 0, 0, 0, 0, 0, 1, 0, 0, 0, 0, 0, 0, 0, 12, 0, 0, 0, 0, 0, 0, 0, 0, 0, 0, 0,
             0, 0,
         ],
     ),

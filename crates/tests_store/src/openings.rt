@@ -39,46 +39,47 @@ fn holding(
 /// How long the disk is, its first area's gate, its version, the record, and the number of the refusal, or 0 where it opens.
 const ROWS: &[(usize, u8, u8, &[u8], u64)] = &[
     // no two areas, and an area that is too short
-    (0, 0xA5, 1, &[], 53),
-    (8_190, 0xA5, 1, &[], 53),
-    (8_191, 0xA5, 1, &[], 53),
-    (8_193, 0xA5, 1, &[], 53),
-    (8_192, 0xA5, 1, &[], 0),
+    (0, 0xA5, 2, &[], 53),
+    (8_190, 0xA5, 2, &[], 53),
+    (8_191, 0xA5, 2, &[], 53),
+    (8_193, 0xA5, 2, &[], 53),
+    (8_192, 0xA5, 2, &[], 0),
     // a closed gate
-    (8_192, 0, 1, &[], 53),
-    (8_192, 0xA4, 1, &[], 53),
+    (8_192, 0, 2, &[], 53),
+    (8_192, 0xA4, 2, &[], 53),
     // other versions
     (8_192, 0xA5, 0, &[], 54),
-    (8_192, 0xA5, 2, &[], 54),
+    (8_192, 0xA5, 1, &[], 54),
+    (8_192, 0xA5, 3, &[], 54),
     // a batch of one command, and the same with a byte behind it
     (
         8_192,
         0xA5,
-        1,
+        2,
         &[0xA5, 0, 0, 0, 9, 0, 0, 0, 1, 7, 0, 0, 0, 1],
         0,
     ),
     (
         8_192,
         0xA5,
-        1,
+        2,
         &[0xA5, 0, 0, 0, 10, 0, 0, 0, 1, 7, 0, 0, 0, 1, 0],
         54,
     ),
     // no batch: no bytes, a count of none, a count that is too high, and a command that is none
-    (8_192, 0xA5, 1, &[0xA5, 0, 0, 0, 0], 54),
-    (8_192, 0xA5, 1, &[0xA5, 0, 0, 0, 4, 0, 0, 0, 0], 54),
+    (8_192, 0xA5, 2, &[0xA5, 0, 0, 0, 0], 54),
+    (8_192, 0xA5, 2, &[0xA5, 0, 0, 0, 4, 0, 0, 0, 0], 54),
     (
         8_192,
         0xA5,
-        1,
+        2,
         &[0xA5, 0, 0, 0, 9, 0, 0, 0, 2, 7, 0, 0, 0, 1],
         54,
     ),
     (
         8_192,
         0xA5,
-        1,
+        2,
         &[0xA5, 0, 0, 0, 9, 0, 0, 0, 1, 9, 0, 0, 0, 1],
         54,
     ),
@@ -86,12 +87,12 @@ const ROWS: &[(usize, u8, u8, &[u8], u64)] = &[
     (
         8_192,
         0xA5,
-        1,
+        2,
         &[0, 0, 0, 0, 9, 0, 0, 0, 1, 9, 0, 0, 0, 1],
         0,
     ),
     // a body that passes the area, whose own gate is open
-    (8_192, 0xA5, 1, &[0xA5, 0, 0, 16, 0], 54),
+    (8_192, 0xA5, 2, &[0xA5, 0, 0, 16, 0], 54),
 ];
 
 #[test]

@@ -12,11 +12,11 @@ use table_text::write_table;
 use tests_common::commands::{Words, command_of};
 use wf_value::{Outcome, Refusal};
 
-/// A disk of two areas of the least length. The first is open, of version 1 and of generation 1, and has this text behind its length;
+/// A disk of two areas of the least length. The first is open, of version 2 and of generation 1, and has this text behind its length;
 /// all other bytes are zeros.
 fn disk_of(alloc: Global, text: &[u8]) -> Result<MemoryDisk, Refusal> {
     let mut bytes = vec![in alloc; 0; 8_192]?;
-    lay(&mut bytes, 0, &[0xA5, 1, 0, 0, 0, 0, 0, 0, 0, 1]);
+    lay(&mut bytes, 0, &[0xA5, 2, 0, 0, 0, 0, 0, 0, 0, 1]);
     lay(&mut bytes, 10, &(text.len() as u64).to_be_bytes());
     lay(&mut bytes, 18, text);
     MemoryDisk::from_slice(alloc, &bytes)
@@ -135,6 +135,57 @@ fn steps_go_on_from_the_table_of_a_text(rt: HostRuntime) {
     let mut again = opened(&rt, alloc, store.into_disk());
     play(&rt, alloc, &mut again, OPENED_AGAIN);
     close(again);
+}
+
+/// Run 1 is in its second attempt, and its runner has the leg of that. What was kept for the runner is a lease of the first attempt, with the
+/// number that the leg of run 2 has: it is given again, and the runners go on with what they hold.
+const IN_A_SECOND_ATTEMPT: &[Row] = &[
+    (
+        Ask::Apply(Words::Look("1")),
+        "run 1 1.2 in_progress - build:open(running)",
+        1,
+        0,
+    ),
+    (
+        Ask::Apply(Words::Claim("r1", "1", "linux")),
+        "lease 2 1 build 0 {}",
+        2,
+        0,
+    ),
+    (
+        Ask::Apply(Words::Claim("r2", "1", "linux")),
+        "lease 2 2 build 0 {}",
+        3,
+        0,
+    ),
+    (
+        Ask::Apply(Words::Done("r1", "2", "1", Outcome::Success)),
+        "ok",
+        4,
+        0,
+    ),
+    (
+        Ask::Apply(Words::Look("1")),
+        "run 1 1.2 completed success build:success(success)",
+        5,
+        0,
+    ),
+];
+
+/// The attempt of run 1 has the bytes 107 to 110 of the text. A run has 115 bytes, and so the first runner's kept lease, behind its name, its
+/// number and its claim, has the bytes 392 to 395.
+#[test]
+fn lease_of_an_earlier_attempt_is_given_again(rt: HostRuntime) {
+    let alloc = rt.alloc();
+    let mut text = leased_text(&rt, alloc);
+    holds!(rt; text.as_slice().get(107..111) == Some(&[0, 0, 0, 1]));
+    holds!(rt; text.as_slice().get(391..396) == Some(&[1, 0, 0, 0, 1]));
+    lay(&mut text, 110, &[2]);
+    lay(&mut text, 395, &[2]);
+    let disk = disk_of(alloc, text.as_slice()).expect(&rt, "a disk");
+    let mut store = opened(&rt, alloc, disk);
+    play(&rt, alloc, &mut store, IN_A_SECOND_ATTEMPT);
+    close(store);
 }
 
 /// The empty table, but for its last lease, 5: no commands lead to it.

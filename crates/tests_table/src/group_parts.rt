@@ -2,6 +2,7 @@
 //! a group at most one is in progress and at most one is pending, and its name is compared without its case. A repository has its own.
 
 use crate::holds::holds;
+use run_plan::Number;
 use run_table::{Parts, Table};
 use std::alloc::Global;
 use tests_common::commands::prepared;
@@ -84,6 +85,7 @@ fn run_parts(alloc: Global, run: &Run) -> Result<RunParts, Refusal> {
     };
     Ok(RunParts {
         prepared,
+        attempt: Number::new(1),
         phase,
         stopping: false,
         jobs: Sequence::new(jobs),

@@ -21,20 +21,21 @@ const CLAIM: Words<'static> = Words::Claim("r1", "1", "linux");
 type Row<'a> = (&'a [Words<'a>], u8, &'a [u8]);
 
 const ROWS: &[Row<'static>] = &[
-    // live, an open job, a ready leg, and no runner
+    // the first attempt, live, an open job, a ready leg, and no runner
     (
         &[ADMIT],
         0,
-        &[1, 0, 1, 0, 0, 0, 1, 2, 0, 0, 0, 0, 0, 0, 0, 0],
+        &[0, 0, 0, 1, 1, 0, 1, 0, 0, 0, 1, 2, 0, 0, 0, 0, 0, 0, 0, 0],
     ),
-    // the leg is running under lease 1, which the runner was given and holds
+    // the leg is running under lease 1, which the runner was given, with its place, and holds
     (
         &[ADMIT, CLAIM],
         1,
         &[
-            1, 0, 1, 0, 0, 0, 1, 3, 0, 0, 0, 1, 0, 0, 0, 1, 0, 0, 0, 2, b'r', b'1', 0, 0, 0, 1, 2,
-            0, 0, 0, 2, b'r', b'1', 0, 0, 0, 1, 0, 0, 0, 1, 0, 0, 0, 5, b'l', b'i', b'n', b'u',
-            b'x', 1, 0, 0, 0, 1, 0, 0, 0, 1,
+            0, 0, 0, 1, 1, 0, 1, 0, 0, 0, 1, 3, 0, 0, 0, 1, 0, 0, 0, 1, 0, 0, 0, 2, b'r', b'1', 0,
+            0, 0, 1, 2, 0, 0, 0, 2, b'r', b'1', 0, 0, 0, 1, 0, 0, 0, 1, 0, 0, 0, 5, b'l', b'i',
+            b'n', b'u', b'x', 1, 0, 0, 0, 1, 0, 0, 0, 1, 0, 0, 0, 1, 0, 0, 0, 0, 0, 0, 0, 0, 0, 0,
+            0, 1,
         ],
     ),
     // the run has ended with its job and its leg, and the runner holds nothing
@@ -42,8 +43,8 @@ const ROWS: &[Row<'static>] = &[
         &[ADMIT, CLAIM, Words::Done("r1", "2", "1", Outcome::Success)],
         1,
         &[
-            2, 0, 2, 0, 0, 0, 1, 5, 0, 0, 0, 1, 0, 0, 0, 1, 0, 0, 0, 2, b'r', b'1', 0, 0, 0, 2, 3,
-            0, 0, 0, 2, b'r', b'1', 0, 0, 0, 2, 0, 0, 0, 1, 1, 2, 0, 0, 0, 0, 0, 0, 0, 0,
+            0, 0, 0, 1, 2, 0, 2, 0, 0, 0, 1, 5, 0, 0, 0, 1, 0, 0, 0, 1, 0, 0, 0, 2, b'r', b'1', 0,
+            0, 0, 2, 3, 0, 0, 0, 2, b'r', b'1', 0, 0, 0, 2, 0, 0, 0, 1, 1, 2, 0, 0, 0, 0,
         ],
     ),
     // told to stop, and so is the leg
@@ -51,9 +52,10 @@ const ROWS: &[Row<'static>] = &[
         &[ADMIT, CLAIM, Words::Cancel("1")],
         1,
         &[
-            1, 1, 1, 0, 0, 0, 1, 4, 0, 0, 0, 1, 0, 0, 0, 1, 0, 0, 0, 2, b'r', b'1', 0, 0, 0, 1, 2,
-            0, 0, 0, 2, b'r', b'1', 0, 0, 0, 1, 0, 0, 0, 1, 0, 0, 0, 5, b'l', b'i', b'n', b'u',
-            b'x', 1, 0, 0, 0, 1, 0, 0, 0, 1,
+            0, 0, 0, 1, 1, 1, 1, 0, 0, 0, 1, 4, 0, 0, 0, 1, 0, 0, 0, 1, 0, 0, 0, 2, b'r', b'1', 0,
+            0, 0, 1, 2, 0, 0, 0, 2, b'r', b'1', 0, 0, 0, 1, 0, 0, 0, 1, 0, 0, 0, 5, b'l', b'i',
+            b'n', b'u', b'x', 1, 0, 0, 0, 1, 0, 0, 0, 1, 0, 0, 0, 1, 0, 0, 0, 0, 0, 0, 0, 0, 0, 0,
+            0, 1,
         ],
     ),
     // the runner was given nothing
@@ -61,9 +63,9 @@ const ROWS: &[Row<'static>] = &[
         &[ADMIT, Words::Claim("r1", "1", "windows")],
         0,
         &[
-            1, 0, 1, 0, 0, 0, 1, 2, 0, 0, 0, 0, 0, 0, 0, 1, 0, 0, 0, 2, b'r', b'1', 0, 0, 0, 1, 2,
-            0, 0, 0, 2, b'r', b'1', 0, 0, 0, 1, 0, 0, 0, 1, 0, 0, 0, 7, b'w', b'i', b'n', b'd',
-            b'o', b'w', b's', 0, 0, 0, 0, 0, 0, 0, 0, 0,
+            0, 0, 0, 1, 1, 0, 1, 0, 0, 0, 1, 2, 0, 0, 0, 0, 0, 0, 0, 1, 0, 0, 0, 2, b'r', b'1', 0,
+            0, 0, 1, 2, 0, 0, 0, 2, b'r', b'1', 0, 0, 0, 1, 0, 0, 0, 1, 0, 0, 0, 7, b'w', b'i',
+            b'n', b'd', b'o', b'w', b's', 0, 0, 0, 0, 0,
         ],
     ),
     // a second runner, which was given nothing
@@ -71,17 +73,18 @@ const ROWS: &[Row<'static>] = &[
         &[ADMIT, CLAIM, Words::Claim("r2", "1", "x")],
         1,
         &[
-            1, 0, 1, 0, 0, 0, 1, 3, 0, 0, 0, 1, 0, 0, 0, 2, 0, 0, 0, 2, b'r', b'1', 0, 0, 0, 1, 2,
-            0, 0, 0, 2, b'r', b'1', 0, 0, 0, 1, 0, 0, 0, 1, 0, 0, 0, 5, b'l', b'i', b'n', b'u',
-            b'x', 1, 0, 0, 0, 1, 0, 0, 0, 1, 0, 0, 0, 2, b'r', b'2', 0, 0, 0, 1, 2, 0, 0, 0, 2,
-            b'r', b'2', 0, 0, 0, 1, 0, 0, 0, 1, 0, 0, 0, 1, b'x', 0, 0, 0, 0, 0, 0, 0, 0, 0,
+            0, 0, 0, 1, 1, 0, 1, 0, 0, 0, 1, 3, 0, 0, 0, 1, 0, 0, 0, 2, 0, 0, 0, 2, b'r', b'1', 0,
+            0, 0, 1, 2, 0, 0, 0, 2, b'r', b'1', 0, 0, 0, 1, 0, 0, 0, 1, 0, 0, 0, 5, b'l', b'i',
+            b'n', b'u', b'x', 1, 0, 0, 0, 1, 0, 0, 0, 1, 0, 0, 0, 1, 0, 0, 0, 0, 0, 0, 0, 0, 0, 0,
+            0, 1, 0, 0, 0, 2, b'r', b'2', 0, 0, 0, 1, 2, 0, 0, 0, 2, b'r', b'2', 0, 0, 0, 1, 0, 0,
+            0, 1, 0, 0, 0, 1, b'x', 0, 0, 0, 0, 0,
         ],
     ),
     // cancelled before its leg was claimed
     (
         &[ADMIT, Words::Cancel("1")],
         0,
-        &[2, 1, 4, 0, 0, 0, 1, 7, 0, 0, 0, 0, 0, 0, 0, 0],
+        &[0, 0, 0, 1, 2, 1, 4, 0, 0, 0, 1, 7, 0, 0, 0, 0, 0, 0, 0, 0],
     ),
 ];
 
@@ -169,80 +172,119 @@ const CHANGES: &[Change] = &[
     (0, 0, 0x3C),
     (0, 7, 2),
     (0, 26, b'['),
+    // the attempts 0 and 1,025
+    (0, 110, 0),
+    (0, 109, 4),
     // no run has the phase 3, and no run the flag 2; no job has the state 6
-    (0, 107, 3),
-    (0, 108, 2),
-    (0, 109, 6),
+    (0, 111, 3),
+    (0, 112, 2),
+    (0, 113, 6),
     // a leg more than there are; a new leg; no leg has the phase 8
-    (0, 113, 2),
-    (0, 114, 0),
-    (0, 114, 8),
+    (0, 117, 2),
+    (0, 118, 0),
+    (0, 118, 8),
     // the lease of a leg is above 999,999,999
-    (1, 115, 0x3C),
+    (1, 119, 0x3C),
     // a runner more than there are, also behind one
-    (0, 122, 1),
-    (1, 122, 2),
+    (0, 126, 1),
+    (1, 126, 2),
     // a name with a slash; a last number 0
-    (1, 127, b'/'),
-    (1, 132, 0),
+    (1, 131, b'/'),
+    (1, 136, 0),
     // the last command is a beat, and is none
-    (1, 133, 4),
-    (1, 133, 9),
-    // a lease is given beside the reply that there is nothing, and beside ok; no reply has the byte 3
-    (1, 157, 0),
-    (1, 157, 2),
-    (1, 157, 3),
-    // a lease 0 is given
-    (1, 161, 0),
-    (4, 159, 1),
-    // ok for a claim, and nothing and a lease 0 for a report
-    (4, 159, 2),
-    (2, 149, 0),
-    (2, 149, 1),
+    (1, 137, 4),
+    (1, 137, 9),
+    // ok for a claim; no reply has the byte 3
+    (1, 161, 2),
+    (1, 161, 3),
+    // a lease 0 is given, in run 0 and in attempt 0
+    (1, 165, 0),
+    (1, 169, 0),
+    (1, 173, 0),
+    // no lease stands behind the reply that there is one; ok for a claim, and nothing for a report
+    (4, 163, 1),
+    (4, 163, 2),
+    (2, 153, 0),
+    (2, 153, 1),
     // the lease that is held is above 999,999,999
-    (1, 162, 0x3C),
+    (1, 182, 0x3C),
     // the first name above the second, the second below the first, and one name twice
-    (5, 128, b'3'),
-    (5, 171, b'0'),
-    (5, 171, b'1'),
+    (5, 132, b'3'),
+    (5, 191, b'0'),
+    (5, 191, b'1'),
     // The parts are read, but they are those of no sound table:
     // a waiting run and an ended one with an open job; a blocked job with a leg, and a successful one whose leg is ready
-    (0, 107, 0),
-    (0, 107, 2),
-    (0, 109, 0),
-    (0, 109, 2),
+    (0, 111, 0),
+    (0, 111, 2),
+    (0, 113, 0),
+    (0, 113, 2),
     // a waiting leg, which is ready by a rule; a ready leg with a lease
-    (0, 114, 1),
     (0, 118, 1),
+    (0, 122, 1),
     // a lease above the last; a leg that is not at work and whose lease is held
     (1, 3, 0),
-    (1, 114, 5),
+    (1, 118, 5),
     // a runner whose last command is another's, and one whose last command has another number
-    (1, 128, b'2'),
-    (1, 132, 2),
-    // a kept lease that is no leg's; nobody holds the lease of the running leg
-    (1, 161, 2),
-    (1, 165, 0),
+    (1, 132, b'2'),
+    (1, 136, 2),
+    // a kept lease of another number than its leg's, of a run, a job and a leg that there are not, and of a later attempt
+    (1, 165, 2),
+    (1, 169, 2),
+    (1, 177, 1),
+    (1, 181, 1),
+    (1, 173, 2),
+    // nobody holds the lease of the running leg
+    (1, 185, 0),
 ];
 
 /// The run of the first row without its job, with its job twice, where its plan has one, and with two legs, where its plan has one.
 const OTHER_COUNTS: &[&[u8]] = &[
-    &[1, 0, 0, 0, 0, 0],
+    &[0, 0, 0, 1, 1, 0, 0, 0, 0, 0],
     &[
-        1, 0, 1, 0, 0, 0, 1, 2, 0, 0, 0, 0, 1, 0, 0, 0, 1, 2, 0, 0, 0, 0, 0, 0, 0, 0,
+        0, 0, 0, 1, 1, 0, 1, 0, 0, 0, 1, 2, 0, 0, 0, 0, 1, 0, 0, 0, 1, 2, 0, 0, 0, 0, 0, 0, 0, 0,
     ],
     &[
-        1, 0, 1, 0, 0, 0, 2, 2, 0, 0, 0, 0, 2, 0, 0, 0, 0, 0, 0, 0, 0,
+        0, 0, 0, 1, 1, 0, 1, 0, 0, 0, 2, 2, 0, 0, 0, 0, 2, 0, 0, 0, 0, 0, 0, 0, 0,
     ],
 ];
 
-/// The bytes of a row with the byte at an offset changed.
-fn changed(rt: &impl Abort, alloc: Global, change: &Change) -> Result<Vec<u8>, Refusal> {
-    let &(row, offset, byte) = change;
+/// A row, the bytes that are changed, each with its offset, and whether a sound table is spelled then.
+type Changes = (usize, &'static [(usize, u8)], bool);
+
+/// Other attempts of the run (107 to 110) and of the kept lease (170 to 173), whose number (162 to 165) is compared with the last one
+/// (0 to 3), and with that of its leg where the run is at its attempt.
+const ATTEMPTS: &[Changes] = &[
+    // the last attempt, and one behind it
+    (0, &[(109, 3), (110, 0xE8)], true),
+    (0, &[(109, 3), (110, 0xE9)], false),
+    // a lease of an earlier attempt, which its leg has, or has not; one above the last, and one that is none
+    (1, &[(110, 2)], true),
+    (1, &[(110, 2), (3, 2), (165, 2)], true),
+    (1, &[(110, 2), (165, 2)], false),
+    (1, &[(110, 2), (165, 0)], false),
+    // a job and a leg that are not of the plan, and a run that is not of the table
+    (1, &[(110, 2), (177, 1)], false),
+    (1, &[(110, 2), (181, 1)], false),
+    (1, &[(110, 2), (169, 2)], false),
+    // a lease of the present attempt, which its leg has, or has not, and of a later attempt
+    (1, &[(110, 2), (173, 2)], true),
+    (1, &[(110, 2), (173, 2), (3, 2), (165, 2)], false),
+    (1, &[(110, 2), (173, 3)], false),
+];
+
+/// The bytes of a row with bytes at their offsets changed.
+fn changed(
+    rt: &impl Abort,
+    alloc: Global,
+    row: usize,
+    changes: &[(usize, u8)],
+) -> Result<Vec<u8>, Refusal> {
     holds!(rt; row < ROWS.len());
     let mut bytes = bytes_of(alloc, &ROWS[row])?;
-    if offset < bytes.len() {
-        bytes[offset] = byte;
+    for &(offset, byte) in changes {
+        if offset < bytes.len() {
+            bytes[offset] = byte;
+        }
     }
     Ok(bytes)
 }
@@ -253,9 +295,9 @@ fn is_table(alloc: Global, bytes: &[u8]) -> Result<bool, Refusal> {
 }
 
 fn reads_no_change(rt: &impl Abort, alloc: Global) -> Result<(), Refusal> {
-    for change in CHANGES {
-        let bytes = changed(rt, alloc, change)?;
-        holds!(rt; !is_table(alloc, bytes.as_slice())?, change.1);
+    for &(row, offset, byte) in CHANGES {
+        let bytes = changed(rt, alloc, row, &[(offset, byte)])?;
+        holds!(rt; !is_table(alloc, bytes.as_slice())?, offset);
     }
     for &behind in OTHER_COUNTS {
         let bytes = bytes_of(alloc, &(&[], 0, behind))?;
@@ -285,5 +327,23 @@ fn other_bytes_are_no_tables(rt: HostRuntime) {
         &rt,
         reads_no_second_spelling(&rt, alloc),
         reads_no_second_spelling(&rt, alloc),
+    );
+}
+
+fn reads_attempts(rt: &impl Abort, alloc: Global) -> Result<(), Refusal> {
+    for (place, &(row, changes, sound)) in ATTEMPTS.iter().enumerate() {
+        let bytes = changed(rt, alloc, row, changes)?;
+        holds!(rt; is_table(alloc, bytes.as_slice())? == sound, place);
+    }
+    Ok(())
+}
+
+#[test]
+fn kept_leases_are_of_attempts_up_to_that_of_their_runs(rt: HostRuntime) {
+    let alloc = rt.alloc();
+    expect_twice(
+        &rt,
+        reads_attempts(&rt, alloc),
+        reads_attempts(&rt, alloc),
     );
 }

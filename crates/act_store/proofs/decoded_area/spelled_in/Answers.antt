@@ -2,6 +2,7 @@ use Rattle.std.proofs.Common.{rules, subst}
 use Rattle.std.specs.Prelude.{Option}
 use Rattle.gated_journal.specs.ScannedHead.{head_of}
 use Rattle.run_table.specs.TableState.{TableState}
+use Rattle.act_store.specs.Layouts.{current_version}
 use Rattle.act_store.specs.Replayed.{IsReplayed}
 use Rattle.act_store.specs.Spelled.{IsTextOf}
 use Rattle.act_store.proofs.Spelling.{none_read, none_text, none_version, none_replayed}
@@ -14,14 +15,14 @@ pub returns-in_default-2-clause-spelled : goal.returns-in_default-2-clause-spell
 returns-in_default-2-clause-spelled c =
     let found = c.in-Some.found in
     none_text c.args.area.now (head_of found.head) found.records.now found.gate c.in-Some.ensures.some
-    (subst (λ (o : Option TableState). IsTextOf 1 found.head.text.now o) c.in_default-2.is c.in_ok-first.ensures.spelled)
+    (subst (λ (o : Option TableState). IsTextOf current_version found.head.text.now o) c.in_default-2.is c.in_ok-first.ensures.spelled)
 
 pub returns-in-None-clause-spelled : goal.returns-in-None-clause-spelled
 returns-in-None-clause-spelled c =
     let found = c.in-Some.found in
     let first = c.in-Some-2.first in
     none_replayed c.args.area.now (head_of found.head) found.records.now found.gate c.in-Some.ensures.some first
-    (subst (λ (o : Option TableState). IsReplayed 1 found.records.now first o) c.in-None.is c.in_ok-table.ensures.replayed)
+    (subst (λ (o : Option TableState). IsReplayed current_version found.records.now first o) c.in-None.is c.in_ok-table.ensures.replayed)
 
 pub returns-then-found-ne-VERSION-clause-spelled : goal.returns-then-found-ne-VERSION-clause-spelled
 returns-then-found-ne-VERSION-clause-spelled c =

@@ -3,13 +3,19 @@ use Rattle.std.specs.List.{AllByRecursion}
 use Rattle.run_table.specs.Stored.{stored_runner}
 use Rattle.run_table.specs.TableState.{RunnerState}
 use Rattle.table_text.specs.Tables.{run, runner}
-use Rattle.table_text.specs.Writing.{RunHasBytes}
-use Rattle.table_text.proofs.TableKnown.{runs_have_bytes, table_bytes, table_takes}
+use Rattle.table_text.specs.Writing.{KeptHasBytes, RunHasBytes}
+use Rattle.table_text.proofs.TableKnown.{runners_have_bytes, runs_have_bytes, table_bytes, table_takes}
 use Rattle.table_text.proofs.push_table.push_table.Goals as goal
 
 pub push_list-requires : goal.push_list-requires
 push_list-requires c =
     subst (AllByRecursion RunHasBytes) (sym c.runs-runs.ensures.runs) (runs_have_bytes c.args.value.now.runs c.runs-runs.ensures.storable)
+
+pub push_list-requires-2 : goal.push_list-requires-2
+push_list-requires-2 c =
+    subst (AllByRecursion (λ (r : RunnerState). KeptHasBytes r.last)) (sym c.runners-runners.ensures.runners)
+    (runners_have_bytes c.args.value.now c.last_lease.ensures.sound
+    (subst (AllByRecursion run.Takes) c.runs-runs.ensures.runs c.in_ok-push_list.ensures.takes))
 
 pub returns-clause-takes : goal.returns-clause-takes
 returns-clause-takes c =

@@ -1,4 +1,4 @@
-use Rattle.table_text.proofs.WholeTables.{none_of_parts, none_without_parts}
+use Rattle.table_text.proofs.WholeTables.{none_of_parts, none_without_parts, one_of_parts}
 use Rattle.table_text.proofs.read.read_table.Goals as goal
 
 pub returns-in_default-clause-front : goal.returns-in_default-clause-front
@@ -8,3 +8,8 @@ pub returns-clause-front : goal.returns-clause-front
 returns-clause-front c =
     none_of_parts c.args.bytes.now c.in-Some.rest.now c.in-Some.parts (rw c.in-Some.is at c.in_ok-parts.ensures.front)
     (rw c.in-None.is at c.in_ok-table.ensures.of)
+
+pub returns-in-Some-2-clause-front : goal.returns-in-Some-2-clause-front
+returns-in-Some-2-clause-front c =
+    one_of_parts c.args.bytes.now c.in-Some.rest.now c.in-Some.parts c.in-Some-2.table (rw c.in-Some.is at c.in_ok-parts.ensures.front)
+    (rw c.in-Some-2.is at c.in_ok-table.ensures.of)

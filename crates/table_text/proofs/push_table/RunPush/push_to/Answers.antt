@@ -16,14 +16,14 @@ push_list-requires c =
 
 pub returns-clause-takes : goal.returns-clause-takes
 returns-clause-takes c =
-    run_takes c.args.self.now c.requires.0 (subst admit.Takes c.prepared.ensures c.in_ok-push_admit.ensures.takes)
+    run_takes c.args.self.now c.requires (subst admit.Takes c.prepared.ensures c.in_ok-push_admit.ensures.takes)
     (subst (AllByRecursion job.Takes) c.jobs.ensures
     (all_seen job.Takes (λ (j : JobCells). j.state) c.jobs.result.now c.in_ok-push_list.ensures.takes))
 
 pub returns-clause-bytes : goal.returns-clause-bytes
 returns-clause-bytes c =
-    run_bytes _ _ _ _ _ _ _ _ _ _ _ _ _ c.in_ok-push_admit.ensures.bytes c.in_ok-push_byte.ensures.bytes c.in_ok-push_byte-2.ensures.bytes
-    c.in_ok-push_list.ensures.bytes
-    (ap admit.spelling c.prepared.ensures) (c.run_byte.ensures ∙ ap run_byte c.phase.ensures)
+    run_bytes _ _ _ _ _ _ _ _ _ _ _ _ _ _ _ _ c.in_ok-push_admit.ensures.bytes c.in_ok-push_number.ensures.bytes
+    c.in_ok-push_byte.ensures.bytes c.in_ok-push_byte-2.ensures.bytes c.in_ok-push_list.ensures.bytes
+    (ap admit.spelling c.prepared.ensures) c.attempt.ensures (c.run_byte.ensures ∙ ap run_byte c.phase.ensures)
     (c.flag_byte.ensures ∙ ap flag_byte c.is_stopping.ensures)
     (sym (flat_map-map job.spelling (λ (j : JobCells). j.state) c.jobs.result.now) ∙ ap (flat_map job.spelling) c.jobs.ensures)
