@@ -4,10 +4,10 @@ use crate::explain::{Explanation, explanation_of, numbers};
 use act_disk::{Empty, FileDisk, HostFile, MemoryDisk};
 use act_store::Store;
 use acts_ops::{run_check, run_init, run_script, run_show};
-use acts_serve::serve_rounds;
+use acts_serve::{Limits, serve_forever, serve_rounds};
 use clap::builder::ValueParser;
 use clap::error::ErrorKind;
-use clap::{Arg, ArgMatches, Command, Error};
+use clap::{Arg, ArgAction, ArgMatches, Command, Error};
 use std::alloc::{AllocError, Global};
 use std::fs::{File, Files};
 use std::io::{BufWriter, Printer};
@@ -16,7 +16,7 @@ use std::process::ExitCode;
 use std::rt::Env;
 use std::sync::Wait;
 use std::thread::Threads;
-use std::time::Clock;
+use std::time::{Clock, Duration};
 use std::{env, io};
 use wf_value::{Code, Refusal};
 
@@ -37,6 +37,12 @@ const MOST_PORT: u64 = 65_535;
 
 /// The most sessions of a port.
 const MOST_SESSIONS: u64 = 32;
+
+/// For how many seconds a client may say nothing at most: a day.
+const MOST_IDLE: u64 = 86_400;
+
+/// After how many commands a history turns over at the latest.
+const MOST_COMMANDS: u64 = 50_000;
 
 /// How long each area of a new store is to be, in bytes.
 #[derive(Drop)]
@@ -72,14 +78,23 @@ impl Sessions {
     }
 }
 
-/// A store's file, the ports on which it is served, how many sessions each of them takes in a round, and how many rounds there are.
+/// How long a store is served.
+#[derive(Clone, Copy)]
+enum Span {
+    /// So many rounds.
+    Rounds(u64),
+    /// Without end.
+    Forever(Limits),
+}
+
+/// A store's file, the ports on which it is served, how many sessions each of them holds at a time, and how long it is served.
 #[derive(Drop)]
 struct Serving<'a> {
     file: &'a str,
     hook_port: u16,
     runner_port: u16,
     sessions: Sessions,
-    rounds: u64,
+    span: Span,
 }
 
 /// What the command line asks for.
@@ -131,11 +146,44 @@ fn rounds_option<'a>(alloc: Global) -> Arg<'a> {
     Arg::new(alloc, "rounds")
         .long("rounds")
         .value_name("ROUNDS")
+        .help("Ends after ROUNDS rounds, each with a history of its own")
         .default_value("1")
         .value_parser(ValueParser::unsigned(1, u64::MAX))
 }
 
-/// `acts serve FILE --hook-port PORT --runner-port PORT --sessions COUNT`, and `--rounds ROUNDS` where it is wanted.
+/// Whether the service goes on without end.
+fn forever_option<'a>(alloc: Global) -> Result<Arg<'a>, AllocError> {
+    Arg::new(alloc, "forever")
+        .long("forever")
+        .help("Goes on without end: each port has COUNT seats, which its clients share")
+        .action(ArgAction::SetTrue)
+        .conflicts_with("rounds")
+}
+
+/// For how long a client of a service without end may say nothing.
+fn idle_option<'a>(alloc: Global) -> Result<Arg<'a>, AllocError> {
+    Arg::new(alloc, "idle")
+        .long("idle")
+        .value_name("SECONDS")
+        .help("With --forever: lets a client go that has said nothing for SECONDS")
+        .default_value("300")
+        .value_parser(ValueParser::unsigned(1, MOST_IDLE))
+        .requires_arg("forever")
+}
+
+/// After how many commands the history of a service without end turns over.
+fn turn_over_option<'a>(alloc: Global) -> Result<Arg<'a>, AllocError> {
+    Arg::new(alloc, "turn-over")
+        .long("turn-over")
+        .value_name("COMMANDS")
+        .help("With --forever: begins a new history after COMMANDS commands, or 64 MiB that clients have sent")
+        .default_value("50000")
+        .value_parser(ValueParser::unsigned(1, MOST_COMMANDS))
+        .requires_arg("forever")
+}
+
+/// `acts serve FILE --hook-port PORT --runner-port PORT --sessions COUNT`, with `--rounds ROUNDS`, or with `--forever` and what belongs to
+/// it, where that is wanted.
 fn serve_command<'a>(alloc: Global) -> Result<Command<'a>, AllocError> {
     let file = Arg::new(alloc, "FILE").required(true);
     let sessions = Arg::new(alloc, "sessions")
@@ -145,13 +193,16 @@ fn serve_command<'a>(alloc: Global) -> Result<Command<'a>, AllocError> {
         .value_parser(ValueParser::unsigned(1, MOST_SESSIONS));
     Command::new(alloc, "serve")
         .about(
-            "Serves the store in FILE on 127.0.0.1: in each round COUNT sessions of HTTP on one port, and as many of runner lines on the other",
+            "Serves the store in FILE on 127.0.0.1: in each round, or at a time, COUNT sessions of HTTP on one port, and as many of runner lines on the other",
         )
         .arg(file)?
         .arg(port_option(alloc, "hook-port"))?
         .arg(port_option(alloc, "runner-port"))?
         .arg(sessions)?
-        .arg(rounds_option(alloc))
+        .arg(rounds_option(alloc))?
+        .arg(forever_option(alloc)?)?
+        .arg(idle_option(alloc)?)?
+        .arg(turn_over_option(alloc)?)
 }
 
 /// `acts play`.
@@ -233,6 +284,17 @@ fn port_of(matches: &ArgMatches<'_>, name: &str) -> Option<u16> {
     u16::try_from(matches.get_one::<u64>(name)?).ok()
 }
 
+/// How long the words of `acts serve` ask for.
+fn span_of(matches: &ArgMatches<'_>) -> Option<Span> {
+    if !matches.get_flag("forever") {
+        return Some(Span::Rounds(matches.get_one::<u64>("rounds")?));
+    }
+    Some(Span::Forever(Limits {
+        commands: matches.get_one::<u64>("turn-over")?,
+        idle: Duration::from_secs(matches.get_one::<u64>("idle")?),
+    }))
+}
+
 /// What the words of `acts serve` ask for.
 fn serve_of<'a>(matches: &ArgMatches<'a>) -> Option<Request<'a>> {
     Some(Request::Serve(Serving {
@@ -240,7 +302,7 @@ fn serve_of<'a>(matches: &ArgMatches<'a>) -> Option<Request<'a>> {
         hook_port: port_of(matches, "hook-port")?,
         runner_port: port_of(matches, "runner-port")?,
         sessions: Sessions::of(matches.get_one::<u64>("sessions")?)?,
-        rounds: matches.get_one::<u64>("rounds")?,
+        span: span_of(matches)?,
     }))
 }
 
@@ -348,22 +410,21 @@ fn serve<
     R: Print + Files<File = File> + AllocGlobal,
     S: Threads + Wait + Clock + Sync + Net<Listener = TcpListener, Stream = TcpStream>,
 >(rt: &R, system: &S, serving: &Serving<'_>) -> Result<(), Refusal> {
+    let alloc = rt.alloc();
     let store = opened(rt, serving.file)?;
     let hooks = listener(system, serving.hook_port)?;
     let runners = listener(system, serving.runner_port)?;
     let mut out = output(rt)?;
     let sessions = serving.sessions.count;
-    serve_rounds(
-        system,
-        rt.alloc(),
-        store,
-        &hooks,
-        &runners,
-        sessions,
-        serving.rounds,
-        &mut out,
-    )?;
-    Ok(())
+    match serving.span {
+        Span::Rounds(rounds) => {
+            serve_rounds(system, alloc, store, &hooks, &runners, sessions, rounds, &mut out)?;
+            Ok(())
+        }
+        Span::Forever(limits) => {
+            serve_forever(system, alloc, store, &hooks, &runners, sessions, limits, &mut out)
+        }
+    }
 }
 
 /// Prints the text of `clap`, and gives its status: 0 for a help text, and 2 for a fault.

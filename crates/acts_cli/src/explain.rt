@@ -176,7 +176,7 @@ static OF_COMMANDS: [Explanation; 9] = [
         meaning: "the history has 100,000 entries; refused commands and look-ups are entries too",
         input: "the 100,001st command of a script, or of a round of a service",
         remedy: "part the script in two; a client of a service opens a new session in the next round, and sends the same \
-            again",
+            again; with --forever no history has so many",
     },
     Explanation {
         number: "47",
@@ -215,7 +215,7 @@ static OF_STORES: [Explanation; 7] = [
         meaning: "the disk failed in an earlier call, and nothing is known of what it took",
         input: "any command of a script, after a commit was answered 51",
         remedy: "free memory, and play the script again: its store is in memory, and ends with it. A service is started again, which \
-            opens its file anew; then a client opens a new session, and sends the same again",
+            opens its file anew (with --forever it ends by itself); then a client opens a new session, and sends the same again",
     },
     Explanation {
         number: "53",

@@ -1,10 +1,11 @@
 ghost use Rattle.std.specs.Prelude.{◌≡◌, ◌<◌, ◌≤◌, [], length, IfOk};
 
+use crate::telling::{tell_ready, tell_settled};
 use crate::visit::Visit;
-use act_desk::{Fault, Free, Settled, serve_all};
+use act_desk::{Fault, Free, serve_all};
 use act_disk::Disk;
+use act_sessions::{Ending, Transcript};
 use act_store::Store;
-use byte_streams::{flush, write_whole};
 use std::alloc::Global;
 use std::io::Write;
 use std::net::TcpListener;
@@ -31,47 +32,48 @@ fn visits<'a>(
     Ok(visits)
 }
 
-/// Writes a text to where the service tells how it is, and sends it on. A failure is 61.
-fn tell<O: Write>(out: &mut O, text: &[u8]) -> Result<(), Refusal> {
-    write_whole(out, text)?;
-    flush(out)
+/// A round whose sessions have ended.
+#[derive(Drop)]
+struct Round<D: Disk> {
+    store: Store<D>,
+    /// A stream failed in it, or could not be accepted.
+    broken: bool,
+    /// No session wrote anything, for want of memory or of a thread.
+    unserved: bool,
 }
 
-/// Tells how many entries the history of a settled store has.
-fn tell_settled<D: Disk, O: Write>(
-    alloc: Global,
-    settled: &Settled<D>,
-    out: &mut O,
-) -> Result<(), Refusal> {
-    let count = settled.store.entries();
-    let line = format!(in alloc; "settled {count}\n")?;
-    tell(out, line.as_bytes())
+/// Whether no session wrote anything, for want of memory or of a thread.
+fn are_unserved(transcripts: &[Transcript]) -> bool {
+    transcripts
+        .iter()
+        .all(|transcript| transcript.ending == Ending::Memory && transcript.written == 0)
 }
 
 /// Holds sessions over a store that has no entries yet, each in a thread of its own and at the same time, and tells how many entries
-/// they made. It gives the settled store.
+/// they made.
 fn serve_round<'a, D: Disk + Drop + Send, R: Threads + Wait + Clock + Sync, O: Write>(
     rt: &R,
     alloc: Global,
     store: Store<D>,
     visits: Vec<Visit<'a>>,
     out: &mut O,
-) -> Result<Store<D>, Refusal>
+) -> Result<Round<D>, Refusal>
     requires fresh { store.history ≡ [] }
     requires visits { (0 < length visits.items) × (length visits.items ≤ 64) }
 {
-    match serve_all(rt, alloc, store, visits, &Free) {
-        Ok(settled) => {
-            tell_settled(alloc, &settled, out)?;
-            Ok(settled.store)
-        }
-        Err(Fault::Broken(settled)) => {
-            tell_settled(alloc, &settled, out)?;
-            Err(Refusal::Numbered(Code::StreamFailed))
-        }
-        Err(Fault::Unsettled(_)) => Err(Refusal::Numbered(Code::Unsettled)),
-        Err(Fault::Memory(..)) => Err(Refusal::Numbered(Code::NoMemory)),
-    }
+    let (settled, broken) = match serve_all(rt, alloc, store, visits, &Free) {
+        Ok(settled) => (settled, false),
+        Err(Fault::Broken(settled)) => (settled, true),
+        Err(Fault::Unsettled(_)) => return Err(Refusal::Numbered(Code::Unsettled)),
+        Err(Fault::Memory(..)) => return Err(Refusal::Numbered(Code::NoMemory)),
+    };
+    tell_settled(settled.store.entries(), out)?;
+    let unserved = are_unserved(settled.transcripts.as_slice());
+    Ok(Round {
+        store: settled.store,
+        broken,
+        unserved,
+    })
 }
 
 /// A settled store whose history begins anew.
@@ -109,8 +111,9 @@ pub fn serve_on<D: Disk + Drop + Send, R: Threads + Wait + Clock + Sync, O: Writ
 /// Serves a store as `serve_on` does, in so many rounds, one at least: once all sessions of a round have ended, and `settled COUNT` is
 /// written for it, the history begins anew at the table that they left, and the next round holds as many sessions on the same ports.
 ///
-/// `ready` is written once. What refuses a round ends the service, and so does the store where its history cannot begin anew: with 52
-/// where the device has failed, and with 56 where memory was wanting to end a checkpoint.
+/// `ready` is written once. A stream that fails ends no round but the last, behind which the service is refused with 61. Of several rounds one
+/// in which no session could be started ends the service with 50. Else what refuses a round ends the service, and so does the store where
+/// its history cannot begin anew: with 52 where the device has failed, and with 56 where memory was wanting to end a checkpoint.
 pub fn serve_rounds<D: Disk + Drop + Send, R: Threads + Wait + Clock + Sync, O: Write>(
     rt: &R,
     alloc: Global,
@@ -125,12 +128,23 @@ pub fn serve_rounds<D: Disk + Drop + Send, R: Threads + Wait + Clock + Sync, O: 
     requires sessions { (0 < sessions) × (sessions ≤ 32) }
 {
     let first = visits(alloc, hooks, runners, sessions)?;
-    tell(out, b"ready\n")?;
-    let mut settled = serve_round(rt, alloc, store, first, out)?;
+    tell_ready(out)?;
+    let mut round = serve_round(rt, alloc, store, first, out)?;
+    let mut broken = round.broken;
     for _ in 1..rounds {
+        if round.unserved {
+            break;
+        }
         let next = visits(alloc, hooks, runners, sessions)?;
-        let anew = turned_over(settled)?;
-        settled = serve_round(rt, alloc, anew, next, out)?;
+        let anew = turned_over(round.store)?;
+        round = serve_round(rt, alloc, anew, next, out)?;
+        broken = broken || round.broken;
     }
-    Ok(settled)
+    if round.unserved && rounds > 1 {
+        return Err(Refusal::Numbered(Code::NoMemory));
+    }
+    if broken {
+        return Err(Refusal::Numbered(Code::StreamFailed));
+    }
+    Ok(round.store)
 }

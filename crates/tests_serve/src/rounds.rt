@@ -1,8 +1,9 @@
-//! Two rounds of sessions over loopback: the second one goes on at the table that the first has left.
+//! Rounds of sessions over loopback: each goes on at the table that the one before has left, and a stream that failed ends none.
 
 use crate::clients::{BODY, CREATED, POST, is_answered};
 use crate::service::serve;
 use std::alloc::Global;
+use std::io::Write;
 use std::net::{Net, SocketAddr, TcpListener, TcpStream};
 use std::test::Fail;
 use std::{io, thread};
@@ -24,6 +25,12 @@ fn visits<R: Net<Stream = TcpStream>>(
 
 /// The same delivery in each round: it makes one run.
 const HOOK: &[(&[&str], &str)] = &[(&[POST, BODY], CREATED), (&[POST, BODY], CREATED)];
+
+const THREE_HOOKS: &[(&[&str], &str)] = &[
+    (&[POST, BODY], CREATED),
+    (&[POST, BODY], CREATED),
+    (&[POST, BODY], CREATED),
+];
 
 /// What is asked of a run that is not there, and then the leg of the first round's run.
 const RUNNER: &[(&[&str], &str)] = &[
@@ -50,5 +57,36 @@ fn serves_two_rounds(rt: HostRuntime) -> Result<(), Fail> {
     });
     assert_eq!(rt; ended, (true, true, true));
     assert_eq!(rt; out.as_slice(), b"ready\nsettled 2\nsettled 2\n".as_slice());
+    Ok(())
+}
+
+/// A stream that is reset once it was answered, and then one that is not.
+fn visits_after_a_reset<R: Net<Stream = TcpStream>>(rt: &R, to: SocketAddr) -> io::Result<bool> {
+    let mut reset = TcpStream::connect(rt, to)?;
+    reset.write_all(b"FETCH 9\nFETCH")?;
+    reset.peek(&mut [0u8; 1])?;
+    drop(reset);
+    visits(rt, to, RUNNER)
+}
+
+#[test]
+fn a_stream_that_failed_ends_no_round(rt: HostRuntime) -> Result<(), Fail> {
+    let alloc: Global = rt.alloc();
+    let hooks = TcpListener::bind(&rt, "127.0.0.1:0")?;
+    let runners = TcpListener::bind(&rt, "127.0.0.1:0")?;
+    let to_hooks = hooks.local_addr()?;
+    let to_runners = runners.local_addr()?;
+    let mut out: Vec<u8> = Vec::new(alloc);
+    let rt = &rt;
+    let ended = thread::scope(thread::scope_env(), rt, |scope| {
+        let one = scope.spawn(|| visits(rt, to_hooks, THREE_HOOKS));
+        let two = scope.spawn(|| visits_after_a_reset(rt, to_runners));
+        let served = serve(rt, alloc, &hooks, &runners, 3, &mut out);
+        let one = one.is_ok_and(|handle| handle.join(rt).unwrap_or(false));
+        let two = two.is_ok_and(|handle| handle.join(rt).unwrap_or(false));
+        (served, one, two)
+    });
+    assert_eq!(rt; ended, (None, true, true));
+    assert_eq!(rt; out.as_slice(), b"ready\nsettled 2\nsettled 2\nsettled 2\n".as_slice());
     Ok(())
 }

@@ -1,0 +1,156 @@
+//! How a seat reads from a client and writes to it, for one part of the client's session.
+
+use crate::port::Port;
+use act_sessions::Protocol;
+use std::io;
+use std::io::{ErrorKind, Read, Write};
+use std::net::TcpStream;
+use std::sync::Wait;
+use std::sync::atomic::{AtomicU64, Ordering};
+use std::thread;
+use std::time::{Clock, Duration, Instant};
+
+/// Why a part has no more input.
+#[derive(Clone, Copy, Debug, PartialEq, Eq)]
+pub(crate) enum Pause {
+    /// The client sends no more.
+    Closed,
+    /// The client has sent nothing more so far.
+    Silent,
+    /// The seat is wanted for others, or the history turns over.
+    Yields,
+}
+
+/// Who says whether a seat goes on reading from its client.
+pub(crate) trait Turns {
+    /// Whether the seat is to leave its client, behind so many answers.
+    fn must_yield(&self, answers: u64) -> bool;
+}
+
+/// The seats of a port leave their clients where others wait, or the history turns over.
+#[derive(Drop)]
+pub(crate) struct SeatTurns<'r, 'p, 'q, P: Protocol, R: Wait> {
+    pub(crate) rt: &'r R,
+    pub(crate) port: &'p Port<'q, P>,
+}
+
+impl<P: Protocol, R: Wait> Turns for SeatTurns<'_, '_, '_, P, R> {
+    fn must_yield(&self, answers: u64) -> bool {
+        self.port.must_yield(self.rt, answers)
+    }
+}
+
+/// Reads from a client. The input ends where nothing more is there, or the seat is to leave it.
+#[derive(Drop)]
+pub(crate) struct ClientReader<'s, 't, 'a, T: Turns> {
+    stream: &'s TcpStream,
+    turns: &'t T,
+    /// How many answers were written in this part.
+    answers: &'a AtomicU64,
+    /// How many bytes were read.
+    pub(crate) count: u64,
+    pub(crate) pause: Pause,
+}
+
+impl<'s, 't, 'a, T: Turns> ClientReader<'s, 't, 'a, T> {
+    pub(crate) fn new(
+        stream: &'s TcpStream,
+        turns: &'t T,
+        answers: &'a AtomicU64,
+    ) -> ClientReader<'s, 't, 'a, T> {
+        ClientReader {
+            stream,
+            turns,
+            answers,
+            count: 0,
+            pause: Pause::Closed,
+        }
+    }
+}
+
+impl<T: Turns> Read for ClientReader<'_, '_, '_, T> {
+    fn read(&mut self, buffer: &mut [u8]) -> io::Result<usize> {
+        if self
+            .turns
+            .must_yield(self.answers.load(Ordering::SeqCst))
+        {
+            self.pause = Pause::Yields;
+            return Ok(0);
+        }
+        let mut stream = self.stream;
+        match stream.read(buffer) {
+            Ok(count) => {
+                self.count = self.count.saturating_add(count as u64);
+                Ok(count)
+            }
+            Err(e) if e.kind() == ErrorKind::WouldBlock => {
+                self.pause = Pause::Silent;
+                Ok(0)
+            }
+            Err(e) => Err(e),
+        }
+    }
+}
+
+/// Writes to a client, and waits so long for it in all, at most, where it does not read.
+#[derive(Drop)]
+pub(crate) struct ClientWriter<'c, 's, 'a, C: Clock> {
+    clock: &'c C,
+    stream: &'s TcpStream,
+    answers: &'a AtomicU64,
+    patience: Duration,
+}
+
+impl<'c, 's, 'a, C: Clock> ClientWriter<'c, 's, 'a, C> {
+    pub(crate) fn new(
+        clock: &'c C,
+        stream: &'s TcpStream,
+        answers: &'a AtomicU64,
+        patience: Duration,
+    ) -> ClientWriter<'c, 's, 'a, C> {
+        ClientWriter {
+            clock,
+            stream,
+            answers,
+            patience,
+        }
+    }
+
+    /// Waits for a millisecond, while there is patience left. Where no clock can be read there is none.
+    fn waits(&mut self) -> bool {
+        if self.patience.is_zero() {
+            return false;
+        }
+        let begin = Instant::now(self.clock);
+        thread::sleep(self.clock, Duration::from_millis(1));
+        let waited = begin.and_then(|begin| begin.elapsed(self.clock));
+        self.patience = match waited {
+            Ok(waited) => self.patience.saturating_sub(waited),
+            Err(_) => Duration::ZERO,
+        };
+        true
+    }
+}
+
+impl<C: Clock> Write for ClientWriter<'_, '_, '_, C> {
+    fn write(&mut self, bytes: &[u8]) -> io::Result<usize> {
+        for _ in 0..u64::MAX {
+            let mut stream = self.stream;
+            match stream.write(bytes) {
+                Err(e) if e.kind() == ErrorKind::WouldBlock => {
+                    if !self.waits() {
+                        break;
+                    }
+                }
+                written => return written,
+            }
+        }
+        Err(io::Error::from(ErrorKind::TimedOut))
+    }
+
+    /// An answer is written: a session sends each on.
+    fn flush(&mut self) -> io::Result<()> {
+        self.answers.fetch_add(1, Ordering::SeqCst);
+        Ok(())
+    }
+}

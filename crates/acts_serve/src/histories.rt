@@ -1,0 +1,148 @@
+//! One history after the other, over the same clients.
+
+ghost use Rattle.std.specs.Prelude.{◌≡◌, ◌<◌, ◌≤◌, [], IfOk};
+
+use crate::seat::{SeatWork, seats};
+use crate::service::Service;
+use crate::telling::tell_settled;
+use act_desk::{Fault, Settled, serve_all};
+use act_disk::Disk;
+use act_sessions::{Ending, Transcript};
+use act_store::Store;
+use std::alloc::Global;
+use std::io::Write;
+use std::sync::Wait;
+use std::thread;
+use std::thread::Threads;
+use std::time::{Clock, Duration};
+use wf_value::{Code, Refusal};
+
+/// How long the service rests where memory or threads are wanting, in milliseconds.
+const REST: u64 = 100;
+
+/// Memory or threads are wanting for a history: the first one is refused with 50, and before a later one the service rests.
+fn rest<R: Clock>(rt: &R, is_first: bool) -> Result<(), Refusal> {
+    if is_first {
+        return Err(Refusal::Numbered(Code::NoMemory));
+    }
+    thread::sleep(rt, Duration::from_millis(REST));
+    Ok(())
+}
+
+/// Whether no thread could be started for any of the seats.
+fn none_begun(transcripts: &[Transcript]) -> bool {
+    transcripts
+        .iter()
+        .all(|transcript| transcript.ending == Ending::Memory)
+}
+
+/// Brings a checkpoint to its end for which memory was wanting, or rests where it still is. Where the area has no room for it there is none any
+/// more.
+fn finish_checkpoint<D: Disk, R: Clock>(
+    rt: &R,
+    alloc: Global,
+    store: &mut Store<D>,
+) -> Result<(), Refusal> {
+    match store.check_finish(alloc) {
+        Ok(_) | Err(Refusal::Numbered(Code::AreaFull)) => Ok(()),
+        Err(Refusal::Numbered(Code::NoMemory)) => rest(rt, false),
+        Err(refusal) => Err(refusal),
+    }
+}
+
+/// A store whose history begins anew, once no checkpoint is begun any more.
+fn turned_over<D: Disk + Drop, R: Wait + Clock>(
+    rt: &R,
+    alloc: Global,
+    store: Store<D>,
+) -> Result<Store<D>, Refusal>
+    ensures { IfOk result (λ anew. anew.history ≡ []) }
+{
+    let mut store = store;
+    for _ in rt.forever() {
+        match store.turn_over() {
+            Ok(()) => return Ok(store),
+            Err(Refusal::Numbered(Code::CheckpointTurn)) => {
+                finish_checkpoint(rt, alloc, &mut store)?;
+            }
+            Err(refusal) => return Err(refusal),
+        }
+    }
+    unreachable!()
+}
+
+/// Tells of a history whose seats have ended, and begins the next one.
+fn next_history<D: Disk + Drop, R: Wait + Clock, O: Write>(
+    service: &Service<'_, R>,
+    alloc: Global,
+    settled: Settled<D>,
+    is_first: bool,
+    out: &mut O,
+) -> Result<Store<D>, Refusal>
+    ensures { IfOk result (λ anew. anew.history ≡ []) }
+{
+    let Settled { store, transcripts } = settled;
+    let unserved = none_begun(transcripts.as_slice());
+    drop(transcripts);
+    if !unserved {
+        tell_settled(store.entries(), out)?;
+    }
+    if unserved || service.is_unseated() {
+        rest(service.rt, is_first)?;
+    }
+    if service.is_broken() {
+        return Err(Refusal::Numbered(Code::StreamFailed));
+    }
+    turned_over(service.rt, alloc, store)
+}
+
+/// Serves one history: until it is to turn over, and each seat has left its client. It gives the store with the next one.
+fn hold_history<D: Disk + Drop + Send, R: Threads + Wait + Clock + Sync, O: Write>(
+    service: &Service<'_, R>,
+    alloc: Global,
+    store: Store<D>,
+    sessions: u64,
+    is_first: bool,
+    out: &mut O,
+) -> Result<Store<D>, Refusal>
+    requires fresh { store.history ≡ [] }
+    requires sessions { (0 < sessions) × (sessions ≤ 32) }
+    ensures { IfOk result (λ anew. anew.history ≡ []) }
+{
+    let Ok(seats) = seats(alloc, service, sessions) else {
+        rest(service.rt, is_first)?;
+        return Ok(store);
+    };
+    service.open();
+    match serve_all(service.rt, alloc, store, seats, service) {
+        Ok(settled) => next_history(service, alloc, settled, is_first, out),
+        Err(Fault::Broken(settled)) => next_history(service, alloc, settled, is_first, out),
+        Err(Fault::Unsettled(_)) => Err(Refusal::Numbered(Code::Unsettled)),
+        Err(Fault::Memory(store, _)) => {
+            rest(service.rt, is_first)?;
+            Ok(store)
+        }
+    }
+}
+
+/// Serves one history after the other, until the service can't go on: it answers why.
+pub(crate) fn hold_histories<
+    D: Disk + Drop + Send,
+    R: Threads + Wait + Clock + Sync,
+    O: Write,
+>(
+    service: &Service<'_, R>,
+    alloc: Global,
+    store: Store<D>,
+    sessions: u64,
+    out: &mut O,
+) -> Result<(), Refusal>
+    requires fresh { store.history ≡ [] }
+    requires sessions { (0 < sessions) × (sessions ≤ 32) }
+{
+    let mut next = hold_history(service, alloc, store, sessions, true, out)?;
+    for _ in service.rt.forever() {
+        next = hold_history(service, alloc, next, sessions, false, out)?;
+    }
+    unreachable!()
+}

@@ -1,0 +1,197 @@
+//! A seat: it serves the clients of its port by turns, a part of a session at a time.
+
+ghost use Rattle.std.specs.Prelude.{◌≡◌, ◌<◌, ◌≤◌, ◌++◌, List, ⊤, length, IfOk};
+ghost use Rattle.act_sessions.specs.Told.{AreAsked, OnlyLastOpen, Told, told_by};
+
+use crate::client::Client;
+use crate::exchange::{ClientReader, ClientWriter, Pause, SeatTurns, Turns};
+use crate::port::Port;
+use crate::service::Service;
+use act_sessions::{Answer, Ending, Part, Parts, Protocol, SessionFault, Standing, Transcript, Work, is_open, run_parts};
+use std::alloc::{AllocError, Global};
+use std::net::TcpStream;
+use std::sync::Wait;
+use std::sync::atomic::AtomicU64;
+use std::time::{Clock, Duration};
+
+/// How long a part waits for a client that does not read its answers, in milliseconds, at most: so long it holds its seat.
+const PATIENCE: u64 = 1_000;
+
+/// What becomes of a client behind a part of its session.
+#[derive(Clone, Copy, Debug, PartialEq, Eq)]
+pub(crate) enum Then {
+    /// It is waited for.
+    Waits,
+    /// It may have said more.
+    Queues,
+    /// Its session is over, and it is told so.
+    Leaves,
+    /// Its stream has ended, or failed.
+    Closes,
+}
+
+/// What becomes of a client whose part ended so, and was given no more input for this.
+fn then_of(end: Part, pause: Pause) -> Then {
+    match (end, pause) {
+        (Part::Waits, Pause::Silent) => Then::Waits,
+        (Part::Waits, Pause::Yields) => Then::Queues,
+        (Part::Waits, Pause::Closed) => Then::Closes,
+        (Part::Over(Ending::Broken), _) => Then::Closes,
+        (Part::Over(_), _) => Then::Leaves,
+    }
+}
+
+/// How a part went.
+#[derive(Clone, Copy)]
+pub(crate) struct Held {
+    /// How many bytes were read.
+    pub(crate) count: u64,
+    pub(crate) then: Then,
+}
+
+/// Holds a part of a session over a stream: from where the session stands until nothing more is there, or the seat is to leave the client, or
+/// the session is over.
+pub(crate) fn hold_part<P: Protocol, T: Turns, C: Clock, A: Answer>(
+    clock: &C,
+    alloc: Global,
+    turns: &T,
+    patience: Duration,
+    stream: &TcpStream,
+    standing: &mut Standing<P>,
+    answerer: &mut A,
+    transcript: &mut Transcript,
+) -> Held
+    ensures { (told : List Told) × AreAsked (A.asked answerer.old) (A.asked answerer.new) told
+        × (told_by transcript.new ≡ told_by transcript.old ++ told) × OnlyLastOpen told }
+{
+    let answers = AtomicU64::new(0);
+    let mut reader = ClientReader::new(stream, turns, &answers);
+    let mut writer = ClientWriter::new(clock, stream, &answers, patience);
+    let end = standing.go_on(alloc, &mut reader, &mut writer, answerer, transcript);
+    Held {
+        count: reader.count,
+        then: then_of(end, reader.pause),
+    }
+}
+
+/// A seat at a port.
+#[derive(Drop)]
+struct Seat<'a, P: Protocol, R: Wait + Clock> {
+    service: &'a Service<'a, R>,
+    port: &'a Port<'a, P>,
+}
+
+impl<P: Protocol, R: Wait + Clock> Seat<'_, P, R> {
+    /// Gives the client back to its port, or closes its stream.
+    fn give_back(&self, client: Client<P>, then: Then) {
+        let mut client = client;
+        let rt = self.service.rt;
+        match then {
+            Then::Waits => self.port.wait_for(rt, client),
+            Then::Queues => self.port.queue(rt, client),
+            Then::Leaves => {
+                let stays = client.leave(rt);
+                self.see_off(client, stays);
+            }
+            Then::Closes => self.port.close_client(rt, client),
+        }
+    }
+
+    /// A client whose session is over is waited for while it may send more.
+    fn see_off(&self, client: Client<P>, stays: bool) {
+        if stays {
+            self.port.wait_for(self.service.rt, client);
+        } else {
+            self.port.close_client(self.service.rt, client);
+        }
+    }
+}
+
+impl<P: Protocol, R: Wait + Clock> Parts for Seat<'_, P, R> {
+    fn part<A: Answer>(
+        &mut self,
+        alloc: Global,
+        answerer: &mut A,
+        transcript: &mut Transcript,
+    ) -> bool {
+        let rt = self.service.rt;
+        let Some(client) = self.port.next(rt) else {
+            return false;
+        };
+        let mut client = client;
+        if client.is_leaving() {
+            let stays = client.discard(rt);
+            self.see_off(client, stays);
+            return true;
+        }
+        let turns = SeatTurns {
+            rt,
+            port: self.port,
+        };
+        let held = hold_part(
+            rt,
+            alloc,
+            &turns,
+            Duration::from_millis(PATIENCE),
+            &client.stream,
+            &mut client.standing,
+            answerer,
+            transcript,
+        );
+        self.service.has_read(held.count);
+        if held.count > 0 {
+            client.was_heard(rt);
+        }
+        self.give_back(client, held.then);
+        if is_open(transcript.asked.as_slice()) {
+            self.service.close();
+        }
+        true
+    }
+}
+
+/// The whole time of a seat, at either port, in one history.
+#[derive(Drop)]
+pub(crate) enum SeatWork<'a, R: Wait + Clock> {
+    Hooks(&'a Service<'a, R>),
+    Runners(&'a Service<'a, R>),
+}
+
+impl<R: Wait + Clock> Work for SeatWork<'_, R> {
+    // No clause knows what a socket's bytes are.
+    ghost ends = { λ seat transcript. ⊤ };
+
+    fn work<A: Answer>(self, alloc: Global, answer: &mut A) -> Result<Transcript, SessionFault> {
+        match self {
+            SeatWork::Hooks(service) => {
+                let port = service.hooks;
+                port.take_seat(service.rt);
+                let mut seat = Seat { service, port };
+                Ok(run_parts(service.rt, alloc, &mut seat, answer))
+            }
+            SeatWork::Runners(service) => {
+                let port = service.runners;
+                port.take_seat(service.rt);
+                let mut seat = Seat { service, port };
+                Ok(run_parts(service.rt, alloc, &mut seat, answer))
+            }
+        }
+    }
+}
+
+/// The seats of a history, as many at each port, the ports by turns.
+pub(crate) fn seats<'a, R: Wait + Clock>(
+    alloc: Global,
+    service: &'a Service<'a, R>,
+    sessions: u64,
+) -> Result<Vec<SeatWork<'a, R>>, AllocError>
+    requires { (0 < sessions) × (sessions ≤ 32) }
+    ensures { IfOk result (λ v. (0 < length v.items) × (length v.items ≤ 64)) }
+{
+    let mut seats = Vec::new(alloc);
+    for _ in 0..sessions {
+        seats.push(SeatWork::Hooks(service))?;
+        seats.push(SeatWork::Runners(service))?;
+    }
+    Ok(seats)
+}

@@ -1,0 +1,25 @@
+//! What a service tells of itself on its output.
+
+use byte_streams::{flush, write_whole};
+use itoa::Buffer;
+use std::io::Write;
+use wf_value::Refusal;
+
+/// Writes a text to where the service tells how it is, and sends it on. A failure is 61.
+fn tell<O: Write>(out: &mut O, text: &[u8]) -> Result<(), Refusal> {
+    write_whole(out, text)?;
+    flush(out)
+}
+
+/// Tells that both ports take clients.
+pub(crate) fn tell_ready<O: Write>(out: &mut O) -> Result<(), Refusal> {
+    tell(out, b"ready\n")
+}
+
+/// Tells how many entries a settled history has. It takes no memory.
+pub(crate) fn tell_settled<O: Write>(entries: u64, out: &mut O) -> Result<(), Refusal> {
+    let mut digits = Buffer::new();
+    write_whole(out, b"settled ")?;
+    write_whole(out, digits.format(entries).as_bytes())?;
+    tell(out, b"\n")
+}

@@ -1,0 +1,127 @@
+//! One thread watches the ports: who connects, who says something, and who has said nothing for too long.
+
+use crate::port::{Port, client_of};
+use crate::service::Service;
+use act_sessions::Protocol;
+use mio::event::Event;
+use mio::{Events, Poll};
+use std::alloc::Global;
+use std::io;
+use std::io::ErrorKind;
+use std::net::{TcpListener, TcpStream};
+use std::sync::Wait;
+use std::time::{Clock, Duration, Instant};
+
+/// How long it waits for something to come, at most, and how often it looks for those that say nothing, in milliseconds.
+const WAIT: u64 = 250;
+
+/// The errors of the system's `accept` that stay: the listener is none any more.
+const EBADF: i32 = 9;
+
+const EINVAL: i32 = 22;
+
+const ENOTSOCK: i32 = 88;
+
+/// Whether a listener can't go on. Else it is tried again: a client has gone, or the system has no more descriptors or memory for now.
+fn is_over(e: &io::Error) -> bool {
+    matches!(e.raw_os_error(), Some(EBADF | EINVAL | ENOTSOCK))
+}
+
+/// A stream that has come to a listener. None: nobody waits there, or the system has no room for one more now.
+fn accepted(listener: &TcpListener) -> io::Result<Option<TcpStream>> {
+    match listener.accept() {
+        Ok((stream, _)) => Ok(Some(stream)),
+        Err(e) if is_over(&e) => Err(e),
+        Err(_) => Ok(None),
+    }
+}
+
+/// Accepts who has come to a port, while it has places. Others wait in the system's queue.
+fn accept_all<P: Protocol, R: Wait + Clock>(
+    rt: &R,
+    alloc: Global,
+    port: &Port<'_, P>,
+) -> io::Result<()> {
+    for _ in 0..u64::MAX {
+        let Some(place) = port.free_place(rt) else {
+            return Ok(());
+        };
+        match accepted(port.listener) {
+            Ok(Some(stream)) => port.add(rt, alloc, stream, place),
+            Ok(None) => {
+                port.vacate(rt, place);
+                return Ok(());
+            }
+            Err(e) => return Err(e),
+        }
+    }
+    Ok(())
+}
+
+/// A client has said something, or somebody has come, who is accepted in any case.
+fn hear<R: Wait + Clock>(service: &Service<'_, R>, event: &Event) {
+    match client_of(event.token()) {
+        Some((0, place)) => service.hooks.has_spoken(service.rt, place),
+        Some((_, place)) => service.runners.has_spoken(service.rt, place),
+        None => {}
+    }
+}
+
+/// Waits for what comes, and takes it.
+fn look<R: Wait + Clock>(
+    service: &Service<'_, R>,
+    alloc: Global,
+    poll: &mut Poll,
+    events: &mut Events,
+) -> io::Result<()> {
+    match poll.poll(events, Some(Duration::from_millis(WAIT))) {
+        Err(e) if e.kind() != ErrorKind::Interrupted => return Err(e),
+        _ => {}
+    }
+    for event in events.iter() {
+        hear(service, event);
+    }
+    accept_all(service.rt, alloc, service.hooks)?;
+    accept_all(service.rt, alloc, service.runners)
+}
+
+/// Lets those go that say nothing, and looks whether each port has a seat.
+fn sweep<R: Wait + Clock>(service: &Service<'_, R>) {
+    let rt = service.rt;
+    service.hooks.sweep(rt, service.limits.idle);
+    service.runners.sweep(rt, service.limits.idle);
+    if service.hooks.lacks_seats(rt) || service.runners.lacks_seats(rt) {
+        service.lacks_seats();
+    }
+}
+
+/// Whether it is time to sweep again. Where no clock can be read it is.
+fn is_due(clock: &impl Clock, swept: Option<Instant>) -> bool {
+    match swept.map(|swept| swept.elapsed(clock)) {
+        Some(Ok(time)) => time >= Duration::from_millis(WAIT),
+        _ => true,
+    }
+}
+
+/// Watches the ports until the service ends. Where one of them can't go on, so does the service not.
+pub(crate) fn watch<R: Wait + Clock>(
+    service: &Service<'_, R>,
+    alloc: Global,
+    poll: &mut Poll,
+    events: &mut Events,
+) {
+    let mut swept = None;
+    for _ in service.rt.forever() {
+        if service.has_ended() {
+            return;
+        }
+        if look(service, alloc, poll, events).is_err() {
+            service.breaks();
+            return;
+        }
+        if is_due(service.rt, swept) {
+            sweep(service);
+            swept = Instant::now(service.rt).ok();
+        }
+    }
+}
