@@ -21,7 +21,6 @@ pub struct DecodedArea {
 }
 
 /// What the bytes of an area spell, or `None` where they spell no table.
-#[tactic(auto, using(crate::proofs::Spelling::some_replayed))]
 pub(crate) fn spelled_in(alloc: Global, area: &[u8]) -> Result<Option<DecodedArea>, Refusal>
     ensures spelled { IfOk result (λ found. IsSpelled area.now found) }
     ensures refused { IfErr result (λ e. e ≡ no_memory) }
