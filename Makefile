@@ -65,6 +65,7 @@ hostile: build
 	sweeps/little_memory/run $(ACTS)
 	sweeps/clients/run $(ACTS)
 	sweeps/crowd/run $(ACTS)
+	sweeps/forever/run $(ACTS) --kills 60 --faults 20 --changed 200
 	sweeps/damaged_files/run $(ACTS)
 	sweeps/failover/run $(ACTS)
 

@@ -1,8 +1,13 @@
 """What the sweeps over `acts serve` share: a service in a process of its own, its clients, and a plain play of runs of one job."""
 
 import os
+import random
+import re
+import resource
 import socket
+import struct
 import subprocess
+import threading
 import time
 
 MOMENT = 0.002
@@ -13,12 +18,23 @@ class Ended(Exception):
     """The other side ended the stream."""
 
 
+def free_port():
+    """A port of this machine that nobody has, below those that the system gives to clients, one of which could take it meanwhile."""
+    while True:
+        with socket.socket() as it:
+            try:
+                it.bind(('127.0.0.1', random.SystemRandom().randrange(10_000, 32_000)))
+                return it.getsockname()[1]
+            except OSError:
+                pass
+
+
 def free_ports():
-    """Two ports of this machine that nobody has."""
-    with socket.socket() as one, socket.socket() as other:
-        one.bind(('127.0.0.1', 0))
-        other.bind(('127.0.0.1', 0))
-        return one.getsockname()[1], other.getsockname()[1]
+    """Two of them."""
+    one = free_port()
+    while (other := free_port()) == one:
+        pass
+    return one, other
 
 
 def init(acts, path, area):
@@ -40,19 +56,35 @@ def library(source, folder):
     return built
 
 
-class Service:
-    """A process of `acts serve`. It is ready, or it has ended already. SETTINGS are variables of its environment, and LIMIT is `ulimit -v`."""
+started = []
 
-    def __init__(self, acts, path, sessions, rounds=1, settings=None, limit=None):
+
+def kill_all():
+    """Kills the services that were started here and have not ended."""
+    while started:
+        child = started.pop()
+        if child.poll() is None:
+            child.kill()
+            child.wait()
+
+
+class Service:
+    """A process of `acts serve`. It is ready, or it has ended already. SETTINGS are variables of its environment, LIMIT is `ulimit -v`, LIMITS are
+    such words of the shell as `ulimit -n 64`, USER is the id of the user that it runs as, and ENDLESS the words that stand for `--rounds`."""
+
+    def __init__(self, acts, path, sessions, rounds=1, settings=None, limit=None, limits=(), user=None, endless=None):
         self.hooks, self.runners = free_ports()
         self.seen, told = os.pipe()
-        first = [f'exec 9>&{told};']
+        first = [f'exec 9> /proc/self/fd/{told};']
         if limit is not None:
             first.append(f'ulimit -v {limit};')
+        first += [f'{words};' for words in limits]
         first += [f'{name}={value}' for name, value in (settings or {}).items()]
-        words = ['serve', path, '--hook-port', str(self.hooks), '--runner-port', str(self.runners), '--sessions', str(sessions), '--rounds', str(rounds)]
-        self.child = subprocess.Popen(['sh', '-c', ' '.join(first) + ' exec "$0" "$@"', acts, *words],
-                                      stdout=subprocess.PIPE, stderr=subprocess.PIPE, pass_fds=(told,))
+        words = ['serve', path, '--hook-port', str(self.hooks), '--runner-port', str(self.runners), '--sessions', str(sessions)]
+        words += ['--rounds', str(rounds)] if endless is None else endless
+        self.child = subprocess.Popen(['sh', '-c', ' '.join(first) + ' exec "$0" "$@"', acts, *words], stdout=subprocess.PIPE, stderr=subprocess.PIPE,
+                                      pass_fds=(told,), user=user, group=user, extra_groups=None if user is None else [])
+        started.append(self.child)
         os.close(told)
         self.ready = self.child.stdout.readline() == b'ready\n'
 
@@ -73,6 +105,74 @@ class Service:
 
     def runner(self):
         return Runner(self.runners)
+
+
+class Forever(Service):
+    """A process of `acts serve --forever`. What it prints of its histories is kept as it comes: `settled` has how many entries each had."""
+
+    def __init__(self, acts, path, seats, turn_over=None, idle=None, **how):
+        words = ['--forever']
+        words += [] if turn_over is None else ['--turn-over', str(turn_over)]
+        words += [] if idle is None else ['--idle', str(idle)]
+        super().__init__(acts, path, seats, endless=words, **how)
+        self.settled, self.strange, self.news = [], [], threading.Condition()
+        self.listener = threading.Thread(target=self.listen, daemon=True)
+        self.listener.start()
+
+    def listen(self):
+        for line in self.child.stdout:
+            found = re.fullmatch(rb'settled (\d+)\n', line)
+            with self.news:
+                if found:
+                    self.settled.append(int(found.group(1)))
+                else:
+                    self.strange.append(line)
+                self.news.notify_all()
+
+    def wait_settled(self, count, timeout=30):
+        """Waits until so many histories have turned over. Whether they have."""
+        with self.news:
+            return self.news.wait_for(lambda: len(self.settled) >= count, timeout)
+
+    def end(self, timeout=60):
+        """Waits for its end by itself: the status, what it printed that is no `settled COUNT`, standard error, and whether a library told that it
+        failed a call."""
+        try:
+            status = self.child.wait(timeout)
+        except subprocess.TimeoutExpired:
+            self.kill()
+            raise
+        self.listener.join()
+        with self.child.stderr as file:
+            err = file.read().decode()
+        self.child.stdout.close()
+        told = os.read(self.seen, 16) != b''
+        os.close(self.seen)
+        return status, b''.join(self.strange).decode(), err, told
+
+    def kill(self):
+        """Ends it as a crash would. What was wrong until then, or None: it has ended before, or said what it should not."""
+        before = self.child.poll()
+        self.child.kill()
+        status, out, err, _ = self.end()
+        if before is not None or out or err:
+            return f'the service ended with status {status}, {out!r}, {err!r}' if before is not None else f'the service said {out!r}, {err!r}'
+        return None
+
+    def processor_time(self):
+        """The seconds of a processor that it has had."""
+        with open(f'/proc/{self.child.pid}/stat') as file:
+            fields = file.read().rsplit(')', 1)[1].split()
+        return (int(fields[11]) + int(fields[12])) / os.sysconf('SC_CLK_TCK')
+
+
+def room_for_streams(count):
+    """Raises the limit of open files, for this process and those that it starts, as far as it may be. Whether there is room for so many."""
+    soft, hard = resource.getrlimit(resource.RLIMIT_NOFILE)
+    if soft < count and soft != resource.RLIM_INFINITY:
+        soft = count if hard == resource.RLIM_INFINITY else min(count, hard)
+        resource.setrlimit(resource.RLIMIT_NOFILE, (soft, hard))
+    return soft == resource.RLIM_INFINITY or soft >= count
 
 
 class Client:
@@ -118,6 +218,21 @@ class Client:
 
     def close(self):
         self.stream.close()
+
+    def reset(self):
+        """Ends the stream by a reset in place of an end."""
+        self.stream.setsockopt(socket.SOL_SOCKET, socket.SO_LINGER, struct.pack('ii', 1, 0))
+        self.stream.close()
+
+    def rest(self):
+        """What comes up to the end of the stream, and whether that came without a reset."""
+        got, self.held = self.held, b''
+        try:
+            while more := self.stream.recv(65536):
+                got += more
+        except ConnectionResetError:
+            return got, False
+        return got, True
 
 
 class Hook(Client):

@@ -1,6 +1,8 @@
 /* Pairs of one session of HTTP and one of runner lines, each pair in a thread, in lockstep: an event is posted, its leg claimed and
- * reported done, and the run looked at, over and over. Prints the lifecycles and the seconds from the first request to the last answer.
- * Arguments: HOOK_PORT RUNNER_PORT PAIRS LIFECYCLES; a session takes 64 requests, so LIFECYCLES is 32 at most. */
+ * reported done, and the run looked at, over and over. Prints the lifecycles, the seconds from the first request to the last answer, and
+ * those that the slowest answer took.
+ * Arguments: HOOK_PORT RUNNER_PORT PAIRS LIFECYCLES [SESSIONS]; a session takes 64 requests, so LIFECYCLES is 32 at most. Each pair has so many
+ * sessions (1) one after the other. */
 #define _GNU_SOURCE
 #include <arpa/inet.h>
 #include <netinet/tcp.h>
@@ -12,11 +14,12 @@
 #include <time.h>
 #include <unistd.h>
 
-#define MOST_PAIRS 32
+#define MOST_PAIRS 256
 #define BODY "{\"repo\":\"o/r\",\"path\":\"ci.json\",\"workflow\":{\"jobs\":{\"build\":{\"runs-on\":\"l%ld\"}}}}"
 
 static int ports[2];
-static long lifecycles;
+static long lifecycles, sessions = 1;
+static double slowest[MOST_PAIRS];
 static pthread_barrier_t begin;
 
 static void fail(const char *what) {
@@ -32,8 +35,14 @@ static int join_port(int port) {
     return stream;
 }
 
+static double now(void) {
+    struct timespec it;
+    clock_gettime(CLOCK_MONOTONIC, &it);
+    return it.tv_sec + it.tv_nsec / 1e9;
+}
+
 /* Sends a text, and reads until an answer is whole: a line, or what a Content-Length tells. */
-static void ask(int stream, const char *text, char *answer, size_t room, int is_http) {
+static void ask_once(int stream, const char *text, char *answer, size_t room, int is_http) {
     size_t size = strlen(text), have = 0;
     if (write(stream, text, size) != (ssize_t)size) fail("write");
     for (;;) {
@@ -46,25 +55,37 @@ static void ask(int stream, const char *text, char *answer, size_t room, int is_
     }
 }
 
+static void ask(long pair, int stream, const char *text, char *answer, size_t room, int is_http) {
+    double start = now();
+    ask_once(stream, text, answer, room, is_http);
+    if (now() - start > slowest[pair]) slowest[pair] = now() - start;
+}
+
 static void *work(void *given) {
     long pair = (long)given;
     int hook = join_port(ports[0]), runner = join_port(ports[1]);
     char text[1024], body[256], answer[4096];
     pthread_barrier_wait(&begin);
-    for (long i = 0; i < lifecycles; i++) {
+    for (long i = 0; i < lifecycles * sessions; i++) {
         long run, lease;
+        if (i > 0 && i % lifecycles == 0) {
+            close(hook);
+            close(runner);
+            hook = join_port(ports[0]);
+            runner = join_port(ports[1]);
+        }
         snprintf(body, sizeof body, BODY, pair);
         snprintf(text, sizeof text, "POST /events HTTP/1.1\r\nX-GitHub-Delivery: d%ld-%ld\r\nX-GitHub-Event: push\r\nContent-Length: %zu\r\n\r\n%s", pair, i, strlen(body), body);
-        ask(hook, text, answer, sizeof answer, 1);
+        ask(pair, hook, text, answer, sizeof answer, 1);
         if (sscanf(strstr(answer, "\r\n\r\n"), " created %ld", &run) != 1) fail(answer);
         snprintf(text, sizeof text, "CLAIM r%ld %ld l%ld\n", pair, 2 * i + 1, pair);
-        ask(runner, text, answer, sizeof answer, 0);
+        ask(pair, runner, text, answer, sizeof answer, 0);
         if (sscanf(answer, "lease %ld", &lease) != 1) fail(answer);
         snprintf(text, sizeof text, "DONE r%ld %ld %ld success\n", pair, 2 * i + 2, lease);
-        ask(runner, text, answer, sizeof answer, 0);
+        ask(pair, runner, text, answer, sizeof answer, 0);
         if (strcmp(answer, "ok\n") != 0) fail(answer);
         snprintf(text, sizeof text, "GET /runs/%ld HTTP/1.1\r\n\r\n", run);
-        ask(hook, text, answer, sizeof answer, 1);
+        ask(pair, hook, text, answer, sizeof answer, 1);
         if (strstr(answer, " 200 OK\r\n") == NULL) fail(answer);
     }
     close(hook);
@@ -74,19 +95,21 @@ static void *work(void *given) {
 
 int main(int argc, char **argv) {
     pthread_t threads[MOST_PAIRS];
-    struct timespec start, end;
-    if (argc != 5) return 2;
+    double start, end, longest = 0;
+    if (argc != 5 && argc != 6) return 2;
     ports[0] = atoi(argv[1]);
     ports[1] = atoi(argv[2]);
     long pairs = atol(argv[3]);
     lifecycles = atol(argv[4]);
-    if (pairs < 1 || pairs > MOST_PAIRS) return 2;
+    if (argc == 6) sessions = atol(argv[5]);
+    if (pairs < 1 || pairs > MOST_PAIRS || sessions < 1) return 2;
     pthread_barrier_init(&begin, NULL, pairs + 1);
     for (long i = 0; i < pairs; i++) pthread_create(&threads[i], NULL, work, (void *)i);
     pthread_barrier_wait(&begin);
-    clock_gettime(CLOCK_MONOTONIC, &start);
+    start = now();
     for (long i = 0; i < pairs; i++) pthread_join(threads[i], NULL);
-    clock_gettime(CLOCK_MONOTONIC, &end);
-    printf("%ld %.6f\n", pairs * lifecycles, (end.tv_sec - start.tv_sec) + (end.tv_nsec - start.tv_nsec) / 1e9);
+    end = now();
+    for (long i = 0; i < pairs; i++) longest = slowest[i] > longest ? slowest[i] : longest;
+    printf("%ld %.6f %.6f\n", pairs * lifecycles * sessions, end - start, longest);
     return 0;
 }

@@ -1,0 +1,73 @@
+"""What the checks of a service without end share: how they say that something is wrong, and how they do several things at a time."""
+
+import os
+import sys
+import threading
+import time
+
+HERE = os.path.dirname(os.path.abspath(__file__))
+sys.path.insert(0, os.path.join(HERE, '..'))
+import service as served
+
+
+class Wrong(Exception):
+    """What is not as it has to be."""
+
+
+def expect(holds, *what):
+    if not holds:
+        raise Wrong(' '.join(str(it) if isinstance(it, (str, int)) else repr(it) for it in what))
+
+
+def at_once(tasks, seconds):
+    """Does tasks at the same time, each in a thread, and waits so long for all. The first fault of one is raised."""
+    faults = []
+
+    def do(task):
+        try:
+            task()
+        except (Wrong, OSError, served.Ended) as fault:
+            faults.append(fault)
+
+    threads = [threading.Thread(target=do, args=(task,), daemon=True) for task in tasks]
+    end = time.monotonic() + seconds
+    for thread in threads:
+        thread.start()
+    for thread in threads:
+        thread.join(max(0, end - time.monotonic()))
+    expect(not faults, len(faults), 'of', len(threads), 'clients:', *faults[:1])
+    alive = sum(thread.is_alive() for thread in threads)
+    expect(alive == 0, alive, 'of', len(threads), 'clients have not ended after', seconds, 'seconds')
+
+
+def opened(acts, folder, seats, area=8 << 20, **how):
+    """A service over a new store."""
+    path = os.path.join(folder, 'store')
+    served.init(acts, path, area)
+    service = served.Forever(acts, path, seats, **how)
+    if not service.ready:
+        raise Wrong(f'not ready: {service.end()}')
+    return service, path
+
+
+def stopped(service):
+    """Kills a service that has to be there until then."""
+    fault = service.kill()
+    expect(fault is None, fault)
+
+
+def turned_over(service, client):
+    """Has a runner ask until one more history has turned over; and its client, which may be another one behind the end of its session."""
+    wanted = len(service.settled) + 1
+    while len(service.settled) < wanted:
+        try:
+            _, answer = client.ask(b'BEAT nobody 1\n')
+            expect(answer == 'refused 45', 'a beat of nobody is answered', answer)
+        except served.Ended:
+            client.close()
+            client = service.runner()
+    return client
+
+
+def milliseconds(seconds):
+    return f'{1000 * seconds:.0f} ms'

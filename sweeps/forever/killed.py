@@ -1,0 +1,92 @@
+"""Services that are ended by `kill -9` under load, one after the other over the same file, over histories that turn over every 150 commands."""
+
+import os
+import random
+import time
+
+from checking import Wrong, expect, served, stopped
+from load import Load
+
+SEATS, TURN_OVER, AREA = 4, 150, 262_144
+MOST_ANSWERS, MOST_RUNS = 500, 700
+
+
+def begin(acts, path):
+    service = served.Forever(acts, path, SEATS, turn_over=TURN_OVER)
+    if not service.ready:
+        raise Wrong(f'not ready: {service.end()}')
+    return service
+
+
+def checkpoints_in(path):
+    """How many checkpoints stand in the file: the generations behind an open gate count them."""
+    with open(path, 'rb') as file:
+        heads = []
+        for place in (0, AREA):
+            file.seek(place)
+            heads.append(file.read(10))
+    return max(int.from_bytes(head[2:], 'big') for head in heads if head[0] == 0xA5) - 1
+
+
+class Chain:
+    """One store, and the services over it, each of which is killed."""
+
+    def __init__(self, acts, path, dice, seed):
+        self.acts, self.path, self.dice, self.load = acts, path, dice, Load(seed)
+        self.kills, self.early, self.turned, self.answers = 0, 0, 0, 0
+        served.init(acts, path, AREA)
+
+    def kill_early(self):
+        """Kills a service about when it opens the file."""
+        service = served.subprocess.Popen([self.acts, 'serve', self.path, '--hook-port', str(served.free_ports()[0]), '--runner-port', str(served.free_ports()[1]),
+                                           '--sessions', str(SEATS), '--forever'], stdout=served.subprocess.DEVNULL)
+        time.sleep(self.dice.random() * 0.03)
+        service.kill()
+        service.wait()
+        self.early += 1
+
+    def kill(self):
+        """Kills a service behind a number of answers, or about when a history turns over, and looks at what the file shows."""
+        service = begin(self.acts, self.path)
+        self.load.begin(service, self.dice.randint(1, MOST_ANSWERS))
+        if self.dice.random() < 0.3:
+            service.wait_settled(self.dice.randint(1, 3), 20)
+            time.sleep(self.dice.random() * 0.003)
+        else:
+            self.load.told.over.wait(30)
+            time.sleep(self.dice.random() * 0.01)
+        fault = service.kill()
+        self.load.end()
+        expect(fault is None, fault)
+        self.kills, self.turned, self.answers = self.kills + 1, self.turned + len(service.settled), self.answers + self.load.told.answers
+        self.load.look_at(served.show(self.acts, self.path))
+
+    def is_long(self):
+        return len(self.load.told.runs) >= MOST_RUNS
+
+    def end(self):
+        """A last service, over which all is brought to its end."""
+        service = begin(self.acts, self.path)
+        self.load.settle(service)
+        stopped(service)
+        self.load.all_ended(served.show(self.acts, self.path))
+
+
+def check(acts, folder, amount):
+    dice, path = random.Random(amount.seed), os.path.join(folder, 'store')
+    chains, kills = [], 0
+    while kills < amount.kills:
+        chain = Chain(acts, path, dice, f'{amount.seed} {len(chains)}')
+        while kills < amount.kills and not chain.is_long():
+            if dice.random() < 0.1:
+                chain.kill_early()
+            else:
+                chain.kill()
+            kills += 1
+        chain.end()
+        chains.append((chain, checkpoints_in(path)))
+        os.remove(path)
+    runs, leases = (sum(len(getattr(chain.load.told, name)) for chain, _ in chains) for name in ('runs', 'leases'))
+    yield (f'{kills} services killed, {sum(chain.early for chain, _ in chains)} of them as they began, over {len(chains)} stores; '
+           f'{sum(chain.turned for chain, _ in chains)} histories had turned over, {sum(count for _, count in chains)} checkpoints stand, '
+           f'{sum(chain.answers for chain, _ in chains)} answers; {runs} runs of as many deliveries, {leases} leases, none lost and none twice')

@@ -1,0 +1,246 @@
+"""Senders and runners that go on over one service after the other, and what they were told. Whatever was told has to stand.
+
+A sender posts events, looks at their runs, and posts some once more. A runner claims, asks whether to go on, and reports. Where a service ends before an
+answer, both say the same again to the next one: a delivery gets the run that it has, and a runner's last command the reply that it got. So no
+delivery makes two runs, each leg is leased once, and no number of a runner is out of turn.
+"""
+
+import random
+import re
+import threading
+import time
+
+from checking import Wrong, at_once, expect, served
+
+SENDERS = RUNNERS = 8
+REQUESTS, LINES = 64, 1024
+REFUSED = ('refused 51', 'refused 52')
+
+
+class Told:
+    """What was answered, of all clients."""
+
+    def __init__(self):
+        self.lock, self.runs, self.leases, self.done = threading.Lock(), {}, {}, set()
+        self.enough, self.answers, self.over, self.ends = 0, 0, threading.Event(), threading.Event()
+
+    def begin(self, enough):
+        """So many answers, and then `over` is set."""
+        self.enough, self.answers = enough, 0
+        self.over.clear()
+        self.ends.clear()
+
+    def count(self):
+        with self.lock:
+            self.answers += 1
+            if self.answers >= self.enough:
+                self.over.set()
+
+    def created(self, delivery, run):
+        with self.lock:
+            expect(self.runs.get(delivery, run) == run, 'the delivery', delivery, 'had run', self.runs.get(delivery), 'and has now run', run)
+            if delivery not in self.runs:
+                expect(run not in self.runs.values(), 'run', run, 'is that of two deliveries')
+                self.runs[delivery] = run
+
+    def leased(self, lease, run, claim):
+        with self.lock:
+            expect(self.leases.get(lease, (run, claim)) == (run, claim), 'lease', lease, 'was given to', self.leases.get(lease), 'and to', (run, claim))
+            if lease not in self.leases:
+                expect(all(run != other for other, _ in self.leases.values()), 'run', run, 'is leased twice')
+                self.leases[lease] = (run, claim)
+
+    def ended(self, run):
+        with self.lock:
+            self.done.add(run)
+
+
+class Client:
+    """One who asks, over one stream after the other. `asked` is when it asked what it was not answered yet."""
+
+    def __init__(self, told, name, dice):
+        self.told, self.name, self.dice, self.asked, self.refused = told, name, dice, None, None
+
+    def come(self, service):
+        """Asks until the service is gone or refuses, or no more is to be asked."""
+        self.refused, self.asked = None, None
+        try:
+            while not self.told.ends.is_set() and not self.refused:
+                client = self.connect(service)
+                try:
+                    self.talk(client)
+                finally:
+                    client.close()
+        except TimeoutError:
+            raise Wrong(self.name, 'was not answered for 20 seconds') from None
+        except (served.Ended, OSError):
+            pass
+
+    def ask(self, client, what):
+        """The answer, or None where the device has failed."""
+        self.asked = time.monotonic()
+        status, answer = client.ask(what)
+        self.asked = None
+        self.told.count()
+        if answer in REFUSED:
+            expect(status in (None, 503), self.name, 'was answered', status, answer)
+            self.refused = answer
+            return None
+        return answer
+
+
+class Sender(Client):
+    def __init__(self, *given):
+        super().__init__(*given)
+        self.next, self.sent = 0, 0
+
+    def connect(self, service):
+        return service.hook()
+
+    def talk(self, client):
+        for _ in range(REQUESTS):
+            if self.told.ends.is_set():
+                return
+            mine = self.dice.randrange(self.next) if self.next and self.dice.random() < 0.2 else self.next
+            delivery = f'{self.name}-{mine}'
+            if mine == self.next and self.next and self.dice.random() < 0.3:
+                answer = self.ask(client, served.look(self.told.runs[f'{self.name}-{self.next - 1}']))
+                expect(answer is None or answer.startswith('run '), self.name, 'looks and is answered', answer)
+            else:
+                self.sent = max(self.sent, mine + 1)
+                answer = self.ask(client, served.event(delivery))
+                if answer is not None:
+                    found = re.fullmatch(r'created (\d+)', answer)
+                    expect(found, 'the delivery', delivery, 'is answered', answer)
+                    self.told.created(delivery, int(found[1]))
+                    self.next = max(self.next, mine + 1)
+            if answer is None:
+                return
+
+
+class Runner(Client):
+    def __init__(self, *given):
+        super().__init__(*given)
+        self.number, self.lease, self.run, self.line = 0, None, None, None
+
+    def connect(self, service):
+        return service.runner()
+
+    def talk(self, client):
+        for _ in range(LINES):
+            if self.told.ends.is_set() and self.line is None:
+                return
+            if self.line is None and self.lease and self.dice.random() < 0.3:
+                answer = self.ask(client, f'BEAT {self.name} {self.lease}\n'.encode())
+                expect(answer in (None, 'go on'), self.name, 'beats and is answered', answer)
+            else:
+                answer = self.command(client)
+            if answer is None:
+                return
+
+    def command(self, client):
+        """The claim or report that it is at, for the first time or once more."""
+        if self.line is None:
+            self.number += 1
+            self.line = f'DONE {self.name} {self.number} {self.lease} success\n' if self.lease else f'CLAIM {self.name} {self.number} linux\n'
+        answer = self.ask(client, self.line.encode())
+        if answer is None:
+            return None
+        if self.lease:
+            expect(answer == 'ok', self.line, 'is answered', answer)
+            self.told.ended(self.run)
+            self.lease = self.run = None
+        elif found := re.fullmatch(r'lease (\d+) (\d+) build 0 {}', answer):
+            self.lease, self.run = int(found[1]), int(found[2])
+            self.told.leased(self.lease, self.run, (self.name, self.number))
+        else:
+            expect(answer == 'nothing', self.line, 'is answered', answer)
+            time.sleep(0.002)
+        self.line = None
+        return answer
+
+    def drain(self, service):
+        """Claims and reports until nothing is left."""
+        answer = None
+        while answer != 'nothing':
+            client = service.runner()
+            try:
+                for _ in range(LINES):
+                    answer = self.command(client)
+                    if answer == 'nothing':
+                        break
+            finally:
+                client.close()
+
+
+class Load:
+    """All clients, over one store."""
+
+    def __init__(self, seed):
+        self.told = Told()
+        self.senders = [Sender(self.told, f's{place}', random.Random(f'{seed} s{place}')) for place in range(SENDERS)]
+        self.runners = [Runner(self.told, f'r{place}', random.Random(f'{seed} r{place}')) for place in range(RUNNERS)]
+        self.threads, self.faults = [], []
+
+    def begin(self, service, enough):
+        """Has all clients come to a service; behind so many answers `told.over` is set."""
+        self.told.begin(enough)
+        self.threads = [threading.Thread(target=self.come, args=(client, service), daemon=True) for client in self.clients()]
+        for thread in self.threads:
+            thread.start()
+
+    def clients(self):
+        return self.senders + self.runners
+
+    def come(self, client, service):
+        try:
+            client.come(service)
+        except Wrong as wrong:
+            self.faults.append(wrong)
+            self.told.over.set()
+
+    def end(self):
+        """Waits for all clients: the service is gone, or they ask no more."""
+        for thread in self.threads:
+            thread.join(60)
+        expect(not any(thread.is_alive() for thread in self.threads), 'a client that has not ended')
+        expect(not self.faults, *self.faults[:1])
+
+    def look_at(self, shown):
+        """What was answered stands in the views of the file, and no delivery has two runs."""
+        views = dict(enumerate(shown, 1))
+        told = self.told
+        expect(len(views) <= sum(sender.sent for sender in self.senders), len(views), 'runs of', sum(sender.sent for sender in self.senders), 'deliveries')
+        for delivery, run in told.runs.items():
+            expect(run in views, 'LOST: run', run, 'of the delivery', delivery)
+        for run, claim in told.leases.values():
+            expect('open(ready)' not in views[run], 'LOST: the lease of', claim, views[run])
+        for run in told.done:
+            expect(views[run] == f'run {run} {run} completed success build:success(success)', 'LOST: a report', views[run])
+
+    def settle(self, service):
+        """Has each client ask again what it was not answered, and the runners go on until nothing is left. Then each run has ended."""
+        self.told.begin(0)
+        self.told.ends.set()
+        hook = service.hook()
+        asked = 0
+        for sender in self.senders:
+            for place in {*range(sender.next, sender.sent), *(sender.dice.randrange(sender.sent) for _ in range(min(4, sender.sent)))}:
+                if asked == REQUESTS:
+                    hook.close()
+                    hook, asked = service.hook(), 0
+                delivery = f'{sender.name}-{place}'
+                answer = hook.ask(served.event(delivery))
+                self.told.created(delivery, int(answer[1].removeprefix('created ')))
+                sender.next, asked = max(sender.next, place + 1), asked + 1
+        hook.close()
+        at_once([lambda runner=runner: runner.drain(service) for runner in self.runners], 60)
+
+    def all_ended(self, shown):
+        """Behind `settle` there is a run for each delivery, each was leased once, and has ended."""
+        self.look_at(shown)
+        count = sum(sender.sent for sender in self.senders)
+        expect(len(shown) == count == len(self.told.runs), len(shown), 'runs of', count, 'deliveries, of which', len(self.told.runs), 'were answered')
+        expect(sorted(self.told.runs.values()) == list(range(1, count + 1)), 'the ids of the runs')
+        expect(sorted(run for run, _ in self.told.leases.values()) == list(range(1, count + 1)), len(self.told.leases), 'leases of', count, 'runs')
+        expect(len(self.told.done) == count, len(self.told.done), 'reports of', count, 'runs')
