@@ -75,7 +75,8 @@ class Service:
     def __init__(self, acts, path, sessions, rounds=1, settings=None, limit=None, limits=(), user=None, endless=None):
         self.hooks, self.runners = free_ports()
         self.seen, told = os.pipe()
-        first = [f'exec 9> /proc/self/fd/{told};']
+        # A shell may know descriptors of one digit alone, and a path of one is not for another user.
+        first = [f'exec 9>&{told};' if told < 10 else f'exec 9> /proc/self/fd/{told};']
         if limit is not None:
             first.append(f'ulimit -v {limit};')
         first += [f'{words};' for words in limits]

@@ -5,29 +5,15 @@ have to be the same. Where a stream was reset, the last answers may be lost on t
 """
 
 import collections
-import importlib.machinery
-import importlib.util
 import multiprocessing
 import os
 import random
 import re
-import sys
 import threading
 
-from checking import HERE, Wrong, expect, served, stopped
+from checking import Wrong, expect, module, served, stopped
 
 AREA, MOST_CUT_SHORT = 262_144, 0.05
-
-
-def module(name, path):
-    """A program of another sweep, as a module."""
-    loader = importlib.machinery.SourceFileLoader(name, os.path.join(HERE, path))
-    sys.dont_write_bytecode = True
-    made = importlib.util.module_from_spec(importlib.util.spec_from_loader(name, loader))
-    loader.exec_module(made)
-    return made
-
-
 make = module('make', '../mutations/make')
 mutations = module('mutations', '../mutations/run')
 

@@ -1,5 +1,7 @@
 """What the checks of a service without end share: how they say that something is wrong, and how they do several things at a time."""
 
+import importlib.machinery
+import importlib.util
 import os
 import sys
 import threading
@@ -10,13 +12,21 @@ sys.path.insert(0, os.path.join(HERE, '..'))
 import service as served
 
 
+def module(name, path):
+    """A program of another sweep, as a module."""
+    loader = importlib.machinery.SourceFileLoader(name, os.path.join(HERE, path))
+    made = importlib.util.module_from_spec(importlib.util.spec_from_loader(name, loader))
+    loader.exec_module(made)
+    return made
+
+
 class Wrong(Exception):
     """What is not as it has to be."""
 
 
 def expect(holds, *what):
     if not holds:
-        raise Wrong(' '.join(str(it) if isinstance(it, (str, int)) else repr(it) for it in what))
+        raise Wrong(' '.join(str(it) if isinstance(it, (str, int, Wrong)) else repr(it) for it in what))
 
 
 def at_once(tasks, seconds):

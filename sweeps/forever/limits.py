@@ -1,7 +1,7 @@
-"""A service that is given few descriptors, and one that is given few threads.
+"""More clients than can be accepted, and a service that is given few threads.
 
-With `ulimit -n 64` a hundred clients come to a port: those who are accepted are answered, the others once these have gone, and meanwhile the service rests.
-As a user of its own with few threads (RLIMIT_NPROC, which binds no administrator) it either ends with 50 before its first client, or serves both ports. One
+With `ulimit -n 64` a hundred clients come to a port, and without it 1,120: those who are accepted are answered, the others once these have gone, and meanwhile
+the service rests. As a user of its own with few threads (RLIMIT_NPROC, which binds no administrator) it either ends with 50 before its first client, or serves both ports. One
 that finds no thread later on, since its limit was lowered, goes on, and serves all once the limit is as it was.
 """
 
@@ -11,11 +11,12 @@ import os
 import resource
 import select
 import shutil
+import subprocess
 import time
 
 from checking import Wrong, expect, opened, served, stopped
 
-CLIENTS, SEATS = 100, 4
+SEATS = 4
 # The seconds in which a client is answered, or a service has ended.
 SECONDS = 10
 BEAT, TOLD = b'BEAT nobody 1\n', b'refused 45\n'
@@ -23,26 +24,26 @@ BEAT, TOLD = b'BEAT nobody 1\n', b'refused 45\n'
 
 def answered(waiting, seconds):
     """Those of the clients who are given an answer before nothing has come for so many seconds."""
-    got = []
-    while waiting:
-        ready, _, _ = select.select([client.stream for client in waiting], [], [], seconds)
-        if not ready:
-            break
-        for client in [client for client in waiting if client.stream in ready]:
-            expect(client.until(b'\n') == TOLD, 'a client is answered otherwise')
-            got.append(client)
-            waiting.remove(client)
+    got, poll, clients = [], select.poll(), {client.stream.fileno(): client for client in waiting}
+    for client in waiting:
+        poll.register(client.stream, select.POLLIN)
+    while clients and (ready := poll.poll(1000 * seconds)):
+        for descriptor, _ in ready:
+            poll.unregister(descriptor)
+            got.append(clients.pop(descriptor))
+            expect(got[-1].until(b'\n') == TOLD, 'a client is answered otherwise')
+    waiting[:] = clients.values()
     return got
 
 
-def few_descriptors(acts, folder):
-    service, _ = opened(acts, folder, SEATS, limits=['ulimit -n 64'])
-    clients = [service.runner() for _ in range(CLIENTS)]
-    for client in clients:
+def more_than_are_accepted(acts, folder, what, count, least, limits=()):
+    """So many clients come to a port, of whom LEAST have to be accepted at once."""
+    service, path = opened(acts, folder, SEATS, limits=limits)
+    waiting = [service.runner() for _ in range(count)]
+    for client in waiting:
         client.send(BEAT)
-    waiting = list(clients)
     first = answered(waiting, 1)
-    expect(20 <= len(first) < 64, len(first), 'clients are answered with 64 descriptors')
+    expect(least <= len(first) < count, len(first), 'of', count, 'clients are answered at once')
     before, start = service.processor_time(), time.monotonic()
     time.sleep(2)
     share = (service.processor_time() - before) / (time.monotonic() - start)
@@ -60,7 +61,8 @@ def few_descriptors(acts, folder):
     expect(hook.ask(served.event('d1')) == (201, 'created 1'), 'an event behind all')
     hook.close()
     stopped(service)
-    return (f'64 descriptors: {len(first)} of {CLIENTS} clients are answered at once, the others in {groups - 1} groups as these go; '
+    os.remove(path)
+    return (f'{what}: {len(first)} of {count} clients are answered at once, the others as these go, in groups {groups - 1}; '
             f'{100 * share:.1f}% of a processor while nobody can be accepted')
 
 
@@ -99,31 +101,38 @@ def of_a_user(acts, folder):
     return user, path
 
 
-def few_threads(acts, folder):
-    ends = collections.Counter()
-    for limit in range(1, 2 * SEATS + 6):
-        user, path = of_a_user(acts, folder)
-        with threads(limit):
-            service = served.Forever(acts, path, SEATS, turn_over=20, user=user)
-        fault = None
-        if service.ready:
-            try:
-                works(service, f'd{limit}')
-            except (served.Ended, OSError) as end:
-                fault = end
-        if fault is None and service.ready:
-            stopped(service)
-            ends['serve'] += 1
-            continue
+def with_threads(acts, folder, limit):
+    """What becomes of a service that may have so many threads."""
+    user, path = of_a_user(acts, folder)
+    with threads(limit):
+        service = served.Forever(acts, path, SEATS, turn_over=20, user=user)
+    fault = None
+    if service.ready:
         try:
-            status, out, err, _ = service.end(SECONDS)
-        except served.subprocess.TimeoutExpired:
-            raise Wrong(f'a service that may have {limit} threads answers nobody, and goes on: {fault!r}') from None
-        expect((status, out, err) == (1, '', 'acts: refused 50\n') and not service.settled, limit, 'threads: the end', status, out, err, fault)
-        ends['end with 50 before the first client'] += 1
+            works(service, f'd{limit}')
+        except (served.Ended, OSError) as end:
+            fault = end
+    if service.ready and fault is None:
+        stopped(service)
+        return 'serve'
+    try:
+        status, out, err, _ = service.end(SECONDS)
+    except served.subprocess.TimeoutExpired:
+        raise Wrong(f'a service that may have {limit} threads does not serve both ports, and goes on: {fault!r}') from None
+    expect((status, out, err) == (1, '', 'acts: refused 50\n') and not service.settled, limit, 'threads: the end', status, out, err, fault)
+    return 'end with 50 before the first client'
+
+
+def few_threads(acts, folder):
+    ends = collections.Counter(with_threads(acts, folder, limit) for limit in range(1, 2 * SEATS + 6))
     kinds = ', '.join(f'{count} {end}' for end, count in sorted(ends.items()))
     expect(len(ends) == 2, 'services with 1 to', 2 * SEATS + 5, 'threads all', kinds)
     return f'services that may have 1 to {2 * SEATS + 5} threads: {kinds}'
+
+
+def limit_threads(service, user, count):
+    """Has a service that runs have so many threads from now on. An administrator may lack the right to, and its own user has it."""
+    subprocess.run(['prlimit', f'--pid={service.child.pid}', f'--nproc={count}:'], check=True, cwd='/', user=user, group=user, extra_groups=[])
 
 
 def threads_later(acts, folder):
@@ -133,8 +142,7 @@ def threads_later(acts, folder):
         service = served.Forever(acts, path, SEATS, turn_over=20, user=user)
     expect(service.ready, 'not ready')
     works(service, 'before')
-    _, most = resource.prlimit(service.child.pid, resource.RLIMIT_NPROC)
-    resource.prlimit(service.child.pid, resource.RLIMIT_NPROC, (1, most))
+    limit_threads(service, user, 1)
     asked, end = 0, time.monotonic() + 3
     while time.monotonic() < end:
         try:
@@ -145,7 +153,7 @@ def threads_later(acts, folder):
         except (served.Ended, OSError):
             time.sleep(0.05)
     expect(service.child.poll() is None, 'a service that found no thread has ended')
-    resource.prlimit(service.child.pid, resource.RLIMIT_NPROC, (64, most))
+    limit_threads(service, user, 64)
     start = time.monotonic()
     works(service, 'behind')
     took = time.monotonic() - start
@@ -155,7 +163,9 @@ def threads_later(acts, folder):
 
 
 def check(acts, folder, amount):
-    yield few_descriptors(acts, folder)
+    yield more_than_are_accepted(acts, folder, '64 descriptors', 100, 20, ['ulimit -n 64'])
+    if served.room_for_streams(2500):
+        yield more_than_are_accepted(acts, folder, 'as many descriptors as are asked for', 1120, 1000)
     if os.getuid() != 0:
         yield 'threads: left out, since only an administrator can be another user'
         return
@@ -163,4 +173,7 @@ def check(acts, folder, amount):
     shutil.copy(acts, own)
     os.chmod(own, 0o755)
     yield few_threads(own, folder)
+    if shutil.which('prlimit') is None:
+        yield 'no thread later on: left out, since prlimit is not here'
+        return
     yield threads_later(own, folder)

@@ -10,8 +10,6 @@ import time
 from checking import at_once, expect, milliseconds, opened, served, stopped
 
 SEATS, GOOD, TURNS, PAUSE = 4, 4, 30, 0.03
-# The longest that a good client may wait, in seconds.
-LONGEST = 5
 BIG = served.BODY + b' ' * 60_000
 
 
@@ -117,7 +115,7 @@ def unread(service, port):
     return client
 
 
-def behave(service, port, name, slowest):
+def behave(service, port, name, longest, slowest):
     """Asks now and then, and is answered soon."""
     client = getattr(service, port)()
     for turn in range(1, TURNS + 1):
@@ -125,13 +123,13 @@ def behave(service, port, name, slowest):
         status, answer = client.ask(served.event(f'{name}-{turn}') if port == 'hook' else f'CLAIM {name} {turn} none\n'.encode())
         took = time.monotonic() - start
         expect(answer.startswith('created ') if port == 'hook' else answer == 'nothing', name, 'is answered', status, answer)
-        expect(took < LONGEST, name, 'was answered after', milliseconds(took))
+        expect(took < longest, name, 'was answered after', milliseconds(took))
         slowest.append(took)
         time.sleep(PAUSE)
     client.close()
 
 
-def meet(service, kind, count):
+def meet(service, kind, count, longest):
     """A crowd of a kind, so many on each port, beside the good ones. How long the slowest of these waited."""
     over, slowest, faults = threading.Event(), [], []
 
@@ -148,7 +146,7 @@ def meet(service, kind, count):
         it.start()
     time.sleep(0.2)
     try:
-        at_once([lambda port=port, name=f'{kind.replace("_", "-")}-{port}{place}': behave(service, port, name, slowest)
+        at_once([lambda port=port, name=f'{kind.replace("_", "-")}-{port}{place}': behave(service, port, name, longest, slowest)
                  for port in ('hook', 'runner') for place in range(GOOD)], 60)
     finally:
         over.set()
@@ -159,7 +157,7 @@ def meet(service, kind, count):
     return max(slowest)
 
 
-def ask_beside(acts, folder, kind):
+def ask_beside(acts, folder, kind, longest):
     """There is one seat on each port, and one client that misbehaves there. How long another one waits for its answer."""
     service, _ = opened(acts, folder, 1)
     hook = service.hook()
@@ -181,7 +179,7 @@ def ask_beside(acts, folder, kind):
         thread.join(45)
         client.close()
     stopped(service)
-    expect(max(waits) < LONGEST, 'beside one that does', kind, 'another one waits for', milliseconds(max(waits)))
+    expect(max(waits) < longest, 'beside one that does', kind, 'another one waits for', milliseconds(max(waits)))
     return max(waits)
 
 
@@ -200,10 +198,10 @@ def check(acts, folder, amount):
     kinds = (('say_nothing', 100), ('close_at_once', 8), ('reset', 16), ('reset_behind', 4), ('dribble', 40), ('half_close', 8), ('send_behind', 8),
              ('stay', 8), ('never_read', 2))
     for kind, count in kinds:
-        slowest = meet(service, kind, count)
+        slowest = meet(service, kind, count, amount.longest)
         yield f'{2 * count} that {kind.replace("_", " ")}: eight good clients were answered {2 * GOOD * TURNS} times, {milliseconds(slowest)} at the longest'
     runs = [run for run in served.show(acts, path) if run] if stopped(service) is None else []
     expect(len(runs) == 1 + len(kinds) * GOOD * TURNS, len(runs), 'runs stand')
     for kind in ('stay', 'send_behind', 'never_read'):
         os.remove(path)
-        yield f'one that does {kind.replace("_", " ")} on the only seat: another one waits for {milliseconds(ask_beside(acts, folder, kind))} at the longest'
+        yield f'one that does {kind.replace("_", " ")} on the only seat: another one waits for {milliseconds(ask_beside(acts, folder, kind, amount.longest))} at the longest'
