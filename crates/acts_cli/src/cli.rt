@@ -1,7 +1,8 @@
 ghost use Rattle.std.specs.Prelude.{◌≡◌, ◌<◌, ◌≤◌, [], IfOk};
 
 use crate::explain::{Explanation, explanation_of, numbers};
-use act_disk::{Empty, FileDisk, HostFile, MemoryDisk};
+use crate::store_file::{RealDisk, create_for_server, open_for_reading, open_for_server};
+use act_disk::MemoryDisk;
 use act_store::Store;
 use acts_ops::{run_check, run_init, run_script, run_show};
 use acts_serve::{Limits, serve_forever, serve_rounds};
@@ -27,10 +28,6 @@ const VERSION: &str = "0.1.0";
 const LEAST_AREA: u64 = 4_096;
 
 const MOST_AREA: u64 = 1_073_741_824;
-
-/// A disk over a file of the system. `Empty` stands for what the file held when it was opened, of which only clauses could
-/// speak: nothing here does.
-type RealDisk = FileDisk<HostFile<Empty>>;
 
 /// The last port.
 const MOST_PORT: u64 = 65_535;
@@ -365,30 +362,30 @@ fn check<R: Input + Print + AllocGlobal>(rt: &R) -> Result<(), Refusal> {
     run_check(rt.alloc(), &mut rt.reader(), &mut output(rt)?)
 }
 
-/// Makes a store in a file, which is made first where it is not there.
+/// Makes a store in a file, which is made first where it is not there, and which nobody else serves.
 fn init<R: Print + Files<File = File> + AllocGlobal>(
     rt: &R,
     file: &str,
     area: AreaLength,
 ) -> Result<(), Refusal> {
-    let disk: RealDisk = FileDisk::create(rt, file)?;
+    let disk = create_for_server(rt, file)?;
     run_init(rt.alloc(), disk, area.bytes, &mut output(rt)?).1
 }
 
 /// Shows the runs of the store in a file.
 fn show<R: Print + Files<File = File> + AllocGlobal>(rt: &R, file: &str) -> Result<(), Refusal> {
-    let disk: RealDisk = FileDisk::open(rt, file)?;
+    let disk = open_for_reading(rt, file)?;
     run_show(rt.alloc(), disk, &mut output(rt)?).1
 }
 
-/// The store in a file.
+/// The store in a file that nobody else serves.
 fn opened<R: Files<File = File> + AllocGlobal>(
     rt: &R,
     file: &str,
 ) -> Result<Store<RealDisk>, Refusal>
     ensures { IfOk result (λ store. store.history ≡ []) }
 {
-    let disk: RealDisk = FileDisk::open(rt, file)?;
+    let disk = open_for_server(rt, file)?;
     match Store::open(rt.alloc(), disk) {
         Ok(store) => Ok(store),
         Err((_, refusal)) => Err(refusal),

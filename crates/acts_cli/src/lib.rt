@@ -4,5 +4,6 @@
 
 mod cli;
 mod explain;
+mod store_file;
 
 pub use cli::run;
