@@ -68,6 +68,7 @@ hostile: build
 	sweeps/forever/run $(ACTS) --kills 60 --faults 20 --changed 200
 	sweeps/damaged_files/run $(ACTS)
 	sweeps/failover/run $(ACTS)
+	sweeps/one_server/run $(ACTS)
 
 # The wrong bodies beyond those of the gate: of each crate, of CRATE, or the one of CRATE=NAME/EDIT.
 wrong-bodies:
