@@ -140,7 +140,7 @@ pub transcript_send : IsSend transcript
 transcript_send = declared_send transcript_type (search (parts, asked_send) depth 10, (search parts depth 6, (search (parts, ending.the_send) depth 6, tt)))
 
 run_send : IsSend run
-run_send = view_send run_inside _ _ _ _ (declared_send run_type (search (parts, prepared_send) depth 6, (search (parts, phase.the_send) depth 6, (search parts depth 6, (search (parts, job.the_send) depth 10, tt)))))
+run_send = view_send run_inside _ _ _ _ (declared_send run_type (search (parts, prepared_send) depth 6, (search (parts, number.the_send) depth 6, (search (parts, phase.the_send) depth 6, (search parts depth 6, (search (parts, job.the_send) depth 10, tt))))))
 
 runs_send : IsSend runs
 runs_send = view_send runs_inside _ _ _ _ (declared_send runs_type (search (parts, run_send) depth 10, (search parts depth 10, (search (parts, asks.the_send) depth 10, (search (parts, index.the_send) depth 6, (search (parts, marks.the_send) depth 6, (search parts depth 6, tt)))))))
