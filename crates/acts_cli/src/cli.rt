@@ -173,7 +173,9 @@ fn turn_over_option<'a>(alloc: Global) -> Result<Arg<'a>, AllocError> {
     Arg::new(alloc, "turn-over")
         .long("turn-over")
         .value_name("COMMANDS")
-        .help("With --forever: begins a new history after COMMANDS commands, or 64 MiB that clients have sent")
+        .help(
+            "With --forever: begins a new history after COMMANDS commands, or 64 MiB that clients have sent",
+        )
         .default_value("50000")
         .value_parser(ValueParser::unsigned(1, MOST_COMMANDS))
         .requires_arg("forever")
@@ -415,11 +417,15 @@ fn serve<
     let sessions = serving.sessions.count;
     match serving.span {
         Span::Rounds(rounds) => {
-            serve_rounds(system, alloc, store, &hooks, &runners, sessions, rounds, &mut out)?;
+            serve_rounds(
+                system, alloc, store, &hooks, &runners, sessions, rounds, &mut out,
+            )?;
             Ok(())
         }
         Span::Forever(limits) => {
-            serve_forever(system, alloc, store, &hooks, &runners, sessions, limits, &mut out)
+            serve_forever(
+                system, alloc, store, &hooks, &runners, sessions, limits, &mut out,
+            )
         }
     }
 }

@@ -50,7 +50,11 @@ impl<P: Protocol> Client<P> {
 
     /// Whether it has said nothing for so long; behind the end of its session, for a quarter of a second.
     pub(crate) fn is_idle(&self, now: Instant, idle: Duration) -> bool {
-        let limit = if self.is_leaving() { Duration::from_millis(LEAVING) } else { idle };
+        let limit = if self.is_leaving() {
+            Duration::from_millis(LEAVING)
+        } else {
+            idle
+        };
         now.saturating_duration_since(self.heard) >= limit
     }
 

@@ -2,13 +2,12 @@
 
 use crate::port::Port;
 use act_sessions::Protocol;
-use std::io;
 use std::io::{ErrorKind, Read, Write};
 use std::net::TcpStream;
 use std::sync::Wait;
 use std::sync::atomic::{AtomicU64, Ordering};
-use std::thread;
 use std::time::{Clock, Duration, Instant};
+use std::{io, thread};
 
 /// Why a part has no more input.
 #[derive(Clone, Copy, Debug, PartialEq, Eq)]
@@ -70,10 +69,7 @@ impl<'s, 't, 'a, T: Turns> ClientReader<'s, 't, 'a, T> {
 
 impl<T: Turns> Read for ClientReader<'_, '_, '_, T> {
     fn read(&mut self, buffer: &mut [u8]) -> io::Result<usize> {
-        if self
-            .turns
-            .must_yield(self.answers.load(Ordering::SeqCst))
-        {
+        if self.turns.must_yield(self.answers.load(Ordering::SeqCst)) {
             self.pause = Pause::Yields;
             return Ok(0);
         }

@@ -12,13 +12,12 @@ use act_disk::Disk;
 use act_store::Store;
 use mio::{Events, Poll, Registry};
 use std::alloc::Global;
-use std::io;
 use std::io::{ErrorKind, Write};
 use std::net::{Net, TcpListener};
 use std::sync::Wait;
-use std::thread;
 use std::thread::Threads;
 use std::time::Clock;
+use std::{io, thread};
 use wf_value::{Code, Refusal};
 
 /// How many events are taken at a time, at most.
@@ -46,22 +45,26 @@ fn serve_watched<D: Disk + Drop + Send, R: Threads + Wait + Clock + Sync, O: Wri
     requires sessions { (0 < sessions) × (sessions ≤ 32) }
 {
     let rt = service.rt;
-    thread::scope(thread::scope_env(), rt, |scope| -> Result<(), Refusal>
-        requires fresh { store.history ≡ [] }
-        requires sessions { (0 < sessions) × (sessions ≤ 32) }
-    {
-        let watching = scope.spawn(move || watch(service, alloc, poll, events));
-        if watching.is_err() {
-            return Err(Refusal::Numbered(Code::NoMemory));
-        }
-        let ended = hold_histories(service, alloc, store, sessions, out);
-        if let Err(Refusal::Numbered(Code::FailedEarlier)) = ended {
-            part_with_all(rt, alloc, service.hooks);
-            part_with_all(rt, alloc, service.runners);
-        }
-        service.end();
-        ended
-    })
+    thread::scope(
+        thread::scope_env(),
+        rt,
+        |scope| -> Result<(), Refusal>
+            requires fresh { store.history ≡ [] }
+            requires sessions { (0 < sessions) × (sessions ≤ 32) }
+        {
+            let watching = scope.spawn(move || watch(service, alloc, poll, events));
+            if watching.is_err() {
+                return Err(Refusal::Numbered(Code::NoMemory));
+            }
+            let ended = hold_histories(service, alloc, store, sessions, out);
+            if let Err(Refusal::Numbered(Code::FailedEarlier)) = ended {
+                part_with_all(rt, alloc, service.hooks);
+                part_with_all(rt, alloc, service.runners);
+            }
+            service.end();
+            ended
+        },
+    )
 }
 
 /// Serves a store that has no entries yet on two ports, and goes on doing so: so many seats on each, which the clients of the port share, those of
@@ -88,20 +91,21 @@ pub fn serve_forever<D: Disk + Drop + Send, R: Threads + Wait + Clock + Sync + N
     requires sessions { (0 < sessions) × (sessions ≤ 32) }
 {
     let mut poll = Poll::new(rt).map_err(|e| refusal_of(&e))?;
-    let registry = poll
-        .registry()
-        .try_clone()
-        .map_err(|e| refusal_of(&e))?;
+    let registry = poll.registry().try_clone().map_err(|e| refusal_of(&e))?;
     let mut events = Events::with_capacity(alloc, EVENTS)?;
     let hook_port = Port::new(alloc, hooks, &registry, 0)?;
     let runner_port = Port::new(alloc, runners, &registry, 1)?;
-    hook_port
-        .watch_listener()
-        .map_err(|e| refusal_of(&e))?;
-    runner_port
-        .watch_listener()
-        .map_err(|e| refusal_of(&e))?;
+    hook_port.watch_listener().map_err(|e| refusal_of(&e))?;
+    runner_port.watch_listener().map_err(|e| refusal_of(&e))?;
     let service = Service::new(rt, &hook_port, &runner_port, limits);
     tell_ready(out)?;
-    serve_watched(&service, alloc, &mut poll, &mut events, store, sessions, out)
+    serve_watched(
+        &service,
+        alloc,
+        &mut poll,
+        &mut events,
+        store,
+        sessions,
+        out,
+    )
 }

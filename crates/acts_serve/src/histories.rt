@@ -126,11 +126,7 @@ fn hold_history<D: Disk + Drop + Send, R: Threads + Wait + Clock + Sync, O: Writ
 }
 
 /// Serves one history after the other, until the service can't go on: it answers why.
-pub(crate) fn hold_histories<
-    D: Disk + Drop + Send,
-    R: Threads + Wait + Clock + Sync,
-    O: Write,
->(
+pub(crate) fn hold_histories<D: Disk + Drop + Send, R: Threads + Wait + Clock + Sync, O: Write>(
     service: &Service<'_, R>,
     alloc: Global,
     store: Store<D>,

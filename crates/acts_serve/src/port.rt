@@ -296,5 +296,4 @@ impl<'a, P: Protocol> Port<'a, P> {
             _ => None,
         }
     }
-
 }

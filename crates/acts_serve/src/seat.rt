@@ -7,7 +7,10 @@ use crate::client::Client;
 use crate::exchange::{ClientReader, ClientWriter, Pause, SeatTurns, Turns};
 use crate::port::Port;
 use crate::service::Service;
-use act_sessions::{Answer, Ending, Part, Parts, Protocol, SessionFault, Standing, Transcript, Work, is_open, run_parts};
+use act_sessions::{
+    Answer, Ending, Part, Parts, Protocol, SessionFault, Standing, Transcript, Work, is_open,
+    run_parts,
+};
 use std::alloc::{AllocError, Global};
 use std::net::TcpStream;
 use std::sync::Wait;

@@ -44,9 +44,8 @@ struct Round<D: Disk> {
 
 /// Whether no session wrote anything, for want of memory or of a thread.
 fn are_unserved(transcripts: &[Transcript]) -> bool {
-    transcripts
-        .iter()
-        .all(|transcript| transcript.ending == Ending::Memory && transcript.written == 0)
+    transcripts.iter().all(|transcript| transcript.ending == Ending::Memory
+        && transcript.written == 0)
 }
 
 /// Holds sessions over a store that has no entries yet, each in a thread of its own and at the same time, and tells how many entries

@@ -134,7 +134,7 @@ pub runners_have_bytes : (t : TableState) → IsSound t → AllByRecursion run.T
     → AllByRecursion (λ (r : RunnerState). KeptHasBytes r.last) t.runners
 runners_have_bytes t s takes =
     all_from_each (λ (r : RunnerState). KeptHasBytes r.last) t.runners (λ k x at.
-        kept_has_bytes t.runs takes t.last_lease x.last (s.kept_leases_are_of_legs k x at))
+    kept_has_bytes t.runs takes t.last_lease x.last (s.kept_leases_are_of_legs k x at))
 
 -- ---- one part behind another
 

@@ -70,8 +70,7 @@ have_places runners takes k part at = last_has_place part.last (each_at runner.T
 pub one_of_parts : (bytes rest : List ℕ) (parts : StoredTable) (t : TableState) → OpensWith table bytes parts rest → IsStoredAs parts t
     → OpensWith whole_table bytes t rest
 one_of_parts bytes rest parts t opens is =
-    let same : stored_table t ≡ parts = stored_again parts t (have_places parts.runners opens.0.1.1.0.2) is in
-    (
+    let same : stored_table t ≡ parts = stored_again parts t (have_places parts.runners opens.0.1.1.0.2) is in (
       (is.is_sound, subst table.Takes (sym same) opens.0),
       opens.1 ∙ ap (λ (s : StoredTable). table.spelling s ++ rest) (sym same),
     )

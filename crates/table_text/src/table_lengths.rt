@@ -71,7 +71,10 @@ fn last_length(value: &LastCommand) -> u64
 {
     match value {
         LastCommand::Claim(claim, ClaimReply::Nothing) => BYTE + claim_length(claim) + BYTE,
-        LastCommand::Claim(claim, ClaimReply::Lease(_)) => BYTE + claim_length(claim) + BYTE + LEASE,
+        LastCommand::Claim(claim, ClaimReply::Lease(_)) => BYTE
+            + claim_length(claim)
+            + BYTE
+            + LEASE,
         LastCommand::Done(report) => BYTE + done_length(report) + BYTE,
     }
 }

@@ -146,7 +146,10 @@ fn a_session_goes_on_over_histories(rt: HostRuntime) -> Result<(), Fail> {
     )?;
     assert!(rt; ended.answered);
     assert_eq!(rt; ended.refused, 61);
-    assert_eq!(rt; out.text.as_slice(), b"ready\nsettled 2\nsettled 2\n".as_slice());
+    assert_eq!(rt;
+        out.text.as_slice(),
+        b"ready\nsettled 2\nsettled 2\n".as_slice()
+    );
     Ok(())
 }
 

@@ -87,6 +87,9 @@ fn a_stream_that_failed_ends_no_round(rt: HostRuntime) -> Result<(), Fail> {
         (served, one, two)
     });
     assert_eq!(rt; ended, (None, true, true));
-    assert_eq!(rt; out.as_slice(), b"ready\nsettled 2\nsettled 2\nsettled 2\n".as_slice());
+    assert_eq!(rt;
+        out.as_slice(),
+        b"ready\nsettled 2\nsettled 2\nsettled 2\n".as_slice()
+    );
     Ok(())
 }

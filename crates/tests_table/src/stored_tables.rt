@@ -341,9 +341,5 @@ fn reads_attempts(rt: &impl Abort, alloc: Global) -> Result<(), Refusal> {
 #[test]
 fn kept_leases_are_of_attempts_up_to_that_of_their_runs(rt: HostRuntime) {
     let alloc = rt.alloc();
-    expect_twice(
-        &rt,
-        reads_attempts(&rt, alloc),
-        reads_attempts(&rt, alloc),
-    );
+    expect_twice(&rt, reads_attempts(&rt, alloc), reads_attempts(&rt, alloc));
 }
