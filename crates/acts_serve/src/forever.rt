@@ -35,8 +35,8 @@ fn refusal_of(e: &io::Error) -> Refusal {
 fn serve_watched<D: Disk + Drop + Send, R: Threads + Wait + Clock + Sync, O: Write>(
     service: &Service<'_, R>,
     alloc: Global,
-    poll: &mut Poll,
-    events: &mut Events,
+    poll: Poll,
+    events: Events,
     store: Store<D>,
     sessions: u64,
     out: &mut O,
@@ -57,7 +57,7 @@ fn serve_watched<D: Disk + Drop + Send, R: Threads + Wait + Clock + Sync, O: Wri
                 return Err(Refusal::Numbered(Code::NoMemory));
             }
             let ended = hold_histories(service, alloc, store, sessions, out);
-            if let Err(Refusal::Numbered(Code::FailedEarlier)) = ended {
+            if let Err(Refusal::Numbered(Code::DeviceFailed | Code::FailedEarlier)) = ended {
                 part_with_all(rt, alloc, service.hooks);
                 part_with_all(rt, alloc, service.runners);
             }
@@ -90,22 +90,14 @@ pub fn serve_forever<D: Disk + Drop + Send, R: Threads + Wait + Clock + Sync + N
     requires fresh { store.history ≡ [] }
     requires sessions { (0 < sessions) × (sessions ≤ 32) }
 {
-    let mut poll = Poll::new(rt).map_err(|e| refusal_of(&e))?;
+    let poll = Poll::new(rt).map_err(|e| refusal_of(&e))?;
     let registry = poll.registry().try_clone().map_err(|e| refusal_of(&e))?;
-    let mut events = Events::with_capacity(alloc, EVENTS)?;
+    let events = Events::with_capacity(alloc, EVENTS)?;
     let hook_port = Port::new(alloc, hooks, &registry, 0)?;
     let runner_port = Port::new(alloc, runners, &registry, 1)?;
     hook_port.watch_listener().map_err(|e| refusal_of(&e))?;
     runner_port.watch_listener().map_err(|e| refusal_of(&e))?;
     let service = Service::new(rt, &hook_port, &runner_port, limits);
     tell_ready(out)?;
-    serve_watched(
-        &service,
-        alloc,
-        &mut poll,
-        &mut events,
-        store,
-        sessions,
-        out,
-    )
+    serve_watched(&service, alloc, poll, events, store, sessions, out)
 }

@@ -107,15 +107,16 @@ fn is_due(clock: &impl Clock, swept: Option<Instant>) -> bool {
 pub(crate) fn watch<R: Wait + Clock>(
     service: &Service<'_, R>,
     alloc: Global,
-    poll: &mut Poll,
-    events: &mut Events,
+    poll: Poll,
+    events: Events,
 ) {
+    let (mut poll, mut events) = (poll, events);
     let mut swept = None;
     for _ in service.rt.forever() {
         if service.has_ended() {
             return;
         }
-        if look(service, alloc, poll, events).is_err() {
+        if look(service, alloc, &mut poll, &mut events).is_err() {
             service.breaks();
             return;
         }
