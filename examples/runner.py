@@ -2,25 +2,22 @@
 """A runner for `acts serve`, on Linux, of the standard library alone. docs/RUNNERS.md says why it does each thing as it does."""
 import argparse, contextlib, glob, json, os, re, shutil, signal, socket, subprocess, sys, time
 
-LATER = re.compile(r'refused (4[678]|5\d|60)\n')
 SHELLS = {None: ['bash', '-ec'], 'bash': ['bash', '--noprofile', '--norc', '-eo', 'pipefail', '-c'], 'sh': ['sh', '-ec']}
 
-def keep(path, text, place=os.rename):
+def keep(path, text):
     """Writes a file of this folder, which is there as a whole or not at all, also after a stop of the machine."""
     with open(f'{path}.{os.getpid()}', 'w') as file:
         print(text, file=file)
     subprocess.run(['sync', file.name], check=True)
-    place(file.name, path)
+    os.rename(file.name, path)
     subprocess.run(['sync', '.'], check=True)
 
-def read(path):
-    """What a file holds; the empty text where it is not there."""
+def read(path): # the empty text where it is not there
     with contextlib.suppress(OSError), open(path, errors='replace') as file:
         return file.read()
     return ''
 
-def group_of(process):
-    """The group of a process, as a text; of one that has ended none, also where nobody has waited for it."""
+def group_of(process): # of one that has ended none, also where nobody has waited for it
     state, _, group = (read(f'/proc/{process}/stat').rpartition(') ')[2].split() or 'Z--')[:3]
     return None if state in 'ZX' else group
 
@@ -36,7 +33,7 @@ def end(group):
 def clear(group=None):
     """Ends a group, and takes away what is known of its leg: how the steps ended before that they began."""
     end(group)
-    for path in [*glob.glob('status*'), *glob.glob('begun*')]:
+    for path in glob.glob('status') + glob.glob('begun'):
         os.remove(path)
 
 def variables(values, prefix=''):
@@ -61,9 +58,9 @@ def run_steps(run, name, combo, body):
     return good
 
 def be_leg():
-    """Runs the steps of the leg that this folder holds, unless somebody has begun them, and leaves how they ended."""
+    """Runs the steps of the leg that this folder holds, and leaves there that they began, and how they ended."""
     lease, run, job, _, combo, body = json.loads(read('leg'))
-    keep('begun', f'{os.getpid()} {lease}', os.link)
+    keep('begun', f'{os.getpid()} {lease}')
     shutil.rmtree('work', ignore_errors=True)
     os.mkdir('work')
     keep('status', 'success' if run_steps(run, job, combo, body) else 'failure')
@@ -79,7 +76,7 @@ class Runner:
                 answer = file.readline().decode()
                 length = int(answer[5:]) + 1 if answer.startswith('body ') else 0
                 body = file.read(length)
-                if answer.endswith('\n') and len(body) == length and not LATER.match(answer):
+                if answer.endswith('\n') and len(body) == length and not re.match('refused (4[678]|5.|60)\n', answer):
                     return answer[:-1], body
             time.sleep(1)
 
@@ -89,14 +86,17 @@ class Runner:
         group, begun = read('begun').split() or (None, None)
         if group and not any(token + begun in read(path).split('\0') for path in glob.glob('/proc/[0-9]*/environ')):
             group = None # all of it has ended, and the number may be another's by now
-        if begun != lease:
+        if begun not in (None, lease):
             clear(group)
         answer, asked = self.ask(beat)[0], time.monotonic()
         if answer == 'go on' and begun != lease and not self.forgotten:
             keep('leg', json.dumps([lease, run, job, leg, combo, json.loads(self.ask(f'FETCH {run}')[1])]))
-            child = subprocess.Popen(['env', token + lease, sys.executable, __file__, '--leg'], start_new_session=True)
-            while child.poll() is None and not read('begun'):
-                time.sleep(0.02)
+            with open('starting', 'w') as lock: # which the process holds to its end: an earlier life may have started one that has not begun yet
+                child, words = None, ['env', token + lease, sys.executable, __file__, '--leg']
+                while not read('begun') and (child is None or child.poll() is None):
+                    if child is None and subprocess.call(['flock', '-n', str(lock.fileno())], pass_fds=[lock.fileno()]) == 0:
+                        child = subprocess.Popen(words, start_new_session=True, pass_fds=[lock.fileno()])
+                    time.sleep(0.02)
             group = (read('begun').split() or [None])[0]
         while answer == 'go on' and group and group_of(group) and not read('status'):
             time.sleep(0.05)

@@ -23,17 +23,22 @@ end() { # what is left of the group, by TERM, and by KILL after ten seconds
     sleep 0.2
   done 2> /dev/null
 }
-begin() { # the steps, in a group of their own, which goes on where this runner is killed; of two that are started only the first begins
-  jq -r --arg job "$job" '.workflow.jobs[$job].steps[]? | .run // "echo \"not run: uses \(.uses)\"; exit 1"' <<< "$body" > steps
-  ACTS_LEG="$PWD $lease" COMBO=$combo setsid bash -c 'echo "$$ $0" > begun.$$ && sync begun.$$ && ln begun.$$ begun && sync . || exit
-    rm -rf work; mkdir work; result=failure; (cd work; exec sh -e ../steps) && result=success
-    echo $result > status.new; mv status.new status' "$lease" 3>&- 9>&- &
-  until [ -e begun ] || ! kill -0 $! 2> /dev/null; do sleep 0.02; done
+begin() { # the steps, in a group of their own, which goes on where this runner is killed
+  exec 8> starting # which the group's first process holds locked to its end: an earlier life may have started one that has not begun yet
+  until [ -e begun ] || flock -n 8; do sleep 0.02; done
+  if [ ! -e begun ]; then
+    jq -r --arg job "$job" '.workflow.jobs[$job].steps[]? | .run // "echo \"not run: uses \(.uses)\"; exit 1"' <<< "$body" > steps
+    ACTS_LEG="$PWD $lease" COMBO=$combo setsid bash -c 'echo "$$ $0" > begun.new && sync begun.new && mv begun.new begun && sync . || exit
+      rm -rf work; mkdir work; result=failure; (cd work; exec sh -e ../steps 8>&-) && result=success
+      echo $result > status.new; mv status.new status' "$lease" 3>&- 9>&- &
+    until [ -e begun ] || ! kill -0 $!; do sleep 0.02; done 2> /dev/null
+  fi
+  exec 8>&-
 }
 work() { # $result: how the steps of $lease ended; nothing where it was taken away
   group='' begun=''
   if [ -e begun ]; then read -r group begun < begun; grep -qszxF "ACTS_LEG=$PWD $begun" /proc/[0-9]*/environ || group=''; fi
-  if [ "$begun" != "$lease" ]; then end; rm -f status begun; fi
+  if [ "$begun" ] && [ "$begun" != "$lease" ]; then end; rm -f status; rm -f begun; fi
   ask BEAT "$name" "$lease"
   if [ "$answer" = 'go on' ] && [ ! -e begun ] && [ ! $forgotten ]; then ask FETCH "$run"; begin; read -r group begun < begun; answer='go on'; fi
   while [ "$answer" = 'go on' ] && [ ! -e status ] && left; do
@@ -50,7 +55,7 @@ while keep "$words" && ask "$words" && read -r _ _ number lease result <<< "$wor
   case $answer in
     lease\ *) read -r _ lease run job leg combo <<< "$answer"; work; place="run $run $job $leg"
       if [ $result ]; then words="DONE $name $((number + 1)) $lease $result"; else claim $((number + 1)); fi ;;
-    ok) echo "$name: ${place:-lease $lease} $result: ok"; rm -f status; rm -f begun*; claim $((number + 1)) ;;
+    ok) echo "$name: ${place:-lease $lease} $result: ok"; rm -f status; rm -f begun; claim $((number + 1)) ;;
     nothing) claim $((number + 1)) # what an earlier life may have been told is asked anew at once
       if [ ! $kept ]; then [ "$pause" ] || { echo "$name: nothing"; exit; }; hang_up; sleep "$pause" 9>&-; fi ;;
     'refused 42') forgotten=1; claim $((number - 1)) ;; # a lease that was forgotten: the claim that got it gets it again
