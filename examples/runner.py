@@ -83,6 +83,9 @@ class Runner:
     def work(self, lease, run, job, leg, combo):
         """Has the steps of a leg run by a process with a group of its own, or takes up those that run: how they ended, or None if the lease was taken."""
         self.place, token, beat = f'run {run} {job} {leg}', f'ACTS_LEG={os.getcwd()} ', f'BEAT {self.name} {lease}'
+        lock = open('starting', 'w') # which the process of the steps holds to its end: that of an earlier life may not have begun yet
+        while not read('begun').endswith(f' {lease}\n') and subprocess.call(['flock', '-n', str(lock.fileno())], pass_fds=[lock.fileno()]):
+            time.sleep(0.02)
         group, begun = read('begun').split() or (None, None)
         if group and not any(token + begun in read(path).split('\0') for path in glob.glob('/proc/[0-9]*/environ')):
             group = None # all of it has ended, and the number may be another's by now
@@ -91,12 +94,9 @@ class Runner:
         answer, asked = self.ask(beat)[0], time.monotonic()
         if answer == 'go on' and begun != lease and not self.forgotten:
             keep('leg', json.dumps([lease, run, job, leg, combo, json.loads(self.ask(f'FETCH {run}')[1])]))
-            with open('starting', 'w') as lock: # which the process holds to its end: an earlier life may have started one that has not begun yet
-                child, words = None, ['env', token + lease, sys.executable, __file__, '--leg']
-                while not read('begun') and (child is None or child.poll() is None):
-                    if child is None and subprocess.call(['flock', '-n', str(lock.fileno())], pass_fds=[lock.fileno()]) == 0:
-                        child = subprocess.Popen(words, start_new_session=True, pass_fds=[lock.fileno()])
-                    time.sleep(0.02)
+            child = subprocess.Popen(['env', token + lease, sys.executable, __file__, '--leg'], start_new_session=True, pass_fds=[lock.fileno()])
+            while child.poll() is None and not read('begun'):
+                time.sleep(0.02)
             group = (read('begun').split() or [None])[0]
         while answer == 'go on' and group and group_of(group) and not read('status'):
             time.sleep(0.05)

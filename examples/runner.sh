@@ -24,23 +24,21 @@ end() { # what is left of the group, by TERM, and by KILL after ten seconds
   done 2> /dev/null
 }
 begin() { # the steps, in a group of their own, which goes on where this runner is killed
-  exec 8> starting # which the group's first process holds locked to its end: an earlier life may have started one that has not begun yet
-  until [ -e begun ] || flock -n 8; do sleep 0.02; done
-  if [ ! -e begun ]; then
-    jq -r --arg job "$job" '.workflow.jobs[$job].steps[]? | .run // "echo \"not run: uses \(.uses)\"; exit 1"' <<< "$body" > steps
-    ACTS_LEG="$PWD $lease" COMBO=$combo setsid bash -c 'echo "$$ $0" > begun.new && sync begun.new && mv begun.new begun && sync . || exit
-      rm -rf work; mkdir work; result=failure; (cd work; exec sh -e ../steps 8>&-) && result=success
-      echo $result > status.new; mv status.new status' "$lease" 3>&- 9>&- &
-    until [ -e begun ] || ! kill -0 $!; do sleep 0.02; done 2> /dev/null
-  fi
-  exec 8>&-
+  jq -r --arg job "$job" '.workflow.jobs[$job].steps[]? | .run // "echo \"not run: uses \(.uses)\"; exit 1"' <<< "$body" > steps
+  ACTS_LEG="$PWD $lease" COMBO=$combo setsid bash -c 'echo "$$ $0" > begun.new && sync begun.new && mv begun.new begun && sync . || exit
+    rm -rf work; mkdir work; result=failure; (cd work; exec sh -e ../steps 8>&-) && result=success
+    echo $result > status.new; mv status.new status' "$lease" 3>&- 9>&- &
+  until [ -e begun ] || ! kill -0 $!; do sleep 0.02; done 2> /dev/null
 }
 work() { # $result: how the steps of $lease ended; nothing where it was taken away
   group='' begun=''
+  exec 8> starting # which the process of the steps holds to its end: that of an earlier life may not have begun yet
+  until grep -qs " $lease\$" begun || flock -n 8; do sleep 0.02; done
   if [ -e begun ]; then read -r group begun < begun; grep -qszxF "ACTS_LEG=$PWD $begun" /proc/[0-9]*/environ || group=''; fi
   if [ "$begun" ] && [ "$begun" != "$lease" ]; then end; rm -f status; rm -f begun; fi
   ask BEAT "$name" "$lease"
-  if [ "$answer" = 'go on' ] && [ ! -e begun ] && [ ! $forgotten ]; then ask FETCH "$run"; begin; read -r group begun < begun; answer='go on'; fi
+  if [ "$answer" = 'go on' ] && [ "$begun" != "$lease" ] && [ ! $forgotten ]; then ask FETCH "$run"; begin; read -r group begun < begun; answer='go on'; fi
+  exec 8>&-
   while [ "$answer" = 'go on' ] && [ ! -e status ] && left; do
     sleep 0.1
     if ((SECONDS - spoke >= beat)); then ask BEAT "$name" "$lease"; elif ((SECONDS - spoke > 5)); then hang_up; fi
