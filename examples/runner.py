@@ -5,8 +5,8 @@ import argparse, contextlib, glob, json, os, re, shutil, signal, socket, subproc
 SHELLS = {None: ['bash', '-ec'], 'bash': ['bash', '--noprofile', '--norc', '-eo', 'pipefail', '-c'], 'sh': ['sh', '-ec']}
 
 def keep(path, text):
-    """Writes a file of this folder, which is there as a whole or not at all, also after a stop of the machine."""
-    with open(f'{path}.{os.getpid()}', 'w') as file:
+    """Writes a file of this folder, which is there as a whole or not at all, also after a crash of the machine."""
+    with open(path + '.new', 'w') as file:
         print(text, file=file)
     subprocess.run(['sync', file.name], check=True)
     os.rename(file.name, path)
@@ -30,8 +30,7 @@ def end(group):
                 os.killpg(int(group), signals.pop())
         time.sleep(0.05)
 
-def clear(group=None):
-    """Ends a group, and takes away what is known of its leg: how the steps ended before that they began."""
+def clear(group=None): # takes away what is known of a leg: how the steps ended before that they began
     end(group)
     for path in glob.glob('status') + glob.glob('begun'):
         os.remove(path)
@@ -48,10 +47,11 @@ def run_steps(run, name, combo, body):
     given = {'CI': 'true', 'COMBO': combo} | variables(json.loads(combo), 'MATRIX_') | variables(body.get('github', {}) | github, 'GITHUB_')
     for step in job.get('steps', []):
         settings = workflow.get('defaults', {}).get('run', {}) | job.get('defaults', {}).get('run', {}) | step
-        if 'run' not in step or settings.get('shell') not in SHELLS or '${{' in json.dumps([step, job.get('env'), workflow.get('env')]):
+        texts = [settings.get(name) for name in ('run', 'env', 'working-directory')] + [job.get('env'), workflow.get('env')]
+        if 'run' not in step or settings.get('shell') not in SHELLS or '${{' in json.dumps(texts):
             sys.exit(f'not run, since it is no text for bash or sh, or has expressions: {step}')
         due = {'success()': good, 'true': good, 'failure()': not good, 'always()': True, '!cancelled()': True, 'cancelled()': False, 'false': False}
-        if due[str(step.get('if', 'true')).lower()]:
+        if due[str(step.get('if', 'true')).lower().strip('${} ')]:
             env = os.environ | given | variables(workflow.get('env', {})) | variables(job.get('env', {})) | variables(step.get('env', {}))
             place, words = os.path.join(work, settings.get('working-directory', '')), [*SHELLS[settings.get('shell')], step['run']]
             good &= subprocess.call(words, cwd=place, env=env, stdin=subprocess.DEVNULL) == 0 or step.get('continue-on-error') is True
@@ -140,11 +140,11 @@ def main():
     runner = parser.parse_args(namespace=Runner())
     os.makedirs(os.path.join(runner.state, runner.name), exist_ok=True)
     os.chdir(os.path.join(runner.state, runner.name))
-    with open('lock', 'w') as lock:
-        if subprocess.call(['flock', '-w', '5', str(lock.fileno())], pass_fds=[lock.fileno()]):
-            sys.exit(f'{runner.name}: it runs already')
-        line = read('words').strip() or f'CLAIM {runner.name} 999999999 {runner.labels}' # out of its turn: the last number is answered
-        while line:
-            line = runner.go_on(line)
+    lock = open('lock', 'w')
+    if subprocess.call(['flock', '-w', '5', str(lock.fileno())], pass_fds=[lock.fileno()]):
+        sys.exit(f'{runner.name}: it runs already')
+    line = read('words').strip() or f'CLAIM {runner.name} 999999999 {runner.labels}' # out of its turn: the last number is answered
+    while line:
+        line = runner.go_on(line)
 
 be_leg() if sys.argv[1:] == ['--leg'] else main()
