@@ -1,10 +1,10 @@
 #!/bin/bash
 # A runner: claims legs, runs the steps of each with sh, beats while they run, and reports how they ended. docs/RUNNERS.md says why it does so.
 # runner.sh PORT NAME LABELS [PAUSE [BEAT]]: the port that `acts serve` has for runners, this runner's name, its labels, joined by commas, the seconds
-# until it asks again where there is nothing to do (none: it ends then), and those between two beats (20). What it needs after a kill is in $STATE/NAME.
+# until it asks again where there is nothing to do (none: it ends then), and those between two beats (20). What it needs after a kill is in $ACTS_STATE/NAME.
 LC_ALL=C port=$1 name=$2 labels=$3 pause=${4-} beat=${5:-20} open='' forgotten='' kept=1 place=''
-STATE=${STATE:-$HOME/.local/state/acts}
-mkdir -p "$STATE/$name" && cd "$STATE/$name" && exec 9> lock && flock -w 5 9 || { echo "$name: it runs already" >&2; exit 1; }
+ACTS_STATE=${ACTS_STATE:-$HOME/.local/state/acts}
+mkdir -p "$ACTS_STATE/$name" && cd "$ACTS_STATE/$name" && exec 9> lock && flock -w 5 9 || { echo "$name: it runs already" >&2; exit 1; }
 trap : PIPE
 ask() { # LINE: $answer, and $body of FETCH. It is said until it is answered: a numbered line that was carried out gets its answer again
   until { [ $open ] || exec 3<> "/dev/tcp/127.0.0.1/$port"; } && open=1 && printf '%s\n' "$*" >&3 && IFS= read -r -t 60 -u 3 answer && case $answer in
