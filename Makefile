@@ -32,21 +32,21 @@ install:
 example: build
 	$(ACTS) play < examples/fan_out_fan_in.script | diff - examples/fan_out_fan_in.answers
 
-# The quick start by a trial run, on free ports of this machine: an event is posted by curl, two runners work, and what is printed is
-# compared. Then the runners of examples/ meet what a runner may meet: restarts, cut streams, kills, cancelled steps. Needs bash, curl, jq,
-# Python 3.9 and util-linux, and says so where they are not here. `examples/serve_example $(ACTS)` plays it with the proved program.
+# All that examples/ has, with a trial of the program: the quick start, on free ports of this machine; both runners in what a runner may
+# meet: restarts, cut streams, kills, cancelled steps; events from GitHub's webhooks; and the board of runs. Needs bash, curl, jq, git, Python
+# 3.9 and util-linux, and says so where they are not here. `examples/try_examples $(ACTS)` tries the proved program.
 serve-example:
-	examples/serve_example
+	examples/try_examples
 
 # The merge gate: every proof, but for what an earlier run on this machine has passed; the must-fail edits, the tests and the stored runs;
-# and then the quick start, by a trial run. By itself `rt ci` keeps memory free for a check by the length of its crate, more than it takes,
+# and then the quick start, with the program that was proved. By itself `rt ci` keeps memory free for a check by the length of its crate, more than it takes,
 # and so a processor waits. Here each processor has a check, as far as there are 5 GB for it. CRATES="NAME .." tries these alone, with
 # those below them.
 LANES ?= $(shell awk -v most="$$(nproc)" '/^MemAvailable/ { held = int($$2 / 5000000); print held < 1 ? 1 : held < most ? held : most }' /proc/meminfo)
 
 test:
 	RT_JOBS=$(LANES) rt ci $(CRATES)
-	$(if $(CRATES),,examples/serve_example)
+	$(if $(CRATES),,examples/serve_example $$(test ! -x $(ACTS) || echo $(ACTS)))
 
 # Commands per second over growing tables.
 bench: build
