@@ -9,6 +9,7 @@ import collections
 import os
 import random
 import select
+import subprocess
 import time
 
 import killed
@@ -33,7 +34,7 @@ def meet(acts, path, load, dice, settings):
     expect(seen, settings, 'no call has failed for 60 seconds, after', load.told.answers, 'answers')
     try:
         status, out, err, failed = service.end(SECONDS)
-    except served.subprocess.TimeoutExpired:
+    except subprocess.TimeoutExpired:
         load.end()
         expect(False, settings, 'the service goes on', SECONDS, 'seconds behind a call that failed')
     took = time.monotonic() - fault
@@ -62,4 +63,5 @@ def check(acts, folder, amount):
         stopped(service)
         load.all_ended(served.show(acts, path))
     kinds = ', '.join(f'{count} {end}' for end, count in sorted(ends.items()))
-    yield f'{failed} calls failed over {stores} stores: services ended {kinds}, {slowest:.1f} s behind the call at the longest; {refused} clients were refused 51 or 52, none was left without an answer, nothing was lost'
+    yield (f'{failed} calls failed over {stores} stores: services ended {kinds}, {slowest:.1f} s behind the call at the longest; '
+           f'{refused} clients were refused 51 or 52, none was left without an answer, nothing was lost')

@@ -47,5 +47,6 @@ def check(acts, folder, amount):
     tasks += [lambda: goes_on(service.runner(), b'BEAT nobody 1\n', b'refused 45\n', IDLE / 2), lambda: goes_on(service.hook(), look, told, IDLE / 2)]
     tasks += [lambda: goes_on(service.runner(), b'BEAT r 1\n', b'refused 45\n', 0)]
     at_once(tasks, 60)
-    expect(served.show(acts, path) == [], 'a run of half an event') if stopped(service) is None else None
+    stopped(service)
+    expect(served.show(acts, path) == [], 'a run of half an event')
     yield f'{len(ends)} silent clients were let go after {min(ends):.1f} to {max(ends):.1f} s; three that went on for {SECONDS} s and more were not'

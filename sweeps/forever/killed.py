@@ -2,6 +2,7 @@
 
 import os
 import random
+import subprocess
 import time
 
 from checking import Wrong, expect, served, stopped
@@ -38,8 +39,9 @@ class Chain:
 
     def kill_early(self):
         """Kills a service about when it opens the file."""
-        service = served.subprocess.Popen([self.acts, 'serve', self.path, '--hook-port', str(served.free_ports()[0]), '--runner-port', str(served.free_ports()[1]),
-                                           '--sessions', str(SEATS), '--forever'], stdout=served.subprocess.DEVNULL)
+        hooks, runners = map(str, served.free_ports())
+        words = [self.acts, 'serve', self.path, '--hook-port', hooks, '--runner-port', runners, '--sessions', str(SEATS), '--forever']
+        service = subprocess.Popen(words, stdout=subprocess.DEVNULL)
         time.sleep(self.dice.random() * 0.03)
         service.kill()
         service.wait()

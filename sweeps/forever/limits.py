@@ -1,8 +1,8 @@
 """More clients than can be accepted, and a service that is given few threads.
 
 With `ulimit -n 64` a hundred clients come to a port, and without it 1,120: those who are accepted are answered, the others once these have gone, and meanwhile
-the service rests. As a user of its own with few threads (RLIMIT_NPROC, which binds no administrator) it either ends with 50 before its first client, or serves both ports. One
-that finds no thread later on, since its limit was lowered, goes on, and serves all once the limit is as it was.
+the service rests. As a user of its own with few threads (RLIMIT_NPROC, which binds no administrator) it either ends with 50 before its first client, or serves
+both ports. One that finds no thread later on, since its limit was lowered, goes on, and serves all once the limit is as it was.
 """
 
 import collections
@@ -117,7 +117,7 @@ def with_threads(acts, folder, limit):
         return 'serve'
     try:
         status, out, err, _ = service.end(SECONDS)
-    except served.subprocess.TimeoutExpired:
+    except subprocess.TimeoutExpired:
         raise Wrong(f'a service that may have {limit} threads does not serve both ports, and goes on: {fault!r}') from None
     expect((status, out, err) == (1, '', 'acts: refused 50\n') and not service.settled, limit, 'threads: the end', status, out, err, fault)
     return 'end with 50 before the first client'

@@ -129,9 +129,11 @@ def one_of_each(acts, folder, turn_over, dice):
         runner.say(*pieces(dice, runner_line(dice, table, 'r1', 'linux,X64').encode()))
     hook.end(request('GET /runs/1 HTTP/1.1'))
     runner.end(b'BEAT nobody 1\n')
-    histories = len(service.settled)
+    histories, entries = len(service.settled), sum(service.settled)
     expect(histories >= 10, 'only', histories, 'histories')
-    shown = served.show(acts, path) if stopped(service) is None else []
+    expect(0 <= table.asked - entries <= 2 * turn_over, table.asked, 'commands, and histories of', entries, 'entries in all')
+    stopped(service)
+    shown = served.show(acts, path)
     expect(shown == table.views(), 'the file shows', shown, 'and not', table.views())
     return f'64 requests and 1,024 lines over {histories} histories, {hook.bytes + runner.bytes} bytes as wanted'
 
@@ -177,33 +179,39 @@ def difference(got, wanted):
     return f'from byte {at} on {got[at:at + 60]!r} and not {wanted[at:at + 60]!r}'
 
 
+def lines_ahead(dice, table, name):
+    """The lines of a whole session, none of which shows what others do: of runs they ask for the first alone, which has ended."""
+    given, session = b'', model.Lines(table)
+    while not session.over:
+        line = runner_line(dice, table, name, 'mine' if name == 'mine' else 'none').encode()
+        if not line.startswith(b'FETCH') or line == b'FETCH 1\n':
+            given += line
+            session.hear(line)
+    return given
+
+
+def requests_ahead(dice, table, place):
+    """The requests of a whole session. The first sender posts events; the others ask what stays as it is."""
+    if place == 0:
+        return b''.join(event(f'e{number}', body('nobody')) for number in range(model.MOST_REQUESTS))
+    return b''.join(dice.choice((look_alike(dice, table, 1), request('GET /runs/1 HTTP/1.1'), request('GET /runs/3/body HTTP/1.1'),
+                                 request('POST /runs/1/cancel HTTP/1.1'))) for _ in range(model.MOST_REQUESTS))
+
+
 def pipelined(acts, folder, turn_over, dice):
     """Sixteen clients send whole sessions at once over histories that turn over meanwhile."""
     service, path = opened(acts, folder, SEATS, turn_over=turn_over)
     table = prepared(service)
     before, talkers, tasks = len(service.settled), [], []
     for place in range(8):
-        it, name = copy.deepcopy(table), 'mine' if place == 0 else f'p{place}'
-        lines, given, shadow = model.Lines(it), b'', copy.deepcopy(table)
-        ahead = model.Lines(shadow)
-        while not ahead.over:
-            # Only run 1 has ended, and shows the same to all.
-            line = runner_line(dice, shadow, name, 'mine' if place == 0 else 'none').encode() if place % 2 == 0 else b'FETCH 1\n'
-            if not line.startswith(b'FETCH') or line == b'FETCH 1\n':
-                given += line
-                ahead.hear(line)
-        talkers.append(Talker(service.runner(), lines, f'the runner {name}'))
-        tasks.append((talkers[-1], given, b'BEAT nobody 1\n' * 3))
+        name, own = 'mine' if place == 0 else f'p{place}', copy.deepcopy(table)
+        given = lines_ahead(dice, own, name) if place % 2 == 0 else b'FETCH 1\n' * model.MOST_LINES
+        talkers.append(Talker(service.runner(), model.Lines(copy.deepcopy(table)), f'the runner {name}'))
+        tasks.append((talkers[-1], given, b'BEAT nobody 1\n' * 3, random.Random(f'runner {place}')))
     for place in range(8):
-        it = copy.deepcopy(table)
-        if place == 0:
-            asked = [event(f'e{number}', body('nobody')) for number in range(64)]
-        else:
-            asked = [dice.choice((look_alike(dice, it, 1), request('GET /runs/1 HTTP/1.1'), request('GET /runs/3/body HTTP/1.1'),
-                                  request('POST /runs/1/cancel HTTP/1.1'))) for _ in range(64)]
-        talkers.append(Talker(service.hook(), model.Requests(it), f'the sender {place}'))
-        tasks.append((talkers[-1], b''.join(asked), request('GET /runs/1 HTTP/1.1')))
-    at_once([lambda task=task: all_at_once(*task, random.Random(id(task))) for task in tasks], 120)
+        talkers.append(Talker(service.hook(), model.Requests(copy.deepcopy(table)), f'the sender {place}'))
+        tasks.append((talkers[-1], requests_ahead(dice, table, place), request('GET /runs/1 HTTP/1.1'), random.Random(f'sender {place}')))
+    at_once([lambda task=task: all_at_once(*task) for task in tasks], 120)
     histories = len(service.settled) - before
     expect(histories >= 10, 'only', histories, 'histories')
     stopped(service)
@@ -211,43 +219,52 @@ def pipelined(acts, folder, turn_over, dice):
     return f'8 sessions of 64 requests and 8 of 1,024 lines, each sent at once, over {histories} histories, {sum(it.bytes for it in talkers)} bytes as wanted'
 
 
-def cut_at_each_byte(acts, folder):
-    """A request, and a line, is cut at each of its bytes, and a history turns over there; and then at all bytes."""
-    service, path = opened(acts, folder, SEATS, turn_over=2)
-    table, other, sessions = model.Table(), service.runner(), 0
-    talker = None
+class Cut:
+    """Clients that are cut: each says a part of something, a history turns over, and it says the rest."""
 
-    def say(kind, data, cuts):
-        nonlocal talker, other, sessions
-        if talker is None or talker.session.over or not isinstance(talker.session, kind):
-            if talker:
-                talker.client.close()
-            talker = Talker(service.hook() if kind is model.Requests else service.runner(), kind(table), 'who is cut')
-            sessions += 1
+    def __init__(self, service, table):
+        self.service, self.table, self.other, self.talker, self.sessions = service, table, service.runner(), None, 0
+
+    def session(self, kind):
+        """The session that it goes on with, or a new one."""
+        if self.talker is None or self.talker.session.over or not isinstance(self.talker.session, kind):
+            self.end()
+            self.talker = Talker(self.service.hook() if kind is model.Requests else self.service.runner(), kind(self.table), 'who is cut')
+            self.sessions += 1
+        return self.talker
+
+    def say(self, kind, data, cuts):
+        talker = self.session(kind)
         for start, end in zip([0, *cuts], cuts):
             expect(talker.session.hear(data[start:end]) == b'', 'an answer to half a request')
             talker.client.send(data[start:end])
             time.sleep(MOMENT)
-            other = turned_over(service, other)
+            self.other = turned_over(self.service, self.other)
         talker.say(data[cuts[-1]:])
 
-    given, lines = body('linux'), [f'CLAIM runner-1 {number} linux,x64\n'.encode() for number in range(1, 100)]
-    cuts = 0
-    for place in range(1, len(event('c100', given))):
-        say(model.Requests, event(f'c{100 + place}', given), [place])
-        cuts += 1
-    for place in range(1, len(lines[0])):
-        say(model.Lines, lines[place - 1], [place])
-        cuts += 1
-    last, line = event('c999', given), b'BEAT runner-1 99\n'
-    say(model.Requests, last, list(range(1, len(last))))
-    say(model.Lines, line, list(range(1, len(line))))
-    cuts += len(last) + len(line) - 2
-    talker.client.close()
-    histories = len(service.settled)
+    def end(self):
+        if self.talker is not None:
+            self.talker.client.close()
+
+
+def cut_at_each_byte(acts, folder):
+    """A request, and a line, is cut at each of its bytes, and a history turns over there; and then at all bytes."""
+    service, path = opened(acts, folder, SEATS, turn_over=2)
+    table, given = model.Table(), body('linux')
+    cut, last, beat = Cut(service, table), event('c999', given), b'BEAT runner-1 99\n'
+    requests = [event(f'c{100 + place}', given) for place in range(len(last) - 1)]
+    lines = [f'CLAIM runner-1 {number} linux,x64\n'.encode() for number in range(1, 100)]
+    for place, data in enumerate(requests, 1):
+        cut.say(model.Requests, data, [place])
+    for place, data in enumerate(lines[:len(lines[0]) - 1], 1):
+        cut.say(model.Lines, data, [place])
+    cut.say(model.Requests, last, list(range(1, len(last))))
+    cut.say(model.Lines, beat, list(range(1, len(beat))))
+    cut.end()
+    cuts, histories = 2 * (len(last) - 1) + len(lines[0]) - 1 + len(beat) - 1, len(service.settled)
     stopped(service)
     expect(served.show(acts, path) == table.views(), 'the runs that are shown')
-    return f'{cuts} cuts in {sessions} sessions, a history turned over in each ({histories} in all)'
+    return f'{cuts} cuts in {cut.sessions} sessions, a history turned over in each ({histories} in all)'
 
 
 def halves(acts, folder, dice):
@@ -255,10 +272,11 @@ def halves(acts, folder, dice):
     service, path = opened(acts, folder, SEATS, turn_over=3)
     table, other, clients = model.Table(), service.runner(), []
     for place in range(20):
-        for client, data in ((service.hook(), event(f'h{place}', body('linux', space=place))), (service.runner(), f'CLAIM h{place} 1 none\n'.encode())):
+        for client, kind, data in ((service.hook(), model.Requests, event(f'h{place}', body('linux', space=place))),
+                                   (service.runner(), model.Lines, f'CLAIM h{place} 1 none\n'.encode())):
             cut = dice.randint(1, len(data) - 1)
             client.send(data[:cut])
-            clients.append((client, model.Requests if place >= 0 and data.startswith(b'POST') else model.Lines, data, cut))
+            clients.append((client, kind, data, cut))
     for _ in range(10):
         other = turned_over(service, other)
     dice.shuffle(clients)

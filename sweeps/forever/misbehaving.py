@@ -81,17 +81,15 @@ class Crowd:
             client.close()
 
     def stay(self):
-        """What ends the session, and then bytes for as long as it can, which is less than 40 seconds."""
+        """What ends the session, and then bytes for as long as it can."""
         last, answer = self.last
         client = self.come()
         client.send(last)
         client.until(answer)
         expect(client.stream.recv(1) == b'', 'more than one answer')
-        start = time.monotonic()
         try:
             while not self.over.is_set():
                 client.send(b'x' * 100)
-                expect(time.monotonic() - start < 40, 'a stream that was not cut off')
                 time.sleep(0.02)
         except served.Ended:
             pass
@@ -157,6 +155,23 @@ def meet(service, kind, count, longest):
     return max(slowest)
 
 
+def stay_until_cut_off(service):
+    """How long one on each port can go on behind the end of its session, which is less than 40 seconds."""
+    took, over = [], threading.Event()
+
+    def stay(port):
+        start = time.monotonic()
+        Crowd(service, port, over).stay()
+        expect(not over.is_set(), port, 'goes on behind the end of its session for 40 seconds')
+        took.append(time.monotonic() - start)
+
+    timer = threading.Timer(40, over.set)
+    timer.start()
+    at_once([lambda port=port: stay(port) for port in ('hook', 'runner')], 50)
+    timer.cancel()
+    return sorted(took)
+
+
 def ask_beside(acts, folder, kind, longest):
     """There is one seat on each port, and one client that misbehaves there. How long another one waits for its answer."""
     service, _ = opened(acts, folder, 1)
@@ -200,8 +215,12 @@ def check(acts, folder, amount):
     for kind, count in kinds:
         slowest = meet(service, kind, count, amount.longest)
         yield f'{2 * count} that {kind.replace("_", " ")}: eight good clients were answered {2 * GOOD * TURNS} times, {milliseconds(slowest)} at the longest'
-    runs = [run for run in served.show(acts, path) if run] if stopped(service) is None else []
-    expect(len(runs) == 1 + len(kinds) * GOOD * TURNS, len(runs), 'runs stand')
+    one, other = stay_until_cut_off(service)
+    yield f'two that stay behind the end of their session were cut off after {one:.1f} and {other:.1f} s'
+    stopped(service)
+    runs = len(served.show(acts, path))
+    expect(runs == 1 + len(kinds) * GOOD * TURNS, runs, 'runs stand')
     for kind in ('stay', 'send_behind', 'never_read'):
         os.remove(path)
-        yield f'one that does {kind.replace("_", " ")} on the only seat: another one waits for {milliseconds(ask_beside(acts, folder, kind, amount.longest))} at the longest'
+        wait = milliseconds(ask_beside(acts, folder, kind, amount.longest))
+        yield f'one that does {kind.replace("_", " ")} on the only seat: another one waits for {wait} at the longest'

@@ -85,6 +85,13 @@ class Table:
 
     def __init__(self):
         self.runs, self.deliveries, self.runners, self.last_lease = [], {}, {}, 0
+        # How many commands were asked, also those that were refused.
+        self.asked = 0
+
+    def ask(self, name, *given):
+        """The printed reply to a command, or of `fetch` the body."""
+        self.asked += 1
+        return getattr(self, name)(*given)
 
     def run(self, place):
         if place > len(self.runs):
@@ -198,20 +205,18 @@ class Lines:
             self.over = self.turns == MOST_LINES
         return said
 
+    FORMS = ((f'CLAIM ({NAME}) ({NUMBER}) ({LABELS})', 'claim', (str, int, str)),
+             (f'DONE ({NAME}) ({NUMBER}) ({NUMBER}) (success|failure|cancelled)', 'done', (str, int, int, str)),
+             (f'BEAT ({NAME}) ({NUMBER})', 'beat', (str, int)), (f'FETCH ({NUMBER})', 'fetch', (int,)))
+
     def answer(self, line):
-        text = line.decode('latin-1')
-        try:
-            if found := re.fullmatch(f'CLAIM ({NAME}) ({NUMBER}) ({LABELS})', text):
-                return self.table.claim(found[1], int(found[2]), found[3])
-            if found := re.fullmatch(f'DONE ({NAME}) ({NUMBER}) ({NUMBER}) (success|failure|cancelled)', text):
-                return self.table.done(found[1], int(found[2]), int(found[3]), found[4])
-            if found := re.fullmatch(f'BEAT ({NAME}) ({NUMBER})', text):
-                return self.table.beat(found[1], int(found[2]))
-            if found := re.fullmatch(f'FETCH ({NUMBER})', text):
-                body = self.table.fetch(int(found[1]))
-                return f'body {len(body)}\n{body.decode()}'
-        except Refused as refused:
-            return str(refused)
+        for form, name, kinds in self.FORMS:
+            if found := re.fullmatch(form, line.decode('latin-1')):
+                try:
+                    reply = self.table.ask(name, *(kind(text) for kind, text in zip(kinds, found.groups())))
+                except Refused as refused:
+                    return str(refused)
+                return f'body {len(reply)}\n{reply.decode()}' if name == 'fetch' else reply
         return 'refused 75'
 
 
@@ -299,11 +304,11 @@ class Requests:
             json.loads(body)
         except ValueError:
             return Answer(422, b'refused 10\n')
-        return Answer(201, self.table.admit(delivery, body).encode() + b'\n')
+        return Answer(201, self.table.ask('admit', delivery, body).encode() + b'\n')
 
     def ask(self, name, given, status):
         try:
-            reply = getattr(self.table, name)(given if name == 'lost' else int(given))
+            reply = self.table.ask(name, given if name == 'lost' else int(given))
         except Refused as refused:
             return Answer(404 if refused.args[0] in (40, 45) else 409, f'{refused}\n'.encode())
         return Answer(status, reply, 'application/json') if name == 'fetch' else Answer(status, reply.encode() + b'\n')

@@ -1,0 +1,65 @@
+"""What ends the process, with which status: a port that is taken, a file that is no store, a standard output that is gone, and words that do not fit."""
+
+import os
+import socket
+import subprocess
+
+from checking import expect, served
+
+
+def ended(acts, words, wanted, what):
+    """Runs a program that has to end by itself."""
+    it = subprocess.run([acts, *map(str, words)], stdout=subprocess.PIPE, stderr=subprocess.PIPE, timeout=20)
+    got = it.returncode, it.stdout.decode(), it.stderr.decode()
+    expect(got[0] == wanted[0] and (got[1:] == wanted[1:] or wanted[0] == 2), what, 'ends with', got)
+
+
+def words_of(path, hooks, runners, *more):
+    return ['serve', path, '--hook-port', hooks, '--runner-port', runners, '--sessions', 2, *more]
+
+
+def before_it_is_ready(acts, folder, path):
+    """A service that can't begin."""
+    one, other = served.free_ports()
+    refused = lambda number: (1, '', f'acts: refused {number}\n')
+    with socket.socket() as taken:
+        taken.bind(('127.0.0.1', one))
+        taken.listen()
+        ended(acts, words_of(path, one, other, '--forever'), refused(61), 'a port that is taken')
+        ended(acts, words_of(path, other, one, '--forever'), refused(61), 'the other port that is taken')
+    ended(acts, words_of(os.path.join(folder, 'none'), one, other, '--forever'), refused(61), 'a file that is not there')
+    empty = os.path.join(folder, 'empty')
+    open(empty, 'wb').close()
+    ended(acts, words_of(empty, one, other, '--forever'), refused(53), 'an empty file')
+    wrong = (['--forever', '--rounds', 2], ['--idle', 5], ['--turn-over', 5], ['--forever', '--idle', 0], ['--forever', '--idle', 86_401],
+             ['--forever', '--turn-over', 0], ['--forever', '--turn-over', 50_001], ['--forever', 'more'])
+    for words in wrong:
+        ended(acts, words_of(path, one, other, *words), (2, '', ''), ' '.join(map(str, words)))
+    return len(wrong)
+
+
+def without_output(acts, path):
+    """Nobody reads what the service prints: it ends once it has something to tell."""
+    service = served.Service(acts, path, 2, endless=['--forever', '--turn-over', '5'])
+    expect(service.ready, 'not ready')
+    service.child.stdout.close()
+    client, answers = service.runner(), 0
+    try:
+        while answers < 1000:
+            expect(client.ask(b'BEAT nobody 1\n') == (None, 'refused 45'), 'a beat')
+            answers += 1
+    except served.Ended:
+        pass
+    client.close()
+    status = service.child.wait(20)
+    err = service.child.stderr.read().decode()
+    expect((status, err) == (1, 'acts: refused 61\n') and answers >= 5, 'without a standard output: status', status, err, answers, 'answers')
+
+
+def check(acts, folder, amount):
+    path = os.path.join(folder, 'store')
+    served.init(acts, path, 1 << 20)
+    count = before_it_is_ready(acts, folder, path)
+    yield f'ports that are taken, a file that is not there, and an empty one: refused 61 and 53; {count} faults of the command line: status 2'
+    without_output(acts, path)
+    yield 'nobody reads the standard output: the service ends with 61 once a history has turned over'

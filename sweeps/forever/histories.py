@@ -1,0 +1,56 @@
+"""When a history turns over: behind so many commands, or behind 64 MiB of bodies; and what it is said to have had."""
+
+import time
+
+from checking import at_once, expect, opened, served, stopped
+
+SEATS, TURN_OVER, COMMANDS, CLIENTS = 4, 100, 1000, 8
+BODY = served.BODY + b' ' * 60_000
+# The bytes behind which a history turns over, and how much later it may.
+BYTES, MORE = 64 << 20, 8 << 20
+
+
+def by_commands(acts, folder):
+    """Eight clients ask a thousand commands together. No history has fewer than it may have, and all of them together have what was asked."""
+    service, _ = opened(acts, folder, SEATS, turn_over=TURN_OVER)
+
+    def ask():
+        client = service.runner()
+        for _ in range(COMMANDS // CLIENTS):
+            expect(client.ask(b'BEAT nobody 1\n') == (None, 'refused 45'), 'a beat')
+        client.close()
+
+    at_once([ask] * CLIENTS, 60)
+    expect(service.wait_settled(1), 'no history has turned over')
+    time.sleep(0.5)
+    settled = list(service.settled)
+    # A seat may answer what it holds already: a read of lines has 512 bytes.
+    most = TURN_OVER + SEATS * (512 // len(b'BEAT nobody 1\n') + 1)
+    expect(all(TURN_OVER <= count <= most for count in settled), 'histories of', settled, 'entries')
+    expect(0 <= COMMANDS - sum(settled) <= most, COMMANDS, 'commands in histories of', settled, 'entries')
+    stopped(service)
+    left = COMMANDS - sum(settled)
+    return f'{COMMANDS} commands of {CLIENTS} clients: {len(settled)} histories of {min(settled)} to {max(settled)} entries, and {left} in the last'
+
+
+def by_bytes(acts, folder):
+    """An event with a body of 60,000 bytes is posted again and again."""
+    service, path = opened(acts, folder, SEATS, area=64 << 20)
+    asked = 0
+    while not service.settled and asked * len(BODY) < BYTES + MORE:
+        client = service.hook()
+        for _ in range(64):
+            expect(client.ask(served.event('d1', BODY)) == (201, 'created 1'), 'an event')
+            asked += 1
+        client.close()
+    expect(service.wait_settled(1, 5), 'no history has turned over behind', asked * len(BODY), 'bytes of bodies')
+    first = service.settled[0] * len(BODY)
+    expect(BYTES - MORE <= first <= BYTES + MORE, 'a history turned over behind', first, 'bytes of bodies')
+    stopped(service)
+    expect(len(served.show(acts, path)) == 1, 'a second run')
+    return f'events with bodies of {len(BODY)} bytes: a history turned over behind {service.settled[0]} of them, {first / (1 << 20):.1f} MiB'
+
+
+def check(acts, folder, amount):
+    yield by_commands(acts, folder)
+    yield by_bytes(acts, folder)
