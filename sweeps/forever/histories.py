@@ -1,5 +1,6 @@
-"""When a history turns over: behind so many commands, or behind 64 MiB of bodies; and what it is said to have had."""
+"""When a history turns over: behind so many commands, or behind 64 MiB of bodies that were sent or answered; and what it is said to have had."""
 
+import os
 import time
 
 from checking import at_once, expect, opened, served, stopped
@@ -33,24 +34,44 @@ def by_commands(acts, folder):
     return f'{COMMANDS} commands of {CLIENTS} clients: {len(settled)} histories of {min(settled)} to {max(settled)} entries, and {left} in the last'
 
 
-def by_bytes(acts, folder):
-    """An event with a body of 60,000 bytes is posted again and again."""
+def events(service):
+    """Posts the same event again and again, 64 times in a session."""
+    client = service.hook()
+    for _ in range(64):
+        expect(client.ask(served.event('d1', BODY)) == (201, 'created 1'), 'an event')
+    client.close()
+    return 64
+
+
+def bodies(service):
+    """Asks for the body of that event again and again."""
+    client, wanted = service.runner(), b'body %d\n' % len(BODY) + BODY + b'\n'
+    for _ in range(64):
+        client.send(b'FETCH 1\n')
+        expect(client.take(len(wanted)) == wanted, 'a body')
+    client.close()
+    return 64
+
+
+def by_bytes(acts, folder, what):
+    """Bodies of 60,000 bytes are sent, or asked for, until a history turns over. What it keeps of them would else take all memory."""
     service, path = opened(acts, folder, SEATS, area=64 << 20)
-    asked = 0
+    hook = service.hook()
+    expect(hook.ask(served.event('d1', BODY)) == (201, 'created 1'), 'an event')
+    hook.close()
+    asked = 1
     while not service.settled and asked * len(BODY) < BYTES + MORE:
-        client = service.hook()
-        for _ in range(64):
-            expect(client.ask(served.event('d1', BODY)) == (201, 'created 1'), 'an event')
-            asked += 1
-        client.close()
-    expect(service.wait_settled(1, 5), 'no history has turned over behind', asked * len(BODY), 'bytes of bodies')
+        asked += what(service)
+    expect(service.wait_settled(1, 5), 'no history has turned over behind', asked * len(BODY), 'bytes of', what.__name__)
     first = service.settled[0] * len(BODY)
-    expect(BYTES - MORE <= first <= BYTES + MORE, 'a history turned over behind', first, 'bytes of bodies')
+    expect(BYTES - MORE <= first <= BYTES + MORE, 'a history turned over behind', first, 'bytes of', what.__name__)
     stopped(service)
     expect(len(served.show(acts, path)) == 1, 'a second run')
-    return f'events with bodies of {len(BODY)} bytes: a history turned over behind {service.settled[0]} of them, {first / (1 << 20):.1f} MiB'
+    os.remove(path)
+    return f'{what.__name__} of {len(BODY)} bytes: a history turned over behind {service.settled[0]} of them, {first / (1 << 20):.1f} MiB'
 
 
 def check(acts, folder, amount):
     yield by_commands(acts, folder)
-    yield by_bytes(acts, folder)
+    yield by_bytes(acts, folder, events)
+    yield by_bytes(acts, folder, bodies)
