@@ -4,12 +4,15 @@ import os
 import socket
 import subprocess
 
-from checking import expect, served
+from checking import Wrong, expect, served
 
 
 def ended(acts, words, wanted, what):
     """Runs a program that has to end by itself."""
-    it = subprocess.run([acts, *map(str, words)], stdout=subprocess.PIPE, stderr=subprocess.PIPE, timeout=20)
+    try:
+        it = subprocess.run([acts, *map(str, words)], stdout=subprocess.PIPE, stderr=subprocess.PIPE, timeout=20)
+    except subprocess.TimeoutExpired:
+        raise Wrong(f'{what}: the service goes on') from None
     got = it.returncode, it.stdout.decode(), it.stderr.decode()
     expect(got[0] == wanted[0] and (got[1:] == wanted[1:] or wanted[0] == 2), what, 'ends with', got)
 
