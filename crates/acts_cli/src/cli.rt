@@ -174,7 +174,7 @@ fn turn_over_option<'a>(alloc: Global) -> Result<Arg<'a>, AllocError> {
         .long("turn-over")
         .value_name("COMMANDS")
         .help(
-            "With --forever: begins a new history after COMMANDS commands, or 64 MiB that clients have sent",
+            "With --forever: begins a new history after COMMANDS commands, or 64 MiB that clients have sent or were answered",
         )
         .default_value("50000")
         .value_parser(ValueParser::unsigned(1, MOST_COMMANDS))

@@ -1,6 +1,7 @@
 //! How a seat reads from a client and writes to it, for one part of the client's session.
 
 use crate::port::Port;
+use crate::service::Service;
 use act_sessions::Protocol;
 use std::io::{ErrorKind, Read, Write};
 use std::net::TcpStream;
@@ -24,18 +25,25 @@ pub(crate) enum Pause {
 pub(crate) trait Turns {
     /// Whether the seat is to leave its client, behind so many answers.
     fn must_yield(&self, answers: u64) -> bool;
+
+    /// So many bytes were read, or were to be written.
+    fn moves(&self, count: usize);
 }
 
 /// The seats of a port leave their clients where others wait, or the history turns over.
 #[derive(Drop)]
-pub(crate) struct SeatTurns<'r, 'p, 'q, P: Protocol, R: Wait> {
-    pub(crate) rt: &'r R,
-    pub(crate) port: &'p Port<'q, P>,
+pub(crate) struct SeatTurns<'a, P: Protocol, R: Wait + Clock> {
+    pub(crate) service: &'a Service<'a, R>,
+    pub(crate) port: &'a Port<'a, P>,
 }
 
-impl<P: Protocol, R: Wait> Turns for SeatTurns<'_, '_, '_, P, R> {
+impl<P: Protocol, R: Wait + Clock> Turns for SeatTurns<'_, P, R> {
     fn must_yield(&self, answers: u64) -> bool {
-        self.port.must_yield(self.rt, answers)
+        self.port.must_yield(self.service.rt, answers)
+    }
+
+    fn moves(&self, count: usize) {
+        self.service.moves(count as u64);
     }
 }
 
@@ -46,8 +54,8 @@ pub(crate) struct ClientReader<'s, 't, 'a, T: Turns> {
     turns: &'t T,
     /// How many answers were written in this part.
     answers: &'a AtomicU64,
-    /// How many bytes were read.
-    pub(crate) count: u64,
+    /// Something was read.
+    pub(crate) heard: bool,
     pub(crate) pause: Pause,
 }
 
@@ -61,7 +69,7 @@ impl<'s, 't, 'a, T: Turns> ClientReader<'s, 't, 'a, T> {
             stream,
             turns,
             answers,
-            count: 0,
+            heard: false,
             pause: Pause::Closed,
         }
     }
@@ -76,7 +84,8 @@ impl<T: Turns> Read for ClientReader<'_, '_, '_, T> {
         let mut stream = self.stream;
         match stream.read(buffer) {
             Ok(count) => {
-                self.count = self.count.saturating_add(count as u64);
+                self.heard = self.heard || count > 0;
+                self.turns.moves(count);
                 Ok(count)
             }
             Err(e) if e.kind() == ErrorKind::WouldBlock => {
@@ -90,23 +99,26 @@ impl<T: Turns> Read for ClientReader<'_, '_, '_, T> {
 
 /// Writes to a client, and waits so long for it in all, at most, where it does not read.
 #[derive(Drop)]
-pub(crate) struct ClientWriter<'c, 's, 'a, C: Clock> {
+pub(crate) struct ClientWriter<'c, 's, 't, 'a, C: Clock, T: Turns> {
     clock: &'c C,
     stream: &'s TcpStream,
+    turns: &'t T,
     answers: &'a AtomicU64,
     patience: Duration,
 }
 
-impl<'c, 's, 'a, C: Clock> ClientWriter<'c, 's, 'a, C> {
+impl<'c, 's, 't, 'a, C: Clock, T: Turns> ClientWriter<'c, 's, 't, 'a, C, T> {
     pub(crate) fn new(
         clock: &'c C,
         stream: &'s TcpStream,
+        turns: &'t T,
         answers: &'a AtomicU64,
         patience: Duration,
-    ) -> ClientWriter<'c, 's, 'a, C> {
+    ) -> ClientWriter<'c, 's, 't, 'a, C, T> {
         ClientWriter {
             clock,
             stream,
+            turns,
             answers,
             patience,
         }
@@ -128,20 +140,27 @@ impl<'c, 's, 'a, C: Clock> ClientWriter<'c, 's, 'a, C> {
     }
 }
 
-impl<C: Clock> Write for ClientWriter<'_, '_, '_, C> {
+impl<C: Clock, T: Turns> Write for ClientWriter<'_, '_, '_, '_, C, T> {
     fn write(&mut self, bytes: &[u8]) -> io::Result<usize> {
         for _ in 0..u64::MAX {
             let mut stream = self.stream;
             match stream.write(bytes) {
+                Ok(count) => {
+                    self.turns.moves(count);
+                    return Ok(count);
+                }
                 Err(e) if e.kind() == ErrorKind::WouldBlock => {
                     if !self.waits() {
                         break;
                     }
                 }
-                written => return written,
+                Err(e) if e.kind() == ErrorKind::Interrupted => return Err(e),
+                Err(_) => break,
             }
         }
-        Err(io::Error::from(ErrorKind::TimedOut))
+        // The answer is kept all the same.
+        self.turns.moves(bytes.len());
+        Err(io::Error::from(ErrorKind::BrokenPipe))
     }
 
     /// An answer is written: a session sends each on.

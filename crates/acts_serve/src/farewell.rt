@@ -39,6 +39,8 @@ impl Turns for Alone {
     fn must_yield(&self, _answers: u64) -> bool {
         false
     }
+
+    fn moves(&self, _count: usize) {}
 }
 
 /// Answers what a client has asked so far, and ends its session.

@@ -70,7 +70,7 @@ fn serve_watched<D: Disk + Drop + Send, R: Threads + Wait + Clock + Sync, O: Wri
 /// Serves a store that has no entries yet on two ports, and goes on doing so: so many seats on each, which the clients of the port share, those of
 /// HTTP on the one and those of runner lines on the other. It writes `ready` before the first client.
 ///
-/// After so many commands, or 64 MiB that clients have sent, the history turns over: each seat leaves its client between two requests, what
+/// After so many commands, or 64 MiB that clients have sent or were answered, the history turns over: each seat leaves its client between two requests, what
 /// each seat was answered is compared with the history, `settled COUNT` is written, and the next history begins at the table that stands,
 /// in which the clients' sessions go on.
 ///

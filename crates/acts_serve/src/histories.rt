@@ -82,12 +82,12 @@ fn next_history<D: Disk + Drop, R: Wait + Clock, O: Write>(
     ensures { IfOk result (λ anew. anew.history ≡ []) }
 {
     let Settled { store, transcripts } = settled;
-    let unserved = none_begun(transcripts.as_slice());
+    let lacking = none_begun(transcripts.as_slice()) || service.is_unseated();
     drop(transcripts);
-    if !unserved {
+    if !lacking || store.entries() > 0 {
         tell_settled(store.entries(), out)?;
     }
-    if unserved || service.is_unseated() {
+    if lacking {
         rest(service.rt, is_first)?;
     }
     if service.is_broken() {

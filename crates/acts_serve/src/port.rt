@@ -133,6 +133,11 @@ impl<'a, P: Protocol> Port<'a, P> {
         clients.seats = clients.seats.saturating_add(1);
     }
 
+    /// Whether a seat has begun in this history.
+    pub(crate) fn has_seats(&self, rt: &impl Wait) -> bool {
+        self.clients.lock(rt).seats > 0
+    }
+
     /// Whether no seat has begun in this history for as often as this was asked: no thread could be started for one.
     pub(crate) fn lacks_seats(&self, rt: &impl Wait) -> bool {
         let mut guard = self.clients.lock(rt);

@@ -47,8 +47,8 @@ fn then_of(end: Part, pause: Pause) -> Then {
 /// How a part went.
 #[derive(Clone, Copy)]
 pub(crate) struct Held {
-    /// How many bytes were read.
-    pub(crate) count: u64,
+    /// Something was read.
+    pub(crate) heard: bool,
     pub(crate) then: Then,
 }
 
@@ -69,10 +69,10 @@ pub(crate) fn hold_part<P: Protocol, T: Turns, C: Clock, A: Answer>(
 {
     let answers = AtomicU64::new(0);
     let mut reader = ClientReader::new(stream, turns, &answers);
-    let mut writer = ClientWriter::new(clock, stream, &answers, patience);
+    let mut writer = ClientWriter::new(clock, stream, turns, &answers, patience);
     let end = standing.go_on(alloc, &mut reader, &mut writer, answerer, transcript);
     Held {
-        count: reader.count,
+        heard: reader.heard,
         then: then_of(end, reader.pause),
     }
 }
@@ -128,7 +128,7 @@ impl<P: Protocol, R: Wait + Clock> Parts for Seat<'_, P, R> {
             return true;
         }
         let turns = SeatTurns {
-            rt,
+            service: self.service,
             port: self.port,
         };
         let held = hold_part(
@@ -141,8 +141,7 @@ impl<P: Protocol, R: Wait + Clock> Parts for Seat<'_, P, R> {
             answerer,
             transcript,
         );
-        self.service.has_read(held.count);
-        if held.count > 0 {
+        if held.heard {
             client.was_heard(rt);
         }
         self.give_back(client, held.then);

@@ -8,13 +8,13 @@ use std::sync::atomic::{AtomicBool, AtomicU64, Ordering};
 use std::time::{Clock, Duration};
 use webhook_sessions::Hooks;
 
-/// How many bytes clients send before a history turns over: 64 MiB.
+/// How many bytes clients send and are answered before a history turns over: 64 MiB. The history and its transcripts keep them.
 const MOST_BYTES: u64 = 67_108_864;
 
 /// When a history turns over, and when a client is let go.
 #[derive(Clone, Copy)]
 pub struct Limits {
-    /// After how many commands a history turns over; after 64 MiB that clients have sent it does too.
+    /// After how many commands a history turns over; after 64 MiB that clients have sent or were answered it does too.
     pub commands: u64,
     /// For how long a client may say nothing.
     pub idle: Duration,
@@ -29,8 +29,10 @@ pub(crate) struct Service<'a, R: Wait + Clock> {
     pub(crate) limits: Limits,
     /// How many commands were asked in this history.
     commands: AtomicU64,
-    /// How many bytes were read in this history.
+    /// How many bytes were read, or were to be written, in this history.
     bytes: AtomicU64,
+    /// Each port has had a seat.
+    seated: AtomicBool,
     /// A port has no seat in this history: no thread could be started for one.
     unseated: AtomicBool,
     /// A port can't go on.
@@ -53,6 +55,7 @@ impl<'a, R: Wait + Clock> Service<'a, R> {
             limits,
             commands: AtomicU64::new(0),
             bytes: AtomicU64::new(0),
+            seated: AtomicBool::new(false),
             unseated: AtomicBool::new(false),
             broken: AtomicBool::new(false),
             ended: AtomicBool::new(false),
@@ -77,12 +80,22 @@ impl<'a, R: Wait + Clock> Service<'a, R> {
         self.runners.close(self.rt);
     }
 
-    /// So many bytes were read.
-    pub(crate) fn has_read(&self, count: u64) {
+    /// So many bytes were read, or were to be written.
+    pub(crate) fn moves(&self, count: u64) {
         let before = self.bytes.fetch_add(count, Ordering::SeqCst);
         if before.saturating_add(count) >= MOST_BYTES {
             self.close();
         }
+    }
+
+    /// Whether clients are accepted: once each port has had a seat. So none is where there is no thread for one.
+    pub(crate) fn takes_clients(&self) -> bool {
+        let seated = self.seated.load(Ordering::SeqCst);
+        if !seated && self.hooks.has_seats(self.rt) && self.runners.has_seats(self.rt) {
+            self.seated.store(true, Ordering::SeqCst);
+            return true;
+        }
+        seated
     }
 
     /// A port has no seat: the history turns over, since there may be a thread for one in the next.

@@ -15,6 +15,9 @@ use std::time::{Clock, Duration, Instant};
 /// How long it waits for something to come, at most, and how often it looks for those that say nothing, in milliseconds.
 const WAIT: u64 = 250;
 
+/// How long it waits before each port has had a seat, in milliseconds.
+const SHORT_WAIT: u64 = 10;
+
 /// The errors of the system's `accept` that stay: the listener is none any more.
 const EBADF: i32 = 9;
 
@@ -74,12 +77,20 @@ fn look<R: Wait + Clock>(
     poll: &mut Poll,
     events: &mut Events,
 ) -> io::Result<()> {
-    match poll.poll(events, Some(Duration::from_millis(WAIT))) {
+    let wait = if service.takes_clients() {
+        WAIT
+    } else {
+        SHORT_WAIT
+    };
+    match poll.poll(events, Some(Duration::from_millis(wait))) {
         Err(e) if e.kind() != ErrorKind::Interrupted => return Err(e),
         _ => {}
     }
     for event in events.iter() {
         hear(service, event);
+    }
+    if !service.takes_clients() {
+        return Ok(());
     }
     accept_all(service.rt, alloc, service.hooks)?;
     accept_all(service.rt, alloc, service.runners)
