@@ -6,8 +6,6 @@ mod clients;
 #[cfg(test)]
 mod closing;
 #[cfg(test)]
-mod forever;
-#[cfg(test)]
 mod loopback;
 #[cfg(test)]
 mod rounds;
