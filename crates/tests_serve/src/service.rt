@@ -1,10 +1,12 @@
-//! A service over a new store in memory, with one session on each port in each round.
+//! A service over a new store in memory, with one session on each port in each round, or one seat for all clients of a port.
 
 use act_disk::MemoryDisk;
 use act_store::Store;
-use acts_serve::serve_rounds;
+use acts_serve::{Limits, serve_forever, serve_rounds};
 use std::alloc::Global;
-use std::net::TcpListener;
+use std::io;
+use std::io::{ErrorKind, Write};
+use std::net::{Net, TcpListener};
 use std::sync::Wait;
 use std::thread::Threads;
 use std::time::Clock;
@@ -23,4 +25,55 @@ pub fn serve<R: Threads + Wait + Clock + Sync>(
     };
     let settled = serve_rounds(rt, alloc, store, hooks, runners, 1, rounds, out).ok()?;
     Some(settled.entries())
+}
+
+/// An output that takes so many lines, and then fails: that ends a service which goes on.
+#[derive(Drop)]
+pub struct Lines {
+    pub text: Vec<u8>,
+    left: usize,
+}
+
+impl Lines {
+    pub fn new(alloc: Global, count: usize) -> Self {
+        Lines {
+            text: Vec::new(alloc),
+            left: count,
+        }
+    }
+}
+
+impl Write for Lines {
+    fn write(&mut self, bytes: &[u8]) -> io::Result<usize> {
+        if self.left == 0 {
+            return Err(io::Error::from(ErrorKind::BrokenPipe));
+        }
+        self.text.extend_from_slice(bytes)?;
+        self.left = self
+            .left
+            .saturating_sub(bytes.iter().filter(|byte| **byte == b'\n').count());
+        Ok(bytes.len())
+    }
+
+    fn flush(&mut self) -> io::Result<()> {
+        Ok(())
+    }
+}
+
+/// Goes on serving with one seat on each port, until the output fails, and tells by which refusal it ended.
+pub fn go_on<R: Threads + Wait + Clock + Sync + Net>(
+    rt: &R,
+    alloc: Global,
+    hooks: &TcpListener,
+    runners: &TcpListener,
+    limits: Limits,
+    out: &mut Lines,
+) -> u64 {
+    let Ok(store) = Store::init(alloc, MemoryDisk::new(alloc), 4096) else {
+        return 0;
+    };
+    match serve_forever(rt, alloc, store, hooks, runners, 1, limits, out) {
+        Ok(()) => 0,
+        Err(refusal) => refusal.number(),
+    }
 }

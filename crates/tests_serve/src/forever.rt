@@ -1,0 +1,196 @@
+//! A service that goes on, with one seat on each port: the clients of a port share it, and their sessions go on over its histories.
+
+use crate::clients::{BODY, CREATED, POST, is_answered};
+use crate::service::{Lines, go_on};
+use acts_serve::Limits;
+use std::alloc::Global;
+use std::io::{Read, Write};
+use std::net::{Net, SocketAddr, TcpListener, TcpStream};
+use std::test::Fail;
+use std::time::Duration;
+use std::{io, thread};
+
+/// How long a client waits for an answer, in seconds, at most.
+const PATIENCE: u64 = 20;
+
+const LOOK: &str = "GET /runs/1 HTTP/1.1\r\n\r\n";
+
+const SEEN: &str =
+    "HTTP/1.1 200 OK\r\nContent-Type: text/plain\r\nContent-Length: 49\r\n\r\nrun 1 1 completed success build:success(success)\n";
+
+const FETCH: &str = "FETCH 9\n";
+
+const UNKNOWN: &str = "refused 40\n";
+
+/// The ports of a service.
+#[derive(Clone, Copy)]
+struct Ports {
+    hooks: SocketAddr,
+    runners: SocketAddr,
+}
+
+/// Listeners on free ports, and where they are.
+fn listeners<R: Net<Listener = TcpListener, Stream = TcpStream>>(
+    rt: &R,
+) -> io::Result<(TcpListener, TcpListener, Ports)> {
+    let hooks = TcpListener::bind(rt, "127.0.0.1:0")?;
+    let runners = TcpListener::bind(rt, "127.0.0.1:0")?;
+    let ports = Ports {
+        hooks: hooks.local_addr()?,
+        runners: runners.local_addr()?,
+    };
+    Ok((hooks, runners, ports))
+}
+
+/// A history of so many commands, in which nobody is let go.
+fn limits(commands: u64) -> Limits {
+    Limits {
+        commands,
+        idle: Duration::from_secs(300),
+    }
+}
+
+/// A client that waits for an answer for a bounded time.
+fn client<R: Net<Stream = TcpStream>>(rt: &R, to: SocketAddr) -> io::Result<TcpStream> {
+    let stream = TcpStream::connect(rt, to)?;
+    stream.set_read_timeout(Some(Duration::from_secs(PATIENCE)))?;
+    Ok(stream)
+}
+
+fn send(stream: &TcpStream, text: &str) -> io::Result<()> {
+    let mut stream = stream;
+    stream.write_all(text.as_bytes())
+}
+
+/// Clients of each port that say nothing, or half a request, beside others on the same seat.
+fn silent_clients<R: Net<Stream = TcpStream>>(rt: &R, ports: Ports) -> io::Result<bool> {
+    let silent = client(rt, ports.runners)?;
+    let half = client(rt, ports.hooks)?;
+    send(&half, "GET /runs/1 HT")?;
+    let created = is_answered(&client(rt, ports.hooks)?, &[POST, BODY], CREATED)?;
+    let runner = client(rt, ports.runners)?;
+    let leased = is_answered(&runner, &["CLAIM r1 1 linux\n"], "lease 1 1 build 0 {}\n")?;
+    let ended = is_answered(&runner, &["DONE r1 2 1 success\n"], "ok\n")?;
+    let seen = is_answered(&half, &["TP/1.1\r\n\r\n"], SEEN)?;
+    let spoke = is_answered(&silent, &[FETCH], UNKNOWN)?;
+    Ok(created && leased && ended && seen && spoke)
+}
+
+#[test]
+fn a_client_that_says_nothing_lends_its_seat(rt: HostRuntime) -> Result<(), Fail> {
+    let alloc: Global = rt.alloc();
+    let mut out = Lines::new(alloc, 1);
+    let (hooks, runners, ports) = listeners(&rt)?;
+    let rt = &rt;
+    let ended = thread::scope(thread::scope_env(), rt, |scope| {
+        let playing = scope.spawn(|| silent_clients(rt, ports));
+        let refused = go_on(rt, alloc, &hooks, &runners, limits(5), &mut out);
+        let answered = playing.is_ok_and(|handle| handle.join(rt).unwrap_or(false));
+        (answered, refused)
+    });
+    assert_eq!(rt; ended, (true, 61));
+    assert_eq!(rt; out.text.as_slice(), b"ready\n".as_slice());
+    Ok(())
+}
+
+/// Two clients over three histories of two commands each: half a request is held from the first history to the second one, and in the third
+/// two requests come at once.
+fn over_histories<R: Net<Stream = TcpStream>>(rt: &R, ports: Ports) -> io::Result<bool> {
+    let hook = client(rt, ports.hooks)?;
+    let runner = client(rt, ports.runners)?;
+    let created = is_answered(&hook, &[POST, BODY, "GET /runs"], CREATED)?;
+    let leased = is_answered(&runner, &["CLAIM r1 1 linux\n"], "lease 1 1 build 0 {}\n")?;
+    let ended = is_answered(&runner, &["DONE r1 2 1 success\n"], "ok\n")?;
+    let seen = is_answered(&hook, &["/1 HTTP/1.1\r\n\r\n"], SEEN)?;
+    send(&hook, LOOK)?;
+    let again = is_answered(&hook, &[LOOK], SEEN)?;
+    Ok(created && leased && ended && seen && again)
+}
+
+#[test]
+fn a_session_goes_on_over_histories(rt: HostRuntime) -> Result<(), Fail> {
+    let alloc: Global = rt.alloc();
+    let mut out = Lines::new(alloc, 3);
+    let (hooks, runners, ports) = listeners(&rt)?;
+    let rt = &rt;
+    let ended = thread::scope(thread::scope_env(), rt, |scope| {
+        let playing = scope.spawn(|| over_histories(rt, ports));
+        let refused = go_on(rt, alloc, &hooks, &runners, limits(2), &mut out);
+        let answered = playing.is_ok_and(|handle| handle.join(rt).unwrap_or(false));
+        (answered, refused)
+    });
+    assert_eq!(rt; ended, (true, 61));
+    assert_eq!(rt;
+        out.text.as_slice(),
+        b"ready\nsettled 2\nsettled 2\n".as_slice()
+    );
+    Ok(())
+}
+
+/// Sends a text, and goes once an answer has come, without reading it.
+fn reset_by<R: Net<Stream = TcpStream>>(rt: &R, to: SocketAddr, text: &str) -> io::Result<()> {
+    let stream = client(rt, to)?;
+    send(&stream, text)?;
+    stream.peek(&mut [0u8; 1])?;
+    Ok(())
+}
+
+/// A client of each port that goes while an answer lies unread, and in the midst of its next request: the system resets such a stream.
+fn reset_clients<R: Net<Stream = TcpStream>>(rt: &R, ports: Ports) -> io::Result<bool> {
+    reset_by(rt, ports.runners, "FETCH 9\nFETCH")?;
+    reset_by(rt, ports.hooks, "GET /runs/9 HTTP/1.1\r\n\r\nGET")?;
+    let created = is_answered(&client(rt, ports.hooks)?, &[POST, BODY], CREATED)?;
+    let spoke = is_answered(&client(rt, ports.runners)?, &[FETCH], UNKNOWN)?;
+    Ok(created && spoke)
+}
+
+#[test]
+fn a_client_that_resets_its_stream_ends_nothing_else(rt: HostRuntime) -> Result<(), Fail> {
+    let alloc: Global = rt.alloc();
+    let mut out = Lines::new(alloc, 1);
+    let (hooks, runners, ports) = listeners(&rt)?;
+    let rt = &rt;
+    let ended = thread::scope(thread::scope_env(), rt, |scope| {
+        let playing = scope.spawn(|| reset_clients(rt, ports));
+        let refused = go_on(rt, alloc, &hooks, &runners, limits(4), &mut out);
+        let answered = playing.is_ok_and(|handle| handle.join(rt).unwrap_or(false));
+        (answered, refused)
+    });
+    assert_eq!(rt; ended, (true, 61));
+    Ok(())
+}
+
+/// Whether the service has ended the stream, and written nothing more to it.
+fn is_let_go(stream: &TcpStream) -> io::Result<bool> {
+    let mut stream = stream;
+    Ok(stream.read(&mut [0u8; 1])? == 0)
+}
+
+/// A client that has said nothing for too long, and one that comes then.
+fn idle_clients<R: Net<Stream = TcpStream>>(rt: &R, ports: Ports) -> io::Result<bool> {
+    let runner = client(rt, ports.runners)?;
+    let spoke = is_answered(&runner, &[FETCH, "FETCH"], UNKNOWN)?;
+    let gone = is_let_go(&runner)? && is_let_go(&client(rt, ports.hooks)?)?;
+    let created = is_answered(&client(rt, ports.hooks)?, &[POST, BODY], CREATED)?;
+    Ok(spoke && gone && created)
+}
+
+#[test]
+fn a_client_that_says_nothing_for_too_long_is_let_go(rt: HostRuntime) -> Result<(), Fail> {
+    let alloc: Global = rt.alloc();
+    let limits = Limits {
+        commands: 2,
+        idle: Duration::from_secs(1),
+    };
+    let mut out = Lines::new(alloc, 1);
+    let (hooks, runners, ports) = listeners(&rt)?;
+    let rt = &rt;
+    let ended = thread::scope(thread::scope_env(), rt, |scope| {
+        let playing = scope.spawn(|| idle_clients(rt, ports));
+        let refused = go_on(rt, alloc, &hooks, &runners, limits, &mut out);
+        let answered = playing.is_ok_and(|handle| handle.join(rt).unwrap_or(false));
+        (answered, refused)
+    });
+    assert_eq!(rt; ended, (true, 61));
+    Ok(())
+}
