@@ -48,14 +48,14 @@ impl GroupKey {
     }
 
     /// The text of the repository.
-    pub(crate) fn repository(&self) -> &str
+    pub fn repository(&self) -> &str
         ensures { result.now ≡ repository_bytes self.now }
     {
         self.repository.as_str()
     }
 
     /// The text of the name without its case.
-    pub(crate) fn name(&self) -> &str
+    pub fn name(&self) -> &str
         ensures bytes { result.now ≡ name_bytes self.now }
         ensures characters { chars (name_bytes self.now) ≡ self.now.folded }
     {

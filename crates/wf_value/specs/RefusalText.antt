@@ -8,8 +8,8 @@ use Rattle.wf_value.specs.declared.code.Code.TheVariants.{NotJson, WrongKind, Jo
 use Rattle.wf_value.specs.declared.code.Code.TheVariants.{PlaceOfContext, MatrixValue, EmptyList, MatrixTooLarge, LegCount}
 use Rattle.wf_value.specs.declared.code.Code.TheVariants.{TooManyJobs, TooLong, StrategyMember, Condition, NoRun, RunCompleted}
 use Rattle.wf_value.specs.declared.code.Code.TheVariants.{HasLease, LeaseNotHeld, NoRunner, HistoryFull, AreaFull, LastCounter}
-use Rattle.wf_value.specs.declared.code.Code.TheVariants.{NoMemory, DeviceFailed, FailedEarlier, NoArea, NoTable, DiskNotEmpty}
-use Rattle.wf_value.specs.declared.code.Code.TheVariants.{CheckpointTurn, Unsettled, StreamFailed, Head, ContentLength, Path}
+use Rattle.wf_value.specs.declared.code.Code.TheVariants.{RunNotCompleted, NoMemory, DeviceFailed, FailedEarlier, NoArea, NoTable, DiskNotEmpty}
+use Rattle.wf_value.specs.declared.code.Code.TheVariants.{CheckpointTurn, OldLayout, Unsettled, StreamFailed, Head, ContentLength, Path}
 use Rattle.wf_value.specs.declared.code.Code.TheVariants.{Method, EventHeader, Line, InputTooLong}
 use Rattle.wf_value.specs.declared.refusal.Refusal.{Refusal}
 use Rattle.wf_value.specs.declared.refusal.Refusal.TheVariants.{Numbered, Cycle, Turn}
@@ -39,6 +39,7 @@ code_number NoRunner = 45
 code_number HistoryFull = 46
 code_number AreaFull = 47
 code_number LastCounter = 48
+code_number RunNotCompleted = 49
 code_number NoMemory = 50
 code_number DeviceFailed = 51
 code_number FailedEarlier = 52
@@ -46,6 +47,7 @@ code_number NoArea = 53
 code_number NoTable = 54
 code_number DiskNotEmpty = 55
 code_number CheckpointTurn = 56
+code_number OldLayout = 57
 code_number Unsettled = 60
 code_number StreamFailed = 61
 code_number Head = 70

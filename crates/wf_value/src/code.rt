@@ -52,6 +52,8 @@ pub enum Code {
     AreaFull,
     /// 48: a counter is at its last value.
     LastCounter,
+    /// 49: the run has not completed.
+    RunNotCompleted,
     /// 50: memory was refused.
     NoMemory,
     /// 51: the device failed in this call.
@@ -66,6 +68,8 @@ pub enum Code {
     DiskNotEmpty,
     /// 56: a checkpoint call out of its turn.
     CheckpointTurn,
+    /// 57: the area has the first layout, which spells no re-run.
+    OldLayout,
     /// 60: transcripts and history differ.
     Unsettled,
     /// 61: an input, an output or a socket failed.
@@ -117,6 +121,7 @@ impl Code {
             Code::HistoryFull => 46,
             Code::AreaFull => 47,
             Code::LastCounter => 48,
+            Code::RunNotCompleted => 49,
             Code::NoMemory => 50,
             Code::DeviceFailed => 51,
             Code::FailedEarlier => 52,
@@ -124,6 +129,7 @@ impl Code {
             Code::NoTable => 54,
             Code::DiskNotEmpty => 55,
             Code::CheckpointTurn => 56,
+            Code::OldLayout => 57,
             Code::Unsettled => 60,
             Code::StreamFailed => 61,
             Code::Head => 70,
