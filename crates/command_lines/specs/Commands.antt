@@ -77,3 +77,9 @@ look_of field = option_map (λ run. command.Look run) (number_of field)
 -- `fetch RUN`
 abbrev pub fetch_of : List ℕ → Option Command
 fetch_of field = option_map (λ run. command.Fetch run) (number_of field)
+
+-- `rerun RUN ATTEMPT`
+abbrev pub rerun_of : List ℕ → Option Command
+rerun_of fields =
+    option_and_then (λ f. option_and_then (λ run. option_map (λ attempt. command.Rerun (record { run = run; attempt = attempt }))
+    (number_of f.1)) (number_of f.0)) (at_space fields)

@@ -2,11 +2,12 @@ ghost use Rattle.std.specs.Prelude.{◌≡◌, Ok, Some, None, IfOk, IfErr, ok_o
 ghost use Rattle.wf_value.specs.Gives.{Gives};
 ghost use Rattle.run_plan.specs.SmallText.{label_list_of, short_text_of};
 ghost use Rattle.command_lines.specs.Commands.{not_a_line, prepared, admit_of, claim_of, outcome_of, done_of, beat_of};
-ghost use Rattle.command_lines.specs.Commands.{cancel_of, lost_of, look_of, fetch_of};
+ghost use Rattle.command_lines.specs.Commands.{cancel_of, lost_of, look_of, fetch_of, rerun_of};
 
 use crate::fields::{at_space, three_fields};
 use run_plan::{
-    Beat, Claim, Command, DeliveryId, Done, EventName, Form, Labels, Number, SmallText, prepare,
+    Attempt, Beat, Claim, Command, DeliveryId, Done, EventName, Form, Labels, Number, SmallText,
+    prepare,
 };
 use std::alloc::Global;
 use wf_value::{Code, Outcome, Refusal};
@@ -139,4 +140,14 @@ pub fn fetch_of(field: &[u8]) -> Result<Command, Refusal>
     ensures { result ≡ ok_or (fetch_of field.now) not_a_line }
 {
     Ok(Command::Fetch(spelled(Number::of(field))?))
+}
+
+/// `RUN ATTEMPT`.
+pub fn rerun_of(fields: &[u8]) -> Result<Command, Refusal>
+    ensures { result ≡ ok_or (rerun_of fields.now) not_a_line }
+{
+    let (run, attempt) = spelled(at_space(fields))?;
+    let run = spelled(Number::of(run))?;
+    let attempt = spelled(Number::of(attempt))?;
+    Ok(Command::Rerun(Attempt { run, attempt }))
 }

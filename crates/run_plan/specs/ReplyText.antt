@@ -39,6 +39,10 @@ lease_text l = lease_line l.lease l.run l.job l.leg (combo_text l.combo)
 abbrev pub body_lines : List ℕ → List ℕ
 body_lines body = codes "body " ++ decimal (length body) ++ 10 ∷ body
 
+-- `again`, the run and the attempt that it is at
+abbrev pub again_line : ℕ → ℕ → List ℕ
+again_line run attempt = codes "again " ++ decimal run ++ codes " " ++ decimal attempt
+
 abbrev pub reply_text : Reply → List ℕ
 reply_text (reply.Created run) = codes "created " ++ decimal run
 reply_text (reply.Lease l) = lease_text l
@@ -48,6 +52,7 @@ reply_text reply.Stop = codes "stop"
 reply_text reply.GoOn = codes "go on"
 reply_text (reply.Run view) = view
 reply_text (reply.Body body) = body_lines body
+reply_text (reply.Again a) = again_line a.run a.attempt
 reply_text (reply.Refused r) = refusal_text r
 
 -- whether a copy takes memory: only texts do
@@ -60,6 +65,7 @@ carries_text reply.Stop = false
 carries_text reply.GoOn = false
 carries_text (reply.Run view) = true
 carries_text (reply.Body body) = true
+carries_text (reply.Again a) = false
 carries_text (reply.Refused (Numbered code)) = false
 carries_text (reply.Refused (Cycle ids)) = true
 carries_text (reply.Refused (Turn last)) = false

@@ -31,6 +31,13 @@ pub struct Beat {
     pub lease: Number,
 }
 
+/// An attempt of a run: 1 when it is admitted, and one higher with each re-run.
+#[derive(Clone, Copy)]
+pub struct Attempt {
+    pub run: Number,
+    pub attempt: Number,
+}
+
 /// What the service is asked.
 #[derive(Drop)]
 pub enum Command {
@@ -47,6 +54,8 @@ pub enum Command {
     Look(Number),
     /// Asks for the admitted body of the run of this id.
     Fetch(Number),
+    /// Begins this attempt of a run that has completed, or asks for it again.
+    Rerun(Attempt),
 }
 
 impl TryCopy for Command {
@@ -60,6 +69,7 @@ impl TryCopy for Command {
             Command::Lost(runner) => Ok(Command::Lost(runner.copy(alloc)?)),
             Command::Look(run) => Ok(Command::Look(*run)),
             Command::Fetch(run) => Ok(Command::Fetch(*run)),
+            Command::Rerun(attempt) => Ok(Command::Rerun(*attempt)),
         }
     }
 }
@@ -75,6 +85,7 @@ impl Same for Command {
             (Command::Lost(one), Command::Lost(other)) => one.same(other),
             (Command::Look(one), Command::Look(other)) => *one == *other,
             (Command::Fetch(one), Command::Fetch(other)) => *one == *other,
+            (Command::Rerun(one), Command::Rerun(other)) => one.same(other),
             _ => false,
         }
     }
@@ -124,6 +135,12 @@ impl TryCopy for Beat {
             runner: self.runner.copy(alloc)?,
             lease: self.lease,
         })
+    }
+}
+
+impl Same for Attempt {
+    fn same(&self, other: &Self) -> bool {
+        self.run == other.run && self.attempt == other.attempt
     }
 }
 

@@ -1,10 +1,12 @@
 ghost use Rattle.std.specs.Prelude.{◌≡◌, false, IfOk, Ok, string_bytes};
 ghost use Rattle.wf_value.specs.Gives.{Gives};
-ghost use Rattle.run_plan.specs.ReplyText.{body_lines, carries_text, lease_line, lease_text, reply_text};
+ghost use Rattle.run_plan.specs.ReplyText.{again_line, body_lines, carries_text, lease_line, lease_text, reply_text};
 
 use crate::boxed_lease::BoxedLease;
 use crate::combo_text::text_of_combo;
+use crate::command::Attempt;
 use crate::number::Number;
+use crate::shared_body::SharedBody;
 use std::alloc::{AllocError, Global};
 use wf_value::{Chars, Combo, Refusal, Same, TryCopy};
 
@@ -81,6 +83,12 @@ fn body_lines(alloc: Global, body: &str) -> Result<String, AllocError>
     format!(in alloc; "body {length}\n{body}")
 }
 
+fn again_line(alloc: Global, run: u32, attempt: u32) -> Result<String, AllocError>
+    ensures { IfOk result (λ s. string_bytes s ≡ again_line run attempt) }
+{
+    format!(in alloc; "again {run} {attempt}")
+}
+
 /// What a command is answered.
 #[derive(Drop)]
 pub enum Reply {
@@ -96,8 +104,10 @@ pub enum Reply {
     /// The view of a run, printed.
     Run(Chars),
     /// The admitted body of a run.
-    Body(Chars),
-    /// 40 to 45 and 48. The table is as it was.
+    Body(SharedBody),
+    /// The attempt that the run is at.
+    Again(Attempt),
+    /// 40 to 45, 48 and 49. The table is as it was.
     Refused(Refusal),
 }
 
@@ -116,6 +126,7 @@ impl TryCopy for Reply {
             Reply::GoOn => Ok(Reply::GoOn),
             Reply::Run(view) => Ok(Reply::Run(view.copy(alloc)?)),
             Reply::Body(body) => Ok(Reply::Body(body.copy(alloc)?)),
+            Reply::Again(attempt) => Ok(Reply::Again(*attempt)),
             Reply::Refused(refusal) => Ok(Reply::Refused(refusal.copy(alloc)?)),
         }
     }
@@ -132,6 +143,7 @@ impl Same for Reply {
             (Reply::GoOn, Reply::GoOn) => true,
             (Reply::Run(one), Reply::Run(other)) => one.same(other),
             (Reply::Body(one), Reply::Body(other)) => one.same(other),
+            (Reply::Again(one), Reply::Again(other)) => one.same(other),
             (Reply::Refused(one), Reply::Refused(other)) => one.same(other),
             _ => false,
         }
@@ -155,6 +167,10 @@ impl Reply {
             Reply::GoOn => Chars::from_str(alloc, "go on"),
             Reply::Run(view) => view.copy(alloc),
             Reply::Body(body) => Ok(Chars::new(body_lines(alloc, body.as_str())?)),
+            Reply::Again(again) => {
+                let (run, attempt) = (again.run.get(), again.attempt.get());
+                Ok(Chars::new(again_line(alloc, run, attempt)?))
+            }
             Reply::Refused(refusal) => refusal.text(alloc),
         }
     }

@@ -1,13 +1,14 @@
 //! Commands, made of their words. Words that make none are refused 75.
 
 use run_plan::{
-    Beat, Claim, Command, DeliveryId, Done, EventName, Labels, Number, Prepared, RunnerName,
-    prepare,
+    Attempt, Beat, Claim, Command, DeliveryId, Done, EventName, Labels, Number, Prepared,
+    RunnerName, SharedBody, prepare,
 };
 use std::alloc::Global;
 use wf_value::{Code, Outcome, Refusal};
 
-/// A command in words: the delivery and the body of a `push`, or what a runner sends, or a runner, or a run.
+/// A command in words: the delivery and the body of a `push`, or what a runner sends, or a runner, or a run, or an attempt of
+/// a run.
 #[derive(Drop)]
 pub enum Words<'a> {
     Admit(&'a str, &'a str),
@@ -18,6 +19,7 @@ pub enum Words<'a> {
     Lost(&'a str),
     Look(&'a str),
     Fetch(&'a str),
+    Rerun(&'a str, &'a str),
 }
 
 /// A value that has to be there.
@@ -56,6 +58,11 @@ pub fn prepared(alloc: Global, id: &str, name: &str, body: &str) -> Result<Prepa
     prepare(alloc, event, delivery, body)
 }
 
+/// The body of an admitted event.
+pub fn shared_body(alloc: Global, body: &str) -> Result<SharedBody, Refusal> {
+    SharedBody::of(&prepared(alloc, "d1", "push", body)?)
+}
+
 pub fn claim(alloc: Global, name: &str, count: &str, asked: &str) -> Result<Claim, Refusal> {
     let number = number(count)?;
     let runner = runner(alloc, name)?;
@@ -90,6 +97,13 @@ pub fn beat(alloc: Global, name: &str, lease: &str) -> Result<Beat, Refusal> {
     Ok(Beat { runner, lease })
 }
 
+pub fn attempt(run: &str, attempt: &str) -> Result<Attempt, Refusal> {
+    Ok(Attempt {
+        run: number(run)?,
+        attempt: number(attempt)?,
+    })
+}
+
 /// What a runner sends, or that it is lost.
 fn command_of_runner(alloc: Global, words: &Words<'_>) -> Result<Command, Refusal> {
     match words {
@@ -109,6 +123,7 @@ pub fn command_of(alloc: Global, words: &Words<'_>) -> Result<Command, Refusal> 
         Words::Cancel(run) => Ok(Command::Cancel(number(run)?)),
         Words::Look(run) => Ok(Command::Look(number(run)?)),
         Words::Fetch(run) => Ok(Command::Fetch(number(run)?)),
+        Words::Rerun(run, asked) => Ok(Command::Rerun(attempt(run, asked)?)),
         words => command_of_runner(alloc, words),
     }
 }
