@@ -1,5 +1,5 @@
 -- What follows, of how a session ended, for whoever knows the reader's bytes alone.
-use Rattle.std.proofs.Common.{◌≡◌, ◌≢◌, ℕ, List, ◌++◌, refl, sym, subst, inl, inr, arith}
+use Rattle.std.proofs.Common.{◌≡◌, ◌≢◌, ℕ, List, ◌++◌, [], refl, sym, subst, inl, inr, append-nil, arith}
 use Rattle.std.specs.Prelude.{Option, Some, None}
 use Rattle.std.specs.Io.KnownBytes.{Consumes}
 use Rattle.act_sessions.specs.declared.transcript.Ending.{Ending}
@@ -8,7 +8,7 @@ use Rattle.act_sessions.specs.declared.transcript.Part.{Part}
 use Rattle.act_sessions.specs.declared.transcript.Part.TheVariants.{Waits, Over}
 use Rattle.act_sessions.specs.declared.transcript.SessionFault.{SessionFault}
 use Rattle.act_sessions.specs.declared.transcript.Transcript.{Transcript}
-use Rattle.act_sessions.specs.Ends.{Ends, EndsOver, HasEnded}
+use Rattle.act_sessions.specs.Ends.{Ends, EndsOver, EndsOverSome, HasEnded}
 use Rattle.act_sessions.specs.Rules.{Rules, Turn, texts, told_of}
 use Rattle.act_sessions.specs.Session.{Moment, moment, Place, start, first, Did, HasStopped, IsDone, IsCut, IsPart, IsWhole}
 use Rattle.act_sessions.specs.Told.{AreAsked, OnlyLastOpen, Told, told_by}
@@ -45,7 +45,7 @@ ends_done {F} p old new output written asked told t (turns, rest, out, did, whol
     ends_over p bytes new output written asked told t turns rest out (subst did_of is did)
     (λ unread same. subst (λ how. ended_of how unread) (sym done) (subst whole_of same whole))
 
-cut_ended : {F : Type 0} (p : Rules F) (how : Ending) (turns : List (Turn F)) (rest unread out : List ℕ) → HasStopped p 0 how turns out
+cut_ended : {F : Type 0} (p : Rules F) (how : Ending) (turns : List (Turn F)) (rest unread out : List ℕ) → HasStopped p 0 how turns rest out
     → HasEnded p how turns rest unread out
 cut_ended p Done turns rest unread out h = absurd h
 cut_ended p Memory turns rest unread out h = h
@@ -57,14 +57,14 @@ ends_cut {F} p old new output written asked told t (turns, rest, out, did, cut) 
     let did_of : Option (List ℕ) → Type 0 = λ i. Did p first i new (start output asked) (moment written told t) turns rest out in
     ends_over p bytes new output written asked told t turns rest out (subst did_of is did) (λ unread same. cut_ended p t.ending turns rest unread out cut)
 
-not_done : {F : Type 0} (p : Rules F) (how : Ending) (turns : List (Turn F)) (out : List ℕ) → HasStopped p 0 how turns out → how ≢ Done
-not_done p Done turns out h e = h
-not_done p Memory turns out h e = cc
-not_done p Broken turns out h e = cc
+not_done : {F : Type 0} (p : Rules F) (how : Ending) (turns : List (Turn F)) (rest out : List ℕ) → HasStopped p 0 how turns rest out → how ≢ Done
+not_done p Done turns rest out h e = h
+not_done p Memory turns rest out h e = cc
+not_done p Broken turns rest out h e = cc
 
 pub cut_not_done : {F : Type 0} (p : Rules F) (how : Ending) (old new output written : Option (List ℕ)) (asked told : List Told) (t : Transcript)
     → IsCut p how old new (start output asked) (moment written told t) → how ≢ Done
-cut_not_done p how old new output written asked told t (turns, rest, out, did, cut) = not_done p how turns out cut
+cut_not_done p how old new output written asked told t (turns, rest, out, did, cut) = not_done p how turns rest out cut
 
 pub asked_done : {F : Type 0} (p : Rules F) (old new output written : Option (List ℕ)) (asked told : List Told) (t : Transcript)
     → IsDone p old new (start output asked) (moment written told t) → AreAsked asked told (told_by t)
@@ -90,6 +90,30 @@ seen_cut p i i2 output written asked told f cut = (
   asked_cut p f.transcript.ending i i2 output written asked told f.transcript cut,
 )
 
+-- ---- for whoever knows nothing of the bytes: those that were read are such bytes
+
+over_read : {F : Type 0} (p : Rules F) (i i2 output written : Option (List ℕ)) (asked told : List Told) (t : Transcript) (turns : List (Turn F))
+    (rest out : List ℕ) → Did p first i i2 (start output asked) (moment written told t) turns rest out → HasEnded p t.ending turns rest [] out → EndsOverSome p t
+over_read p i i2 output written asked told t turns rest out did ended =
+    (did.read, (did.read, [], turns, rest, out, sym (append-nil did.read), did.reads, did.listed_all, let w = did.wrote_all.1 in omega arith, ended))
+
+whole_read : {F : Type 0} (p : Rules F) (turns : List (Turn F)) (rest out : List ℕ) (input : Option (List ℕ)) → IsWhole p turns rest input out
+    → IsWhole p turns rest (Some []) out
+whole_read p turns rest out input (inl ended) = inl ended
+whole_read p turns rest out input (inr (inl (unended, waits, end, e))) = inr (inl (unended, waits, refl, e))
+whole_read p turns rest out input (inr (inr starved)) = inr (inr starved)
+
+pub heard_done : {F : Type 0} (p : Rules F) (i i2 output written : Option (List ℕ)) (asked told : List Told) (t : Transcript)
+    → IsDone p i i2 (start output asked) (moment written told t) → t.ending ≡ Done → EndsOverSome p t
+heard_done {F} p i i2 output written asked told t (turns, rest, out, did, whole) done =
+    let ended_of : Ending → Type 0 = λ how. HasEnded p how turns rest [] out in
+    over_read p i i2 output written asked told t turns rest out did (subst ended_of (sym done) (whole_read p turns rest out i2 whole))
+
+pub heard_cut : {F : Type 0} (p : Rules F) (i i2 output written : Option (List ℕ)) (asked told : List Told) (t : Transcript)
+    → IsCut p t.ending i i2 (start output asked) (moment written told t) → EndsOverSome p t
+heard_cut p i i2 output written asked told t (turns, rest, out, did, cut) =
+    over_read p i i2 output written asked told t turns rest out did (cut_ended p t.ending turns rest [] out cut)
+
 -- ---- parts
 
 pub part_told : {F : Type 0} (p : Rules F) (from to : Place) (i i2 output written : Option (List ℕ)) (asked now : List Told) (old new : Transcript) (end : Part)
@@ -98,7 +122,7 @@ pub part_told : {F : Type 0} (p : Rules F) (from to : Place) (i i2 output writte
 part_told p from to i i2 output written asked now old new Waits (goes, waits, end) =
     (told_of goes.turns, inl goes.asked_all, goes.listed_all, only_open p from.turns goes.turns goes.unended)
 part_told p from to i i2 output written asked now old new (Over how) (turns, rest, out, did, ends) =
-    (told_of turns, did.asked_all, did.listed_all, only_over p from.turns how turns out ends)
+    (told_of turns, did.asked_all, did.listed_all, only_over p from.turns how turns rest out ends)
 
 -- a session's only part, that waits at the end of the input
 pub waited : {F : Type 0} (p : Rules F) (to : Place) (i i2 output written : Option (List ℕ)) (asked told : List Told) (t : Transcript)

@@ -10,6 +10,7 @@ use Rattle.act_sessions.specs.declared.transcript.Ending.TheVariants as ending
 use Rattle.act_sessions.specs.declared.transcript.Part.TheVariants.{Waits, Over}
 use Rattle.act_sessions.specs.declared.trouble.Trouble.{Trouble}
 use Rattle.act_sessions.specs.declared.trouble.Trouble.TheVariants.{Memory, Broken}
+use Rattle.act_sessions.specs.Hearing.{Hears}
 use Rattle.act_sessions.specs.Rules.{Rules, Turn, request_of, told_at, told_of, is_last, Reads, turn_text, texts, IsSteady}
 use Rattle.act_sessions.specs.Session.{Moment, Place, Writes, Did, Goes, IsPart}
 use Rattle.act_sessions.specs.Told.{AreAsked}
@@ -143,21 +144,21 @@ waits_at_end p steady from i i1 i2 old new buffer n piece left goes more short w
 
 -- no request came
 pub paused_waiting : {F : Type 0} (p : Rules F) → IsSteady p → (from : Place) (i i1 i2 : Option (List ℕ)) (old new : Moment) (buffer : List ℕ) (n : ℕ)
-    (piece : List ℕ) (e : Trouble) → Goes p from i i1 old new (at n buffer) → Consumes i1 i2 piece → length (buffer ++ piece) ≤ p.limit
-    → HasPaused p e from i i2 old new
-paused_waiting p steady from i i1 i2 old new buffer n piece Memory goes more short = (
+    (piece left : List ℕ) (e : Trouble) → Goes p from i i1 old new (at n buffer) → Consumes i1 i2 piece → length (buffer ++ piece) ≤ p.limit
+    → Hears p i2 (buffer ++ piece) left (Err e) → HasPaused p e from i i2 old new
+paused_waiting p steady from i i1 i2 old new buffer n piece left Memory goes more short hears = (
   goes.turns,
   buffer ++ piece,
   texts p from.turns goes.turns,
   did_waiting p steady from (at n buffer) i i1 i2 old new piece goes more short,
   (goes.turns, (goes.unended, inl refl), refl),
 )
-paused_waiting p steady from i i1 i2 old new buffer n piece Broken goes more short = (
+paused_waiting p steady from i i1 i2 old new buffer n piece left Broken goes more short hears = (
   goes.turns,
   buffer ++ piece,
   texts p from.turns goes.turns,
   did_waiting p steady from (at n buffer) i i1 i2 old new piece goes more short,
-  (goes.turns, (goes.unended, inl refl), inl refl),
+  inl (goes.unended, hears, refl),
 )
 
 none_written : (old mid new : Moment) (a : List ℕ) → Writes old mid a → WritesNone mid new → Writes old new a
@@ -214,7 +215,7 @@ paused_turn p steady from i i1 i2 old mid new buffer n piece left r Broken goes 
       left,
       before ++ take k text,
       did_turn p steady from (at n buffer) i i1 i2 old mid new piece left (take k text) t goes more (subst (λ q. p.reads (buffer ++ piece) q left) (sym is) reads) short asks writes,
-      (goes.turns, (goes.unended, inr (t, refl)), inr (text, inr (t, refl, ap (λ m. turn_text p (is_last p m t) t) same), k, refl)),
+      inr (goes.turns, (goes.unended, inr (t, refl)), text, inr (t, refl, ap (λ m. turn_text p (is_last p m t) t) same), k, refl),
     )
 
 -- a session that can't go on gives up
@@ -235,7 +236,7 @@ gave_up p Memory from to i i2 old mid new ending.Broken (turns, rest, out, did, 
       rest,
       out ++ text,
       same_did p from i i2 old mid new turns rest out text (out ++ text) did (Writes_trans old mid new out text did.wrote_all writes) refl same listed,
-      (passed, are, inr (words, inl says, k, ap (λ l. l ++ text) is)),
+      inr (passed, are, words, inl says, k, ap (λ l. l ++ text) is),
     )
 gave_up p Broken from to i i2 old mid new ending.Broken (turns, rest, out, did, front) same (none, listed) =
     (turns, rest, out, did_no_more p from i i2 old mid new turns rest out did none same listed, front)

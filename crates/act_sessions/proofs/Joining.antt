@@ -8,7 +8,7 @@ use Rattle.act_sessions.specs.declared.transcript.Part.{Part}
 use Rattle.act_sessions.specs.declared.transcript.Part.TheVariants.{Waits, Over}
 use Rattle.act_sessions.specs.Told.{Told, AreAsked}
 use Rattle.act_sessions.specs.Rules.{Rules, Turn, told_at, told_of, is_last, Reads, IsOpen, IsEnded, turn_text, texts, IsSteady}
-use Rattle.act_sessions.specs.Session.{Moment, Place, Writes, Did, Goes, IsPart, ArePassed, IsOver, IsFront, ComesNext, EndsSo}
+use Rattle.act_sessions.specs.Session.{Moment, Place, Writes, Did, Goes, IsPart, ArePassed, IsOver, IsFront, IsUnheard, ComesNext, EndsSo}
 use Rattle.act_sessions.specs.Joined.{added, IsJoined}
 use Rattle.act_sessions.proofs.Going.{Writes_trans}
 use Rattle.act_sessions.proofs.Listing.{Reads_grows, AreAsked_after}
@@ -144,15 +144,20 @@ module _ (F : Type 0) (p : Rules F) (steady : IsSteady p) (from to : Place) (x y
       inr (t, ap (λ l. goes.turns ++ l) e ∙ sym (append_assoc goes.turns passed (t ∷ [])), is ∙ ap (λ m. turn_text p (is_last p m t) t) same_place)
 
   front_on : (turns : List (Turn F)) (out : List ℕ) → IsFront p to.turns turns out → IsFront p from.turns (goes.turns ++ turns) (texts p from.turns goes.turns ++ out)
-  front_on turns out (passed, are, inl e) = (goes.turns ++ passed, passed_on turns passed are, inl (texts_all passed out e))
-  front_on turns out (passed, are, inr (text, next, k, e)) =
-      (goes.turns ++ passed, passed_on turns passed are, inr (text, next_on turns passed text next, k, texts_on passed out (take k text) e))
+  front_on turns out (passed, are, text, next, k, e) =
+      (goes.turns ++ passed, passed_on turns passed are, text, next_on turns passed text next, k, texts_on passed out (take k text) e)
 
-  ends_on : (how : Ending) (turns : List (Turn F)) (out : List ℕ) → EndsSo p to.turns how turns out
-      → EndsSo p from.turns how (goes.turns ++ turns) (texts p from.turns goes.turns ++ out)
-  ends_on Done turns out over = over_on turns out over
-  ends_on Memory turns out (silent, passed, are, e) = (silent, goes.turns ++ passed, passed_on turns passed are, texts_all passed out e)
-  ends_on Broken turns out front = front_on turns out front
+  unheard_on : (turns : List (Turn F)) (rest out : List ℕ) → IsUnheard p to.turns turns rest out
+      → IsUnheard p from.turns (goes.turns ++ turns) rest (texts p from.turns goes.turns ++ out)
+  unheard_on turns rest out (unended, waits, e) =
+      (IsOpen_append p from.turns to.turns goes.turns turns goes.unended goes.counted unended, waits, texts_all turns out e)
+
+  ends_on : (how : Ending) (turns : List (Turn F)) (rest out : List ℕ) → EndsSo p to.turns how turns rest out
+      → EndsSo p from.turns how (goes.turns ++ turns) rest (texts p from.turns goes.turns ++ out)
+  ends_on Done turns rest out over = over_on turns out over
+  ends_on Memory turns rest out (silent, passed, are, e) = (silent, goes.turns ++ passed, passed_on turns passed are, texts_all passed out e)
+  ends_on Broken turns rest out (inl unheard) = inl (unheard_on turns rest out unheard)
+  ends_on Broken turns rest out (inr front) = inr (front_on turns out front)
 
   is_joined : (out : List ℕ) → IsJoined mid begin new (whole_of mid begin new out)
   unfolding whole_of
@@ -165,5 +170,5 @@ module _ (F : Type 0) (p : Rules F) (steady : IsSteady p) (from to : Place) (x y
   two_parts last (Over how) (turns, rest, out, did, ends) = (
     whole_of mid begin new out,
     is_joined out,
-    (goes.turns ++ turns, rest, texts p from.turns goes.turns ++ out, did_on turns rest out did, ends_on how turns out ends),
+    (goes.turns ++ turns, rest, texts p from.turns goes.turns ++ out, did_on turns rest out did, ends_on how turns rest out ends),
   )

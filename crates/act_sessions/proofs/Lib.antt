@@ -1,6 +1,7 @@
 -- Lemmas on sessions.
 mod Closing
 mod Going
+mod Heard
 pub mod Joining
 mod Listing
 mod One

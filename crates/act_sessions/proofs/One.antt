@@ -1,10 +1,10 @@
 -- A session of the same bytes and answers is one.
-use Rattle.std.proofs.Common.{◌≡◌, ℕ, ◌+◌, Bool, true, false, List, [], ◌∷◌, ◌++◌, refl, sym, ap, subst, ◌∙◌, append-nil}
+use Rattle.std.proofs.Common.{◌≡◌, ℕ, ◌+◌, Bool, true, false, List, [], ◌∷◌, ◌++◌, refl, sym, ap, subst, ◌∙◌, inl, inr, append-nil}
 use Rattle.run_plan.specs.declared.command.Command.{Command}
 use Rattle.act_sessions.specs.declared.request.Demand.{Demand}
 use Rattle.act_sessions.specs.declared.request.Demand.TheVariants as demand
 use Rattle.act_sessions.specs.declared.request.Request.{Request}
-use Rattle.act_sessions.specs.Rules.{Rules, Turn, Answered, Refused, request_of, told_at, is_last, Reads, IsEnded, AnsweredBy, IsOne}
+use Rattle.act_sessions.specs.Rules.{Rules, Turn, Answered, Refused, request_of, told_at, is_last, Reads, IsOpen, IsEnded, HasCome, AnsweredBy, IsApart, IsOne}
 use Rattle.act_sessions.specs.Told.{Response, Told}
 
 abbrev turn_by : {F : Type 0} → (Command → Response) → Bool → Demand F → Turn F
@@ -55,3 +55,43 @@ one_session_by {F} p one f n told bytes rest other (t ∷ v ∷ ts) (u ∷ w ∷
     let b_tail : AnsweredBy f (told ++ told_at t) (w ∷ us) = subst tail_of (sym same.0) (answered_tail f told u (w ∷ us) b) in
     let rest_same = one_session_by p one f (n + 1) (told ++ told_at t) r.0 rest other (v ∷ ts) (w ∷ us) r.2 s_tail (answered_tail f told t (v ∷ ts) a) b_tail x.1 y.1 in
     (ap (λ z. z ∷ v ∷ ts) same.0 ∙ ap (λ l. u ∷ l) rest_same.0, rest_same.1)
+
+-- ---- sessions that the end of the input ends
+
+module _ (F : Type 0) (p : Rules F) (one : IsOne p) (never : IsApart p) (f : List Told → Command → Response) where
+  waits_for_one : (bytes rest middle : List ℕ) (t : Turn F) → bytes ≡ rest → p.waits rest → p.reads bytes (request_of t) middle → ⊥
+  waits_for_one bytes rest middle t e waits reads = never bytes middle (request_of t) (subst p.waits (sym e) waits) reads
+
+  both_wait : (n : ℕ) (told : List Told) (bytes rest other : List ℕ) (ts us : List (Turn F)) → Reads p bytes ts rest → Reads p bytes us other
+      → AnsweredBy f told ts → AnsweredBy f told us → IsOpen p n ts → IsOpen p n us → p.waits rest → p.waits other → (ts ≡ us) × (rest ≡ other)
+  both_wait n told bytes rest other [] [] r s a b x y v w = (refl, sym r ∙ s)
+  both_wait n told bytes rest other [] (u ∷ us) r s a b x y v w = absurd (waits_for_one bytes rest s.0 u r v s.1)
+  both_wait n told bytes rest other (t ∷ ts) [] r s a b x y v w = absurd (waits_for_one bytes other r.0 t s w r.1)
+  both_wait n told bytes rest other (t ∷ ts) (u ∷ us) r s a b x y v w =
+      let same = same_turn p one f told bytes r.0 s.0 t u ts us r.1 s.1 a b in
+      let s_tail : Reads p r.0 us other = subst (λ m. Reads p m us other) (sym same.1) s.2 in
+      let tail_of : Turn F → Type 0 = λ z. AnsweredBy f (told ++ told_at z) us in
+      let b_tail : AnsweredBy f (told ++ told_at t) us = subst tail_of (sym same.0) (answered_tail f told u us b) in
+      let rest_same = both_wait (n + 1) (told ++ told_at t) r.0 rest other ts us r.2 s_tail (answered_tail f told t ts a) b_tail x.1 y.1 v w in
+      (ap (λ z. z ∷ ts) same.0 ∙ ap (λ l. u ∷ l) rest_same.0, rest_same.1)
+
+  one_waits : (n : ℕ) (told : List Told) (bytes rest other : List ℕ) (ts us : List (Turn F)) → Reads p bytes ts rest → Reads p bytes us other
+      → AnsweredBy f told ts → AnsweredBy f told us → IsEnded p n ts → IsOpen p n us → p.waits other → ⊥
+  one_waits n told bytes rest other [] us r s a b x y w = x
+  one_waits n told bytes rest other (t ∷ ts) [] r s a b x y w = waits_for_one bytes other r.0 t s w r.1
+  one_waits n told bytes rest other (t ∷ []) (u ∷ us) r s a b x y w =
+      let same = same_turn p one f told bytes r.0 s.0 t u [] us r.1 s.1 a b in
+      apart (sym x ∙ ap (is_last p n) same.0 ∙ y.0)
+  one_waits n told bytes rest other (t ∷ v ∷ ts) (u ∷ us) r s a b x y w =
+      let same = same_turn p one f told bytes r.0 s.0 t u (v ∷ ts) us r.1 s.1 a b in
+      let s_tail : Reads p r.0 us other = subst (λ m. Reads p m us other) (sym same.1) s.2 in
+      let tail_of : Turn F → Type 0 = λ z. AnsweredBy f (told ++ told_at z) us in
+      let b_tail : AnsweredBy f (told ++ told_at t) us = subst tail_of (sym same.0) (answered_tail f told u us b) in
+      one_waits (n + 1) (told ++ told_at t) r.0 rest other (v ∷ ts) us r.2 s_tail (answered_tail f told t (v ∷ ts) a) b_tail x.1 y.1 w
+
+  pub one_to_its_end : (bytes rest other : List ℕ) (ts us : List (Turn F)) → Reads p bytes ts rest → Reads p bytes us other → AnsweredBy f [] ts
+      → AnsweredBy f [] us → HasCome p 0 ts rest → HasCome p 0 us other → (ts ≡ us) × (rest ≡ other)
+  one_to_its_end bytes rest other ts us r s a b (inl x) (inl y) = one_session_by p one f 0 [] bytes rest other ts us r s a b x y
+  one_to_its_end bytes rest other ts us r s a b (inl x) (inr (y, w)) = absurd (one_waits 0 [] bytes rest other ts us r s a b x y w)
+  one_to_its_end bytes rest other ts us r s a b (inr (x, v)) (inl y) = absurd (one_waits 0 [] bytes other rest us ts s r b a y x v)
+  one_to_its_end bytes rest other ts us r s a b (inr (x, v)) (inr (y, w)) = both_wait 0 [] bytes rest other ts us r s a b x y v w

@@ -35,5 +35,5 @@ round_at_end p steady from i i1 i2 old mid buffer n left goes (piece, more, shor
 -- no request came
 pub round_waiting : {F : Type 0} (p : Rules F) → IsSteady p → (from : Place) (i i1 i2 : Option (List ℕ)) (old mid : Moment) (buffer : List ℕ) (n : ℕ)
     (left : List ℕ) (e : Trouble) → Goes p from i i1 old mid (at n buffer) → Awaits p i1 i2 buffer left (Err e) → HasPaused p e from i i2 old mid
-round_waiting p steady from i i1 i2 old mid buffer n left e goes (piece, more, short, nothing) =
-    paused_waiting p steady from i i1 i2 old mid buffer n piece e goes more short
+round_waiting p steady from i i1 i2 old mid buffer n left e goes (piece, more, short, hears) =
+    paused_waiting p steady from i i1 i2 old mid buffer n piece left e goes more short hears

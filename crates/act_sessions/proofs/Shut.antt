@@ -28,9 +28,10 @@ shut_by_going_on : (r : Response) → ends_session r ≡ false → leaves_open r
 shut_by_going_on (Ok reply) h = refl
 shut_by_going_on (Err e) h =
     let n = refusal_number e in
-    right_false (48 == n) (list_any (λ k. k == n) (50 ∷ 51 ∷ 52 ∷ 60 ∷ []))
-    (right_false (47 == n) (list_any (λ k. k == n) (48 ∷ 50 ∷ 51 ∷ 52 ∷ 60 ∷ []))
-    (right_false (46 == n) (list_any (λ k. k == n) (47 ∷ 48 ∷ 50 ∷ 51 ∷ 52 ∷ 60 ∷ [])) h))
+    right_false (57 == n) (list_any (λ k. k == n) (50 ∷ 51 ∷ 52 ∷ 60 ∷ []))
+    (right_false (48 == n) (list_any (λ k. k == n) (57 ∷ 50 ∷ 51 ∷ 52 ∷ 60 ∷ []))
+    (right_false (47 == n) (list_any (λ k. k == n) (48 ∷ 57 ∷ 50 ∷ 51 ∷ 52 ∷ 60 ∷ []))
+    (right_false (46 == n) (list_any (λ k. k == n) (47 ∷ 48 ∷ 57 ∷ 50 ∷ 51 ∷ 52 ∷ 60 ∷ [])) h)))
 
 shut_before : {F : Type 0} (p : Rules F) (n : ℕ) (c : _) (closes : Bool) (a : Response) → is_last p n (Answered c closes a) ≡ false → leaves_open a ≡ false
 shut_before p n c closes a h =
@@ -76,11 +77,12 @@ only_ended p n (Refused f closes ∷ u ∷ ts) h = only_ended p (n + 1) (u ∷ t
 pub only_open : {F : Type 0} (p : Rules F) (n : ℕ) (turns : List (Turn F)) → IsOpen p n turns → OnlyLastOpen (told_of turns)
 only_open p n turns h = only_passed p n turns turns (h, inl refl)
 
-pub only_over : {F : Type 0} (p : Rules F) (n : ℕ) (how : Ending) (turns : List (Turn F)) (out : List ℕ) → EndsSo p n how turns out → OnlyLastOpen (told_of turns)
-only_over p n Done turns out (inl (ended, same)) = only_ended p n turns ended
-only_over p n Done turns out (inr (passed, are, text, starved, wrote)) = only_passed p n turns passed are
-only_over p n Memory turns out (none, passed, are, same) = only_passed p n turns passed are
-only_over p n Broken turns out (passed, are, wrote) = only_passed p n turns passed are
+pub only_over : {F : Type 0} (p : Rules F) (n : ℕ) (how : Ending) (turns : List (Turn F)) (rest out : List ℕ) → EndsSo p n how turns rest out → OnlyLastOpen (told_of turns)
+only_over p n Done turns rest out (inl (ended, same)) = only_ended p n turns ended
+only_over p n Done turns rest out (inr (passed, are, text, starved, wrote)) = only_passed p n turns passed are
+only_over p n Memory turns rest out (none, passed, are, same) = only_passed p n turns passed are
+only_over p n Broken turns rest out (inl (unended, waits, same)) = only_open p n turns unended
+only_over p n Broken turns rest out (inr (passed, are, text, next, k, wrote)) = only_passed p n turns passed are
 
 -- a list of parts
 

@@ -11,8 +11,8 @@ use Rattle.act_sessions.specs.Told.{told_by}
 -- Where the ending is Done the session went to its end; else it stopped.
 abbrev pub HasEnded : {F : Type 0} → Rules F → Ending → List (Turn F) → List ℕ → List ℕ → List ℕ → Type 0
 HasEnded p Done turns rest unread out = IsWhole p turns rest (Some unread) out
-HasEnded p Memory turns rest unread out = HasStopped p 0 Memory turns out
-HasEnded p Broken turns rest unread out = HasStopped p 0 Broken turns out
+HasEnded p Memory turns rest unread out = HasStopped p 0 Memory turns rest out
+HasEnded p Broken turns rest unread out = HasStopped p 0 Broken turns rest out
 
 -- Some front of the bytes is the requests of turns, and a rest. The transcript lists the commands of these turns, in order, each once,
 -- with their answers, and counts the bytes that were written for them.
@@ -24,3 +24,7 @@ EndsOver {F} p bytes t =
 -- that of every list of bytes that a reader tells that it holds: of a socket nothing is known
 abbrev pub Ends : {F : Type 0} → Rules F → Option (List ℕ) → Transcript → Type 0
 Ends p input t = (bytes : List ℕ) → input ≡ Some bytes → EndsOver p bytes t
+
+-- There are bytes of which it is the transcript: so it is one of a session by these rules, and not by others, whatever is known of its reader.
+abbrev pub EndsOverSome : {F : Type 0} → Rules F → Transcript → Type 0
+EndsOverSome p t = (bytes : List ℕ) × EndsOver p bytes t

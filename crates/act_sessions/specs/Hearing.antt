@@ -3,13 +3,15 @@ use Rattle.std.specs.Prelude.{◌≡◌, ℕ, ◌≤◌, List, ◌++◌, length,
 use Rattle.std.specs.Io.KnownBytes.{Consumes, IsAtEnd}
 use Rattle.act_sessions.specs.declared.request.Request.{Request}
 use Rattle.act_sessions.specs.declared.trouble.Trouble.{Trouble}
+use Rattle.act_sessions.specs.declared.trouble.Trouble.TheVariants.{Memory, Broken}
 use Rattle.act_sessions.specs.Rules.{Rules}
 
--- of all the bytes, what is left in the buffer
+-- Of all the bytes, what is left in the buffer. A read fails only where no request stands whole in what was read before.
 abbrev pub Hears : {F : Type 0} → Rules F → Option (List ℕ) → List ℕ → List ℕ → Result (Option (Request F)) Trouble → Type 0
 Hears p input all left (Ok (Some r)) = p.reads all r left × (length left ≤ length all)
 Hears p input all left (Ok None) = p.waits left × (all ≡ left) × IsAtEnd input
-Hears p input all left (Err e) = ⊤
+Hears p input all left (Err Memory) = ⊤
+Hears p input all left (Err Broken) = p.waits all
 
 abbrev pub Awaits : {F : Type 0} → Rules F → Option (List ℕ) → Option (List ℕ) → List ℕ → List ℕ → Result (Option (Request F)) Trouble → Type 0
 Awaits p input input_new buffer left r =

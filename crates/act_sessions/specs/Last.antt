@@ -6,9 +6,10 @@ use Rattle.wf_value.specs.declared.refusal.Refusal.{Refusal}
 use Rattle.run_plan.specs.declared.reply.Reply.TheVariants as reply
 use Rattle.act_sessions.specs.Told.{Response}
 
--- a full history or area, a counter at its end, want of memory, a failed device, and a history that differs from what was told
+-- a full history or area, a counter at its end, a command that the layout of the area does not have, want of memory, a failed device, and a
+-- history that differs from what was told
 abbrev pub ending_numbers : List ℕ
-ending_numbers = 46 ∷ 47 ∷ 48 ∷ 50 ∷ 51 ∷ 52 ∷ 60 ∷ []
+ending_numbers = 46 ∷ 47 ∷ 48 ∷ 57 ∷ 50 ∷ 51 ∷ 52 ∷ 60 ∷ []
 
 abbrev pub ends_by : Refusal → Bool
 ends_by e = list_any (λ n. n == refusal_number e) ending_numbers

@@ -1,5 +1,5 @@
 -- How bytes are read as requests and turns, by the rules of a protocol. Nothing here depends on the pieces in which the bytes come.
-use Rattle.std.specs.Prelude.{◌≡◌, ℕ, ◌+◌, ◌≤◌, ◌<◌, Bool, true, false, ◌||◌, ◌==◌, List, [], ◌∷◌, ◌++◌, length, drop, Option, Some, None, Result, Ok, Err, ⊤}
+use Rattle.std.specs.Prelude.{◌≡◌, ◌⊎◌, ℕ, ◌+◌, ◌≤◌, ◌<◌, Bool, true, false, ◌||◌, ◌==◌, List, [], ◌∷◌, ◌++◌, length, drop, Option, Some, None, Result, Ok, Err, ⊤}
 use Rattle.wf_value.specs.Gives.{no_memory}
 use Rattle.wf_value.specs.declared.refusal.Refusal.{Refusal}
 use Rattle.run_plan.specs.declared.command.Command.{Command}
@@ -97,3 +97,11 @@ IsSteady {F} p = (bytes more rest : List ℕ) (r : Request F) → p.reads bytes 
 -- no bytes are two requests
 abbrev pub IsOne : {F : Type 0} → Rules F → Type 0
 IsOne {F} p = (bytes rest other : List ℕ) (r s : Request F) → p.reads bytes r rest → p.reads bytes s other → (r ≡ s) × (rest ≡ other)
+
+-- no bytes that wait are a request and a rest
+abbrev pub IsApart : {F : Type 0} → Rules F → Type 0
+IsApart {F} p = (bytes rest : List ℕ) (r : Request F) → p.waits bytes → p.reads bytes r rest → ⊥
+
+-- At the end of the input, with this rest, these turns are all of a session after n others: the last one ended it, or the rest waits.
+abbrev pub HasCome : {F : Type 0} → Rules F → ℕ → List (Turn F) → List ℕ → Type 0
+HasCome p n turns rest = IsEnded p n turns ⊎ (IsOpen p n turns × p.waits rest)

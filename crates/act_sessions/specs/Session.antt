@@ -87,18 +87,22 @@ abbrev pub ComesNext : {F : Type 0} → Rules F → ℕ → List (Turn F) → Li
 ComesNext {F} p n turns passed text =
     (p.starved ≡ Some text) ⊎ ((t : Turn F) × (turns ≡ passed ++ t ∷ []) × (text ≡ turn_text p (is_last p (n + length passed) t) t))
 
--- The texts of the turns that were passed were written whole, and a front of what comes next, if anything.
+-- A read failed: no request stands whole behind those of the turns in what was read, and all that they are answered was written.
+abbrev pub IsUnheard : {F : Type 0} → Rules F → ℕ → List (Turn F) → List ℕ → List ℕ → Type 0
+IsUnheard p n turns rest out = IsOpen p n turns × p.waits rest × (out ≡ texts p n turns)
+
+-- A write failed: the texts of the turns that were passed were written whole, and a front of what comes next.
 abbrev pub IsFront : {F : Type 0} → Rules F → ℕ → List (Turn F) → List ℕ → Type 0
 IsFront {F} p n turns out =
-    (passed : List (Turn F)) × ArePassed p n turns passed
-    × ((out ≡ texts p n passed) ⊎ ((text : List ℕ) × ComesNext p n turns passed text × (k : ℕ) × (out ≡ texts p n passed ++ take k text)))
+    (passed : List (Turn F)) × ArePassed p n turns passed × (text : List ℕ) × ComesNext p n turns passed text × (k : ℕ)
+    × (out ≡ texts p n passed ++ take k text)
 
 -- How a session that did not go to its end stopped, in these turns after n others: for want of memory, where nothing is written for that;
 -- or by a failed read or write.
-abbrev pub HasStopped : {F : Type 0} → Rules F → ℕ → Ending → List (Turn F) → List ℕ → Type 0
-HasStopped p n Done turns out = ⊥
-HasStopped {F} p n Memory turns out = (p.starved ≡ None) × (passed : List (Turn F)) × ArePassed p n turns passed × (out ≡ texts p n passed)
-HasStopped p n Broken turns out = IsFront p n turns out
+abbrev pub HasStopped : {F : Type 0} → Rules F → ℕ → Ending → List (Turn F) → List ℕ → List ℕ → Type 0
+HasStopped p n Done turns rest out = ⊥
+HasStopped {F} p n Memory turns rest out = (p.starved ≡ None) × (passed : List (Turn F)) × ArePassed p n turns passed × (out ≡ texts p n passed)
+HasStopped p n Broken turns rest out = IsUnheard p n turns rest out ⊎ IsFront p n turns out
 
 -- a session that was answered Ok
 abbrev pub IsDone : {F : Type 0} → Rules F → Option (List ℕ) → Option (List ℕ) → Moment → Moment → Type 0
@@ -108,17 +112,17 @@ IsDone {F} p input input_new old new =
 -- a session that ended with a fault
 abbrev pub IsCut : {F : Type 0} → Rules F → Ending → Option (List ℕ) → Option (List ℕ) → Moment → Moment → Type 0
 IsCut {F} p ending input input_new old new =
-    (turns : List (Turn F)) × (rest : List ℕ) × (out : List ℕ) × Did p first input input_new old new turns rest out × HasStopped p 0 ending turns out
+    (turns : List (Turn F)) × (rest : List ℕ) × (out : List ℕ) × Did p first input input_new old new turns rest out × HasStopped p 0 ending turns rest out
 
 -- how a part of a session that is over came to its end
-abbrev pub EndsSo : {F : Type 0} → Rules F → ℕ → Ending → List (Turn F) → List ℕ → Type 0
-EndsSo p n Done turns out = IsOver p n turns out
-EndsSo p n Memory turns out = HasStopped p n Memory turns out
-EndsSo p n Broken turns out = HasStopped p n Broken turns out
+abbrev pub EndsSo : {F : Type 0} → Rules F → ℕ → Ending → List (Turn F) → List ℕ → List ℕ → Type 0
+EndsSo p n Done turns rest out = IsOver p n turns out
+EndsSo p n Memory turns rest out = HasStopped p n Memory turns rest out
+EndsSo p n Broken turns rest out = HasStopped p n Broken turns rest out
 
 -- A part of a session, from a place on. It stands at another place, where it waits for more bytes than its input has; or the session is
 -- over, as its bytes say, or for want of memory, or since a read or a write failed.
 abbrev pub IsPart : {F : Type 0} → Rules F → Place → Option (List ℕ) → Option (List ℕ) → Moment → Moment → Place → Part → Type 0
 IsPart p from input input_new old new to Waits = Goes p from input input_new old new to × p.waits to.held × IsAtEnd input_new
 IsPart {F} p from input input_new old new to (Over how) =
-    (turns : List (Turn F)) × (rest : List ℕ) × (out : List ℕ) × Did p from input input_new old new turns rest out × EndsSo p from.turns how turns out
+    (turns : List (Turn F)) × (rest : List ℕ) × (out : List ℕ) × Did p from input input_new old new turns rest out × EndsSo p from.turns how turns rest out

@@ -7,7 +7,7 @@ use Rattle.act_sessions.specs.declared.transcript.Part.TheVariants.{Waits, Over}
 use Rattle.act_sessions.specs.declared.trouble.Trouble.{Trouble}
 use Rattle.act_sessions.specs.declared.trouble.Trouble.TheVariants as trouble
 use Rattle.act_sessions.specs.Rules.{Rules, Turn, request_of, told_at, is_last, turn_text, texts}
-use Rattle.act_sessions.specs.Session.{Moment, Place, first, Writes, Did, Goes, ArePassed, IsFront, IsPart}
+use Rattle.act_sessions.specs.Session.{Moment, Place, first, Writes, Did, Goes, ArePassed, HasStopped, IsPart}
 use Rattle.act_sessions.specs.Told.{AreAsked}
 
 -- nothing was written
@@ -49,15 +49,15 @@ GivesUp p trouble.Broken old new Done = ⊥
 GivesUp p trouble.Broken old new Memory = ⊥
 GivesUp p trouble.Broken old new Broken = WritesNone old new × (new.listed ≡ old.listed)
 
--- What was written, after n other turns, where a session can't go on: for want of memory the texts of the turns that were passed, else a
--- front.
-abbrev pub Stops : {F : Type 0} → Rules F → Trouble → ℕ → List (Turn F) → List ℕ → Type 0
-Stops {F} p trouble.Memory n turns out = (passed : List (Turn F)) × ArePassed p n turns passed × (out ≡ texts p n passed)
-Stops p trouble.Broken n turns out = IsFront p n turns out
+-- What was written, after n other turns, where a session can't go on: for want of memory the texts of the turns that were passed, after a
+-- failed read those of all turns, and after a failed write a front.
+abbrev pub Stops : {F : Type 0} → Rules F → Trouble → ℕ → List (Turn F) → List ℕ → List ℕ → Type 0
+Stops {F} p trouble.Memory n turns rest out = (passed : List (Turn F)) × ArePassed p n turns passed × (out ≡ texts p n passed)
+Stops p trouble.Broken n turns rest out = HasStopped p n Broken turns rest out
 
 abbrev pub HasPaused : {F : Type 0} → Rules F → Trouble → Place → Option (List ℕ) → Option (List ℕ) → Moment → Moment → Type 0
 HasPaused {F} p e from input input_new old new =
-    (turns : List (Turn F)) × (rest : List ℕ) × (out : List ℕ) × Did p from input input_new old new turns rest out × Stops p e from.turns turns out
+    (turns : List (Turn F)) × (rest : List ℕ) × (out : List ℕ) × Did p from input input_new old new turns rest out × Stops p e from.turns turns rest out
 
 -- How one round ends, after n turns, after which a session is over, or stands between two turns, or waits for more bytes, or can't go on.
 abbrev pub EndsRound : {F : Type 0} → Rules F → Place → Option (List ℕ) → Option (List ℕ) → Moment → Moment → List ℕ → ℕ → Result (Option Bool) Trouble → Type 0

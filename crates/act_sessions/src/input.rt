@@ -1,5 +1,5 @@
-ghost use Rattle.std.specs.Prelude.{◌≡◌, ◌≤◌, ◌<◌, ◌+◌, ◌++◌, ℕ, List, length, vec_len, true, false, IfOk, OnErr};
-ghost use Rattle.std.specs.Io.KnownBytes.{Consumes, IsAtEnd};
+ghost use Rattle.std.specs.Prelude.{◌≡◌, ◌≤◌, ◌<◌, ◌+◌, ◌++◌, ℕ, List, length, vec_len, true, false, IfErr, IfOk, OnErr};
+ghost use Rattle.std.specs.Io.KnownBytes.{Consumes, IsAtEnd, Keeps};
 ghost use Rattle.act_sessions.specs.Hearing.{Awaits};
 
 use crate::protocol::Protocol;
@@ -23,6 +23,8 @@ fn read_more<R: Read>(reader: &mut R, buffer: &mut Vec<u8>, limit: usize) -> Res
     ensures end { IfOk result (λ more. more ≡ false → IsAtEnd (R.remaining reader.new) × (buffer.new.items ≡ buffer.old.items)) }
     ensures err { OnErr result ((piece : List ℕ) × Consumes (R.remaining reader.old) (R.remaining reader.new) piece
         × (length buffer.old.items + length piece ≤ limit)) }
+    // A read that fails takes nothing.
+    ensures broken { IfErr result (λ e. e ≡ Trouble.Broken → Keeps (R.remaining reader.old) (R.remaining reader.new)) }
 {
     let mut piece = [0; CHUNK];
     let room = (limit - buffer.len()).min(CHUNK);

@@ -8,10 +8,10 @@ use wf_value::Refusal;
 pub fn ends_by(refusal: &Refusal) -> bool
     ensures { result ≡ ends_by refusal.now }
 {
-    matches!(refusal.number(), 46 | 47 | 48 | 50 | 51 | 52 | 60)
+    matches!(refusal.number(), 46 | 47 | 48 | 57 | 50 | 51 | 52 | 60)
 }
 
-/// Whether an answer ends a session: one that is refused 46, 47, 48, 50, 51, 52 or 60.
+/// Whether an answer ends a session: one that is refused 46, 47, 48, 50, 51, 52, 57 or 60.
 fn ends_session(answer: &Result<Reply, Refusal>) -> bool
     ensures { result ≡ ends_session answer.now }
 {

@@ -3,7 +3,7 @@ ghost use Rattle.run_plan.specs.declared.command.Command.{Command};
 ghost use Rattle.act_sessions.specs.Joined.{IsJoined};
 ghost use Rattle.act_sessions.specs.Session.{first, start, IsCut, IsDone, IsPart, Moment, Place};
 ghost use Rattle.act_sessions.specs.Told.{Response, Told};
-ghost use Rattle.act_sessions.specs.Rules.{AnsweredBy, IsEnded, Reads, Turn};
+ghost use Rattle.act_sessions.specs.Rules.{AnsweredBy, HasCome, IsApart, IsEnded, Reads, Turn};
 
 use crate::protocol::Protocol;
 use crate::transcript::{Ending, Part};
@@ -14,6 +14,14 @@ pub fn one_session<P: Protocol>()
     ensures { (f : List Told → Command → Response) (bytes rest other : List ℕ) (ts us : List (Turn P.Fault)) → Reads P.rules bytes ts rest
         → Reads P.rules bytes us other → AnsweredBy f [] ts → AnsweredBy f [] us → IsEnded P.rules 0 ts → IsEnded P.rules 0 us
         → (ts ≡ us) × (rest ≡ other) }
+{}
+
+/// The same of sessions that wait at the end of their bytes: of a protocol in which no bytes both wait and are a request, two sessions that
+/// read the same bytes to their end, each ended by a turn or waiting, are one.
+pub fn one_session_to_its_end<P: Protocol>()
+    ensures { IsApart P.rules → (f : List Told → Command → Response) (bytes rest other : List ℕ) (ts us : List (Turn P.Fault))
+        → Reads P.rules bytes ts rest → Reads P.rules bytes us other → AnsweredBy f [] ts → AnsweredBy f [] us → HasCome P.rules 0 ts rest
+        → HasCome P.rules 0 us other → (ts ≡ us) × (rest ≡ other) }
 {}
 
 /// Two parts in a row are one: where a stream was cut anywhere, the first part waits at the end of the one piece, and the second goes on at

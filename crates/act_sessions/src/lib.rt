@@ -18,8 +18,8 @@ mod work;
 
 pub use answer::Answer;
 pub use last::ends_by;
-pub use laws::{first_part, one_session, two_parts};
-pub use parts::{Parts, is_open, run_parts};
+pub use laws::{first_part, one_session, one_session_to_its_end, two_parts};
+pub use parts::{Parts, is_open, leaves_open, run_parts};
 pub use protocol::Protocol;
 pub use request::{Demand, Found, Request};
 pub use session::run;

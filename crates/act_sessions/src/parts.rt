@@ -24,7 +24,7 @@ pub trait Parts {
 }
 
 /// Whether an answer leaves open that its command was entered: 50, 51, 52 and 60 do.
-fn leaves_open(answer: &Result<Reply, Refusal>) -> bool
+pub fn leaves_open(answer: &Result<Reply, Refusal>) -> bool
     ensures { result ≡ leaves_open answer.now }
 {
     match answer {

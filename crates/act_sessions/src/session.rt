@@ -1,5 +1,5 @@
 ghost use Rattle.std.specs.Prelude.{Option, ◌≡◌, ◌≢◌, ◌<◌, ◌≤◌, ◌+◌, ◌==◌, ◌||◌, ◌++◌, ◌∷◌, [], ℕ, List, IfOk, IfErr, OnErr, vec_len, vec_capacity};
-ghost use Rattle.act_sessions.specs.Ends.{Ends};
+ghost use Rattle.act_sessions.specs.Ends.{Ends, EndsOverSome};
 ghost use Rattle.act_sessions.specs.Session.{moment, start, Goes, IsCut, IsDone, IsPart, Moment, Place};
 ghost use Rattle.act_sessions.specs.Told.{AreAsked, OnlyLastOpen, Told, told_by};
 ghost use Rattle.act_sessions.specs.Turns.{EndsRound, GivesUp, Says, TakesTurn};
@@ -227,6 +227,9 @@ pub fn run<P: Protocol, R: Read, W: Write, A: Answer>(
         × AreAsked (A.asked answerer.old) (A.asked answerer.new) (told_by t)) }
     ensures stopped { IfErr result (λ f. (f.transcript.ending ≢ Ending.Done) × Ends P.rules (R.remaining reader.old) f.transcript
         × AreAsked (A.asked answerer.old) (A.asked answerer.new) (told_by f.transcript)) }
+    // And for whoever knows nothing of them.
+    ensures heard { IfOk result (EndsOverSome P.rules) }
+    ensures heard_before { IfErr result (λ f. EndsOverSome P.rules f.transcript) }
 {
     let mut buffer = Vec::new(alloc);
     let mut count = 0;

@@ -1,9 +1,9 @@
--- The lines of a session's bytes are one list, whatever follows them.
+-- The lines of a session's bytes are one list, whatever follows them, and an unfinished line is none.
 use Rattle.std.specs.Prelude.{◌≡◌, ℕ, ◌<◌, List, [], ◌∷◌, ◌++◌, length, take, drop, slice_index_or, refl}
-use Rattle.std.proofs.Common.{sym, ap, ◌∙◌, inl, inr, append_assoc, arith}
+use Rattle.std.proofs.Common.{sym, ap, ◌∙◌, inl, inr, append_assoc, length-append, arith}
 use Rattle.std.proofs.lemmas.List.{get_or_append_left}
 use lib.Seq.{take-append_seam, drop-append_seam}
-use Rattle.act_sessions.specs.Rules.{IsOne, IsSteady}
+use Rattle.act_sessions.specs.Rules.{IsApart, IsOne, IsSteady}
 use Rattle.runner_sessions.specs.Line.{HasNoFeed, request_in, runner_rules}
 
 pub lines_steady : IsSteady runner_rules
@@ -47,3 +47,11 @@ lines_one bytes rest after r s (line, none, inr (long, is, asks)) (other, never,
     absurd (no_further other after line rest none (sym stands ∙ is) (omega arith))
 lines_one bytes rest after r s (line, none, inr (long, is, asks)) (other, never, inr (vast, stands, demands)) =
     let same = long ∙ sym vast in (asks ∙ sym demands, same_rest line other rest after same (sym is ∙ stands))
+
+-- a line feed stands in none of these bytes, or they are too few
+pub lines_apart : IsApart runner_rules
+lines_apart bytes rest r (none, few) (line, never, inl (short, is, asks)) =
+    let e = ap length is ∙ length-append line (10 ∷ rest) in
+    none (length line) 0 (omega arith) (ap (λ (b : List ℕ). slice_index_or b (length line) 0) is ∙ feed_behind line rest)
+lines_apart bytes rest r (none, few) (line, never, inr (long, is, asks)) =
+    let e = ap length is ∙ length-append line rest in omega arith

@@ -47,6 +47,10 @@ too_long = record { demand = demand.Fault not_a_line; closes = true }
 abbrev pub HasNoFeed : List ℕ → Type 0
 HasNoFeed line = All (λ b. b ≢ 10) line
 
+-- less than a line: none of the bytes is a line feed, and they are fewer than the longest line has
+abbrev pub IsUnfinished : List ℕ → Type 0
+IsUnfinished bytes = HasNoFeed bytes × (length bytes < most_line)
+
 -- The bytes begin with a line and its line feed, or with the longest line's length of bytes without one; and then there is a rest.
 abbrev pub LineReads : List ℕ → Request Refusal → List ℕ → Type 0
 LineReads bytes r rest =
@@ -63,7 +67,7 @@ response_text (Err e) = refusal_text e ++ 10 ∷ []
 abbrev pub runner_rules : Rules Refusal
 runner_rules = record {
   reads = LineReads;
-  waits = HasNoFeed;
+  waits = IsUnfinished;
   answer_text = λ last a. response_text a;
   fault_text = λ last e. refusal_text e ++ 10 ∷ [];
   starved = None;

@@ -1,6 +1,7 @@
 //! Sessions of runner lines: `CLAIM`, `DONE`, `BEAT` and `FETCH`, each answered by a line.
 #![tactic(auto)]
 
+pub mod laws;
 mod line;
 mod protocol;
 mod streams;

@@ -1,5 +1,5 @@
 ghost use Rattle.std.specs.Prelude.{◌≡◌, ◌≢◌, IfErr, IfOk};
-ghost use Rattle.act_sessions.specs.Ends.{Ends};
+ghost use Rattle.act_sessions.specs.Ends.{Ends, EndsOverSome};
 ghost use Rattle.act_sessions.specs.Session.{moment, start, IsCut, IsDone};
 ghost use Rattle.act_sessions.specs.Told.{AreAsked, told_by};
 ghost use Rattle.runner_sessions.specs.Line.{runner_rules};
@@ -14,7 +14,7 @@ pub struct Session;
 
 impl Session {
     /// Reads lines, in whatever pieces they come, and answers each by a line, until the input ends, 1,024 lines are answered, 512 bytes
-    /// come without a line feed, or an answer is refused 46, 47, 48, 50, 51, 52 or 60. A line that is no command is answered
+    /// come without a line feed, or an answer is refused 46, 47, 48, 50, 51, 52, 57 or 60. A line that is no command is answered
     /// `refused 75`; an unfinished one at the end of the input is dropped. Where memory is wanting outside a command, and where a read or
     /// a write fails, the session ends with a fault, which has the transcript so far.
     pub fn run<R: Read, W: Write, A: Answer>(
@@ -34,6 +34,9 @@ impl Session {
             × AreAsked (A.asked answerer.old) (A.asked answerer.new) (told_by t)) }
         ensures stopped { IfErr result (λ f. (f.transcript.ending ≢ Ending.Done) × Ends runner_rules (R.remaining reader.old) f.transcript
             × AreAsked (A.asked answerer.old) (A.asked answerer.new) (told_by f.transcript)) }
+        // And for whoever knows nothing of them.
+        ensures heard { IfOk result (EndsOverSome runner_rules) }
+        ensures heard_before { IfErr result (λ f. EndsOverSome runner_rules f.transcript) }
     {
         act_sessions::run::<RunnerLines, R, W, A>(alloc, reader, writer, answerer)
     }

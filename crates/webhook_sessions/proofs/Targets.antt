@@ -1,18 +1,18 @@
 -- A target names a path exactly where it is spelled as that path is.
-use Rattle.std.specs.Prelude.{◌≡◌, ℕ, ◌+◌, ◌-◌, ◌&&◌, Bool, true, false, List, ◌∷◌, ◌++◌, length, take, drop, cond, codes, nat_le, not, slice_index, ◌==◌, Option, Some, None, option_map, refl}
-use Rattle.std.specs.List.{list_all}
+use Rattle.std.specs.Prelude.{◌≡◌, ℕ, ◌+◌, ◌-◌, ◌&&◌, Bool, true, false, List, [], ◌∷◌, ◌++◌, length, take, drop, cond, codes, nat_le, nat_lt, not, slice_index, ◌==◌, Option, Some, None, option_map, option_and_then, refl}
+use Rattle.std.specs.List.{list_all, position, position_or_len}
 use Rattle.std.specs.Option.{option_map_or}
 use Rattle.std.specs.Char.{is_ascii_digit}
 use Rattle.std.specs.Str.{bytes_eq}
 use Rattle.std.proofs.Common.{sym, subst, ap, ap₂, ◌∙◌, inl, inr, take-append-drop, length-append, arith}
-use Rattle.std.proofs.Math.Seq.{drop-append_seam, drop-append-add, take-append_seam}
-use Rattle.std.proofs.lemmas.Bool.{and_parts, both_ways, cases_Bool}
-use Rattle.std.proofs.lemmas.List.Folds.{list_all-append}
+use Rattle.std.proofs.Math.Seq.{drop-append_seam, take-append_seam}
+use Rattle.std.proofs.lemmas.Bool.{and_parts, both_ways, cases_Bool, eqb-true, le-ltb, lt-ltb}
+use Rattle.std.proofs.lemmas.List.{append-nil}
 use Rattle.std.proofs.lemmas.Slice.Eq.{bytes_eq-Decides}
 use Rattle.run_plan.specs.SmallText.{found_if, is_number, number_of, runner_name_of}
 use Rattle.webhook_sessions.specs.declared.path.Path.{Path}
-use Rattle.webhook_sessions.specs.declared.path.Path.TheVariants.{Events, Run, Body, Cancel, Lost}
-use Rattle.webhook_sessions.specs.Paths.{IsTargetOf, after_front, before_end, path_of, run_path, runner_path}
+use Rattle.webhook_sessions.specs.declared.path.Path.TheVariants.{Events, Run, Body, Cancel, Attempt, Lost}
+use Rattle.webhook_sessions.specs.Paths.{IsTargetOf, after_front, at_slash, before_end, part_of_run, path_of, run_path, runner_path}
 
 none_is_some : {X : Type 0} (x : X) → None ≡ Some x → ⊥
 none_is_some x e = cc
@@ -44,18 +44,48 @@ mapped : {X : Type 0} (f : X → Path) (o : Option X) (p : Path) → option_map 
 mapped f None p e = absurd (none_is_some p e)
 mapped f (Some x) p e = (x, refl, same_some (f x) p e)
 
-run_is : (rest : List ℕ) (body cancel : Option (List ℕ)) (p : Path)
-    → before_end (codes "/body") rest ≡ body → before_end (codes "/cancel") rest ≡ cancel
-    → option_map_or (λ run. option_map Body (number_of run)) body
-    (option_map_or (λ run. option_map Cancel (number_of run)) cancel (option_map Run (number_of rest))) ≡ Some p
+-- what stands before a slash and all from it on are the bytes
+parts_are : (bytes : List ℕ) (place : Option ℕ) (parts : List ℕ × List ℕ)
+    → option_map (λ n. (take n bytes, drop n bytes)) place ≡ Some parts → bytes ≡ parts.0 ++ parts.1
+parts_are bytes None parts e = absurd (none_is_some parts e)
+parts_are bytes (Some n) parts e =
+    subst (λ q. bytes ≡ q.0 ++ q.1) (same_some (take n bytes, drop n bytes) parts e) (sym (take-append-drop n bytes))
+
+attempt_is : (text rest : List ℕ) (run : ℕ) (behind : Option (List ℕ)) (p : Path) → number_of text ≡ Some run
+    → after_front (codes "/attempts/") rest ≡ behind
+    → option_map (λ attempt. Attempt (record { run = run; attempt = attempt })) (option_and_then number_of behind) ≡ Some p
+    → IsTargetOf p (codes "/runs/" ++ text ++ rest)
+attempt_is text rest run None p number b e = absurd (none_is_some p e)
+attempt_is text rest run (Some digits) p number b e =
+    let m = mapped (λ attempt. Attempt (record { run = run; attempt = attempt })) (number_of digits) p e in
+    subst (λ q. IsTargetOf q (codes "/runs/" ++ text ++ rest)) m.2
+    (text, digits, number, m.1, ap (λ l. codes "/runs/" ++ text ++ l) (front_is (codes "/attempts/") rest digits b))
+
+part_is : (text rest : List ℕ) (run : ℕ) (body cancel : Bool) (p : Path) → number_of text ≡ Some run
+    → bytes_eq rest (codes "/body") ≡ body → bytes_eq rest (codes "/cancel") ≡ cancel
+    → cond body (Some (Body run)) (cond cancel (Some (Cancel run))
+    (option_map (λ attempt. Attempt (record { run = run; attempt = attempt })) (option_and_then number_of (after_front (codes "/attempts/") rest))))
+    ≡ Some p
+    → IsTargetOf p (codes "/runs/" ++ text ++ rest)
+part_is text rest run true cancel p number b c e =
+    subst (λ q. IsTargetOf q (codes "/runs/" ++ text ++ rest)) (same_some (Body run) p e)
+    (text, number, ap (λ l. codes "/runs/" ++ text ++ l) ((bytes_eq-Decides rest (codes "/body")).0 b))
+part_is text rest run false true p number b c e =
+    subst (λ q. IsTargetOf q (codes "/runs/" ++ text ++ rest)) (same_some (Cancel run) p e)
+    (text, number, ap (λ l. codes "/runs/" ++ text ++ l) ((bytes_eq-Decides rest (codes "/cancel")).0 c))
+part_is text rest run false false p number b c e = attempt_is text rest run _ p number refl e
+
+numbered : (text rest : List ℕ) (number : Option ℕ) (p : Path) → number_of text ≡ number
+    → option_and_then (λ run. part_of_run run rest) number ≡ Some p → IsTargetOf p (codes "/runs/" ++ text ++ rest)
+numbered text rest None p is e = absurd (none_is_some p e)
+numbered text rest (Some run) p is e = part_is text rest run _ _ p is refl refl e
+
+run_is : (rest : List ℕ) (parts : Option (List ℕ × List ℕ)) (p : Path) → at_slash rest ≡ parts
+    → option_map_or (λ q. option_and_then (λ run. part_of_run run q.1) (number_of q.0)) parts (option_map Run (number_of rest)) ≡ Some p
     → IsTargetOf p (codes "/runs/" ++ rest)
-run_is rest (Some text) cancel p body other e =
-    let m = mapped Body (number_of text) p e in
-    subst (λ q. IsTargetOf q (codes "/runs/" ++ rest)) m.2 (text, m.1, ap (λ l. codes "/runs/" ++ l) (end_is (codes "/body") rest text body))
-run_is rest None (Some text) p none cancel e =
-    let m = mapped Cancel (number_of text) p e in
-    subst (λ q. IsTargetOf q (codes "/runs/" ++ rest)) m.2 (text, m.1, ap (λ l. codes "/runs/" ++ l) (end_is (codes "/cancel") rest text cancel))
-run_is rest None None p none nor e =
+run_is rest (Some parts) p slash e =
+    subst (λ l. IsTargetOf p (codes "/runs/" ++ l)) (sym (parts_are rest _ parts slash)) (numbered parts.0 parts.1 _ p refl e)
+run_is rest None p none e =
     let m = mapped Run (number_of rest) p e in
     subst (λ q. IsTargetOf q (codes "/runs/" ++ rest)) m.2 (rest, m.1, refl)
 
@@ -72,7 +102,7 @@ path_is : (target : List ℕ) (events : Bool) (run runner : Option (List ℕ)) (
 path_is target true run runner p same r n e =
     subst (λ q. IsTargetOf q target) (same_some Events p e) ((bytes_eq-Decides target (codes "/events")).0 same)
 path_is target false (Some rest) runner p other r n e =
-    subst (IsTargetOf p) (sym (front_is (codes "/runs/") target rest r)) (run_is rest _ _ p refl refl e)
+    subst (IsTargetOf p) (sym (front_is (codes "/runs/") target rest r)) (run_is rest _ p refl e)
 path_is target false None (Some rest) p other r n e =
     subst (IsTargetOf p) (sym (front_is (codes "/runners/") target rest n)) (runner_is rest _ p refl e)
 path_is target false None None p other r n e = absurd (none_is_some p e)
@@ -88,21 +118,43 @@ digits_of text n e =
     let outer = and_parts (nat_le 1 (length text) && nat_le (length text) 9 && list_all is_ascii_digit text) (not (slice_index text 0 == 48)) test in
     (and_parts (nat_le 1 (length text) && nat_le (length text) 9) (list_all is_ascii_digit text) outer.0).1
 
-no_slash : (text : List ℕ) (k : ℕ) (end : List ℕ) → list_all is_ascii_digit text ≡ true → bytes_eq (drop k text) (47 ∷ end) ≡ false
-no_slash text k end digits =
-    elim (cases_Bool (bytes_eq (drop k text) (47 ∷ end))) [
-      | inl same ↦
-          let whole = sym (list_all-append is_ascii_digit (take k text) (drop k text)) ∙ ap (list_all is_ascii_digit) (take-append-drop k text) ∙ digits in
-          let back = (and_parts (list_all is_ascii_digit (take k text)) (list_all is_ascii_digit (drop k text)) whole).1 in
-          let slash = ap (list_all is_ascii_digit) (sym ((bytes_eq-Decides (drop k text) (47 ∷ end)).0 same)) ∙ back in
-          absurd (both_ways _ refl slash)
+-- a digit is no slash, so the first slash stands behind the digits
+no_slash_is_a_digit : (b : ℕ) → is_ascii_digit b ≡ true → (b == 47) ≡ false
+no_slash_is_a_digit b digit =
+    elim (cases_Bool (b == 47)) [
+      | inl same ↦ absurd (both_ways _ refl (ap is_ascii_digit (sym (eqb-true b 47 same)) ∙ digit))
       | inr other ↦ other
     ]
 
-no_end : (text end : List ℕ) → list_all is_ascii_digit text ≡ true → before_end (47 ∷ end) text ≡ None
-no_end text end digits =
-    let place = length text - length (47 ∷ end) in
-    ap (λ b. found_if b (take place text)) (no_slash text place end digits)
+abbrev first_slash : List ℕ → ℕ
+first_slash = position_or_len (λ b. b == 47)
+
+slash_behind : (text rest : List ℕ) → list_all is_ascii_digit text ≡ true → first_slash (text ++ rest) ≡ length text + first_slash rest
+slash_behind [] rest digits = omega arith
+slash_behind (b ∷ text) rest digits =
+    let parts = and_parts (is_ascii_digit b) (list_all is_ascii_digit text) digits in
+    let behind = slash_behind text rest parts.1 in
+    ap (λ c. cond (not c) (1 + first_slash (text ++ rest)) 0) (no_slash_is_a_digit b parts.0) ∙ omega (arith, behind)
+
+position_by : (bytes : List ℕ) (n : ℕ) (within : Bool) → first_slash bytes ≡ n → nat_lt n (length bytes) ≡ within
+    → position (λ b. b == 47) bytes ≡ cond within (Some n) None
+position_by bytes n within e w = ap (λ k. cond (nat_lt k (length bytes)) (Some k) None) e ∙ ap (λ c. cond c (Some n) None) w
+
+no_slash : (text : List ℕ) → list_all is_ascii_digit text ≡ true → at_slash text ≡ None
+no_slash text digits =
+    let behind = slash_behind text [] digits in
+    let n = length text in
+    let place : first_slash text ≡ n = ap first_slash (sym (append-nil text)) ∙ behind ∙ omega arith in
+    ap (option_map (λ k. (take k text, drop k text))) (position_by text n false place (le-ltb n n (omega arith)))
+
+slash_of : (text rest : List ℕ) → list_all is_ascii_digit text ≡ true → at_slash (text ++ 47 ∷ rest) ≡ Some (text, 47 ∷ rest)
+slash_of text rest digits =
+    let all = text ++ 47 ∷ rest in
+    let n = length text in
+    let place : first_slash all ≡ n = slash_behind text (47 ∷ rest) digits ∙ omega arith in
+    let long = length-append text (47 ∷ rest) in
+    ap (option_map (λ k. (take k all, drop k all))) (position_by all n true place (lt-ltb n (length all) (omega arith)))
+    ∙ ap₂ (λ a b. Some (a, b)) (take-append_seam text (47 ∷ rest)) (drop-append_seam text (47 ∷ rest))
 
 end_of : (end text : List ℕ) → bytes_eq end end ≡ true → before_end end (text ++ end) ≡ Some text
 end_of end text same =
@@ -111,31 +163,24 @@ end_of end text same =
     ap (λ n. found_if (bytes_eq (drop n (text ++ end)) end) (take n (text ++ end))) place
     ∙ ap₂ (λ d t. found_if (bytes_eq d end) t) (drop-append_seam text end) (take-append_seam text end) ∙ ap (λ b. found_if b text) same
 
-cancel_is_no_body : (text : List ℕ) → before_end (codes "/body") (text ++ codes "/cancel") ≡ None
-cancel_is_no_body text =
-    let all = text ++ codes "/cancel" in
-    let long = length-append text (codes "/cancel") in
-    let place : length all - 5 ≡ length text + 2 = omega arith in
-    ap (λ n. found_if (bytes_eq (drop n all) (codes "/body")) (take n all)) place
-    ∙ ap (λ d. found_if (bytes_eq d (codes "/body")) (take (length text + 2) all)) (drop-append-add text (codes "/cancel") 2)
+run_alone : (text : List ℕ) (n : ℕ) → number_of text ≡ Some n → run_path text ≡ Some (Run n)
+run_alone text n number =
+    ap (λ s. option_map_or (λ q. option_and_then (λ run. part_of_run run q.1) (number_of q.0)) s (option_map Run (number_of text)))
+    (no_slash text (digits_of text n number)) ∙ ap (option_map Run) number
 
-run_by : (rest : List ℕ) (body cancel : Option (List ℕ)) → before_end (codes "/body") rest ≡ body → before_end (codes "/cancel") rest ≡ cancel
-    → run_path rest
-    ≡ option_map_or (λ run. option_map Body (number_of run)) body
-    (option_map_or (λ run. option_map Cancel (number_of run)) cancel (option_map Run (number_of rest)))
-run_by rest body cancel b c =
-    ap₂ (λ x y. option_map_or (λ run. option_map Body (number_of run)) x
-    (option_map_or (λ run. option_map Cancel (number_of run)) y (option_map Run (number_of rest)))) b c
+part_by : (text rest : List ℕ) (n : ℕ) → number_of text ≡ Some n → run_path (text ++ 47 ∷ rest) ≡ part_of_run n (47 ∷ rest)
+part_by text rest n number =
+    ap (λ s. option_map_or (λ q. option_and_then (λ run. part_of_run run q.1) (number_of q.0)) s (option_map Run (number_of (text ++ 47 ∷ rest))))
+    (slash_of text rest (digits_of text n number)) ∙ ap (option_and_then (λ run. part_of_run run (47 ∷ rest))) number
 
 spelled : (p : Path) (target : List ℕ) → IsTargetOf p target → path_of target ≡ Some p
 spelled Events target e = ap path_of e
-spelled (Run n) target (text, number, e) =
-    let digits = digits_of text n number in
-    ap path_of e ∙ run_by text None None (no_end text (codes "body") digits) (no_end text (codes "cancel") digits) ∙ ap (option_map Run) number
-spelled (Body n) target (text, number, e) =
-    ap path_of e ∙ run_by (text ++ codes "/body") (Some text) _ (end_of (codes "/body") text refl) refl ∙ ap (option_map Body) number
-spelled (Cancel n) target (text, number, e) =
-    ap path_of e ∙ run_by (text ++ codes "/cancel") None (Some text) (cancel_is_no_body text) (end_of (codes "/cancel") text refl) ∙ ap (option_map Cancel) number
+spelled (Run n) target (text, number, e) = ap path_of e ∙ run_alone text n number
+spelled (Body n) target (text, number, e) = ap path_of e ∙ part_by text (codes "body") n number
+spelled (Cancel n) target (text, number, e) = ap path_of e ∙ part_by text (codes "cancel") n number
+spelled (Attempt a) target (run, attempt, number, second, e) =
+    ap path_of e ∙ part_by run (codes "attempts/" ++ attempt) a.run number
+    ∙ ap (option_map (λ n. Attempt (record { run = a.run; attempt = n }))) second
 spelled (Lost runner) target (name, known, e) =
     ap path_of e ∙ ap (λ o. option_map_or (λ n. option_map Lost (runner_name_of n)) o None) (end_of (codes "/lost") name refl) ∙ ap (option_map Lost) known
 

@@ -10,9 +10,10 @@ use Rattle.httparse.proofs.GrammarLemmas.{ReadsRequest-append, request_unique}
 use Rattle.act_sessions.specs.declared.request.Request.{Request}
 use Rattle.act_sessions.specs.Rules.{IsOne, IsSteady}
 use Rattle.webhook_sessions.specs.declared.fault.Fault.{Fault}
-use Rattle.webhook_sessions.specs.Asking.{body_length, request_after, with_body}
+use Rattle.webhook_sessions.specs.declared.fault.Fault.TheVariants.{BadHead}
+use Rattle.webhook_sessions.specs.Asking.{body_length, request_after, unread, with_body}
 use Rattle.webhook_sessions.specs.Heading.{Heading, heading_of}
-use Rattle.webhook_sessions.specs.Hooks.{BeginsWith, HasBadHead, HookReads, hooks}
+use Rattle.webhook_sessions.specs.Hooks.{BeginsWith, HasBadHead, HookReads, HookWaits, hooks}
 
 bad_head_stays : (bytes more : List ℕ) → HasBadHead bytes → HasBadHead (bytes ++ more)
 bad_head_stays bytes more (inl never) =
@@ -90,3 +91,15 @@ reads_one bytes rest other r s (inr (h, after, head, found)) (inr (k, behind, fr
 
 pub hooks_one : IsOne hooks
 hooks_one = reads_one
+
+-- what waits is no head that is whole, so it is no request with a head
+waits_for_one : (bytes rest : List ℕ) (r : Request Fault) → HookWaits bytes → HookReads bytes r rest → r ≡ unread BadHead
+waits_for_one bytes rest r waits (inl (bad, is, e)) = is
+waits_for_one bytes rest r (inl (none, may, short)) (inr (h, after, head, found)) = absurd (none h after head.reads)
+waits_for_one bytes rest r (inr (k, behind, front, missing)) (inr (h, after, head, found)) =
+    let same = request_unique bytes h k after behind head.reads front.reads in
+    let e = sym missing ∙ ap (λ x. request_after (heading_of x) behind) (sym same.0) ∙ ap (request_after (heading_of h)) (sym same.1) ∙ found in
+    absurd (none_is_some (r, rest) e)
+
+pub hooks_wait : (bytes rest : List ℕ) (r : Request Fault) → hooks.waits bytes → hooks.reads bytes r rest → r ≡ unread BadHead
+hooks_wait = waits_for_one

@@ -1,10 +1,11 @@
 -- What the target of a request names (own). It has to match exactly: with a query it is another one.
-use Rattle.std.specs.Prelude.{◌≡◌, ℕ, ◌-◌, List, ◌++◌, take, drop, length, codes, Option, Some, None, option_map, if◌then◌else◌}
+use Rattle.std.specs.Prelude.{◌≡◌, ℕ, ◌-◌, ◌==◌, List, ◌++◌, take, drop, length, codes, Option, Some, None, option_map, option_and_then, if◌then◌else◌}
+use Rattle.std.specs.List.{position}
 use Rattle.std.specs.Option.{option_map_or}
 use Rattle.std.specs.Str.{bytes_eq}
 use Rattle.run_plan.specs.SmallText.{found_if, number_of, runner_name_of}
 use Rattle.webhook_sessions.specs.declared.path.Path.{Path}
-use Rattle.webhook_sessions.specs.declared.path.Path.TheVariants.{Events, Run, Body, Cancel, Lost}
+use Rattle.webhook_sessions.specs.declared.path.Path.TheVariants.{Events, Run, Body, Cancel, Attempt, Lost}
 
 -- what follows a front of the bytes, where they begin with it
 abbrev pub after_front : List ℕ → List ℕ → Option (List ℕ)
@@ -16,12 +17,22 @@ before_end end bytes =
     let place = length bytes - length end in
     found_if (bytes_eq (drop place bytes) end) (take place bytes)
 
--- behind `/runs/`: RUN`/body`, RUN`/cancel` or RUN
+-- what stands before the first slash, and all from it on
+abbrev pub at_slash : List ℕ → Option (List ℕ × List ℕ)
+at_slash bytes = option_map (λ n. (take n bytes, drop n bytes)) (position (λ b. b == 47) bytes)
+
+-- behind `/runs/RUN`: `/body`, `/cancel` or `/attempts/`ATTEMPT
+abbrev pub part_of_run : ℕ → List ℕ → Option Path
+part_of_run run rest =
+    if bytes_eq rest (codes "/body") then Some (Body run)
+    else (if bytes_eq rest (codes "/cancel") then Some (Cancel run)
+    else option_map (λ attempt. Attempt (record { run = run; attempt = attempt })) (option_and_then number_of (after_front (codes "/attempts/") rest)))
+
+-- behind `/runs/`: RUN, or RUN and what is named of that run
 abbrev pub run_path : List ℕ → Option Path
 run_path rest =
-    option_map_or (λ run. option_map Body (number_of run)) (before_end (codes "/body") rest)
-    (option_map_or (λ run. option_map Cancel (number_of run)) (before_end (codes "/cancel") rest)
-    (option_map Run (number_of rest)))
+    option_map_or (λ parts. option_and_then (λ run. part_of_run run parts.1) (number_of parts.0)) (at_slash rest)
+    (option_map Run (number_of rest))
 
 -- behind `/runners/`: NAME`/lost`
 abbrev pub runner_path : List ℕ → Option Path
@@ -38,6 +49,9 @@ IsTargetOf Events target = target ≡ codes "/events"
 IsTargetOf (Run run) target = (text : List ℕ) × (number_of text ≡ Some run) × (target ≡ codes "/runs/" ++ text)
 IsTargetOf (Body run) target = (text : List ℕ) × (number_of text ≡ Some run) × (target ≡ codes "/runs/" ++ text ++ codes "/body")
 IsTargetOf (Cancel run) target = (text : List ℕ) × (number_of text ≡ Some run) × (target ≡ codes "/runs/" ++ text ++ codes "/cancel")
+IsTargetOf (Attempt a) target =
+    (run attempt : List ℕ) × (number_of run ≡ Some a.run) × (number_of attempt ≡ Some a.attempt)
+    × (target ≡ codes "/runs/" ++ run ++ (codes "/attempts/" ++ attempt))
 IsTargetOf (Lost runner) target = (text : List ℕ) × (runner_name_of text ≡ Some runner) × (target ≡ codes "/runners/" ++ text ++ codes "/lost")
 
 -- the method that a path is asked by: RFC 9110, section 9
@@ -46,4 +60,5 @@ method_of Events = codes "POST"
 method_of (Run run) = codes "GET"
 method_of (Body run) = codes "GET"
 method_of (Cancel run) = codes "POST"
+method_of (Attempt a) = codes "POST"
 method_of (Lost runner) = codes "POST"

@@ -50,6 +50,7 @@ refusal_status e = if is_missing e then 404 else (if ends_by e then 503 else 409
 -- no request asks for what is answered with a lease or with a word to a runner
 abbrev pub reply_status : Reply → ℕ
 reply_status (reply.Created run) = 201
+reply_status (reply.Again a) = 201
 reply_status reply.Ok = 202
 reply_status (reply.Refused e) = refusal_status e
 reply_status r = 200

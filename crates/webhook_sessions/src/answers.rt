@@ -9,7 +9,7 @@ use http::{Method, StatusCode};
 use run_plan::Reply;
 use std::alloc::{AllocError, Global};
 use std::fmt::Write;
-use wf_value::{Refusal, TryCopy};
+use wf_value::{Chars, Refusal};
 
 const PLAIN: &str = "text/plain";
 
@@ -109,7 +109,7 @@ fn reply_content(alloc: Global, reply: &Reply) -> Result<String, Refusal>
     ensures { Gives (λ text. string_bytes text) result (Ok (reply_content reply.now)) }
 {
     match reply {
-        Reply::Body(body) => Ok(body.copy(alloc)?.into_string()),
+        Reply::Body(body) => Ok(Chars::from_str(alloc, body.as_str())?.into_string()),
         _ => {
             let mut content = reply.text(alloc)?.into_string();
             content.push_str("\n")?;

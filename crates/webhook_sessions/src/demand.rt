@@ -63,6 +63,7 @@ fn command_at(
         Path::Run(run) => Ok(Demand::Command(Command::Look(run))),
         Path::Body(run) => Ok(Demand::Command(Command::Fetch(run))),
         Path::Cancel(run) => Ok(Demand::Command(Command::Cancel(run))),
+        Path::Attempt(attempt) => Ok(Demand::Command(Command::Rerun(attempt))),
         Path::Lost(runner) => Ok(Demand::Command(Command::Lost(runner))),
     }
 }

@@ -1,10 +1,10 @@
-ghost use Rattle.std.specs.Prelude.{◌≡◌, Ok, Some, None, option_map};
+ghost use Rattle.std.specs.Prelude.{◌≡◌, ◌==◌, Ok, Some, None, option_map, position};
 ghost use Rattle.wf_value.specs.Gives.{Gives};
 ghost use Rattle.run_plan.specs.SmallText.{number_of};
-ghost use Rattle.webhook_sessions.specs.Paths.{after_front, before_end, method_of, path_of, run_path, runner_path};
+ghost use Rattle.webhook_sessions.specs.Paths.{after_front, at_slash, before_end, method_of, part_of_run, path_of, run_path, runner_path};
 
 use http::Method;
-use run_plan::{Number, RunnerName};
+use run_plan::{Attempt, Number, RunnerName};
 use std::alloc::Global;
 use wf_value::Refusal;
 
@@ -19,6 +19,8 @@ pub enum Path {
     Body(Number),
     /// `/runs/RUN/cancel`
     Cancel(Number),
+    /// `/runs/RUN/attempts/ATTEMPT`
+    Attempt(Attempt),
     /// `/runners/NAME/lost`
     Lost(RunnerName),
 }
@@ -46,7 +48,7 @@ impl Path {
     {
         match self {
             Path::Run(_) | Path::Body(_) => Method::GET,
-            Path::Events | Path::Cancel(_) | Path::Lost(_) => Method::POST,
+            Path::Events | Path::Cancel(_) | Path::Attempt(_) | Path::Lost(_) => Method::POST,
         }
     }
 }
@@ -65,16 +67,43 @@ fn before_end<'a>(end: &[u8], bytes: &'a [u8]) -> Option<&'a [u8]>
     bytes.strip_suffix(end)
 }
 
+fn place_of_slash(bytes: &[u8]) -> Option<usize>
+    ensures { result ≡ position (λ b. b == 47) bytes.now }
+{
+    bytes.iter().position(|b| *b == b'/')
+}
+
+/// What stands before the first slash, and all from it on.
+fn at_slash(bytes: &[u8]) -> Option<(&[u8], &[u8])>
+    ensures { option_map (λ p. (p.0.now, p.1.now)) result ≡ at_slash bytes.now }
+{
+    match place_of_slash(bytes) {
+        Some(place) => Some((&bytes[..place], &bytes[place..])),
+        None => None,
+    }
+}
+
+/// What is named of a run, by what stands behind its number.
+fn part_of_run(run: Number, rest: &[u8]) -> Option<Path>
+    ensures { result ≡ part_of_run run rest.now }
+{
+    if rest == b"/body".as_slice() {
+        return Some(Path::Body(run));
+    }
+    if rest == b"/cancel".as_slice() {
+        return Some(Path::Cancel(run));
+    }
+    let attempt = Number::of(after_front(b"/attempts/", rest)?)?;
+    Some(Path::Attempt(Attempt { run, attempt }))
+}
+
 fn run_path(rest: &[u8]) -> Option<Path>
     ensures { result ≡ run_path rest.now }
 {
-    if let Some(run) = before_end(b"/body", rest) {
-        return Number::of(run).map(Path::Body);
+    match at_slash(rest) {
+        Some((run, rest)) => part_of_run(Number::of(run)?, rest),
+        None => Number::of(rest).map(Path::Run),
     }
-    if let Some(run) = before_end(b"/cancel", rest) {
-        return Number::of(run).map(Path::Cancel);
-    }
-    Number::of(rest).map(Path::Run)
 }
 
 fn runner_path(alloc: Global, rest: &[u8]) -> Result<Option<Path>, Refusal>

@@ -1,5 +1,5 @@
 ghost use Rattle.std.specs.Prelude.{◌≡◌, ◌≢◌, IfErr, IfOk};
-ghost use Rattle.act_sessions.specs.Ends.{Ends};
+ghost use Rattle.act_sessions.specs.Ends.{Ends, EndsOverSome};
 ghost use Rattle.act_sessions.specs.Session.{moment, start, IsCut, IsDone};
 ghost use Rattle.act_sessions.specs.Told.{AreAsked, told_by};
 ghost use Rattle.webhook_sessions.specs.Hooks.{hooks};
@@ -34,6 +34,9 @@ impl Session {
             × AreAsked (A.asked answerer.old) (A.asked answerer.new) (told_by t)) }
         ensures stopped { IfErr result (λ f. (f.transcript.ending ≢ Ending.Done) × Ends hooks (R.remaining reader.old) f.transcript
             × AreAsked (A.asked answerer.old) (A.asked answerer.new) (told_by f.transcript)) }
+        // And for whoever knows nothing of them.
+        ensures heard { IfOk result (EndsOverSome hooks) }
+        ensures heard_before { IfErr result (λ f. EndsOverSome hooks f.transcript) }
     {
         act_sessions::run::<Hooks, R, W, A>(alloc, reader, writer, answerer)
     }

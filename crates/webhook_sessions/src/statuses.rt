@@ -69,7 +69,7 @@ pub fn reply_status(reply: &Reply) -> StatusCode
     ensures { result ≡ reply_status reply.now }
 {
     match reply {
-        Reply::Created(_) => StatusCode::CREATED,
+        Reply::Created(_) | Reply::Again(_) => StatusCode::CREATED,
         Reply::Ok => StatusCode::ACCEPTED,
         Reply::Refused(refusal) => refusal_status(refusal),
         _ => StatusCode::OK,

@@ -14,8 +14,9 @@ returns-in_err-request g c from input begin goes =
     let i2 = g.R.Read.remaining c.await_request.new.reader in
     let mid = moment (g.W.Write.contents c.args.writer.now) (g.A.Answer.asked c.args.answerer.now) c.args.transcript.now in
     let is = err_from_is_err_and c.from_residual.result c.from_residual.ensures.1 in
-    let heard : Awaits p i1 i2 c.args.buffer.now.items c.await_request.new.buffer.items (Err is.0) = c.in_err-request.ensures in
-    rw is.1 (round_waiting p g.met.P.Protocol.steady from input i1 i2 begin mid c.args.buffer.now.items c.args.count c.await_request.new.buffer.items is.0 goes heard)
+    let e = c.in_err-request.field-0.0 in
+    let heard : Awaits p i1 i2 c.args.buffer.now.items c.await_request.new.buffer.items (Err e) = c.in_err-request.ensures in
+    rw (is.1, is.2) (round_waiting p g.met.P.Protocol.steady from input i1 i2 begin mid c.args.buffer.now.items c.args.count c.await_request.new.buffer.items e goes heard)
 
 pub returns-in_err-last-in-Some : goal.returns-in_err-last-in-Some
 returns-in_err-last-in-Some g c from input begin goes =

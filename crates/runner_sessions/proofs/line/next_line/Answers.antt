@@ -27,7 +27,8 @@ returns-in-None c =
     let brief : length (take m bytes) < 512 = grind (arith, nat_tests) in
     let all : take m bytes ≡ bytes = let l = length-take m bytes in take_all m bytes (omega arith) in
     let none = nowhere (take m bytes) found in
-    (subst HasNoFeed all none, let l = length-take m bytes in omega arith)
+    let few : length bytes < 512 = let l = length-take m bytes in omega arith in
+    ((subst HasNoFeed all none, few), few)
 
 pub returns-in-None-2 : goal.returns-in-None-2
 returns-in-None-2 c =
