@@ -67,6 +67,12 @@ group_of_that_run runs r x event number attempt at same count same_attempt =
     ∙ ap (λ a. run_group (told x.admitted (run_number (events runs) r x.admitted) a)) same_attempt
     ∙ sym (ap (option_and_then run_group) (run_told runs r x at))
 
+pub number_of_that_run : (runs : List RunState) (r : ℕ) (x : RunState) (event : Admitted) (number : ℕ) → run_at runs r ≡ Some x
+    → event ≡ x.admitted → Some number ≡ option_map (run_number (events runs) r) (slice_get (events runs) r)
+    → number ≡ run_number (events runs) r event
+number_of_that_run runs r x event number at same count =
+    same_Some number (run_number (events runs) r x.admitted) (count ∙ numbered runs r x at) ∙ ap (run_number (events runs) r) (sym same)
+
 -- ---- of a leg
 
 -- a leg that its job's plan has not asks for no group

@@ -62,7 +62,7 @@ plan_in : (p : LegPlace) (all : List Admitted) (o : Option RunState)
 plan_in p all None = refl
 plan_in p all (Some run) = job_told p run.admitted run.attempt all (direct_needs run p.job) (slice_get (plan_of run.admitted.body) p.job)
 
-plan_told : (runs : List RunState) (p : LegPlace) → plan_at runs p.run p.job ≡ option_map (λ f. f.job) (facts_at runs p)
+pub plan_told : (runs : List RunState) (p : LegPlace) → plan_at runs p.run p.job ≡ option_map (λ f. f.job) (facts_at runs p)
 plan_told runs p =
     plan_in p (take (p.run + 1) (events runs)) (run_at runs p.run) ∙ ap (option_map (λ (f : LegFacts). f.job)) (sym (facts_are runs p))
 

@@ -24,6 +24,7 @@ pub mod JobResult
 pub mod KeptBack
 pub mod KeptLabels
 pub mod KnownSays
+pub mod LabelsTold
 pub mod LeaseReads
 pub mod LegFacts
 pub mod LegReads
@@ -33,6 +34,7 @@ pub mod Lowered
 pub mod MarkedRuns
 pub mod Meant
 pub mod NeedsSettled
+pub mod NextAttempt
 pub mod NoneActive
 pub mod NoneReady
 pub mod OneAfterAnother

@@ -2,8 +2,9 @@
 use Rattle.std.specs.Prelude.{◌≡◌, ℕ, zero, suc, ◌+◌, ◌<◌, List, [], ◌∷◌, ◌++◌, length, count_by, Some, option_map, slice_get, slice_set}
 use Rattle.std.specs.Prelude.{refl}
 use Rattle.std.specs.Fmt.{decimal}
-use Rattle.std.proofs.Common.{arith, ap, sym, subst, ◌∙◌, get_or}
-use Rattle.std.proofs.lemmas.List.{length-append, length-map, map-append}
+use Rattle.std.proofs.Common.{arith, ap, inl, inr, sym, subst, ◌∙◌, get_or}
+use Rattle.std.proofs.lemmas.Bool.{cases_eq}
+use Rattle.std.proofs.lemmas.List.{length-append, length-map, length-set, map-append}
 use Rattle.std.proofs.lemmas.Option.{same_Some, slice_get_within}
 use Rattle.run_plan.specs.Admitted.{Admitted}
 use Rattle.workflow_runs.specs.Asks.{AreBound, RunSays}
@@ -18,10 +19,10 @@ use Rattle.workflow_runs.specs.declared.asks.RunBindings.{RunBindings}
 use Rattle.workflow_runs.specs.declared.runs.index.Index.{Index}
 use Rattle.workflow_runs.specs.declared.runs.marks.RunMarks.{RunMarks}
 use Rattle.workflow_runs.proofs.Binding.{one_more as one_more_bound}
-use Rattle.workflow_runs.proofs.BoundSays.{run_told}
+use Rattle.workflow_runs.proofs.BoundSays.{facts_of_run, run_told}
 use Rattle.workflow_runs.proofs.GroupStays.{run_facts_stay}
 use Rattle.workflow_runs.proofs.LegFacts.{attempt_at}
-use Rattle.workflow_runs.proofs.MarkedRuns.{marks_after}
+use Rattle.workflow_runs.proofs.MarkedRuns.{marks_after, set_other}
 use Rattle.workflow_runs.proofs.RunNumbers.{events_kept, length_kept, number_at, one_more, still_numbered}
 
 facts_same : (runs next : List RunState) (r : ℕ) → events next ≡ events runs → attempt_at next r ≡ attempt_at runs r
@@ -158,3 +159,50 @@ all_added runs run numbers kept number asked room are is says =
     let numbered = subst (λ (n : ℕ). AreNumbered (runs ++ run ∷ []) (numbers ++ n ∷ [])) (sym is)
     (one_more runs run numbers count room are.0 refl) in
     (numbered, added_bound runs run numbers number are.0 numbered kept asked are.1 says)
+
+-- ---- a run in its next attempt
+
+set_here : {X : Type 0} (xs : List X) (r : ℕ) (y : X) → r < length xs → slice_get (slice_set xs r y) r ≡ Some y
+set_here [] r y lt = absurd (omega arith)
+set_here (z ∷ xs) zero y lt = refl
+set_here (z ∷ xs) (suc r) y lt = set_here xs r y (omega arith)
+
+-- what is asked in it is put in the place of what was asked before
+bound_again : (xs : List RunState) (kept : List RunBindings) (r : ℕ) (x y : RunState) (asked : RunBindings) → r < length xs
+    → x ≡ get_or xs r x → y.admitted ≡ x.admitted → RunSays (facts_of_run xs r y) asked → AreBound xs kept
+    → AreBound (slice_set xs r y) (slice_set kept r asked)
+bound_again xs kept r x y asked lt is same says are =
+    let next = slice_set xs r y in
+    let stay : events next ≡ events xs = events_kept xs r x y lt is same in
+    let told : run_facts_at next r ≡ Some (facts_of_run xs r y) =
+    run_told next r y (set_here xs r y lt)
+    ∙ ap (λ (es : List Admitted). Some (record (facts_of_run xs r y) { run_number = decimal (run_number es r y.admitted) })) stay in
+    record {
+      as_many = omega (arith, length-set kept r asked, length_kept xs r y, are.as_many);
+      each = (λ k run groups of_run is_kept.
+          elim (cases_eq k r) [
+            | inl here ↦
+                let facts = same_Some (facts_of_run xs r y) run (sym told ∙ ap (run_facts_at next) (sym here) ∙ of_run) in
+                let group = same_Some asked groups
+                (sym (set_here kept r asked (omega (arith, lt, are.as_many))) ∙ ap (slice_get (slice_set kept r asked)) (sym here) ∙ is_kept) in
+                subst (λ (f : RunFacts). RunSays f groups) facts (subst (RunSays (facts_of_run xs r y)) group says)
+            | inr other ↦
+                are.each k run groups
+                (sym (facts_same xs next k stay (ap (option_map (λ (w : RunState). w.attempt)) (set_other xs r k y other))) ∙ of_run)
+                (sym (set_other kept r k asked other) ∙ is_kept)
+          ]);
+    }
+
+pub kept_again : (xs : List RunState) (numbers : List ℕ) (kept : List RunBindings) (index : Index) (marks marks' : RunMarks) (r : ℕ)
+    (x y : RunState) (asked : RunBindings) → r < length xs → x ≡ get_or xs r x → y.admitted ≡ x.admitted
+    → RunSays (facts_of_run xs r y) asked → Stirs r (length xs) marks marks' → RunsAreKept xs numbers kept index marks
+    → RunsAreKept (slice_set xs r y) numbers (slice_set kept r asked) index marks'
+kept_again xs numbers kept index marks marks' r x y asked lt is same says stirs are =
+    let stay : events (slice_set xs r y) ≡ events xs = events_kept xs r x y lt is same in
+    record {
+      numbered = still_numbered xs numbers r x y lt is same are.numbered;
+      bound = bound_again xs kept r x y asked lt is same says are.bound;
+      found = subst (λ (es : List Admitted). FindsFirst es index.places.places) (sym stay) are.found;
+      counted = subst (λ (es : List Admitted). AreCounted es index.counts.counts) (sym stay) are.counted;
+      marked = marks_after xs y marks marks' r stirs are.marked;
+    }

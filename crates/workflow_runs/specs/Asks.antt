@@ -1,4 +1,4 @@
--- What a run and its legs ask, of concurrency groups and of runners, bound when the run is admitted (own).
+-- What a run and its legs ask, of concurrency groups and of runners, bound when an attempt of the run begins (own).
 use Rattle.std.specs.Prelude.{◌≡◌, ℕ, List, length, Option, Some, option_and_then, slice_get}
 use Rattle.wf_reader.specs.Event.{event_of}
 use Rattle.run_plan.specs.PlanOf.{plan_of}

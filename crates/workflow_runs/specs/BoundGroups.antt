@@ -1,6 +1,6 @@
--- What runs and legs ask of concurrency groups, bound when a run is admitted: by then all that their templates use is known, but for the
--- results of the jobs that a leg's job needs. What was bound says, by any results, the group and the flag that the templates say. From
--- then on groups are compared without memory (own).
+-- What runs and legs ask of concurrency groups, bound when an attempt of a run begins: by then all that their templates use is known, but
+-- for the results of the jobs that a leg's job needs. What was bound says, by any results, the group and the flag that the templates say.
+-- From then on groups are compared without memory (own).
 use Rattle.std.specs.Prelude.{◌≡◌, ℕ, ◌&&◌, List, [], ◌∷◌, filter_map, find, Bool, codes, Option, Some, None, option_map}
 use Rattle.std.specs.Prelude.{slice_get, if◌then◌else◌}
 use Rattle.std.specs.List.{slice_index_or}

@@ -1,5 +1,5 @@
--- The labels that a leg asks for, where they are known when its run is admitted: where no result of a job is asked for, and there are no
--- more and no longer ones than a runner's. A claim compares these and looks nothing up (own).
+-- The labels that a leg asks for, where they are known when an attempt of its run begins: where no result of a job is asked for, and there
+-- are no more and no longer ones than a runner's. A claim compares these and looks nothing up (own).
 use Rattle.std.specs.Prelude.{◌≡◌, ◌&&◌, ℕ, List, map, Bool, true, false, length, nat_eq, nat_le, not, Option, Some, None, slice_get}
 use Rattle.std.specs.Prelude.{if◌then◌else◌}
 use Rattle.std.specs.List.{flat_map, list_all}

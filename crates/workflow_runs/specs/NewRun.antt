@@ -1,6 +1,7 @@
 -- A run as it is made of an event, whether one is made of an event's delivery already, and a leg as it is handed to a runner.
--- GitHub Docs, "Webhook events and payloads" (X-GitHub-Delivery); leases are own.
-use Rattle.std.specs.Prelude.{ℕ, List, [], map, Bool, false, Some}
+-- GitHub Docs, "Webhook events and payloads" (X-GitHub-Delivery); "Re-running workflows and jobs": a re-run is of the same event, and all
+-- jobs of the run begin anew; "Contexts reference" (github.run_attempt). Leases are own.
+use Rattle.std.specs.Prelude.{ℕ, ◌+◌, List, [], map, Bool, false, Some}
 use Rattle.std.specs.Str.{bytes_eq}
 use Rattle.run_plan.specs.Admitted.{Admitted}
 use Rattle.run_plan.specs.PlanOf.{plan_of}
@@ -28,6 +29,10 @@ run_in_attempt attempt event = record {
 -- the first one
 abbrev pub new_run : Admitted → RunState
 new_run event = run_in_attempt 1 event
+
+-- the next one, of the same event
+abbrev pub again : RunState → RunState
+again run = run_in_attempt (run.attempt + 1) run.admitted
 
 -- a leg that runs under a lease
 abbrev pub leased_leg : ℕ → LegState

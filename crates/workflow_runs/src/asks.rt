@@ -1,5 +1,5 @@
-//! What a run and its legs ask, of concurrency groups and of runners. All that their templates use is known when the run is admitted, but
-//! for the results of the jobs that a leg's job needs: so it is bound then. Groups are compared without memory from then on, and labels
+//! What a run and its legs ask, of concurrency groups and of runners. All that their templates use is known when an attempt of the run begins,
+//! but for the results of the jobs that a leg's job needs: so it is bound then. Groups are compared without memory from then on, and labels
 //! without looking them up.
 
 ghost use Rattle.std.specs.Prelude.{◌≡◌, ℕ, IfOk, Some, length, option_map, slice_get};

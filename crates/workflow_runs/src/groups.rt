@@ -1,5 +1,5 @@
-//! What runs and legs ask of concurrency groups, bound when a run is admitted. GitHub Docs, "Control the concurrency of workflows and
-//! jobs".
+//! What runs and legs ask of concurrency groups, bound when an attempt of a run begins. GitHub Docs, "Control the concurrency of
+//! workflows and jobs".
 
 ghost use Rattle.std.specs.Prelude.{◌≡◌, ℕ, IfOk, Some, length, slice_get};
 ghost use Rattle.wf_value.specs.Gives.{ErrsOnlyByMemory};

@@ -9,6 +9,8 @@ ghost use Rattle.workflow_runs.specs.GroupOf.{asked_of_leg, leg_group};
 ghost use Rattle.workflow_runs.specs.LegContext.{context_of};
 ghost use Rattle.workflow_runs.specs.Words.{is_set, label_texts};
 
+mod label_texts;
+
 use crate::leg_context::LegContext;
 use crate::named_group::named_group;
 use crate::run::Run;

@@ -1,5 +1,5 @@
-//! The labels that a leg asks for, where they are known when its run is admitted: a claim compares them then and looks nothing up. GitHub
-//! Docs, "Workflow syntax for GitHub Actions", `jobs.<job_id>.runs-on`.
+//! The labels that a leg asks for, where they are known when an attempt of its run begins: a claim compares them then and looks nothing up.
+//! GitHub Docs, "Workflow syntax for GitHub Actions", `jobs.<job_id>.runs-on`.
 
 ghost use Rattle.std.specs.Prelude.{◌≡◌, ℕ, IfOk, Ok, Some, length, slice_get};
 ghost use Rattle.std.specs.List.{flat_map, list_all};

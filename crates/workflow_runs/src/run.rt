@@ -1,4 +1,4 @@
-ghost use Rattle.std.specs.Prelude.{◌≡◌, ◌&&◌, None, Ok, is_some, length, map, not, option_map, slice_get, true};
+ghost use Rattle.std.specs.Prelude.{◌≡◌, ◌&&◌, ◌<◌, None, Ok, is_some, length, map, not, option_map, slice_get, true};
 ghost use Rattle.std.specs.List.{list_any, slice_index_or};
 ghost use Rattle.wf_value.specs.Gives.{Gives};
 ghost use Rattle.run_plan.specs.PlanOf.{plan_of};
@@ -9,7 +9,7 @@ ghost use Rattle.workflow_runs.specs.LookAgain.{job_again};
 ghost use Rattle.workflow_runs.specs.MarkedRuns.{has_active_leg, has_ready_leg, has_waiting_leg, is_active, offers_legs, someone_waits};
 ghost use Rattle.workflow_runs.specs.Rules.{opened, settled_as, run_in_phase};
 ghost use Rattle.workflow_runs.specs.Settling.{legs_in_plan};
-ghost use Rattle.workflow_runs.specs.NewRun.{is_delivered_as, new_run, run_in_attempt};
+ghost use Rattle.workflow_runs.specs.NewRun.{again, is_delivered_as, new_run, run_in_attempt};
 ghost use Rattle.workflow_runs.specs.JobResults.{results_so_far};
 ghost use Rattle.workflow_runs.specs.Stops.{cancelled, is_open_at, stopped_run, told_to_stop, with_job_stopped};
 ghost use Rattle.workflow_runs.specs.Stops.{with_jobs_stopped, with_stopped_legs};
@@ -57,6 +57,15 @@ impl Run {
         ensures { Gives (λ r. r) result (Ok (new_run prepared.now)) }
     {
         Run::in_attempt(alloc, prepared, Number::new(1))
+    }
+
+    /// The next attempt of the run, which is waiting, with all its jobs blocked.
+    pub(crate) fn again(&self, alloc: Global) -> Result<Self, Refusal>
+        requires { self.now.attempt < 1000 }
+        ensures { Gives (λ r. r) result (Ok (again self.now)) }
+    {
+        let next = Number::new(self.attempt.get() + 1);
+        Run::in_attempt(alloc, &self.prepared, next)
     }
 
     /// An attempt of a run that is waiting, with all its jobs blocked.

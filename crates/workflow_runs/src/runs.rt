@@ -17,11 +17,13 @@ mod ending;
 mod group_keys;
 mod groups;
 mod index;
+mod label_texts;
 mod labels;
 mod looks;
 mod marks;
 mod of;
 mod places;
+mod rerun;
 mod settling;
 
 use crate::asks::RunBindings;

@@ -33,7 +33,7 @@ impl Runs {
     }
 
     /// A run at a place.
-    fn run(&self, r: usize) -> Option<&Run>
+    pub(super) fn run(&self, r: usize) -> Option<&Run>
         ensures run { option_copied result ≡ run_at self.now r }
         ensures within { IfSome result (λ run. r < 100000) }
     {

@@ -1,4 +1,5 @@
-//! Which legs a runner may get: its labels against those of a leg, as they were bound when the leg's run was admitted, or else looked up.
+//! Which legs a runner may get: its labels against those of a leg, as they were bound when the attempt of the leg's run began, or else looked
+//! up.
 
 ghost use Rattle.std.specs.Prelude.{◌≡◌, ◌<◌, ◌^◌, IfSome, Some};
 ghost use Rattle.workflow_runs.specs.Fitting.{has_label, has_labels, is_served};

@@ -1,0 +1,45 @@
+-- The next attempt of a run, put in its place.
+use Rattle.std.specs.Prelude.{◌≡◌, ℕ, zero, suc, ◌<◌, List, [], ◌∷◌, length, Some, None, option_map, slice_get, slice_set, refl}
+use Rattle.std.proofs.Common.{arith, ap, sym, get_or}
+use Rattle.std.proofs.lemmas.List.{length-set}
+use Rattle.std.proofs.lemmas.Option.{same_Some, slice_get_within}
+use Rattle.workflow_runs.specs.FirstOf.{changed_at}
+use Rattle.workflow_runs.specs.NewRun.{again}
+use Rattle.workflow_runs.specs.Places.{with_run}
+use Rattle.workflow_runs.specs.RunState.{RunState}
+use Rattle.workflow_runs.proofs.Doors.{changed_within}
+use Rattle.workflow_runs.proofs.Optional.{from_map}
+
+pub record NextOf (runs : List RunState) (r : ℕ) (next : RunState) : Type 0 where
+  pub was : RunState
+  pub there : slice_get runs r ≡ Some was
+  pub is : next ≡ again was
+  pub within : r < length runs
+  pub read : was ≡ get_or runs r was
+
+read_there : (xs : List RunState) (r : ℕ) (x : RunState) → slice_get xs r ≡ Some x → x ≡ get_or xs r x
+read_there [] r x e = cc
+read_there (y ∷ xs) zero x e = sym (same_Some y x e)
+read_there (y ∷ xs) (suc r) x e = read_there xs r x e
+
+pub next_of : (runs : List RunState) (r : ℕ) (next : RunState) → Some next ≡ option_map again (slice_get runs r) → NextOf runs r next
+next_of runs r next e =
+    let from = from_map again (slice_get runs r) next (sym e) in
+    record {
+      was = from.value;
+      there = from.is;
+      is = sym from.gives;
+      within = slice_get_within runs r from.value from.is;
+      read = read_there runs r from.value from.is;
+    }
+
+pub put : (runs : List RunState) (r : ℕ) (next : RunState) → NextOf runs r next → slice_set runs r next ≡ with_run r again runs
+put runs r next from = changed_within again runs r from.was next from.within from.read from.is
+
+pub still_within : (runs : List RunState) (r : ℕ) (next : RunState) → NextOf runs r next → r < length (slice_set runs r next)
+still_within runs r next from = omega (arith, length-set runs r next, from.within)
+
+pub not_there : {X : Type 0} (f : X → X) (xs : List X) (r : ℕ) → None ≡ option_map f (slice_get xs r) → changed_at r f xs ≡ xs
+not_there f [] r e = refl
+not_there f (x ∷ xs) zero e = let no : None ≡ Some (f x) = e in cc
+not_there f (x ∷ xs) (suc r) e = ap (λ ys. x ∷ ys) (not_there f xs r e)

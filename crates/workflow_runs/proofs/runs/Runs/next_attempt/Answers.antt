@@ -1,0 +1,24 @@
+use Rattle.std.proofs.Common.{◌≡◌, ◌+◌, ℕ, ap, subst, sym, rules}
+use Rattle.std.specs.Prelude.{Some}
+use Rattle.std.specs.Fmt.{decimal}
+use Rattle.workflow_runs.specs.Asks.{RunSays}
+use Rattle.workflow_runs.specs.NewRun.{again}
+use Rattle.workflow_runs.specs.Places.{run_at}
+use Rattle.workflow_runs.specs.RunState.{RunState}
+use Rattle.workflow_runs.proofs.GroupKeys.{number_of_that_run}
+use Rattle.workflow_runs.proofs.runs.Runs.next_attempt.Goals as goal
+
+pub returns-clause-says : goal.returns-clause-says
+returns-clause-says c =
+    let x = c.in-Some.run'.now in
+    let next = c.in_ok-next.next in
+    let at : run_at c.args.self.now c.args.r ≡ Some x = sym c.in-Some.ensures.run in
+    let is : next ≡ again x = search rules in
+    let number = number_of_that_run c.args.self.now c.args.r x next.admitted c.in-Some-number.number at
+    (ap (λ (y : RunState). y.admitted) is) c.in-Some-number.ensures in
+    subst (λ (n : ℕ). RunSays (record {
+      event = next.admitted;
+      run_id = decimal (c.args.r + 1);
+      run_number = decimal n;
+      run_attempt = decimal next.attempt;
+    }) c.in_ok-asked.asked) number c.in_ok-asked.ensures.says

@@ -1,0 +1,23 @@
+//! The texts of the labels that a leg asks for.
+
+ghost use Rattle.std.specs.Prelude.{◌≡◌, ◌<◌, ◌^◌, [], Ok, unwrap_or};
+ghost use Rattle.wf_value.specs.Gives.{Gives};
+ghost use Rattle.workflow_runs.specs.Words.{labels_at};
+
+use crate::place::LegPlace;
+use crate::runs::Runs;
+use std::alloc::Global;
+use wf_value::{Chars, Refusal, Sequence};
+
+impl Runs {
+    /// None of a leg that is not planned.
+    pub fn label_texts(&self, alloc: Global, place: LegPlace) -> Result<Sequence<Chars>, Refusal>
+        requires leg { place.leg < 2 ^ 63 }
+        ensures { Gives (λ texts. texts) result (Ok (unwrap_or (labels_at self.now place) [])) }
+    {
+        match self.leg_view(place) {
+            Some(leg) => leg.label_texts(alloc),
+            None => Ok(Sequence::new(Vec::new(alloc))),
+        }
+    }
+}

@@ -1,0 +1,81 @@
+//! A run begins again, in its next attempt. GitHub Docs, "Re-running workflows and jobs".
+
+ghost use Rattle.std.specs.Prelude.{◌≡◌, ◌+◌, ◌<◌, IfOk, IfSome, Ok, OnErr, Some, option_map, slice_set, vec_len};
+ghost use Rattle.std.specs.Fmt.{decimal};
+ghost use Rattle.wf_value.specs.Gives.{ErrsOnlyByMemory, Gives};
+ghost use Rattle.workflow_runs.specs.Asks.{RunSays};
+ghost use Rattle.workflow_runs.specs.NewRun.{again};
+ghost use Rattle.workflow_runs.specs.Places.{run_at, with_run};
+ghost use Rattle.workflow_runs.specs.RunNumber.{events, run_number};
+
+use crate::asks::RunBindings;
+use crate::run::Run;
+use crate::runs::Runs;
+use std::alloc::Global;
+use wf_value::Refusal;
+
+impl Runs {
+    /// The run at a place, if there is one, waits in its next attempt, with all its jobs blocked, and asks what its templates say in that
+    /// attempt. All memory is taken first: at an error nothing has changed.
+    pub fn rerun(&mut self, alloc: Global, r: usize) -> Result<(), Refusal>
+        requires { IfSome (run_at self.old r) (λ run. run.attempt < 1000) }
+        ensures again { Gives (λ _. self.new) result (Ok (with_run r again self.old)) }
+        ensures err { OnErr result (self.new ≡ self.old) }
+    {
+        match self.next_attempt(alloc, r)? {
+            Some((next, asked)) => self.put_again(r, next, asked),
+            None => {}
+        }
+        Ok(())
+    }
+
+    /// Puts the next attempt of the run at a place there, with what it asks.
+    fn put_again(&mut self, r: usize, next: Run, asked: RunBindings)
+        requires next { Some next ≡ option_map again (run_at self.old r) }
+        requires says { RunSays (record {
+          event = next.admitted;
+          run_id = decimal (r + 1);
+          run_number = decimal (run_number (events self.old) r next.admitted);
+          run_attempt = decimal next.attempt;
+        }) asked }
+        ensures { self.new ≡ with_run r again self.old }
+    {
+        let count = self.runs.len();
+        self.marks.stir(r, count);
+        put_at(&mut self.runs, r, next);
+        put_at(&mut self.asks, r, asked);
+        self.look_again(r);
+    }
+
+    /// The next attempt of the run at a place, with what it asks.
+    fn next_attempt(&self, alloc: Global, r: usize) -> Result<Option<(Run, RunBindings)>, Refusal>
+        requires { IfSome (run_at self.now r) (λ run. run.attempt < 1000) }
+        ensures err { ErrsOnlyByMemory result }
+        ensures next { IfOk result (λ found. option_map (λ it. it.0) found ≡ option_map again (run_at self.now r)) }
+        ensures says { IfOk result (λ found. IfSome found (λ it. RunSays (record {
+          event = it.0.admitted;
+          run_id = decimal (r + 1);
+          run_number = decimal (run_number (events self.now) r it.0.admitted);
+          run_attempt = decimal it.0.attempt;
+        }) it.1)) }
+    {
+        let Some(run) = self.run(r) else {
+            return Ok(None);
+        };
+        let Some(number) = self.number(r) else {
+            return Ok(None);
+        };
+        let next = run.again(alloc)?;
+        let asked = RunBindings::bind(alloc, &next, r + 1, number)?;
+        Ok(Some((next, asked)))
+    }
+}
+
+/// Puts an item in the place of the one that is there.
+fn put_at<T: Drop>(items: &mut Vec<T>, i: usize, item: T)
+    requires { i < vec_len items.old }
+    ensures items { items.new.items ≡ slice_set items.old.items i item }
+    ensures len { vec_len items.new ≡ vec_len items.old }
+{
+    items[i] = item;
+}
