@@ -50,7 +50,7 @@ attempt_fits runs r attempt event = record {
 }
 
 -- no leg of it is there
-no_lease : (f : LegState → Option ℕ) (event : Admitted) (j l : ℕ)
+pub no_lease : (f : LegState → Option ℕ) (event : Admitted) (j l : ℕ)
     → option_and_then (λ (y : JobState). option_and_then f (slice_get y.legs l)) (slice_get (new_run event).jobs j) ≡ None
 no_lease f event j l =
     ap (option_and_then (λ (y : JobState). option_and_then f (slice_get y.legs l)))

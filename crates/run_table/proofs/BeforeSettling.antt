@@ -1,28 +1,31 @@
 -- What a command makes of the runs of a table before they settle: each run still fits, and each group has at most one holder of each kind.
-use Rattle.std.specs.Prelude.{◌≡◌, ℕ, List, [], ◌∷◌, ◌++◌, true, false, length, Some, None, refl}
+use Rattle.std.specs.Prelude.{◌≡◌, ℕ, ◌-◌, ◌<◌, List, [], ◌∷◌, ◌++◌, true, false, length, Option, Some, None, IfSome, refl}
 use Rattle.std.proofs.Common.{ap, sym, ◌∙◌, subst}
 use Rattle.run_plan.specs.Admitted.{Admitted}
+use Rattle.run_plan.specs.declared.command.Attempt.{Attempt}
 use Rattle.run_plan.specs.declared.command.Done.{Done as Reported}
 use Rattle.workflow_runs.specs.Arrivals.{arrived}
 use Rattle.workflow_runs.specs.Fitting.{first_fit}
 use Rattle.workflow_runs.specs.Groups.{HasOneBeside, HasOneEach, waits}
 use Rattle.workflow_runs.specs.Moves.{Holder}
-use Rattle.workflow_runs.specs.Places.{LegPlace, with_leg, with_run}
+use Rattle.workflow_runs.specs.Places.{LegPlace, run_at, with_leg, with_run}
 use Rattle.run_table.specs.Sound.{IsSound}
 use Rattle.workflow_runs.specs.SoundRuns.{RunsAreSound}
 use Rattle.workflow_runs.specs.StateWords.{leg_has_ended}
-use Rattle.run_table.specs.Step.{entered, report_answer}
+use Rattle.run_table.specs.Step.{entered, entered_again, report_answer, rerun_answer}
 use Rattle.workflow_runs.specs.StopMoves.{with_ended}
-use Rattle.workflow_runs.specs.NewRun.{leased_leg, new_run}
+use Rattle.workflow_runs.specs.NewRun.{again, leased_leg, new_run}
 use Rattle.workflow_runs.specs.Stops.{outcome_of_loss, stopped_run}
 use Rattle.run_table.specs.TableState.{RunnerState, TableState}
 use Rattle.workflow_runs.specs.RunState.{RunState}
 use Rattle.run_table.specs.Turns.{runner_named}
 use Rattle.workflow_runs.specs.declared.phases.LegPhase.{LegPhase}
 use Rattle.run_table.proofs.AdmitKeeps.{all_fit}
+use Rattle.run_table.proofs.BeginsAgain.{BeginsAgain, begins_again}
 use Rattle.run_table.proofs.ClaimKeeps.{fitting_leg}
 use Rattle.run_table.proofs.CommandsOneEach.{ended_one_each, leased_one_each, stopped_one_each}
 use Rattle.run_table.proofs.Entered.{beside_new_run, entered_one_each, entered_settles, new_run_waits}
+use Rattle.run_table.proofs.EnteredAgain.{again_fits, again_waits, beside_again, entered_again_one_each, entered_again_settles}
 use Rattle.workflow_runs.proofs.HoldersKeep.{run_stop_settles}
 use Rattle.workflow_runs.proofs.JobKeeps.{leg_in, leg_stays}
 use Rattle.run_table.proofs.Kept.{kept_from_sound}
@@ -95,6 +98,61 @@ entering_settles {t} {event} {added} {place} e new new_is =
     new_is ∙ ap (λ n. (arrived (Holder.a_run n) added).runs) e.at_end
     ∙ ap (λ xs. (arrived (Holder.a_run (length t.runs)) xs).runs) e.added_is in
     subst MaySettle (sym is) (entered_may_settle t event e.sound)
+
+-- ---- a run begins again
+
+pub again_arrives : (t : TableState) (r attempt : ℕ) → IsSound t → BeginsAgain t.runs r attempt
+    → MayArrive (with_run r again t.runs) (Holder.a_run r)
+again_arrives t r attempt s begins = record {
+  is_pending = again_waits t.runs r begins.was begins.there;
+  sound = sound_runs (with_run r again t.runs) (again_fits t.runs r (table_fits t s));
+  one_beside = beside_again t.runs r (table_fits t s) s.one_of_each_group;
+}
+
+pub again_may_settle : (t : TableState) (r attempt : ℕ) → IsSound t → BeginsAgain t.runs r attempt → MaySettle (entered_again t r).runs
+again_may_settle t r attempt s begins = record {
+  sound = sound_runs (entered_again t r).runs (entered_again_settles t r (table_fits t s)).stay.fit;
+  one_each = entered_again_one_each t r attempt (table_fits t s) begins s.one_of_each_group;
+}
+
+-- the run of an id, at its place
+pub may_begin : (t : TableState) (asked : Attempt) (runs : List RunState) (place : ℕ) → rerun_answer t asked ≡ None → runs ≡ t.runs
+    → place ≡ asked.run - 1 → IfSome (run_at runs place) (λ x. x.attempt < 1000)
+may_begin t asked runs place due runs_are place_is =
+    let begins = begins_again t asked due in
+    subst (λ (o : Option RunState). IfSome o (λ x. x.attempt < 1000))
+    (sym (ap (run_at runs) place_is ∙ ap (λ (rs : List RunState). run_at rs (asked.run - 1)) runs_are ∙ begins.there)) begins.below
+
+-- runs among which it has begun again
+pub record Begun (t : TableState) (asked : Attempt) (begun : List RunState) (place : ℕ) : Type 0 where
+  pub sound : IsSound t
+  pub due : rerun_answer t asked ≡ None
+  pub begun_is : begun ≡ with_run (asked.run - 1) again t.runs
+  pub at_place : place ≡ asked.run - 1
+
+pub has_begun : (t : TableState) (asked : Attempt) (runs begun : List RunState) (place : ℕ) → IsSound t → rerun_answer t asked ≡ None
+    → runs ≡ t.runs → begun ≡ with_run place again runs → place ≡ asked.run - 1 → Begun t asked begun place
+has_begun t asked runs begun place s due runs_are begun_is place_is = record {
+  sound = s;
+  due = due;
+  begun_is = begun_is ∙ ap (λ n. with_run n again runs) place_is ∙ ap (with_run (asked.run - 1) again) runs_are;
+  at_place = place_is;
+}
+
+pub begun_arrives : {t : TableState} {asked : Attempt} {begun : List RunState} {place : ℕ} → Begun t asked begun place
+    → MayArrive begun (Holder.a_run place)
+begun_arrives {t} {asked} {begun} {place} b =
+    subst (λ (xs : List RunState). MayArrive xs (Holder.a_run place)) (sym b.begun_is)
+    (subst (λ (n : ℕ). MayArrive (with_run (asked.run - 1) again t.runs) (Holder.a_run n)) (sym b.at_place)
+    (again_arrives t (asked.run - 1) asked.attempt b.sound (begins_again t asked b.due)))
+
+pub begun_settles : {t : TableState} {asked : Attempt} {begun : List RunState} {place : ℕ} → Begun t asked begun place
+    → (new : List RunState) → new ≡ (arrived (Holder.a_run place) begun).runs → MaySettle new
+begun_settles {t} {asked} {begun} {place} b new new_is =
+    let is : new ≡ (entered_again t (asked.run - 1)).runs =
+    new_is ∙ ap (λ n. (arrived (Holder.a_run n) begun).runs) b.at_place
+    ∙ ap (λ xs. (arrived (Holder.a_run (asked.run - 1)) xs).runs) b.begun_is in
+    subst MaySettle (sym is) (again_may_settle t (asked.run - 1) asked.attempt b.sound (begins_again t asked b.due))
 
 -- ---- a leg is leased
 

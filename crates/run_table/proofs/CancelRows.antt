@@ -19,7 +19,7 @@ use Rattle.workflow_runs.specs.declared.phases.RunPhase.TheVariants as run
 use Rattle.run_table.proofs.StepRows.{open_job}
 use Rattle.run_table.proofs.ViewRows.{claimed, unclaimed}
 
-abbrev run_of : RunPhase → Bool → List JobState → RunState
+abbrev pub run_of : RunPhase → Bool → List JobState → RunState
 run_of phase stopping jobs =
     record {
       admitted = record { delivery = codes "d1"; event = codes "push"; body = codes "{}" };
@@ -29,7 +29,7 @@ run_of phase stopping jobs =
       jobs = jobs;
     }
 
-abbrev cancelled_job : JobState
+abbrev pub cancelled_job : JobState
 cancelled_job = record { phase = job.Settled result.Cancelled; legs = [] }
 
 -- a waiting run ends, all its jobs cancelled, and its flag is not set
@@ -61,7 +61,7 @@ job_goes_on : stopped_where false (open_job (unclaimed leg.Ready ∷ claimed leg
     ≡ open_job (unclaimed leg.Ready ∷ claimed leg.Running ∷ [])
 job_goes_on = refl
 
-abbrev table_of : RunState → List RunnerState → TableState
+abbrev pub table_of : RunState → List RunnerState → TableState
 table_of one runners = record { last_lease = 1; runs = one ∷ []; runners = runners }
 
 cancel_of_no_run : step empty (command.Cancel 1) ≡ (empty, refused NoRun)

@@ -39,7 +39,7 @@ no_leg_of_blocked : (test : LegPhase → Bool) (l : ℕ) (o : Option PlannedJob)
 no_leg_of_blocked test l None = refl
 no_leg_of_blocked test l (Some planned) = refl
 
-no_leg_of_new_run : (test : LegPhase → Bool) (j l : ℕ) (event : Admitted) → run_passes test j l (new_run event) ≡ false
+pub no_leg_of_new_run : (test : LegPhase → Bool) (j l : ℕ) (event : Admitted) → run_passes test j l (new_run event) ≡ false
 no_leg_of_new_run test j l event =
     ap (passes (job_passes test l)) (slice_get-map (λ _. blocked_job) (plan_of event.body) j)
     ∙ no_leg_of_blocked test l (slice_get (plan_of event.body) j)

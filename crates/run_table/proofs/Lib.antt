@@ -1,13 +1,15 @@
 pub mod AdmitKeeps
 pub mod AtWork
 mod BeatRows
+pub mod BeginsAgain
 pub mod BeforeSettling
-mod CancelRows
+pub mod CancelRows
 pub mod ClaimKeeps
 pub mod CommandsOneEach
 mod ContextRows
 pub mod Copied
 pub mod Entered
+pub mod EnteredAgain
 pub mod EnteredRests
 pub mod HeldAtWork
 pub mod JobsText
@@ -17,6 +19,7 @@ pub mod Kept
 pub mod Leased
 pub mod OnTables
 pub mod ReportKeeps
+mod RerunRows
 pub mod RunnerOrder
 pub mod RunnerPut
 pub mod ServedNothing

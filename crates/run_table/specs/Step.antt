@@ -1,18 +1,19 @@
 -- One step of the table: what a command is answered, the table after it, and the moves of groups on the way. A command is either
--- answered from the table as it is, which then stays: the refusals, in the order of their checks, a delivery that is known, a
--- command that is repeated, what a runner asks, and what is looked at. Or it changes the table, which settles then: the moves
--- of its own change come first.
-use Rattle.std.specs.Prelude.{ℕ, ◌+◌, ◌-◌, ◌&&◌, List, [], ◌∷◌, ◌++◌, length, Bool, false, not, is_some, nat_le, Option, Some, None}
+-- answered from the table as it is, which then stays: the refusals, in the order of their checks, a delivery that is known, an
+-- attempt that has begun, a command that is repeated, what a runner asks, and what is looked at. Or it changes the table, which
+-- settles then: the moves of its own change come first.
+use Rattle.std.specs.Prelude.{ℕ, ◌+◌, ◌-◌, ◌&&◌, List, [], ◌∷◌, ◌++◌, length, Bool, true, false, not, is_some, nat_eq, nat_le, Option, Some, None}
 use Rattle.std.specs.Prelude.{option_map, if◌then◌else◌}
 use Rattle.std.specs.List.{position}
 use Rattle.std.specs.Option.{option_or, option_map_or}
 use Rattle.wf_value.specs.declared.code.Code.{Code}
 use Rattle.wf_value.specs.declared.code.Code.TheVariants.{HasLease, LeaseNotHeld, LastCounter, NoRun, NoRunner}
-use Rattle.wf_value.specs.declared.code.Code.TheVariants.{RunCompleted}
-use Rattle.wf_value.specs.declared.refusal.Refusal.TheVariants.{Numbered}
+use Rattle.wf_value.specs.declared.code.Code.TheVariants.{RunCompleted, RunNotCompleted}
+use Rattle.wf_value.specs.declared.refusal.Refusal.TheVariants.{Numbered, Turn}
 use Rattle.run_plan.specs.Admitted.{Admitted}
 use Rattle.run_plan.specs.LastCommand.{is_last_claim, is_last_report}
 use Rattle.run_plan.specs.ReplyText.{carries_text}
+use Rattle.run_plan.specs.declared.command.Attempt.{Attempt}
 use Rattle.run_plan.specs.declared.command.Beat.{Beat as Asked}
 use Rattle.run_plan.specs.declared.command.Claim.{Claim as Claimed}
 use Rattle.run_plan.specs.declared.command.Done.{Done as Reported}
@@ -25,7 +26,7 @@ use Rattle.workflow_runs.specs.Arrivals.{arrived}
 use Rattle.workflow_runs.specs.Fitting.{first_fit, is_lease_stopping}
 use Rattle.workflow_runs.specs.Moves.{Holder, Move, Transition}
 use Rattle.run_table.specs.TableState.{Step, RunnerState, TableState}
-use Rattle.workflow_runs.specs.Places.{LegPlace, run_at, with_leg}
+use Rattle.workflow_runs.specs.Places.{LegPlace, run_at, with_leg, with_run}
 use Rattle.workflow_runs.specs.Settling.{settled, settling_moves}
 use Rattle.workflow_runs.specs.StopMoves.{stop_holder, with_ended, lease_end_moves}
 use Rattle.workflow_runs.specs.Stops.{outcome_of_loss}
@@ -39,7 +40,7 @@ use Rattle.run_plan.specs.declared.last_command.ClaimReply.TheVariants as given
 use Rattle.run_plan.specs.declared.last_command.KeptLease.{KeptLease}
 use Rattle.workflow_runs.specs.declared.phases.RunPhase.{RunPhase}
 use Rattle.workflow_runs.specs.declared.phases.RunPhase.TheVariants as run
-use Rattle.workflow_runs.specs.NewRun.{is_delivered_as, new_run, leased_leg}
+use Rattle.workflow_runs.specs.NewRun.{again, is_delivered_as, new_run, leased_leg}
 
 -- the table without runs and runners
 abbrev pub empty : TableState
@@ -189,6 +190,40 @@ cancelling t id =
 abbrev pub cancelled : TableState → ℕ → Step
 cancelled t id = option_map_or (unchanged t) (cancel_answer t id) (cancelling t id)
 
+-- ---- rerun: GitHub Docs, "Re-running workflows and jobs"; which attempt is asked for, and which is the last, is own
+
+abbrev pub has_completed : RunPhase → Bool
+has_completed run.Waiting = false
+has_completed run.Live = false
+has_completed run.Ended = true
+
+-- what keeps the next attempt of a run from beginning, if anything does
+abbrev pub answer_of_next : RunState → Option Reply
+answer_of_next x =
+    if nat_le last_attempt x.attempt then Some (refused LastCounter)
+    else (if has_completed x.phase then None else Some (refused RunNotCompleted))
+
+-- The attempt at which the run is has begun already. Of the others only the next may begin.
+abbrev pub answer_of_attempt : RunState → Attempt → Option Reply
+answer_of_attempt x asked =
+    if nat_eq asked.attempt x.attempt then Some (reply.Again asked)
+    else (if nat_eq asked.attempt (x.attempt + 1) then answer_of_next x else Some (reply.Refused (Turn x.attempt)))
+
+-- ids count from 1
+abbrev pub rerun_answer : TableState → Attempt → Option Reply
+rerun_answer t asked = option_map_or (λ x. answer_of_attempt x asked) (run_at t.runs (asked.run - 1)) (Some (refused NoRun))
+
+-- the run, in its next attempt, arrives anew in its group
+abbrev pub entered_again : TableState → ℕ → Transition
+entered_again t r = arrived (Holder.a_run r) (with_run r again t.runs)
+
+abbrev pub rerunning : TableState → Attempt → Step
+rerunning t asked =
+    let begun = entered_again t (asked.run - 1) in at_rest_after begun.moves (record t { runs = begun.runs }) (reply.Again asked)
+
+abbrev pub rerun : TableState → Attempt → Step
+rerun t asked = option_map_or (unchanged t) (rerun_answer t asked) (rerunning t asked)
+
 -- ---- lost
 
 abbrev pub loss_answer : TableState → List ℕ → Option Reply
@@ -239,6 +274,7 @@ stepped t (command.Cancel id) = cancelled t id
 stepped t (command.Lost name) = lost t name
 stepped t (command.Fetch id) = unchanged t (fetch_answer t id)
 stepped t (command.Look id) = unchanged t (look_answer t id)
+stepped t (command.Rerun asked) = rerun t asked
 
 -- the table after the command, and its reply
 abbrev pub outcome : Step → TableState × Reply
@@ -259,6 +295,7 @@ answered t (command.Cancel id) = cancel_answer t id
 answered t (command.Lost name) = loss_answer t name
 answered t (command.Fetch id) = Some (fetch_answer t id)
 answered t (command.Look id) = Some (look_answer t id)
+answered t (command.Rerun asked) = rerun_answer t asked
 
 -- whether it holds no text, so that no memory is needed for it
 abbrev pub is_free : Option Reply → Bool

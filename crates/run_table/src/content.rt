@@ -21,6 +21,7 @@ ghost use Rattle.run_table.specs.PlaceNamed.{place_named};
 ghost use Rattle.run_table.specs.Turns.{names_rise};
 
 mod of;
+mod rerun;
 
 use crate::runner::{Runner, holds_lease, holds_this};
 use crate::runners::Runners;
@@ -28,11 +29,11 @@ use crate::turns::{answer_to_claim, answer_to_report};
 use crate::view::{RunView, look};
 use run_plan::{
     Beat, BoxedLease, Claim, ClaimReply, Command, Done, KeptLease, Lease, Number, Prepared, Reply,
-    RunnerName,
+    RunnerName, SharedBody,
 };
 use std::alloc::Global;
 use std::marker::Model;
-use wf_value::{Chars, Code, Refusal, TryCopy};
+use wf_value::{Code, Refusal, TryCopy};
 use workflow_runs::fit::{first_fit, is_lease_stopping, outcome_of_loss};
 use workflow_runs::holder::Holder;
 use workflow_runs::leg::Leg;
@@ -88,8 +89,8 @@ impl Content {
         self.runners.as_slice()
     }
 
-    /// Carries out a command, settles, and answers its reply. Refusals of the table, 40 to 45 and 48,
-    /// are replies. The error is 50 alone, and the table is then as it was. What is answered from
+    /// Carries out a command, settles, and answers its reply. Refusals of the table, 40 to 45, 48 and
+    /// 49, are replies. The error is 50 alone, and the table is then as it was. What is answered from
     /// the table as it is, without a text, is answered memory or not.
     pub(crate) fn step(&mut self, alloc: Global, command: &Command) -> Result<Reply, Refusal>
         requires { IsSound self.old }
@@ -108,7 +109,8 @@ impl Content {
             Command::Cancel(id) => Ok(self.cancel(*id)),
             Command::Lost(runner) => self.lose(alloc, runner),
             Command::Look(id) => self.show(alloc, *id),
-            Command::Fetch(id) => self.fetch(alloc, *id),
+            Command::Fetch(id) => self.fetch(*id),
+            Command::Rerun(asked) => self.rerun(alloc, asked),
         }
     }
 
@@ -386,15 +388,14 @@ impl Content {
 
     // ---- fetch
 
-    fn fetch(&self, alloc: Global, id: Number) -> Result<Reply, Refusal>
+    fn fetch(&self, id: Number) -> Result<Reply, Refusal>
         ensures gives { Gives (λ reply. reply) result (Ok (fetch_answer self.now id)) }
         ensures answers { is_free (Some (fetch_answer self.now id)) ≡ true → IsOk result }
     {
         let Some(run) = self.runs.as_slice().get(place_of(id)) else {
             return Ok(refused(Code::NoRun));
         };
-        let body = Chars::from_str(alloc, run.prepared().body_text())?;
-        Ok(Reply::Body(body))
+        Ok(Reply::Body(SharedBody::of(run.prepared())?))
     }
 
     // ---- look

@@ -15,3 +15,4 @@ pub use parts::{LastParts, Parts, RunnerParts, StoredLease, StoredPlace, do_name
 pub use runner::Runner;
 pub use table::Table;
 pub use view::RunView;
+pub use view_text::{conclusion_word, leg_word, status_word};

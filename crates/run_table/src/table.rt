@@ -15,6 +15,7 @@ use std::alloc::Global;
 use std::marker::Model;
 use wf_value::{Refusal, TryCopy};
 use workflow_runs::run::Run;
+use workflow_runs::runs::Runs;
 
 /// The run table. It is sound (`IsSound`) after any commands.
 #[derive(Drop)]
@@ -43,8 +44,8 @@ impl Table {
         }
     }
 
-    /// Carries out a command, settles, and answers its reply. Refusals of the table, 40 to 45 and 48,
-    /// are replies. The error is 50 alone, and the table is then as it was. What is answered from
+    /// Carries out a command, settles, and answers its reply. Refusals of the table, 40 to 45, 48 and
+    /// 49, are replies. The error is 50 alone, and the table is then as it was. What is answered from
     /// the table as it is, without a text, is answered memory or not.
     pub fn step(&mut self, alloc: Global, command: &Command) -> Result<Reply, Refusal>
         ensures step { Gives (λ reply. (self.new, reply)) result (Ok (step self.old command.now)) }
@@ -100,6 +101,13 @@ impl Table {
         ensures storable { IsStorable self.now.runs }
     {
         self.content.runs()
+    }
+
+    /// The runs with all that is kept beside them: their numbers, and what their legs ask for. It takes no memory.
+    pub fn kept_runs(&self) -> &Runs
+        ensures runs { result.now ≡ self.now.runs }
+    {
+        &self.content.runs
     }
 
     /// The runners, in the order of their names. It takes no memory.

@@ -27,6 +27,25 @@ impl<'a> Model for RunView<'a> {
 }
 
 impl<'a> RunView<'a> {
+    pub fn id(&self) -> Number
+        ensures { result ≡ self.now.id }
+    {
+        self.id
+    }
+
+    /// Its number among the runs of its workflow.
+    pub fn number(&self) -> usize
+        ensures { result ≡ self.now.number }
+    {
+        self.number
+    }
+
+    pub fn run(&self) -> &Run
+        ensures { result.now ≡ self.now.run }
+    {
+        self.run
+    }
+
     /// The printed view: `run ID NUMBER STATUS CONCLUSION JOB:STATE ..`.
     pub fn text(&self, alloc: Global) -> Result<Chars, Refusal>
         ensures { Gives (λ t. t) result (Ok (seen_text self.now)) }

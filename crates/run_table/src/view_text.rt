@@ -15,7 +15,7 @@ use workflow_runs::job::Job;
 use workflow_runs::leg::Leg;
 use workflow_runs::phases::{JobPhase, LegPhase, RunPhase};
 
-fn leg_word(phase: LegPhase) -> &'static str
+pub fn leg_word(phase: LegPhase) -> &'static str
     ensures { result.now ≡ leg_text phase }
 {
     match phase {
