@@ -4,10 +4,9 @@ use Rattle.std.specs.Prelude.{option_to_list, if◌then◌else◌, refl}
 use Rattle.std.specs.List.{last_or}
 use Rattle.std.specs.Option.{option_map_or}
 use Rattle.std.proofs.Common.{ap, ap₂, append_assoc, inl, inr, sym, ◌∙◌, subst}
-use Rattle.std.proofs.lemmas.Bool.{and_from, and_parts, not-true, true≢false}
+use Rattle.std.proofs.lemmas.Bool.{and_from, and_parts, or_parts, true≢false}
 use Rattle.std.proofs.lemmas.List.{append-nil}
 use Rattle.std.proofs.lemmas.List.Elements.{filter_map-append}
-use Rattle.std.proofs.lemmas.Option.{same_Some}
 use Rattle.wf_value.specs.declared.outcome.Outcome.TheVariants.{Cancelled}
 use Rattle.group_name.specs.Group.{Group, same_group}
 use Rattle.workflow_runs.specs.Arrivals.{arrived, displaced, others_pending, room_made, stopped_where_asked}
@@ -16,137 +15,33 @@ use Rattle.workflow_runs.specs.GroupWords.{arrival_of, has_arrived, has_started,
 use Rattle.workflow_runs.specs.GroupWords.{same_holder, was_stopped}
 use Rattle.workflow_runs.specs.Groups.{HasOneBeside, holds, is_in, is_pending_in, is_running_in, running_in, waits}
 use Rattle.workflow_runs.specs.Moves.{Holder, Move, Transition, at_each, without_moves}
-use Rattle.workflow_runs.specs.StopMoves.{displace, stop_holder}
+use Rattle.workflow_runs.specs.StopMoves.{stop_holder}
 use Rattle.workflow_runs.specs.RunState.{RunState}
 use Rattle.workflow_runs.proofs.ArrivalKeeps.{asked_fades, displaced_one_each, itself, nobody_else, one_or_another}
-use Rattle.workflow_runs.proofs.HoldersFade.{each_fades, holder_stop_fades}
-use Rattle.workflow_runs.proofs.OneEach.{Comes, Fades, IsOneOf, group_is, one_that_holds, one_that_waits}
+use Rattle.workflow_runs.proofs.OneEach.{Comes, IsOneOf, group_is, one_that_holds, one_that_waits}
 use Rattle.workflow_runs.proofs.RunFits.{RunsFit}
-use Rattle.table_laws.specs.GroupLaw.{BeginsWith, KeepsLaw, cancelled_end}
-use Rattle.table_laws.proofs.ArrivalTold.{displace_tells, each_tells, stop_begins, tells_nothing, tells_then}
-use Rattle.table_laws.proofs.ChangesTold.{only_one, stop_tells}
+use Rattle.table_laws.specs.GroupLaw.{BeginsWith, cancelled_end}
+use Rattle.table_laws.proofs.ArrivalTold.{stop_begins, tells_then}
+use Rattle.table_laws.proofs.ChangesTold.{only_one}
 use Rattle.table_laws.proofs.GroupFollows.{displaced_waits, next_shown}
-use Rattle.table_laws.proofs.GroupLawWalk.{Lawful, law_goes_on}
+use Rattle.table_laws.proofs.GroupLawWalk.{Lawful}
 use Rattle.table_laws.proofs.GroupSaid.{arrived_on, latest_on}
-use Rattle.table_laws.proofs.GroupTruths.{not_both, or_false}
-use Rattle.table_laws.proofs.HolderStatus.{Fits, Status, fits_pending, fits_running, fits_stopped, held_is, holds_as, is_held}
-use Rattle.table_laws.proofs.HolderStatus.{is_waiting, running_by, status, waiting_is, waits_as}
-use Rattle.table_laws.proofs.HoldersOnce.{first_kept, one_holder_kept, some_kept}
-use Rattle.table_laws.proofs.LawSoFar.{IsQuiet, LawSoFar, each_on, goes_on_then, nobody_arrives, others_on, quiet_goes_on}
+use Rattle.table_laws.proofs.GroupTruths.{or_false}
+use Rattle.table_laws.proofs.HolderStatus.{Fits, Goes, Status, fits_pending, fits_running, fits_stopped, held_is, holds_as, is_held}
+use Rattle.table_laws.proofs.HolderStatus.{running_by, status, waiting_is, waits_as}
+use Rattle.table_laws.proofs.HoldersOnce.{one_holder_kept, some_kept}
+use Rattle.table_laws.proofs.LawSoFar.{IsQuiet, LawSoFar, goes_on_then, nobody_arrives, others_on, quiet_goes_on, split_on, walk_further}
 use Rattle.table_laws.proofs.LawSoFar.{started_before, stops_are_quiet}
 use Rattle.table_laws.proofs.ListWalk.{Walk}
-use Rattle.table_laws.proofs.OnlyStops.{OnlyStops, holder_stops, no_stops, stops_on}
-use Rattle.table_laws.proofs.OwnMoves.{of_group, of_group_on, own, runs_by_own, waits_by_own}
+use Rattle.table_laws.proofs.OwnMoves.{arrived_by_own, of_group, of_group_on, own, own_of_group, own_on, runs_by_own, waits_by_own}
+use Rattle.table_laws.proofs.RoomMade.{Displaces, asked_all_still, asked_stops, asked_tells, begins_in_group, displaced_all_still, displaced_fades, displaced_so, end_is_silent, end_of_another, end_of_group, who_is_displaced}
 use Rattle.table_laws.proofs.StopsTold.{Tells}
-use Rattle.table_laws.proofs.Unbegun.{AllStill, Unbegun, each_all_still, still_of_all, stop_all_still, waiting_unbegun}
-
--- ---- who is stopped
-
-stops_of_each : (hs : List Holder) (runs : List RunState) → OnlyStops (at_each stop_holder hs runs).moves
-stops_of_each [] runs = no_stops
-stops_of_each (h ∷ hs) runs =
-    stops_on (stop_holder h runs).moves (at_each stop_holder hs (stop_holder h runs).runs).moves (holder_stops h runs)
-    (stops_of_each hs (stop_holder h runs).runs)
-
-asked_stops : (c : Bool) (g : Group) (runs : List RunState) → OnlyStops (stopped_where_asked c g runs).moves
-asked_stops true g runs = stops_of_each (running_in runs g) runs
-asked_stops false g runs = no_stops
-
-asked_tells : (c : Bool) (g : Group) (runs : List RunState) → Tells runs (stopped_where_asked c g runs)
-asked_tells true g runs = each_tells stop_holder stop_tells (running_in runs g) runs
-asked_tells false g runs = tells_nothing runs
-
-asked_all_still : (c : Bool) (g : Group) (runs : List RunState) → AllStill runs (stopped_where_asked c g runs).runs
-asked_all_still true g runs = each_all_still stop_holder stop_all_still (running_in runs g) runs
-asked_all_still false g runs = λ h un. un
-
-displaced_all_still : (g : Group) (n : Holder) (runs : List RunState) → AllStill runs (displaced g n runs).runs
-displaced_all_still g n runs = each_all_still displace (λ h rs. stop_all_still h rs) (others_pending g n runs) runs
-
--- ---- who is displaced: at most one
-
--- the one that waits in the group beside the newcomer
-record Beside (runs : List RunState) (g : Group) (n d : Holder) : Type 0 where
-  pends : is_pending_in runs g d ≡ true
-  other : d ≡ n → ⊥
-
-record Displaces (runs : List RunState) (g : Group) (n : Holder) (o : Option Holder) : Type 0 where
-  are : others_pending g n runs ≡ option_to_list o
-  each : (d : Holder) → o ≡ Some d → Beside runs g n d
-
-beside_by : (runs : List RunState) (g : Group) (n d : Holder) → (is_pending_in runs g d && not (same_holder d n)) ≡ true → Beside runs g n d
-beside_by runs g n d e =
-    let parts = and_parts (is_pending_in runs g d) (not (same_holder d n)) e in
-    record {
-      pends = parts.0;
-      other = (λ same. not_both (same_holder d n) (ap (λ h. same_holder h n) same ∙ itself n) (not-true (same_holder d n) parts.1));
-    }
-
-who_is_displaced : (runs : List RunState) (g : Group) (n : Holder) → HasOneBeside runs n → (o : Option Holder) × Displaces runs g n o
-who_is_displaced runs g n besides =
-    let test : Holder → Bool = λ h. is_pending_in runs g h && not (same_holder h n) in
-    elim (others_pending g n runs) as (λ hs. others_pending g n runs ≡ hs → (o : Option Holder) × Displaces runs g n o) [
-      | [] ↦ λ is. (None, record { are = is; each = (λ d e. cc) })
-      | d ∷ rest ↦ λ is.
-          let first = beside_by runs g n d (first_kept runs test d rest is) in
-          let there = one_that_waits runs d (and_parts (is_in runs g d) (waits runs d) first.pends).1 in
-          let alone = one_holder_kept runs test d there (first_kept runs test d rest is)
-          (λ k passes. let next = beside_by runs g n k passes in besides.pending g k d next.other first.other next.pends first.pends) in (
-            Some d,
-            record {
-              are = alone;
-              each = (λ k e. subst (λ (h : Holder). Beside runs g n h) (same_Some d k e) first);
-            },
-          )
-    ] refl
-
--- its end is all that this moves
-displaced_so : (runs : List RunState) (hs : List Holder) (o : Option Holder) → hs ≡ option_to_list o
-    → ((d : Holder) → o ≡ Some d → status runs d ≡ Status.waiting)
-    → Tells runs (at_each displace hs runs) × ((at_each displace hs runs).moves ≡ cancelled_end o)
-displaced_so runs hs None is waiting =
-    subst (λ (ds : List Holder). Tells runs (at_each displace ds runs) × ((at_each displace ds runs).moves ≡ [])) (sym is)
-    (tells_nothing runs, refl)
-displaced_so runs hs (Some d) is waiting =
-    subst (λ (ds : List Holder). Tells runs (at_each displace ds runs) × ((at_each displace ds runs).moves
-    ≡ Move.end_with Cancelled d ∷ []))
-    (sym is) (
-      tells_then runs (displace d runs) (at_each displace []) (displace_tells d runs (waiting d refl)) (tells_nothing
-          (displace d runs).runs),
-      refl,
-    )
-
-displaced_fades : (g : Group) (n : Holder) (runs : List RunState) → Fades runs (displaced g n runs).runs
-displaced_fades g n runs = each_fades displace (λ h rs. holder_stop_fades h rs) (others_pending g n runs) runs
-
--- ---- facts about lists
-
-end_is_silent : (o : Option Holder) → filter_map arrival_of (cancelled_end o) ≡ []
-end_is_silent None = refl
-end_is_silent (Some d) = refl
-
-end_of_group : (in_group : Holder → Bool) (o : Option Holder) → ((d : Holder) → o ≡ Some d → in_group d ≡ true)
-    → of_group in_group (cancelled_end o) ≡ cancelled_end o
-end_of_group in_group None is = refl
-end_of_group in_group (Some d) is = ap (λ b. if b then Move.end_with Cancelled d ∷ [] else []) (is d refl)
-
-end_of_another : (in_group : Holder → Bool) (o : Option Holder) → ((d : Holder) → o ≡ Some d → in_group d ≡ false)
-    → of_group in_group (cancelled_end o) ≡ []
-end_of_another in_group None is = refl
-end_of_another in_group (Some d) is = ap (λ b. if b then Move.end_with Cancelled d ∷ [] else []) (is d refl)
-
-begins_in_group : (in_group : Holder → Bool) (h : Holder) (moves : List Move) → in_group h ≡ true → BeginsWith (Move.stop h ∷ []) moves
-    → BeginsWith (Move.stop h ∷ []) (of_group in_group moves)
-begins_in_group in_group h moves is begins = (
-  of_group in_group begins.0,
-  ap (of_group in_group) begins.1
-      ∙ ap (λ b. if b then Move.stop h ∷ of_group in_group begins.0 else of_group in_group begins.0) is,
-)
+use Rattle.table_laws.proofs.Unbegun.{AllStill, Unbegun, still_of_all, waiting_unbegun}
 
 -- ---- the newcomer has come, and waits; then room is made for it
 
 module _ (in_group cancels : Holder → Bool) (g : Group) (before now : List RunState) (n : Holder) (fit : RunsFit now)
-    (set : Tells before (record { runs = now; moves = Move.arrive n ∷ [] })) (unseen : status before n ≡ Status.unarrived)
+    (set : (h : Holder) → (h ≡ n → ⊥) → Goes h (status before h) (own h (Move.arrive n ∷ [])) (status now h))
     (comes : Comes before now n) (waiting : waits now n ≡ true) (besides : HasOneBeside now n)
     (same : (h : Holder) → IsOneOf now h → in_group h ≡ is_in now g h) (still : AllStill before now) where
   -- ---- the group is another one
@@ -156,7 +51,7 @@ module _ (in_group cancels : Holder → Bool) (g : Group) (before now : List Run
     coming_is_quiet =
         let none : of_group in_group (Move.arrive n ∷ []) ≡ [] = ap (λ b. if b then Move.arrive n ∷ [] else []) isnt in
         record {
-          tells = set;
+          tells = (λ h is. set h (λ e. true≢false (sym is ∙ ap in_group e ∙ isnt)));
           still = still_of_all before now still;
           silent = ap (filter_map arrival_of) none;
           waited = (λ h is e.
@@ -164,7 +59,7 @@ module _ (in_group cancels : Holder → Bool) (g : Group) (before now : List Run
                 | inl it ↦ absurd (true≢false (sym is ∙ ap in_group it ∙ isnt))
                 | inr waited ↦ waited
               ]);
-          lawful = (λ moves so_far. subst (λ (ms : List Move). Walk (Lawful cancels) moves ms) (sym none) tt);
+          lawful = (λ start moves so_far. subst (λ (ms : List Move). Walk (Lawful cancels) moves ms) (sym none) tt);
         }
 
     module _ (k : Group) (its : group_at now n ≡ Some k) (o : Option Holder) (displaces : Displaces now k n o) where
@@ -184,15 +79,15 @@ module _ (in_group cancels : Holder → Bool) (g : Group) (before now : List Run
           let none : of_group in_group (displaced k n now).moves ≡ [] = ap (of_group in_group) so.1
           ∙ end_of_another in_group o not_of_group in
           record {
-            tells = so.0;
+            tells = (λ h is. so.0 h);
             still = still_of_all now (displaced k n now).runs (displaced_all_still k n now);
             silent = ap (filter_map arrival_of) none;
             waited = (λ h is e. (displaced_fades k n now).waited h e);
-            lawful = (λ moves so_far. subst (λ (ms : List Move). Walk (Lawful cancels) moves ms) (sym none) tt);
+            lawful = (λ start moves so_far. subst (λ (ms : List Move). Walk (Lawful cancels) moves ms) (sym none) tt);
           }
 
-      elsewhere_goes_on : (c : Bool) (moves : List Move) → LawSoFar in_group cancels before moves
-          → LawSoFar in_group cancels (room_made c n now k).runs (moves ++ of_group in_group (Move.arrive n ∷ (room_made c n now k).moves))
+      elsewhere_goes_on : (c : Bool) (start moves : List Move) → LawSoFar in_group cancels start before moves
+          → LawSoFar in_group cancels start (room_made c n now k).runs (moves ++ of_group in_group (Move.arrive n ∷ (room_made c n now k).moves))
       elsewhere_goes_on c =
           let mid = (displaced k n now).runs in
           goes_on_then in_group cancels before (record { runs = now; moves = Move.arrive n ∷ [] }) (λ _. room_made c n now k)
@@ -207,7 +102,8 @@ module _ (in_group cancels : Holder → Bool) (g : Group) (before now : List Run
 
   module _ (is : in_group n ≡ true) (its : group_at now n ≡ Some g) (asks : cancels n ≡ true → cancels_in_progress now n ≡ true)
       (same_then : (h : Holder) → IsOneOf (displaced g n now).runs h → in_group h ≡ is_in (displaced g n now).runs g h)
-      (moves : List Move) (so_far : LawSoFar in_group cancels before moves) (o : Option Holder) (displaces : Displaces now g n o) where
+      (start moves : List Move) (so_far : LawSoFar in_group cancels start before moves) (fresh : in_group n ≡ true → own n moves ≡ [])
+      (o : Option Holder) (displaces : Displaces now g n o) where
     mid : List RunState
     mid = (displaced g n now).runs
 
@@ -225,21 +121,20 @@ module _ (in_group cancels : Holder → Bool) (g : Group) (before now : List Run
 
     -- the newcomer has made no move
     unmoved : own n moves ≡ []
-    unmoved = subst (λ (s : Status). Fits s n (own n moves)) unseen (so_far.each n is)
+    unmoved = fresh is
 
     not_the_newcomer : (h : Holder) → (is_running h moves ≡ true) ⊎ (is_pending h moves ≡ true) → h ≡ n → ⊥
     not_the_newcomer h (inl runs) e =
         true≢false (sym runs ∙ ap (λ k. is_running k moves) e ∙ sym (runs_by_own n moves) ∙ ap (is_running n) unmoved)
     not_the_newcomer h (inr pends) e =
-        true≢false (sym pends ∙ ap (λ k. is_pending k moves) e ∙ fits_pending (status before n) n moves (so_far.each n is)
-        ∙ ap is_waiting unseen)
+        true≢false (sym pends ∙ ap (λ k. is_pending k moves) e ∙ sym (waits_by_own n moves) ∙ ap (is_pending n) unmoved)
 
     waits_then : (h : Holder) → (h ≡ n → ⊥) → in_group h ≡ true → is_pending h moves ≡ true → waits now h ≡ true
     waits_then h other too pends =
         let none : own h (Move.arrive n ∷ []) ≡ [] = only_one n (Move.arrive n) refl h other in
         let fits : Fits (status now h) h (own h moves) =
         subst (Fits (status now h) h) (ap (λ ms. own h moves ++ ms) none
-        ∙ append-nil (own h moves)) (set h (own h moves) (so_far.each h too)) in
+        ∙ append-nil (own h moves)) (set h other (own h moves) (so_far.each h too)) in
         waits_as now h ∙ sym (fits_pending (status now h) h moves fits) ∙ pends
 
     apart : (h : Holder) → (h ≡ n → ⊥) → same_holder h n ≡ false
@@ -315,7 +210,7 @@ module _ (in_group cancels : Holder → Bool) (g : Group) (before now : List Run
           let none : own h (Move.arrive n ∷ []) ≡ [] = only_one n (Move.arrive n) refl h (not_the_newcomer h (inl runs)) in
           let first : Fits (status now h) h (own h moves) =
           subst (Fits (status now h) h) (ap (λ ms. own h moves ++ ms) none
-          ∙ append-nil (own h moves)) (set h (own h moves) (so_far.each h of_h)) in
+          ∙ append-nil (own h moves)) (set h (not_the_newcomer h (inl runs)) (own h moves) (so_far.each h of_h)) in
           subst (Fits (status (displaced g n now).runs h) h)
           (ap (λ ms. own h moves ++ ms) (ap (own h) so.1 ∙ none_of_displaced o refl)
           ∙ append-nil (own h moves)) (so.0 h (own h moves) first)
@@ -414,16 +309,30 @@ module _ (in_group cancels : Holder → Bool) (g : Group) (before now : List Run
           ∙ ap₂ (λ a b. a ++ b) (end_is_silent o) ((asked_stops c g (displaced g n now).runs).silent in_group)
 
       -- another one had arrived before
-      had_arrived : (h : Holder) → (h ≡ n → ⊥) → has_arrived h (moves ++ of_group in_group (Move.arrive n ∷
-          (room_made c n now g).moves)) ≡ true
-          → has_arrived h moves ≡ true
-      had_arrived h other arrives =
+      had_arrived : (h : Holder) (earlier : List Move) → (h ≡ n → ⊥)
+          → has_arrived h (earlier ++ of_group in_group (Move.arrive n ∷ (room_made c n now g).moves)) ≡ true → has_arrived h earlier ≡ true
+      had_arrived h earlier other arrives =
           let rest = cancelled_end o ++ of_group in_group (stopped_where_asked c g (displaced g n now).runs).moves in
           let none : has_arrived h (Move.arrive n ∷ rest) ≡ false =
           ap (λ b. b || has_arrived h rest) (apart h other) ∙ nobody_arrives h rest rest_is_silent in
-          sym (or_false (has_arrived h moves)) ∙ ap (λ b. has_arrived h moves || b) (sym none)
-          ∙ sym (arrived_on h moves (Move.arrive n ∷ rest))
-          ∙ ap (λ ms. has_arrived h (moves ++ ms)) (sym more_is) ∙ arrives
+          sym (or_false (has_arrived h earlier)) ∙ ap (λ b. has_arrived h earlier || b) (sym none)
+          ∙ sym (arrived_on h earlier (Move.arrive n ∷ rest))
+          ∙ ap (λ ms. has_arrived h (earlier ++ ms)) (sym more_is) ∙ arrives
+
+      -- the newcomer had not
+      newcomer_is_new : has_arrived n start ≡ false
+      newcomer_is_new =
+          let none : has_arrived n moves ≡ false = sym (arrived_by_own n moves) ∙ ap (has_arrived n) unmoved in
+          (or_parts (has_arrived n start) (has_arrived n so_far.rest)
+          (sym (arrived_on n start so_far.rest) ∙ ap (has_arrived n) (sym so_far.split) ∙ none)).0
+
+      arrives_once : (h : Holder) → has_arrived h (so_far.rest ++ of_group in_group (Move.arrive n ∷ (room_made c n now g).moves)) ≡ true
+          → has_arrived h start ≡ false
+      arrives_once h arrives =
+          elim (one_or_another h n) [
+            | inl it ↦ ap (λ k. has_arrived k start) it ∙ newcomer_is_new
+            | inr not_it ↦ so_far.once h (had_arrived h so_far.rest not_it.0 arrives)
+          ]
 
       all_still : AllStill now (room_made c n now g).runs
       all_still h un = asked_all_still c g (displaced g n now).runs h (displaced_all_still g n now h un)
@@ -438,26 +347,51 @@ module _ (in_group cancels : Holder → Bool) (g : Group) (before now : List Run
             | inl it ↦
                 subst (λ (k : Holder). Unbegun (room_made c n now g).runs k) (sym it) (all_still n (waiting_unbegun now fit n waiting))
             | inr not_it ↦
-                all_still h (still h (so_far.unbegun h too (had_arrived h not_it.0 arrives)
+                all_still h (still h (so_far.unbegun h too (had_arrived h moves not_it.0 arrives)
                 (started_before in_group cancels h moves more unstarted)))
           ]
 
-      here_goes_on : LawSoFar in_group cancels (room_made c n now g).runs
+      -- how far each has come once the newcomer has, and then once room is made for it
+      came : (h : Holder) → in_group h ≡ true → Fits (status now h) h (own h moves ++ own h (Move.arrive n ∷ []))
+      came h too =
+          elim (one_or_another h n) [
+            | inl it ↦
+                subst (λ (k : Holder). Fits (status now k) k (own k moves ++ own k (Move.arrive n ∷ []))) (sym it)
+                (subst (λ (s : Status). Fits s n (own n moves ++ own n (Move.arrive n ∷ [])))
+                (sym (waiting_is (status now n) (sym (waits_as now n) ∙ waiting)))
+                (ap₂ (λ a b. a ++ b) unmoved (ap (λ b. if b then Move.arrive n ∷ [] else []) (itself n))))
+            | inr other ↦ set h other.0 (own h moves) (so_far.each h too)
+          ]
+
+      each_then : (h : Holder) → in_group h ≡ true
+          → Fits (status (room_made c n now g).runs h) h (own h (moves ++ of_group in_group (Move.arrive n ∷ (room_made c n now g).moves)))
+      each_then h too =
+          let room = (room_made c n now g).moves in
+          let later : Tells now (room_made c n now g) =
+          tells_then now (displaced g n now) (stopped_where_asked c g) so.0 (asked_tells c g (displaced g n now).runs) in
+          let parts : own h (moves ++ of_group in_group (Move.arrive n ∷ room)) ≡ (own h moves ++ own h (Move.arrive n ∷ [])) ++ own h room =
+          own_on h moves (of_group in_group (Move.arrive n ∷ room))
+          ∙ ap (λ ms. own h moves ++ ms) (own_of_group in_group h (Move.arrive n ∷ room) too ∙ own_on h (Move.arrive n ∷ []) room)
+          ∙ sym (append_assoc (own h moves) (own h (Move.arrive n ∷ [])) (own h room)) in
+          subst (Fits (status (room_made c n now g).runs h) h) (sym parts)
+          (later h (own h moves ++ own h (Move.arrive n ∷ [])) (came h too))
+
+      here_goes_on : LawSoFar in_group cancels start (room_made c n now g).runs
           (moves ++ of_group in_group (Move.arrive n ∷ (room_made c n now g).moves))
       here_goes_on =
           let made : Transition = record { runs = (room_made c n now g).runs; moves = Move.arrive n ∷ (room_made c n now g).moves } in
-          let tells : Tells before made =
-          tells_then before (record { runs = now; moves = Move.arrive n ∷ [] }) (λ _. room_made c n now g) set
-          (tells_then now (displaced g n now) (stopped_where_asked c g) so.0 (asked_tells c g (displaced g n now).runs)) in
           record {
-            each = each_on in_group cancels before made moves tells so_far.each;
+            each = each_then;
             others = others_on in_group cancels made moves so_far.others;
             newest = (λ h too e. is_latest ∙ ap (λ k. Some k) (sym (nobody_waits_but_it h too e)));
             unbegun = unbegun_then;
-            law = subst (λ (ms : List Move). KeepsLaw cancels (moves ++ ms)) (sym more_is)
-                (law_goes_on cancels moves
-                (Move.arrive n ∷ (cancelled_end o ++ of_group in_group (stopped_where_asked c g
-                (displaced g n now).runs).moves)) so_far.law walks);
+            rest = so_far.rest ++ of_group in_group (Move.arrive n ∷ (room_made c n now g).moves);
+            split = split_on in_group cancels start so_far.rest moves (of_group in_group (Move.arrive n ∷ (room_made c n now g).moves))
+                so_far.split;
+            walk = walk_further in_group cancels start so_far.rest moves
+                (of_group in_group (Move.arrive n ∷ (room_made c n now g).moves)) so_far.split so_far.walk
+                (subst (λ (ms : List Move). Walk (Lawful cancels) moves ms) (sym more_is) walks);
+            once = arrives_once;
           }
 
   -- ---- whatever its group
@@ -465,9 +399,9 @@ module _ (in_group cancels : Holder → Bool) (g : Group) (before now : List Run
   module _ (asked : cancels n ≡ true → cancels_in_progress now n ≡ true)
       (same_then : group_at now n ≡ Some g → (h : Holder) → IsOneOf (displaced g n now).runs h
       → in_group h ≡ is_in (displaced g n now).runs g h)
-      (moves : List Move) (so_far : LawSoFar in_group cancels before moves) where
+      (start moves : List Move) (so_far : LawSoFar in_group cancels start before moves) (fresh : in_group n ≡ true → own n moves ≡ []) where
     abbrev SoAfter : Transition → Type 0
-    SoAfter made = LawSoFar in_group cancels made.runs (moves ++ of_group in_group (Move.arrive n ∷ made.moves))
+    SoAfter made = LawSoFar in_group cancels start made.runs (moves ++ of_group in_group (Move.arrive n ∷ made.moves))
 
     its_group : (k : Group) → group_at now n ≡ Some k → in_group n ≡ true → g ≡ k
     its_group k its is =
@@ -484,19 +418,19 @@ module _ (in_group cancels : Holder → Bool) (g : Group) (before now : List Run
               let own_group : group_at now n ≡ Some g = its ∙ ap (λ x. Some x) (sym this) in
               let who = who_is_displaced now g n besides in
               subst (λ (x : Group). SoAfter (room_made (cancels_in_progress now n) n now x)) this
-              (here_goes_on is own_group asked (same_then own_group) moves so_far who.0 who.1 (cancels_in_progress now n) asked)
+              (here_goes_on is own_group asked (same_then own_group) start moves so_far fresh who.0 who.1 (cancels_in_progress now n) asked)
           | false ↦ λ isnt.
               let who = who_is_displaced now k n besides in
-              elsewhere_goes_on isnt k its who.0 who.1 (cancels_in_progress now n) moves so_far
+              elsewhere_goes_on isnt k its who.0 who.1 (cancels_in_progress now n) start moves so_far
         ] refl
 
-    pub arrival_goes_on : LawSoFar in_group cancels (arrived n now).runs (moves ++ of_group in_group (arrived n now).moves)
+    pub arrival_goes_on : LawSoFar in_group cancels start (arrived n now).runs (moves ++ of_group in_group (arrived n now).moves)
     arrival_goes_on =
         elim (group_at now n) as
         (λ x. group_at now n ≡ x → SoAfter (option_map_or (room_made (cancels_in_progress now n) n now) x (without_moves now))) [
           | None ↦ λ none.
               let isnt : in_group n ≡ false =
               same n (one_that_waits now n waiting) ∙ ap (λ x. option_map_or (same_group g) x false) none in
-              quiet_goes_on in_group cancels before (record { runs = now; moves = Move.arrive n ∷ [] }) (coming_is_quiet isnt) moves so_far
+              quiet_goes_on in_group cancels before (record { runs = now; moves = Move.arrive n ∷ [] }) (coming_is_quiet isnt) start moves so_far
           | Some k ↦ λ its. in_its_group k its
         ] refl

@@ -6,103 +6,59 @@ use Rattle.std.specs.List.{position, prefix_len}
 use Rattle.std.specs.Option.{option_map_or, option_or}
 use Rattle.std.specs.Str.{bytes_eq}
 use Rattle.std.proofs.lemmas.Bool.{lt-ltb, ltb-true, ltb-false}
-use Rattle.std.proofs.lemmas.List.{append-nil, length-map, map-append}
+use Rattle.std.proofs.lemmas.List.{length-map}
 use Rattle.std.proofs.lemmas.Slice.Eq.{bytes_eq-Decides}
-use Rattle.wf_value.specs.declared.code.Code.TheVariants.{LastCounter, LeaseNotHeld, NoRunner}
-use Rattle.wf_value.specs.declared.outcome.Outcome.{Outcome}
+use Rattle.wf_value.specs.declared.code.Code.TheVariants.{LastCounter}
 use Rattle.run_plan.specs.Admitted.{Admitted}
-use Rattle.run_plan.specs.declared.command.Claim.{Claim as Claimed}
 use Rattle.run_plan.specs.declared.command.Command.{Command}
 use Rattle.run_plan.specs.declared.command.Command.TheVariants as command
-use Rattle.run_plan.specs.declared.reply.Reply.{Reply}
 use Rattle.run_plan.specs.declared.reply.Reply.TheVariants as reply
-use Rattle.workflow_runs.specs.Fitting.{first_fit}
 use Rattle.run_table.specs.Histories.{after}
 use Rattle.workflow_runs.specs.Moves.{Holder}
 use Rattle.run_table.specs.TableState.{Step, TableState}
-use Rattle.workflow_runs.specs.Places.{with_leg}
+use Rattle.workflow_runs.specs.Places.{with_run}
 use Rattle.workflow_runs.specs.RunNumber.{events}
 use Rattle.workflow_runs.specs.Settling.{settled}
-use Rattle.run_table.specs.Step.{admission_answer, admitting, cancel_answer, cancelling, claim_answer, claiming, entered}
-use Rattle.workflow_runs.specs.NewRun.{is_delivered_as, leased_leg, new_run}
-use Rattle.run_table.specs.Step.{leasing, losing, lost, refused, released, report_answer, reporting, serving_nothing, step}
+use Rattle.run_table.specs.Step.{admitting}
+use Rattle.workflow_runs.specs.NewRun.{again, is_delivered_as}
+use Rattle.run_table.specs.Step.{entered_again, rerun_answer, rerunning}
+use Rattle.run_table.specs.Step.{refused, step}
 use Rattle.run_table.specs.Step.{stepped, unchanged}
-use Rattle.workflow_runs.specs.StopMoves.{with_ended, stop_holder}
-use Rattle.workflow_runs.specs.Stops.{outcome_of_loss}
-use Rattle.workflow_runs.specs.RunState.{LegState, RunState}
-use Rattle.run_table.specs.Turns.{runner_named}
+use Rattle.workflow_runs.specs.RunState.{RunState}
 use Rattle.workflow_runs.proofs.Optional.{if_some}
-use Rattle.table_laws.proofs.EventsStay.{arrived_events, ended_events, leg_events, settled_events, stop_events}
+use Rattle.table_laws.proofs.RunsStay.{IsOfCourse, arrived_stays, run_stays, settled_stays}
+use Rattle.table_laws.proofs.StepsStay.{answered, entered_stays, keeps_all, keeps_itself, step_stays}
 
 -- ---- steps
+
+-- what was admitted for a run
+abbrev event_of : RunState → Admitted
+event_of x = x.admitted
+
+its_event : IsOfCourse event_of
+its_event x y event attempt = event
 
 -- the runs of the one table are the first of the other
 abbrev pub Keeps : TableState → TableState → Type 0
 Keeps t next = (more : List Admitted) × (events next.runs ≡ events t.runs ++ more)
 
-keeps_all : (t next : TableState) → events next.runs ≡ events t.runs → Keeps t next
-keeps_all t next same = ([], same ∙ sym (append-nil (events t.runs)))
-
-keeps_itself : (t : TableState) → Keeps t t
-keeps_itself t = keeps_all t t refl
-
-answered : (t : TableState) (answer : Option Reply) (change : Step) → Keeps t change.table
-    → Keeps t (option_map_or (unchanged t) answer change).table
-answered t None change h = h
-answered t (Some given) change h = keeps_itself t
-
 entered_events : (t : TableState) (event : Admitted) → events (admitting t event).table.runs ≡ events t.runs ++ event ∷ []
-entered_events t event =
-    let more = t.runs ++ new_run event ∷ [] in
-    settled_events (entered t event).runs ∙ arrived_events (Holder.a_run (length t.runs)) more
-    ∙ map-append (λ (x : RunState). x.admitted) t.runs (new_run event ∷ [])
+entered_events t event = entered_stays event_of its_event t event
 
-admits : (t : TableState) (event : Admitted) → Keeps t (admitting t event).table
-admits t event = (event ∷ [], entered_events t event)
-
-claims : (t : TableState) (claim : Claimed) → Keeps t (claiming t claim).table
-claims t claim = elim (first_fit claim.labels t.runs) as
-    (λ o. Keeps t (option_map_or (leasing t claim) o (serving_nothing t claim)).table) [
-      | None ↦ keeps_all t (serving_nothing t claim).table (settled_events t.runs)
-      | Some p ↦ keeps_all t (leasing t claim p).table
-          (let f : LegState → LegState = λ x. leased_leg (t.last_lease + 1) in
-          settled_events (with_leg p f t.runs) ∙ leg_events p f t.runs)
-    ]
-
-ends : (t : TableState) (lease : ℕ) (outcome : Outcome) → events (settled (with_ended lease outcome t.runs)) ≡ events t.runs
-ends t lease outcome = settled_events (with_ended lease outcome t.runs) ∙ ended_events lease outcome t.runs
-
-cancels : (t : TableState) (id : ℕ) → events (settled (stop_holder (Holder.a_run (id - 1)) t.runs).runs) ≡ events t.runs
-cancels t id = settled_events (stop_holder (Holder.a_run (id - 1)) t.runs).runs ∙ stop_events (Holder.a_run (id - 1)) t.runs
-
-loses : (t : TableState) (name : List ℕ) → Keeps t (lost t name).table
-loses t name =
-    elim (runner_named t.runners name) as
-    (λ o. Keeps t (option_map_or (λ runner. option_map_or (losing t (released runner)) runner.holds (unchanged t (refused LeaseNotHeld))) o
-    (unchanged t (refused NoRunner))).table) [
-      | None ↦ keeps_itself t
-      | Some runner ↦ elim (runner.holds) as
-          (λ h. Keeps t (option_map_or (losing t (released runner)) h (unchanged t (refused LeaseNotHeld))).table) [
-            | None ↦ keeps_itself t
-            | Some lease ↦ keeps_all t (losing t (released runner) lease).table (ends t lease (outcome_of_loss t.runs lease))
-          ]
-    ]
+-- a run that begins again stays, with its event
+begins : (t : TableState) (r : ℕ) → events (settled (entered_again t r).runs) ≡ events t.runs
+begins t r =
+    settled_stays event_of its_event (entered_again t r).runs ∙ arrived_stays event_of its_event (Holder.a_run r) (with_run r again t.runs)
+    ∙ run_stays event_of its_event r again t.runs (λ x. refl)
 
 pub step_keeps : (t : TableState) (c : Command) → Keeps t (stepped t c).table
-step_keeps t (command.Admit event) = answered t (admission_answer t event) (admitting t event) (admits t event)
-step_keeps t (command.Claim claim) = answered t (claim_answer t claim) (claiming t claim) (claims t claim)
-step_keeps t (command.Done report) =
-    answered t (report_answer t report) (reporting t report)
-    (keeps_all t (reporting t report).table (ends t report.lease report.result))
-step_keeps t (command.Beat beat) = keeps_itself t
-step_keeps t (command.Cancel id) =
-    answered t (cancel_answer t id) (cancelling t id) (keeps_all t (cancelling t id).table (cancels t id))
-step_keeps t (command.Lost name) = loses t name
-step_keeps t (command.Fetch id) = keeps_itself t
-step_keeps t (command.Look id) = keeps_itself t
+step_keeps t (command.Rerun asked) =
+    answered event_of its_event t (rerun_answer t asked) (rerunning t asked)
+    (keeps_all event_of its_event t (rerunning t asked).table (begins t (asked.run - 1)))
+step_keeps t c = step_stays event_of its_event t c tt
 
 pub after_keeps : (t : TableState) (cs : List Command) → Keeps t (after t cs)
-after_keeps t [] = keeps_itself t
+after_keeps t [] = keeps_itself event_of its_event t
 after_keeps t (c ∷ cs) =
     let first = step_keeps t c in
     let others = after_keeps (stepped t c).table cs in (

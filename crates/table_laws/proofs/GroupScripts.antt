@@ -1,5 +1,5 @@
 -- Scripts in which runs and legs share concurrency groups, played by computation from the empty table.
-use Rattle.std.specs.Prelude.{◌≡◌, ℕ, List, [], ◌∷◌, ◌++◌, codes, map, Bool, true, refl}
+use Rattle.std.specs.Prelude.{◌≡◌, ℕ, List, [], ◌∷◌, ◌++◌, codes, map, Bool, true, false, refl}
 use Rattle.wf_value.specs.declared.outcome.Outcome.{Outcome}
 use Rattle.wf_value.specs.declared.outcome.Outcome.TheVariants.{Success, Failure, Cancelled}
 use Rattle.group_name.specs.Group.{Group}
@@ -12,8 +12,10 @@ use Rattle.run_table.specs.Step.{empty}
 use Rattle.run_table.proofs.OnTables.{on_tables}
 use Rattle.table_laws.specs.GroupHistories.{all_moves, asks_for_cancelling, group_moves}
 use Rattle.table_laws.specs.GroupLawTest.{keeps_law}
+use Rattle.table_laws.specs.Names.{Names, renamed}
 use Rattle.table_laws.proofs.GroupRows.{run1, run2, run3}
 use Rattle.table_laws.proofs.GroupTableRows.{group}
+use Rattle.table_laws.proofs.Packed.{packed}
 
 -- a workflow of the one repository
 abbrev of_workflow : List ℕ → List ℕ
@@ -34,7 +36,11 @@ answers commands = map reply_text (replies empty commands)
 
 -- the law of the group as a test that computes
 abbrev plays_by_law : Group → List Command → Bool
-plays_by_law g commands = keeps_law (asks_for_cancelling g empty commands) (all_moves g empty commands)
+plays_by_law g commands = keeps_law (asks_for_cancelling packed g empty commands) (all_moves packed g empty commands)
+
+-- the moves of holders in the first attempts of their runs
+abbrev first_attempts : Names → List Move → List Move
+first_attempts names moves = map (renamed (names.name 1)) moves
 
 -- ---- runs that share a group
 
@@ -54,15 +60,68 @@ pending_run_is_replaced : answers three_deploys
 unfolding on_tables
 pending_run_is_replaced = refl
 
-moves_of_three_deploys : group_moves (group (codes "deploy")) empty three_deploys
-    ≡ Move.arrive run1 ∷ Move.start run1 ∷ Move.arrive run2 ∷ Move.arrive run3 ∷ Move.end_with Cancelled run2 ∷ Move.end_with Success run1
-    ∷ Move.start run3 ∷ []
+moves_of_three_deploys : (names : Names) → group_moves names (group (codes "deploy")) empty three_deploys
+    ≡ first_attempts names (Move.arrive run1 ∷ Move.start run1 ∷ Move.arrive run2 ∷ Move.arrive run3 ∷ Move.end_with Cancelled run2 ∷ Move.end_with Success run1
+    ∷ Move.start run3 ∷ [])
 unfolding on_tables
-moves_of_three_deploys = refl
+moves_of_three_deploys names = refl
 
 three_deploys_keep_the_law : plays_by_law (group (codes "deploy")) three_deploys ≡ true
 unfolding on_tables
 three_deploys_keep_the_law = refl
+
+-- ---- a run begins again
+
+-- The run that has completed arrives behind the one in progress, and displaces the pending one.
+abbrev deploy_again : List Command
+deploy_again =
+    admit (codes "a") deploys ∷ claim (codes "r1") 1 ∷ done (codes "r1") 2 1 Success ∷ admit (codes "b") deploys ∷ claim (codes "r1") 3
+    ∷ admit (codes "c") deploys ∷ command.Rerun (record { run = 1; attempt = 2 }) ∷ command.Look 3 ∷ command.Look 1 ∷ []
+
+completed_run_displaces : answers deploy_again
+    ≡ codes "created 1" ∷ codes "lease 1 1 go 0 {}" ∷ codes "ok" ∷ codes "created 2" ∷ codes "lease 2 2 go 0 {}" ∷ codes "created 3"
+    ∷ codes "again 1 2" ∷ codes "run 3 3 completed cancelled go:cancelled()" ∷ codes "run 1 1.2 pending - go:blocked" ∷ []
+unfolding on_tables
+completed_run_displaces = refl
+
+-- its second attempt is another holder than its first
+moves_of_deploy_again : (names : Names) → group_moves names (group (codes "deploy")) empty deploy_again
+    ≡ first_attempts names (Move.arrive run1 ∷ Move.start run1 ∷ Move.end_with Success run1 ∷ Move.arrive run2 ∷ Move.start run2
+    ∷ Move.arrive run3 ∷ [])
+    ++ Move.arrive (names.name 2 run1) ∷ first_attempts names (Move.end_with Cancelled run3 ∷ [])
+unfolding on_tables
+moves_of_deploy_again names = refl
+
+deploy_again_keeps_the_law : plays_by_law (group (codes "deploy")) deploy_again ≡ true
+unfolding on_tables
+deploy_again_keeps_the_law = refl
+
+-- The run alone: by its two names the law holds, and by one name it would not.
+abbrev deploy_twice : List Command
+deploy_twice =
+    admit (codes "a") deploys ∷ claim (codes "r1") 1 ∷ done (codes "r1") 2 1 Success ∷ command.Rerun (record { run = 1; attempt = 2 })
+    ∷ claim (codes "r1") 3 ∷ done (codes "r1") 4 2 Success ∷ command.Look 1 ∷ []
+
+completed_run_begins_again : answers deploy_twice
+    ≡ codes "created 1" ∷ codes "lease 1 1 go 0 {}" ∷ codes "ok" ∷ codes "again 1 2" ∷ codes "lease 2 1 go 0 {}" ∷ codes "ok"
+    ∷ codes "run 1 1.2 completed success go:success(success)" ∷ []
+unfolding on_tables
+completed_run_begins_again = refl
+
+abbrev one_deploy : List Move
+one_deploy = Move.arrive run1 ∷ Move.start run1 ∷ Move.end_with Success run1 ∷ []
+
+moves_of_deploy_twice : (names : Names) → group_moves names (group (codes "deploy")) empty deploy_twice
+    ≡ map (renamed (names.name 1)) one_deploy ++ map (renamed (names.name 2)) one_deploy
+unfolding on_tables
+moves_of_deploy_twice names = refl
+
+deploy_twice_keeps_the_law : plays_by_law (group (codes "deploy")) deploy_twice ≡ true
+unfolding on_tables
+deploy_twice_keeps_the_law = refl
+
+one_name_would_break_it : keeps_law (λ h. false) (one_deploy ++ one_deploy) ≡ false
+one_name_would_break_it = refl
 
 -- ---- cancel-in-progress
 
@@ -86,10 +145,10 @@ running_run_is_stopped : answers prod_twice
 unfolding on_tables
 running_run_is_stopped = refl
 
-moves_of_prod_twice : group_moves (group (codes "prod")) empty prod_twice
-    ≡ Move.arrive run1 ∷ Move.start run1 ∷ Move.arrive run2 ∷ Move.stop run1 ∷ Move.end_with Cancelled run1 ∷ Move.start run2 ∷ []
+moves_of_prod_twice : (names : Names) → group_moves names (group (codes "prod")) empty prod_twice
+    ≡ first_attempts names (Move.arrive run1 ∷ Move.start run1 ∷ Move.arrive run2 ∷ Move.stop run1 ∷ Move.end_with Cancelled run1 ∷ Move.start run2 ∷ [])
 unfolding on_tables
-moves_of_prod_twice = refl
+moves_of_prod_twice names = refl
 
 prod_twice_keeps_the_law : plays_by_law (group (codes "prod")) prod_twice ≡ true
 unfolding on_tables
@@ -145,18 +204,18 @@ new_leg_of_a_stopped_run_ends = refl
 abbrev leg_at_place : ℕ → ℕ → ℕ → Holder
 leg_at_place r j l = Holder.a_leg (record { run = r; job = j; leg = l })
 
-moves_in_the_first_group : group_moves (group (codes "g")) empty two_that_stop_each_other
-    ≡ Move.arrive (leg_at_place 0 0 0) ∷ Move.start (leg_at_place 0 0 0) ∷ Move.arrive (leg_at_place 1 0 0)
+moves_in_the_first_group : (names : Names) → group_moves names (group (codes "g")) empty two_that_stop_each_other
+    ≡ first_attempts names (Move.arrive (leg_at_place 0 0 0) ∷ Move.start (leg_at_place 0 0 0) ∷ Move.arrive (leg_at_place 1 0 0)
     ∷ Move.stop (leg_at_place 0 0 0) ∷ Move.end_with Cancelled (leg_at_place 0 0 0) ∷ Move.stop (leg_at_place 1 0 0)
-    ∷ Move.end_with Cancelled (leg_at_place 1 0 0) ∷ []
+    ∷ Move.end_with Cancelled (leg_at_place 1 0 0) ∷ [])
 unfolding on_tables
-moves_in_the_first_group = refl
+moves_in_the_first_group names = refl
 
-moves_in_the_second_group : group_moves (group (codes "h")) empty two_that_stop_each_other
-    ≡ Move.arrive run2 ∷ Move.start run2 ∷ Move.arrive (leg_at_place 0 1 0) ∷ Move.stop run2 ∷ Move.end_with Cancelled run2
-    ∷ Move.start (leg_at_place 0 1 0) ∷ []
+moves_in_the_second_group : (names : Names) → group_moves names (group (codes "h")) empty two_that_stop_each_other
+    ≡ first_attempts names (Move.arrive run2 ∷ Move.start run2 ∷ Move.arrive (leg_at_place 0 1 0) ∷ Move.stop run2 ∷ Move.end_with Cancelled run2
+    ∷ Move.start (leg_at_place 0 1 0) ∷ [])
 unfolding on_tables
-moves_in_the_second_group = refl
+moves_in_the_second_group names = refl
 
 they_keep_the_law : (plays_by_law (group (codes "g")) two_that_stop_each_other ≡ true)
     × (plays_by_law (group (codes "h")) two_that_stop_each_other ≡ true)
@@ -185,17 +244,17 @@ cancelled_with_its_legs : answers both_cancelled
 unfolding on_tables
 cancelled_with_its_legs = refl
 
-moves_of_the_runs : group_moves (group (codes "x")) empty both_cancelled
-    ≡ Move.arrive run1 ∷ Move.start run1 ∷ Move.arrive run2 ∷ Move.stop run1 ∷ Move.stop run2 ∷ Move.end_with Cancelled run2 ∷ []
+moves_of_the_runs : (names : Names) → group_moves names (group (codes "x")) empty both_cancelled
+    ≡ first_attempts names (Move.arrive run1 ∷ Move.start run1 ∷ Move.arrive run2 ∷ Move.stop run1 ∷ Move.stop run2 ∷ Move.end_with Cancelled run2 ∷ [])
 unfolding on_tables
-moves_of_the_runs = refl
+moves_of_the_runs names = refl
 
-moves_of_the_legs : group_moves (group (codes "g")) empty both_cancelled
-    ≡ Move.arrive (leg_at_place 0 0 0) ∷ Move.start (leg_at_place 0 0 0) ∷ Move.arrive (leg_at_place 0 0 1)
+moves_of_the_legs : (names : Names) → group_moves names (group (codes "g")) empty both_cancelled
+    ≡ first_attempts names (Move.arrive (leg_at_place 0 0 0) ∷ Move.start (leg_at_place 0 0 0) ∷ Move.arrive (leg_at_place 0 0 1)
     ∷ Move.stop (leg_at_place 0 0 0) ∷ Move.end_with Cancelled (leg_at_place 0 0 0) ∷ Move.stop (leg_at_place 0 0 1)
-    ∷ Move.end_with Cancelled (leg_at_place 0 0 1) ∷ []
+    ∷ Move.end_with Cancelled (leg_at_place 0 0 1) ∷ [])
 unfolding on_tables
-moves_of_the_legs = refl
+moves_of_the_legs names = refl
 
 cancelled_runs_keep_the_law : (plays_by_law (group (codes "x")) both_cancelled ≡ true)
     × (plays_by_law (group (codes "g")) both_cancelled ≡ true)
@@ -217,16 +276,16 @@ failure_ends_the_ready_leg : answers first_leg_fails
 unfolding on_tables
 failure_ends_the_ready_leg = refl
 
-moves_of_the_failed_leg : group_moves (group (codes "g1")) empty first_leg_fails
-    ≡ Move.arrive (leg_at_place 0 0 0) ∷ Move.start (leg_at_place 0 0 0) ∷ Move.end_with Failure (leg_at_place 0 0 0) ∷ []
+moves_of_the_failed_leg : (names : Names) → group_moves names (group (codes "g1")) empty first_leg_fails
+    ≡ first_attempts names (Move.arrive (leg_at_place 0 0 0) ∷ Move.start (leg_at_place 0 0 0) ∷ Move.end_with Failure (leg_at_place 0 0 0) ∷ [])
 unfolding on_tables
-moves_of_the_failed_leg = refl
+moves_of_the_failed_leg names = refl
 
-moves_of_the_other_leg : group_moves (group (codes "g2")) empty first_leg_fails
-    ≡ Move.arrive (leg_at_place 0 0 1) ∷ Move.start (leg_at_place 0 0 1) ∷ Move.stop (leg_at_place 0 0 1)
-    ∷ Move.end_with Cancelled (leg_at_place 0 0 1) ∷ []
+moves_of_the_other_leg : (names : Names) → group_moves names (group (codes "g2")) empty first_leg_fails
+    ≡ first_attempts names (Move.arrive (leg_at_place 0 0 1) ∷ Move.start (leg_at_place 0 0 1) ∷ Move.stop (leg_at_place 0 0 1)
+    ∷ Move.end_with Cancelled (leg_at_place 0 0 1) ∷ [])
 unfolding on_tables
-moves_of_the_other_leg = refl
+moves_of_the_other_leg names = refl
 
 -- ---- which names are one group
 
@@ -257,8 +316,8 @@ group_of_a_result =
     of_workflow (codes "{\"jobs\":{\"a\":{\"runs-on\":\"linux\"},\"b\":{\"runs-on\":\"linux\",\"needs\":\"a\","
     ++ codes "\"if\":\"always()\",\"concurrency\":\"${{ needs.a.result }}\"}}}")
 
-leg_in_the_group_of_a_result : group_moves (group (codes "failure")) empty
+leg_in_the_group_of_a_result : (names : Names) → group_moves names (group (codes "failure")) empty
     (admit (codes "a") group_of_a_result ∷ claim (codes "r1") 1 ∷ done (codes "r1") 2 1 Failure ∷ [])
-    ≡ Move.arrive (leg_at_place 0 1 0) ∷ Move.start (leg_at_place 0 1 0) ∷ []
+    ≡ first_attempts names (Move.arrive (leg_at_place 0 1 0) ∷ Move.start (leg_at_place 0 1 0) ∷ [])
 unfolding on_tables
-leg_in_the_group_of_a_result = refl
+leg_in_the_group_of_a_result names = refl

@@ -1,7 +1,7 @@
 -- The group of a holder, and whether its coming cancels what is in progress, stay what they are in every later table.
 use Rattle.std.specs.Prelude.{◌≡◌, ℕ, zero, suc, ◌<◌, List, [], ◌∷◌, ◌++◌, length, false, Option, Some, None}
 use Rattle.std.specs.Prelude.{option_map, option_and_then, refl}
-use Rattle.std.specs.Option.{option_map_or}
+use Rattle.std.specs.Option.{option_map_or, unwrap_or}
 use Rattle.std.proofs.Common.{arith, ap, inl, inr, sym, ◌∙◌}
 use Rattle.std.proofs.lemmas.Bool.{cases_eq}
 use Rattle.std.proofs.lemmas.Option.{slice_get-map, slice_get_past, slice_get_within}
@@ -10,12 +10,13 @@ use Rattle.run_plan.specs.Admitted.{Admitted}
 use Rattle.workflow_runs.specs.GroupOf.{cancels_in_progress, group_at, leg_cancels, run_cancels, run_facts_at}
 use Rattle.workflow_runs.specs.LegContext.{facts_at}
 use Rattle.workflow_runs.specs.Groups.{is_in}
+use Rattle.workflow_runs.specs.Holders.{run_of}
 use Rattle.workflow_runs.specs.Moves.{Holder}
 use Rattle.workflow_runs.specs.Places.{LegPlace, leg_at, run_at}
 use Rattle.workflow_runs.specs.RunNumber.{events}
 use Rattle.workflow_runs.specs.NewRun.{new_run}
 use Rattle.workflow_runs.specs.RunState.{LegState, RunState}
-use Rattle.workflow_runs.proofs.Found.{before_the_end}
+use Rattle.workflow_runs.proofs.Found.{at_the_end, before_the_end}
 use Rattle.workflow_runs.proofs.GroupStays.{leg_group_same, leg_needs_settled, run_facts_stay, run_group_stays}
 use Rattle.workflow_runs.proofs.JobKeeps.{leg_in}
 use Rattle.workflow_runs.proofs.LegFacts.{SameUpTo, attempt_at, facts_stay}
@@ -23,28 +24,37 @@ use Rattle.workflow_runs.proofs.NeedsSettled.{KeepsResults, result_in, result_so
 use Rattle.workflow_runs.proofs.OneEach.{IsOneOf}
 use Rattle.workflow_runs.proofs.RunFits.{RunsFit, admitted_at}
 use Rattle.workflow_runs.proofs.Settles.{StayFit}
+use Rattle.table_laws.specs.Names.{attempt_of}
 
--- runs of before stand where they stood, with the same events, in the same attempts, and settled jobs keep their results
+-- Runs of before stand where they stood, with the same events, in the same attempts, and settled jobs keep their results. Those that have come are
+-- at their first attempt, so that no holder gets another name.
 pub record Grows (runs later : List RunState) : Type 0 where
   pub same_admitted : (r : ℕ) (a : Admitted) → admitted_at runs r ≡ Some a → admitted_at later r ≡ Some a
   pub same_attempt : (r n : ℕ) → attempt_at runs r ≡ Some n → attempt_at later r ≡ Some n
   pub keeps_results : (r : ℕ) → KeepsResults runs later r
+  pub same_names : (h : Holder) → attempt_of later h ≡ attempt_of runs h
 
 pub grows_not : (runs : List RunState) → Grows runs runs
-grows_not runs = record { same_admitted = (λ r a e. e); same_attempt = (λ r n e. e); keeps_results = (λ r j a e. e) }
+grows_not runs = record { same_admitted = (λ r a e. e); same_attempt = (λ r n e. e); keeps_results = (λ r j a e. e); same_names = (λ h. refl) }
 
 pub grows_on : (a b c : List RunState) → Grows a b → Grows b c → Grows a c
 grows_on a b c f g = record {
   same_admitted = (λ r x e. g.same_admitted r x (f.same_admitted r x e));
   same_attempt = (λ r n e. g.same_attempt r n (f.same_attempt r n e));
   keeps_results = (λ r j x e. g.keeps_results r j x (f.keeps_results r j x e));
+  same_names = (λ h. g.same_names h ∙ f.same_names h);
 }
+
+first_or : (o : Option RunState) → option_map_or (λ x. x.attempt) o 1 ≡ unwrap_or (option_map (λ (x : RunState). x.attempt) o) 1
+first_or None = refl
+first_or (Some x) = refl
 
 pub stays_grows : (runs next : List RunState) → StayFit runs next → Grows runs next
 stays_grows runs next stay = record {
   same_admitted = (λ r a e. stay.same_admitted r ∙ e);
   same_attempt = (λ r n e. stay.same_attempt r ∙ e);
   keeps_results = stay.keeps_results;
+  same_names = (λ h. first_or (run_at next (run_of h)) ∙ ap (λ o. unwrap_or o 1) (stay.same_attempt (run_of h)) ∙ sym (first_or (run_at runs (run_of h))));
 }
 
 pub past_the_end : (runs : List RunState) (r : ℕ) → r ≡ length runs → run_at runs r ≡ None
@@ -68,6 +78,13 @@ new_run_grows runs event = record {
         absurd (none_is_none (result_so_far runs r j) a (ap (option_and_then (λ (x : RunState). result_in x j))
         (past_the_end runs r same)) e)
     | inr other ↦ ap (option_and_then (λ (x : RunState). result_in x j)) (before_the_end runs (new_run event) r other) ∙ e
+  ]);
+  same_names = (λ h. elim (cases_eq (run_of h) (length runs)) [
+    | inl same ↦
+        ap (λ (k : ℕ). option_map_or (λ x. x.attempt) (run_at (runs ++ new_run event ∷ []) k) 1) same
+        ∙ ap (λ o. option_map_or (λ x. x.attempt) o 1) (at_the_end runs (new_run event))
+        ∙ sym (ap (λ o. option_map_or (λ x. x.attempt) o 1) (past_the_end runs (run_of h) same))
+    | inr other ↦ ap (λ o. option_map_or (λ x. x.attempt) o 1) (before_the_end runs (new_run event) (run_of h) other)
   ]);
 }
 

@@ -1,6 +1,6 @@
 -- The moves of a group over all commands say exactly who holds it in the table after them.
-use Rattle.std.specs.Prelude.{◌≡◌, ◌&&◌, Bool, true, false, List, refl}
-use Rattle.std.proofs.Common.{ap, sym, ◌∙◌, subst}
+use Rattle.std.specs.Prelude.{◌≡◌, ◌&&◌, not, Bool, true, false, List, refl}
+use Rattle.std.proofs.Common.{ap, ap₂, sym, ◌∙◌, subst}
 use Rattle.std.proofs.lemmas.Bool.{and_parts}
 use Rattle.group_name.specs.Group.{Group}
 use Rattle.run_plan.specs.declared.command.Command.{Command}
@@ -11,15 +11,19 @@ use Rattle.workflow_runs.specs.Moves.{Holder, Move}
 use Rattle.workflow_runs.specs.RunState.{RunState}
 use Rattle.run_table.specs.Sound.{IsSound}
 use Rattle.run_table.specs.TableState.{TableState}
-use Rattle.table_laws.specs.GroupHistories.{all_moves, asks_for_cancelling}
+use Rattle.table_laws.specs.GroupHistories.{all_moves}
 use Rattle.table_laws.specs.GroupHolders.{SayWhoHolds, is_stopping, is_stopping_in}
-use Rattle.table_laws.proofs.HistoryLaw.{all_so_far}
+use Rattle.table_laws.specs.Names.{Names, name_in}
+use Rattle.table_laws.proofs.HistoryLaw.{told_so_far}
+use Rattle.table_laws.proofs.HistoryStep.{SoFar}
 use Rattle.table_laws.proofs.HolderStatus.{Fits, Status, fits_pending, fits_running, fits_stopped, held_is, holds_as, status, told_as, waits_as}
-use Rattle.table_laws.proofs.LawSoFar.{LawSoFar}
 use Rattle.table_laws.proofs.OwnMoves.{own, runs_by_own, waits_by_own}
 
-module _ (runs : List RunState) (g : Group) (cancels : Holder → Bool) (moves : List Move)
-    (so_far : LawSoFar (is_in runs g) cancels runs moves) where
+module _ (names : Names) (runs : List RunState) (g : Group) (asks : Holder → Bool) (whole : List Move)
+    (so_far : SoFar names g asks runs whole) where
+  abbrev moves : List Move
+  moves = so_far.now
+
   -- what is said of a holder of the group, where nothing is said of the others
   said : (h : Holder) (told tested : Bool) → (is_in runs g h ≡ true → told ≡ tested) → (is_in runs g h ≡ false → told ≡ false)
       → told ≡ (is_in runs g h && tested)
@@ -56,9 +60,24 @@ module _ (runs : List RunState) (g : Group) (cancels : Holder → Bool) (moves :
         | false ↦ λ isnt. ap (λ b. b && was_stopped h moves) (running_said h ∙ isnt)
       ] refl
 
-  pub so_far_says : SayWhoHolds runs g moves
-  so_far_says = record { running = running_said; pending = pending_said; stopping = stopping_said }
+  -- by their names
+  running_named : (h : Holder) → is_running (name_in names runs h) whole ≡ is_running h moves
+  running_named h = ap₂ (λ s e. s && not e) (so_far.agrees.started h) (so_far.agrees.ended h)
 
-pub moves_say_who_holds : (t : TableState) (cs : List Command) (g : Group) → IsSound t → SayWhoHolds (after t cs).runs g (all_moves g t cs)
-moves_say_who_holds t cs g s =
-    so_far_says (after t cs).runs g (asks_for_cancelling g t cs) (all_moves g t cs) (all_so_far t cs g s)
+  pending_named : (h : Holder) → is_pending (name_in names runs h) whole ≡ is_pending h moves
+  pending_named h =
+      ap₂ (λ a b. a && b) (so_far.agrees.arrived h) (ap₂ (λ s e. not s && not e) (so_far.agrees.started h) (so_far.agrees.ended h))
+
+  pub so_far_says : SayWhoHolds names runs g whole
+  so_far_says = record {
+    running = (λ h. running_named h ∙ running_said h);
+    pending = (λ h. pending_named h ∙ pending_said h);
+    stopping = (λ h. ap₂ (λ a b. a && b) (running_named h) (so_far.agrees.stopped h) ∙ stopping_said h);
+    who_runs = so_far.agrees.who_runs;
+    who_waits = so_far.agrees.who_waits;
+  }
+
+pub moves_say_who_holds : (names : Names) (t : TableState) (cs : List Command) (g : Group) → IsSound t
+    → SayWhoHolds names (after t cs).runs g (all_moves names g t cs)
+moves_say_who_holds names t cs g s =
+    so_far_says names (after t cs).runs g (λ n. false) (all_moves names g t cs) (told_so_far names t cs g s)

@@ -26,7 +26,7 @@ use Rattle.run_table.specs.TableState.{Step, RunnerState, TableState}
 use Rattle.run_table.specs.Step.{admission_answer, admitting, cancel_answer, cancelling, claim_answer, claiming, claiming_runner}
 use Rattle.run_table.specs.Step.{has_no_lease_left}
 use Rattle.run_table.specs.Step.{kept_lease_at, lease_answer, lease_at, leasing, losing, lost, refused, released, report_answer, reporting}
-use Rattle.run_table.specs.Step.{reporting_runner, outcome, serving_nothing, step, stepped, unchanged}
+use Rattle.run_table.specs.Step.{reporting_runner, outcome, rerun_answer, rerunning, serving_nothing, step, stepped, unchanged}
 use Rattle.run_table.specs.Turns.{answer_of_turn, holds_lease, holds_this, is_repeated, number_of, runner_named, turn_answer, with_runner}
 use Rattle.run_table.proofs.RunnerPut.{found_new, found_other, has_the_name}
 use Rattle.table_laws.specs.ExactlyOnce.{HasTurn, HaveNoLaterTurn, IsRefused}
@@ -195,6 +195,8 @@ module _ (name : List ℕ) (number : ℕ) (same : LastCommand → Bool) (kept : 
   has_step t (command.Lost who) no_later has = has_lost t who has
   has_step t (command.Fetch id) no_later has = has
   has_step t (command.Look id) no_later has = has
+  has_step t (command.Rerun asked) no_later has =
+      answered t (rerun_answer t asked) (rerunning t asked) has (λ none. has_runners t (rerunning t asked).table refl has)
 
   pub has_after : (t : TableState) (cs : List Command) → HaveNoLaterTurn name number cs → Has t → Has (after t cs)
   has_after t [] no_later has = has
@@ -348,6 +350,7 @@ test_of (command.Cancel id) = λ l. false
 test_of (command.Lost name) = λ l. false
 test_of (command.Look id) = λ l. false
 test_of (command.Fetch id) = λ l. false
+test_of (command.Rerun asked) = λ l. false
 
 at_turn : (P : List ℕ → ℕ → Type 0) (a b : List ℕ) (m n : ℕ) → a ≡ b → m ≡ n → P a m → P b n
 at_turn P a b m n names numbers h = subst (λ (x : List ℕ). P x n) names (subst (λ (k : ℕ). P a k) numbers h)
@@ -368,6 +371,7 @@ turn_has t (command.Cancel id) name number turn taken = absurd turn
 turn_has t (command.Lost who) name number turn taken = absurd turn
 turn_has t (command.Look id) name number turn taken = absurd turn
 turn_has t (command.Fetch id) name number turn taken = absurd turn
+turn_has t (command.Rerun asked) name number turn taken = absurd turn
 
 pub turn_again : (t : TableState) (c : Command) (name : List ℕ) (number : ℕ) (kept : Reply) → HasTurn c name number
     → HasKept t name number (test_of c) kept → step t c ≡ (t, kept)
@@ -389,6 +393,7 @@ turn_again t (command.Cancel id) name number kept turn has = absurd turn
 turn_again t (command.Lost who) name number kept turn has = absurd turn
 turn_again t (command.Look id) name number kept turn has = absurd turn
 turn_again t (command.Fetch id) name number kept turn has = absurd turn
+turn_again t (command.Rerun asked) name number kept turn has = absurd turn
 
 -- ---- the law
 

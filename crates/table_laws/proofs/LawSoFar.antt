@@ -14,13 +14,12 @@ use Rattle.workflow_runs.specs.StopMoves.{stop_holder}
 use Rattle.workflow_runs.specs.RunState.{RunState}
 use Rattle.workflow_runs.proofs.HoldersFade.{holder_stop_fades}
 use Rattle.workflow_runs.proofs.OneEach.{IsOneOf, free_to_start, one_that_holds, one_that_waits}
-use Rattle.table_laws.specs.GroupLaw.{KeepsLaw}
 use Rattle.table_laws.proofs.ChangesTold.{stop_tells}
-use Rattle.table_laws.proofs.GroupLawWalk.{Lawful, law_goes_on}
+use Rattle.table_laws.proofs.GroupLawWalk.{Lawful, still_lawful}
 use Rattle.table_laws.proofs.GroupSaid.{arrived_on, latest_on, runs_started, started_on}
 use Rattle.table_laws.proofs.GroupTruths.{not_both, or_false}
-use Rattle.table_laws.proofs.HolderStatus.{Fits, Status, fits_running, fits_unended, holds_as, status, waiting_is, waits_as}
-use Rattle.table_laws.proofs.ListWalk.{Walk}
+use Rattle.table_laws.proofs.HolderStatus.{Fits, Goes, Status, fits_running, fits_unended, holds_as, status, waiting_is, waits_as}
+use Rattle.table_laws.proofs.ListWalk.{Walk, walk_on}
 use Rattle.table_laws.proofs.OnlyStops.{OnlyStops, holder_stops}
 use Rattle.table_laws.proofs.OwnMoves.{of_group, of_group_on, own, own_of_another, own_of_group, own_on, runs_by_own}
 use Rattle.table_laws.proofs.StopsTold.{Tells}
@@ -37,32 +36,41 @@ nobody_arrives h (Move.stop k ∷ moves) e = nobody_arrives h moves e
 nobody_arrives h (Move.end_with r k ∷ moves) e = nobody_arrives h moves e
 
 module _ (in_group cancels : Holder → Bool) where
-  pub record LawSoFar (runs : List RunState) (moves : List Move) : Type 0 where
+  -- The moves of the present attempts; and of those behind the first of them, `start`, that each is lawful, and that nobody arrives who has
+  -- arrived in these. The moves of earlier attempts are not among them, so that they need not keep the law by themselves.
+  pub record LawSoFar (start : List Move) (runs : List RunState) (moves : List Move) : Type 0 where
     pub each : (h : Holder) → in_group h ≡ true → Fits (status runs h) h (own h moves)
     pub others : (h : Holder) → in_group h ≡ false → own h moves ≡ []
     pub newest : (h : Holder) → in_group h ≡ true → waits runs h ≡ true → latest moves ≡ Some h
     pub unbegun : (h : Holder) → in_group h ≡ true → has_arrived h moves ≡ true → has_started h moves ≡ false → Unbegun runs h
-    pub law : KeepsLaw cancels moves
+    pub rest : List Move
+    pub split : moves ≡ start ++ rest
+    pub walk : Walk (Lawful cancels) start rest
+    pub once : (h : Holder) → has_arrived h rest ≡ true → has_arrived h start ≡ false
 
   -- a change after which it is so again
   abbrev pub GoesOn : List RunState → Transition → Type 0
-  GoesOn runs m = (moves : List Move) → LawSoFar runs moves → LawSoFar m.runs (moves ++ of_group in_group m.moves)
+  GoesOn runs m = (start moves : List Move) → LawSoFar start runs moves → LawSoFar start m.runs (moves ++ of_group in_group m.moves)
+
+  -- the moves of a change say of each holder of the group how far it has come by it
+  abbrev pub TellsOfGroup : List RunState → Transition → Type 0
+  TellsOfGroup runs m = (h : Holder) → in_group h ≡ true → Goes h (status runs h) (own h m.moves) (status m.runs h)
 
   -- a change at which nobody arrives in the group
   pub record IsQuiet (runs : List RunState) (m : Transition) : Type 0 where
-    pub tells : Tells runs m
+    pub tells : TellsOfGroup runs m
     pub silent : filter_map arrival_of (of_group in_group m.moves) ≡ []
     pub waited : (h : Holder) → in_group h ≡ true → waits m.runs h ≡ true → waits runs h ≡ true
     pub still : Still runs m.runs
-    pub lawful : (moves : List Move) → LawSoFar runs moves → Walk (Lawful cancels) moves (of_group in_group m.moves)
+    pub lawful : (start moves : List Move) → LawSoFar start runs moves → Walk (Lawful cancels) moves (of_group in_group m.moves)
 
   -- what each holder's moves say after a change
-  pub each_on : (runs : List RunState) (m : Transition) (moves : List Move) → Tells runs m
+  pub each_on : (runs : List RunState) (m : Transition) (moves : List Move) → TellsOfGroup runs m
       → ((h : Holder) → in_group h ≡ true → Fits (status runs h) h (own h moves)) → (h : Holder) → in_group h ≡ true
       → Fits (status m.runs h) h (own h (moves ++ of_group in_group m.moves))
   each_on runs m moves tells each h is =
       let parts = own_on h moves (of_group in_group m.moves) ∙ ap (λ ms. own h moves ++ ms) (own_of_group in_group h m.moves is) in
-      subst (Fits (status m.runs h) h) (sym parts) (tells h (own h moves) (each h is))
+      subst (Fits (status m.runs h) h) (sym parts) (tells h is (own h moves) (each h is))
 
   pub others_on : (m : Transition) (moves : List Move) → ((h : Holder) → in_group h ≡ false → own h moves ≡ []) → (h : Holder)
       → in_group h ≡ false
@@ -70,6 +78,16 @@ module _ (in_group cancels : Holder → Bool) where
   others_on m moves others h isnt =
       own_on h moves (of_group in_group m.moves)
       ∙ ap (λ ms. own h moves ++ ms) (own_of_another in_group h m.moves isnt) ∙ append-nil (own h moves) ∙ others h isnt
+
+  -- one that has not come has made no move
+  pub unseen_is_unmoved : (runs : List RunState) (moves : List Move)
+      → ((h : Holder) → in_group h ≡ true → Fits (status runs h) h (own h moves)) → ((h : Holder) → in_group h ≡ false → own h moves ≡ [])
+      → (h : Holder) → status runs h ≡ Status.unarrived → own h moves ≡ []
+  unseen_is_unmoved runs moves each others h unseen =
+      elim (in_group h) as (λ b. in_group h ≡ b → own h moves ≡ []) [
+        | true ↦ λ is. subst (λ (s : Status). Fits s h (own h moves)) unseen (each h is)
+        | false ↦ λ isnt. others h isnt
+      ] refl
 
   -- one that has not started holds nothing
   pub holds_nothing : (runs : List RunState) (moves : List Move)
@@ -82,8 +100,23 @@ module _ (in_group cancels : Holder → Bool) where
   started_before h moves more unstarted =
       (or_parts (has_started h moves) (has_started h more) (sym (started_on h moves more) ∙ unstarted)).0
 
+  pub split_on : (start rest moves more : List Move) → moves ≡ start ++ rest → moves ++ more ≡ start ++ (rest ++ more)
+  split_on start rest moves more is = ap (λ ms. ms ++ more) is ∙ append_assoc start rest more
+
+  pub walk_further : (start rest moves more : List Move) → moves ≡ start ++ rest → Walk (Lawful cancels) start rest
+      → Walk (Lawful cancels) moves more → Walk (Lawful cancels) start (rest ++ more)
+  walk_further start rest moves more is first second =
+      walk_on (Lawful cancels) (still_lawful cancels) start rest more first (subst (λ ms. Walk (Lawful cancels) ms more) is second)
+
+  -- who has arrived, where nobody does so in the last moves, had arrived before them
+  pub arrived_earlier : (h : Holder) (moves more : List Move) → filter_map arrival_of more ≡ [] → has_arrived h (moves ++ more) ≡ true
+      → has_arrived h moves ≡ true
+  arrived_earlier h moves more silent arrives =
+      sym (or_false (has_arrived h moves)) ∙ ap (λ b. has_arrived h moves || b) (sym (nobody_arrives h more silent))
+      ∙ sym (arrived_on h moves more) ∙ arrives
+
   pub quiet_goes_on : (runs : List RunState) (m : Transition) → IsQuiet runs m → GoesOn runs m
-  quiet_goes_on runs m quiet moves so_far = record {
+  quiet_goes_on runs m quiet start moves so_far = record {
     each = each_on runs m moves quiet.tells so_far.each;
     others = others_on m moves so_far.others;
     newest = (λ h is waits_now.
@@ -92,48 +125,48 @@ module _ (in_group cancels : Holder → Bool) where
     unbegun = (λ h is arrives unstarted.
         let more = of_group in_group m.moves in
         let before = started_before h moves more unstarted in
-        let arrived_before : has_arrived h moves ≡ true =
-        sym (or_false (has_arrived h moves)) ∙ ap (λ b. has_arrived h moves || b) (sym (nobody_arrives h more quiet.silent))
-        ∙ sym (arrived_on h moves more) ∙ arrives in
         quiet.still h (holds_nothing runs moves so_far.each h is before)
         (holds_nothing m.runs (moves ++ more) (each_on runs m moves quiet.tells so_far.each) h is unstarted)
-        (so_far.unbegun h is arrived_before before));
-    law = law_goes_on cancels moves (of_group in_group m.moves) so_far.law (quiet.lawful moves so_far);
+        (so_far.unbegun h is (arrived_earlier h moves more quiet.silent arrives) before));
+    rest = so_far.rest ++ of_group in_group m.moves;
+    split = split_on start so_far.rest moves (of_group in_group m.moves) so_far.split;
+    walk = walk_further start so_far.rest moves (of_group in_group m.moves) so_far.split so_far.walk (quiet.lawful start moves so_far);
+    once = (λ h arrives. so_far.once h (arrived_earlier h so_far.rest (of_group in_group m.moves) quiet.silent arrives));
   }
 
   -- ---- one change after another
 
   pub goes_on_then : (runs : List RunState) (m : Transition) (change : List RunState → Transition) → GoesOn runs m → GoesOn m.runs (change m.runs)
       → GoesOn runs (and_then m change)
-  goes_on_then runs m change first second moves so_far =
-      subst (LawSoFar (change m.runs).runs)
+  goes_on_then runs m change first second start moves so_far =
+      subst (LawSoFar start (change m.runs).runs)
       (append_assoc moves (of_group in_group m.moves) (of_group in_group (change m.runs).moves)
       ∙ ap (λ ms. moves ++ ms) (sym (of_group_on in_group m.moves (change m.runs).moves)))
-      (second (moves ++ of_group in_group m.moves) (first moves so_far))
+      (second start (moves ++ of_group in_group m.moves) (first start moves so_far))
 
   pub goes_on_still : (runs : List RunState) → GoesOn runs (without_moves runs)
-  goes_on_still runs moves so_far = subst (LawSoFar runs) (sym (append-nil moves)) so_far
+  goes_on_still runs start moves so_far = subst (LawSoFar start runs) (sym (append-nil moves)) so_far
 
   -- ---- changes without moves, and stops
 
   pub unmoved_is_quiet : (runs next : List RunState) → Tells runs (without_moves next)
       → ((h : Holder) → waits next h ≡ true → waits runs h ≡ true) → Still runs next → IsQuiet runs (without_moves next)
   unmoved_is_quiet runs next tells waited still = record {
-    tells = tells;
+    tells = (λ h is. tells h);
     still = still;
     silent = refl;
     waited = (λ h is e. waited h e);
-    lawful = (λ moves so_far. tt);
+    lawful = (λ start moves so_far. tt);
   }
 
   pub stops_are_quiet : (runs : List RunState) (m : Transition) → Tells runs m → OnlyStops m.moves
       → ((h : Holder) → waits m.runs h ≡ true → waits runs h ≡ true) → AllStill runs m.runs → IsQuiet runs m
   stops_are_quiet runs m tells stops waited still = record {
-    tells = tells;
+    tells = (λ h is. tells h);
     still = still_of_all runs m.runs still;
     silent = stops.silent in_group;
     waited = (λ h is e. waited h e);
-    lawful = (λ moves so_far. stops.lawful cancels in_group moves);
+    lawful = (λ start moves so_far. stops.lawful cancels in_group moves);
   }
 
   pub stop_is_quiet : (h : Holder) (runs : List RunState) → IsQuiet runs (stop_holder h runs)
@@ -157,9 +190,9 @@ module _ (in_group cancels : Holder → Bool) where
       no_one (Move.end_with r h) e = refl
 
   -- one that runs has started
-  has_begun : (runs : List RunState) (k : Holder) (moves : List Move) → LawSoFar runs moves → in_group k ≡ true → holds runs k ≡ true
+  has_begun : (runs : List RunState) (k : Holder) (start moves : List Move) → LawSoFar start runs moves → in_group k ≡ true → holds runs k ≡ true
       → has_started k moves ≡ true
-  has_begun runs k moves so_far is held =
+  has_begun runs k start moves so_far is held =
       runs_started k moves (fits_running (status runs k) k moves (so_far.each k is) ∙ sym (holds_as runs k) ∙ held)
 
   pub end_is_quiet : (runs next : List RunState) (r : Outcome) (k : Holder)
@@ -167,14 +200,14 @@ module _ (in_group cancels : Holder → Bool) where
       → ((h : Holder) → waits next h ≡ true → waits runs h ≡ true) → Still runs next → holds runs k ≡ true
       → IsQuiet runs (record { runs = next; moves = Move.end_with r k ∷ [] })
   end_is_quiet runs next r k tells waited still held = record {
-    tells = tells;
+    tells = (λ h is. tells h);
     still = still;
     silent = nobody_comes k (Move.end_with r k) refl;
     waited = (λ h is e. waited h e);
-    lawful = (λ moves so_far.
+    lawful = (λ start moves so_far.
         elim (in_group k) as (λ b. in_group k ≡ b → Walk (Lawful cancels) moves (if b then Move.end_with r k ∷ [] else [])) [
           | true ↦ λ is.
-              (λ unstarted unstopped. absurd (not_both (has_started k moves) (has_begun runs k moves so_far is held) unstarted), tt)
+              (λ unstarted unstopped. absurd (not_both (has_started k moves) (has_begun runs k start moves so_far is held) unstarted), tt)
           | false ↦ λ is. tt
         ] refl);
   }
@@ -182,9 +215,9 @@ module _ (in_group cancels : Holder → Bool) where
   -- ---- the pending holder starts
 
   module _ (g : Group) (runs : List RunState) (same : (h : Holder) → IsOneOf runs h → in_group h ≡ is_in runs g h) where
-    nobody_runs : (k : Holder) (moves : List Move) → LawSoFar runs moves → in_group k ≡ true → waits runs k ≡ true → may_start runs k ≡ true
+    nobody_runs : (k : Holder) (start moves : List Move) → LawSoFar start runs moves → in_group k ≡ true → waits runs k ≡ true → may_start runs k ≡ true
         → (other : Holder) → is_running other moves ≡ false
-    nobody_runs k moves so_far is waiting may other =
+    nobody_runs k start moves so_far is waiting may other =
         elim (in_group other) as (λ b. in_group other ≡ b → is_running other moves ≡ false) [
           | false ↦ λ isnt. sym (runs_by_own other moves) ∙ ap (is_running other) (so_far.others other isnt)
           | true ↦ λ too. fits_running (status runs other) other moves (so_far.each other too) ∙ sym (holds_as runs other)
@@ -198,10 +231,10 @@ module _ (in_group cancels : Holder → Bool) where
               ] refl
         ] refl
 
-    starts : (k : Holder) (moves : List Move) → LawSoFar runs moves → in_group k ≡ true → waits runs k ≡ true → may_start runs k ≡ true
+    starts : (k : Holder) (start moves : List Move) → LawSoFar start runs moves → in_group k ≡ true → waits runs k ≡ true → may_start runs k ≡ true
         → Lawful cancels moves (Move.start k) []
-    starts k moves so_far is waiting may = (
-      nobody_runs k moves so_far is waiting may,
+    starts k start moves so_far is waiting may = (
+      nobody_runs k start moves so_far is waiting may,
       so_far.newest k is waiting,
       fits_unended k moves
           (subst (λ (s : Status). Fits s k (own k moves)) (waiting_is (status runs k) (sym (waits_as runs k)
@@ -212,13 +245,13 @@ module _ (in_group cancels : Holder → Bool) where
         → ((h : Holder) → waits next h ≡ true → waits runs h ≡ true) → Still runs next → waits runs k ≡ true → may_start runs k ≡ true
         → IsQuiet runs (record { runs = next; moves = Move.start k ∷ [] })
     start_is_quiet next k tells waited still waiting may = record {
-      tells = tells;
+      tells = (λ h is. tells h);
       still = still;
       silent = nobody_comes k (Move.start k) refl;
       waited = (λ h is e. waited h e);
-      lawful = (λ moves so_far.
+      lawful = (λ start moves so_far.
           elim (in_group k) as (λ b. in_group k ≡ b → Walk (Lawful cancels) moves (if b then Move.start k ∷ [] else [])) [
-            | true ↦ λ is. (starts k moves so_far is waiting may, tt)
+            | true ↦ λ is. (starts k start moves so_far is waiting may, tt)
             | false ↦ λ is. tt
           ] refl);
     }

@@ -1,8 +1,10 @@
--- A leg that has a lease has it in every later table.
-use Rattle.std.specs.Prelude.{◌≡◌, ℕ, ◌+◌, ◌-◌, List, [], ◌∷◌, ◌++◌, Option, Some, None, refl}
+-- A leg that has a lease has it after each step in which its run stays at its attempt.
+use Rattle.std.specs.Prelude.{◌≡◌, ℕ, ◌+◌, ◌-◌, List, [], ◌∷◌, ◌++◌, Option, Some, None, option_and_then, refl}
 use Rattle.std.specs.Option.{option_map_or}
-use Rattle.std.proofs.Common.{ap, inl, inr, sym, ◌∙◌}
+use Rattle.std.proofs.Common.{arith, ap, inl, inr, sym, ◌∙◌}
+use Rattle.std.proofs.lemmas.Bool.{cases_eq}
 use Rattle.std.proofs.lemmas.Option.{none-some}
+use Rattle.run_plan.specs.declared.command.Attempt.{Attempt}
 use Rattle.run_plan.specs.declared.command.Claim.{Claim as Claimed}
 use Rattle.run_plan.specs.declared.command.Command.{Command}
 use Rattle.run_plan.specs.declared.command.Command.TheVariants as command
@@ -10,29 +12,34 @@ use Rattle.run_plan.specs.declared.reply.Reply.{Reply}
 use Rattle.wf_value.specs.declared.code.Code.TheVariants.{LeaseNotHeld, NoRunner}
 use Rattle.workflow_runs.specs.Fitting.{first_fit}
 use Rattle.run_table.specs.Histories.{after}
+use Rattle.workflow_runs.specs.Moves.{Holder}
 use Rattle.run_table.specs.TableState.{Step, TableState}
 use Rattle.workflow_runs.specs.Places.{LegPlace, with_leg, with_run}
 use Rattle.workflow_runs.specs.Settling.{settled}
 use Rattle.run_table.specs.Sound.{IsSound}
 use Rattle.run_table.specs.Step.{admission_answer, admitting, cancel_answer, cancelling, claim_answer, claimed, claiming, entered}
 use Rattle.run_table.specs.Step.{leasing, losing, lost, refused, released, report_answer, reporting, serving_nothing}
-use Rattle.workflow_runs.specs.NewRun.{leased_leg}
-use Rattle.run_table.specs.Step.{stepped, unchanged}
+use Rattle.workflow_runs.specs.NewRun.{again, leased_leg}
+use Rattle.run_table.specs.Step.{entered_again, rerun, rerun_answer, rerunning, stepped, unchanged}
 use Rattle.workflow_runs.specs.StopMoves.{with_ended}
 use Rattle.workflow_runs.specs.Stops.{outcome_of_loss, stopped_run}
 use Rattle.workflow_runs.specs.RunState.{LegState, RunState}
 use Rattle.run_table.specs.Turns.{runner_named}
 use Rattle.run_table.proofs.AdmitKeeps.{same_reads}
+use Rattle.run_table.proofs.BeginsAgain.{begins_again}
 use Rattle.run_table.proofs.ClaimKeeps.{fitting_leg, had_changes, leasing_keeps, ready_has_no_lease}
 use Rattle.run_table.proofs.Entered.{entered_keeps, entered_settles}
+use Rattle.run_table.proofs.EnteredAgain.{entered_again_settles}
+use Rattle.workflow_runs.proofs.Changed.{at_another}
 use Rattle.workflow_runs.proofs.HoldersKeep.{run_stop_settles}
 use Rattle.run_table.proofs.Kept.{kept_from_sound}
 use Rattle.workflow_runs.proofs.LeaseReads.{place_or_another}
-use Rattle.workflow_runs.proofs.LegReads.{had_at, had_from_leg}
+use Rattle.workflow_runs.proofs.LegReads.{had_at, had_from_leg, had_in}
 use Rattle.run_table.proofs.ReportKeeps.{loss_keeps, report_keeps}
 use Rattle.workflow_runs.proofs.RunFits.{RunsFit, leases_fit}
 use Rattle.workflow_runs.proofs.SettlingKeeps.{settling_settles}
-use Rattle.run_table.proofs.StepKeeps.{stepped_is_sound}
+use Rattle.table_laws.specs.Names.{attempt_of}
+use Rattle.table_laws.proofs.AttemptNames.{attempt_before, attempt_then}
 use Rattle.table_laws.proofs.ReachedTables.{with_ended_keeps_leases}
 
 abbrev pub HadStays : List RunState → List RunState → Type 0
@@ -89,29 +96,57 @@ loss_had t name s =
           ] refl
     ] refl
 
-step_had : (t : TableState) (c : Command) → IsSound t → HadStays t.runs (stepped t c).table.runs
-step_had t (command.Admit event) s =
+-- the legs of the run that begins again are gone, and it is at another attempt
+again_had : (t : TableState) (asked : Attempt) → IsSound t → (p : LegPlace) (n : ℕ)
+    → attempt_of (rerun t asked).table.runs (Holder.a_leg p) ≡ attempt_of t.runs (Holder.a_leg p) → had_at t.runs p ≡ Some n
+    → had_at (rerun t asked).table.runs p ≡ Some n
+again_had t asked s p n =
+    elim (rerun_answer t asked) as
+    (λ o. rerun_answer t asked ≡ o
+    → attempt_of (option_map_or (unchanged t) o (rerunning t asked)).table.runs (Holder.a_leg p) ≡ attempt_of t.runs (Holder.a_leg p)
+    → had_at t.runs p ≡ Some n → had_at (option_map_or (unchanged t) o (rerunning t asked)).table.runs p ≡ Some n) [
+      | Some given ↦ λ is same e. e
+      | None ↦ λ none same e.
+          let begins = begins_again t asked none in
+          let r = asked.run - 1 in
+          let fit = (kept_from_sound t s).fit in
+          let entry = entered_again_settles t r fit in
+          elim (cases_eq p.run r) [
+            | inl here ↦
+                let before : attempt_of t.runs (Holder.a_leg p) ≡ begins.was.attempt =
+                attempt_before t r begins.was begins.there fit (Holder.a_leg p) here in
+                let next : attempt_of (rerunning t asked).table.runs (Holder.a_leg p) ≡ begins.was.attempt + 1 =
+                attempt_then t r begins.was begins.there fit (Holder.a_leg p) here in
+                absurd (omega (arith, before, next, same))
+            | inr other ↦
+                (settling_settles (entered_again t r).runs entry.stay.fit).same_had p ∙ entry.same_had p
+                ∙ ap (option_and_then (λ (v : RunState). had_in v p.job p.leg)) (at_another r again t.runs p.run other) ∙ e
+          ]
+    ] refl
+
+-- of a run that stays at its attempt
+pub step_had : (t : TableState) (c : Command) → IsSound t → (p : LegPlace) (n : ℕ)
+    → attempt_of (stepped t c).table.runs (Holder.a_leg p) ≡ attempt_of t.runs (Holder.a_leg p) → had_at t.runs p ≡ Some n
+    → had_at (stepped t c).table.runs p ≡ Some n
+step_had t (command.Admit event) s p n same =
     had_by t (admission_answer t event) (admitting t event) (λ none.
     let kept = kept_from_sound t s in
     had_at_rest t.runs (entered t event).runs (entered_keeps t event kept none).fit
-    (λ p n e. (entered_settles t event kept.fit).same_had p ∙ same_reads t.runs event (λ (z : LegState). z.lease) p ∙ e))
-step_had t (command.Claim claim) s = claim_had t claim s
-step_had t (command.Done report) s =
+    (λ p n e. (entered_settles t event kept.fit).same_had p ∙ same_reads t.runs event (λ (z : LegState). z.lease) p ∙ e)) p n
+step_had t (command.Claim claim) s p n same = claim_had t claim s p n
+step_had t (command.Done report) s p n same =
     had_by t (report_answer t report) (reporting t report) (λ none.
     had_at_rest t.runs (with_ended report.lease report.result t.runs) (report_keeps t report (kept_from_sound t s) none).fit
-    (λ p n e. with_ended_keeps_leases report.lease report.result p t.runs ∙ e))
-step_had t (command.Beat beat) s = λ p n e. e
-step_had t (command.Cancel id) s =
+    (λ p n e. with_ended_keeps_leases report.lease report.result p t.runs ∙ e)) p n
+step_had t (command.Beat beat) s p n same = λ e. e
+step_had t (command.Cancel id) s p n same =
     had_by t (cancel_answer t id) (cancelling t id) (λ none.
     let stop = run_stop_settles t.runs (id - 1) (kept_from_sound t s).fit in
-    had_at_rest t.runs (with_run (id - 1) stopped_run t.runs) stop.stay.fit (λ p n e. stop.same_had p ∙ e))
-step_had t (command.Lost name) s = loss_had t name s
-step_had t (command.Fetch id) s = λ p n e. e
-step_had t (command.Look id) s = λ p n e. e
-
-pub after_had : (t : TableState) (cs : List Command) → IsSound t → HadStays t.runs (after t cs).runs
-after_had t [] s p n e = e
-after_had t (c ∷ cs) s p n e = after_had (stepped t c).table cs (stepped_is_sound t c s) p n (step_had t c s p n e)
+    had_at_rest t.runs (with_run (id - 1) stopped_run t.runs) stop.stay.fit (λ p n e. stop.same_had p ∙ e)) p n
+step_had t (command.Lost name) s p n same = loss_had t name s p n
+step_had t (command.Fetch id) s p n same = λ e. e
+step_had t (command.Look id) s p n same = λ e. e
+step_had t (command.Rerun asked) s p n same = again_had t asked s p n same
 
 pub after_both : (t : TableState) (first second : List Command) → after t (first ++ second) ≡ after (after t first) second
 after_both t [] second = refl

@@ -18,7 +18,7 @@ walk_of P start (x ∷ xs) each = (
       subst (λ s. P s y after) (sym (append_assoc start (x ∷ []) before)) (each (x ∷ before) after y (ap (λ ys. x ∷ ys) e))),
 )
 
-nil_is_no_cons : {X : Type 0} (before after : List X) (x : X) → [] ≡ before ++ x ∷ after → ⊥
+pub nil_is_no_cons : {X : Type 0} (before after : List X) (x : X) → [] ≡ before ++ x ∷ after → ⊥
 nil_is_no_cons [] after x e = cc
 nil_is_no_cons (y ∷ before) after x e = cc
 

@@ -8,6 +8,7 @@ use Rattle.std.proofs.lemmas.Option.{none-some, same_Some, slice_get_past}
 use Rattle.wf_value.specs.declared.code.Code.TheVariants.{LeaseNotHeld, NoRunner}
 use Rattle.wf_value.specs.declared.outcome.Outcome.{Outcome}
 use Rattle.run_plan.specs.Admitted.{Admitted}
+use Rattle.run_plan.specs.declared.command.Attempt.{Attempt}
 use Rattle.run_plan.specs.declared.command.Claim.{Claim as Claimed}
 use Rattle.run_plan.specs.declared.command.Done.{Done as Reported}
 use Rattle.run_plan.specs.declared.command.Command.{Command}
@@ -20,22 +21,25 @@ use Rattle.workflow_runs.specs.Fitting.{first_fit, place_of_lease}
 use Rattle.run_table.specs.Histories.{after, replies}
 use Rattle.workflow_runs.specs.Moves.{Holder, Move}
 use Rattle.run_table.specs.TableState.{Step, TableState}
-use Rattle.workflow_runs.specs.Places.{LegPlace, leg_at, with_job, with_leg, with_run}
+use Rattle.workflow_runs.specs.Places.{LegPlace, leg_at, run_at, with_job, with_leg, with_run}
 use Rattle.workflow_runs.specs.Rules.{leg_in_phase}
 use Rattle.run_table.specs.Sound.{IsSound}
 use Rattle.run_table.specs.Step.{empty, at_rest_after, entered, unchanged, admission_answer, admitting, admitted}
 use Rattle.workflow_runs.specs.StopMoves.{lease_end_moves, with_ended, stop_holder}
-use Rattle.workflow_runs.specs.NewRun.{new_run, leased_leg}
-use Rattle.run_table.specs.Step.{claim_answer, claiming_runner}
+use Rattle.workflow_runs.specs.NewRun.{again, new_run, leased_leg}
+use Rattle.run_table.specs.Step.{claim_answer, claiming_runner, entered_again, rerun, rerun_answer, rerunning}
 use Rattle.run_table.specs.Step.{kept_lease_at, lease_at, leasing, serving_nothing, claiming, report_answer, reporting_runner}
 use Rattle.run_table.specs.Step.{reporting, reported, stepped, cancel_answer, cancelling, cancelled, losing, lost, refused, released}
 use Rattle.workflow_runs.specs.Stops.{after_end, outcome_of_loss, stopped_run, stops_others, with_stopped_legs}
 use Rattle.workflow_runs.specs.RunState.{LegState, JobState, RunState}
 use Rattle.run_table.specs.Turns.{runner_named, with_runner}
 use Rattle.workflow_runs.specs.declared.phases.LegPhase.TheVariants as leg
-use Rattle.run_table.proofs.AdmitKeeps.{same_reads}
+use Rattle.run_table.proofs.AdmitKeeps.{no_lease, same_reads}
+use Rattle.run_table.proofs.BeginsAgain.{begins_again}
 use Rattle.run_table.proofs.ClaimKeeps.{fitting_leg, had_changes, leasing_keeps, serving_keeps}
 use Rattle.run_table.proofs.Entered.{entered_keeps, entered_settles}
+use Rattle.run_table.proofs.EnteredAgain.{again_admitted, entered_again_keeps, entered_again_settles}
+use Rattle.workflow_runs.proofs.Changed.{at_another, at_changed}
 use Rattle.workflow_runs.proofs.Found.{before_the_end}
 use Rattle.run_table.proofs.Kept.{IsKept, kept_from_sound, kept_settles, told_the_same}
 use Rattle.workflow_runs.proofs.JobKeeps.{leg_in, with_job_of, with_leg_of}
@@ -241,6 +245,33 @@ cancel_reads t id s =
     (kept_settles t next (kept_from_sound t s) stop)
     (λ i a e. stop.stay.same_admitted i ∙ e) (λ p n e. inl (sym (stop.same_had p) ∙ e)))
 
+-- the legs of the run that begins again are gone
+legs_before : (runs : List RunState) (r : ℕ) (p : LegPlace) (n : ℕ) → had_at (with_run r again runs) p ≡ Some n → had_at runs p ≡ Some n
+legs_before runs r p n e =
+    let read = option_and_then (λ (v : RunState). had_in v p.job p.leg) in
+    elim (cases_eq p.run r) [
+      | inl same ↦ absurd (none-some n (sym (ap read (ap (run_at (with_run r again runs)) same ∙ at_changed r again runs)
+          ∙ none_of_it (run_at runs r)) ∙ e))
+      | inr other ↦ sym (ap read (at_another r again runs p.run other)) ∙ e
+    ]
+  where
+    none_of_it : (o : Option RunState) → option_and_then (λ (v : RunState). had_in v p.job p.leg) (option_map again o) ≡ None
+    none_of_it None = refl
+    none_of_it (Some x) = no_lease (λ z. z.lease) x.admitted p.job p.leg
+
+rerun_reads : (t : TableState) (asked : Attempt) → IsSound t → Reads t (command.Rerun asked) (rerun t asked)
+rerun_reads t asked s =
+    either_reads t (command.Rerun asked) (rerun_answer t asked) (rerunning t asked)
+    (λ none.
+    let begins = begins_again t asked none in
+    let r = asked.run - 1 in
+    let kept = kept_from_sound t s in
+    let entry = entered_again_settles t r kept.fit in
+    rest_reads t (command.Rerun asked) (entered_again t r).moves (record t { runs = (entered_again t r).runs }) (reply.Again asked)
+    (entered_again_keeps t r asked.attempt kept begins)
+    (λ i a e. entry.stay.same_admitted i ∙ again_admitted t.runs r i ∙ e)
+    (λ p n e. inl (legs_before t.runs r p n (sym (entry.same_had p) ∙ e))))
+
 loss_reads : (t : TableState) (name : List ℕ) → IsSound t → Reads t (command.Lost name) (lost t name)
 loss_reads t name s =
     let asked = command.Lost name in
@@ -272,6 +303,7 @@ step_reads t (command.Cancel id) s = cancel_reads t id s
 step_reads t (command.Lost name) s = loss_reads t name s
 step_reads t (command.Fetch id) s = unchanged_reads t (command.Fetch id) (stepped t (command.Fetch id)).reply
 step_reads t (command.Look id) s = unchanged_reads t (command.Look id) (stepped t (command.Look id)).reply
+step_reads t (command.Rerun asked) s = rerun_reads t asked s
 
 -- ---- what a list of commands leaves
 

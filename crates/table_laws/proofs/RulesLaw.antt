@@ -1,5 +1,5 @@
 -- Each settling rule keeps the law of every group, and so does settling.
-use Rattle.std.specs.Prelude.{◌≡◌, ℕ, zero, suc, List, [], ◌∷◌, Bool, true, false, Some, None, if◌then◌else◌}
+use Rattle.std.specs.Prelude.{◌≡◌, ℕ, zero, suc, List, [], ◌∷◌, ◌++◌, Bool, true, false, Some, None, if◌then◌else◌}
 use Rattle.std.specs.Prelude.{slice_get, refl}
 use Rattle.std.specs.List.{list_all}
 use Rattle.std.specs.Option.{option_map_or}
@@ -13,7 +13,7 @@ use Rattle.needs_graph.specs.Results.{conclusion_of}
 use Rattle.workflow_runs.specs.Arrivals.{arrived, displaced, room_made, started}
 use Rattle.workflow_runs.specs.GroupOf.{cancels_in_progress, group_at}
 use Rattle.workflow_runs.specs.GroupWords.{holder_of, same_holder}
-use Rattle.workflow_runs.specs.Groups.{HasOneEach, holds, is_in, leg_waits, may_start, run_waits, waits}
+use Rattle.workflow_runs.specs.Groups.{HasOneBeside, HasOneEach, holds, is_in, leg_waits, may_start, run_waits, waits}
 use Rattle.workflow_runs.specs.JobResults.{results_of}
 use Rattle.workflow_runs.specs.Moves.{Holder, Move, Transition, and_then, without_moves}
 use Rattle.workflow_runs.specs.Places.{LegPlace, job_at, leg_at, run_at, with_job, with_run}
@@ -38,7 +38,7 @@ use Rattle.workflow_runs.proofs.HoldersKeep.{arrival_settles, asked_settles, dis
 use Rattle.workflow_runs.proofs.JobKeeps.{open_is_live}
 use Rattle.workflow_runs.proofs.JobPhases.{is_blocked_blocked, is_open_open, no_legs}
 use Rattle.workflow_runs.proofs.LivePlaces.{LivePlace, first_place_is_live}
-use Rattle.workflow_runs.proofs.OneEach.{Comes, IsOneOf, groups_stay, newcomer_besides, one_that_waits}
+use Rattle.workflow_runs.proofs.OneEach.{Comes, GroupsStay, IsOneOf, groups_stay, newcomer_besides, one_that_waits}
 use Rattle.workflow_runs.proofs.OneEachRules.{decided_fades, ended_fades, first_rule_one_each, live_waits, newcomer_comes, set_itself}
 use Rattle.workflow_runs.proofs.Optional.{from_and_then}
 use Rattle.workflow_runs.proofs.RuleKeeps.{newcomer_waits}
@@ -48,11 +48,11 @@ use Rattle.workflow_runs.proofs.ArrivalKeeps.{itself}
 use Rattle.table_laws.proofs.ArrivalLaw.{arrival_goes_on}
 use Rattle.table_laws.proofs.ChangesTold.{leg_tells, new_legs_same, only_none, only_one, quiet_job_tells, run_tells}
 use Rattle.table_laws.proofs.GroupsKept.{Grows, cancels_kept, grows_on, is_in_kept, stays_grows}
-use Rattle.table_laws.proofs.HolderStatus.{Goes, Status, ends_at_once, goes_over, goes_to_arrive, goes_to_start, goes_unseen, leg_status}
+use Rattle.table_laws.proofs.HolderStatus.{Fits, Goes, Status, ends_at_once, goes_over, goes_to_arrive, goes_to_start, goes_unseen, leg_status}
 use Rattle.table_laws.proofs.HolderStatus.{run_status, status, status_by, status_in_job, status_of_leg, status_of_run}
-use Rattle.table_laws.proofs.LawSoFar.{GoesOn, end_is_quiet, goes_on_still, goes_on_then, quiet_goes_on, start_is_quiet}
+use Rattle.table_laws.proofs.LawSoFar.{GoesOn, LawSoFar, end_is_quiet, goes_on_still, goes_on_then, quiet_goes_on, start_is_quiet}
 use Rattle.table_laws.proofs.LawSoFar.{unmoved_is_quiet}
-use Rattle.table_laws.proofs.OwnMoves.{own}
+use Rattle.table_laws.proofs.OwnMoves.{of_group, own}
 use Rattle.table_laws.proofs.StopsTold.{Tells, goes_by}
 use Rattle.table_laws.proofs.Unbegun.{AllStill, LegUnbegun, There, leg_all_still, live_job_still, new_leg_unbegun, phase_still, still_of_all}
 
@@ -144,10 +144,10 @@ run_set_tells runs r x to m was of_it goes =
     (sym (own_itself (Holder.a_run r) m of_it)) goes))
     (λ none. absurd (none-some x (sym none ∙ was))) (only_one (Holder.a_run r) m of_it)
 
--- ---- the rules, on the way to a table that is reached; `later` is one that follows
+-- ---- the rules, on the way to a table that is reached
 
-module _ (reached later : List RunState) (g : Group) (cancels : Holder → Bool) (on : Grows reached later)
-    (asks : (h : Holder) → cancels h ≡ true → cancels_in_progress later h ≡ true) where
+module _ (reached : List RunState) (g : Group) (cancels : Holder → Bool)
+    (asks : (h : Holder) → cancels h ≡ true → cancels_in_progress reached h ≡ true) where
   -- the groups are those of the table that is reached
   abbrev pub Keeps : List RunState → Transition → Type 0
   Keeps runs m = GoesOn (is_in reached g) cancels runs m
@@ -157,8 +157,7 @@ module _ (reached later : List RunState) (g : Group) (cancels : Holder → Bool)
 
   asked_now : (runs : List RunState) → RunsFit runs → Grows runs reached → (h : Holder) → IsOneOf runs h → cancels h ≡ true
       → cancels_in_progress runs h ≡ true
-  asked_now runs fit grows h there e =
-      sym (cancels_kept runs later fit (grows_on runs reached later grows on) h there) ∙ asks h e
+  asked_now runs fit grows h there e = sym (cancels_kept runs reached fit grows h there) ∙ asks h e
 
   -- ---- an arrival
 
@@ -174,16 +173,26 @@ module _ (reached later : List RunState) (g : Group) (cancels : Holder → Bool)
       let after : Grows made.runs reached = subst (λ (rs : List RunState). Grows rs reached) same grows in
       agrees mid fit_mid (grows_on mid made.runs reached (stays_grows mid made.runs (asked_settles c g mid fit_mid).stay) after)
 
-  pub arrival_keeps : (before now : List RunState) (n : Holder) → RunsFit before → RunsFit now
-      → Tells before (record { runs = now; moves = Move.arrive n ∷ [] }) → status before n ≡ Status.unarrived → Comes before now n
-      → waits now n ≡ true → ((h : Holder) → IsOneOf before h → group_at now h ≡ group_at before h) → HasOneEach before
-      → AllStill before now → Grows (arrived n now).runs reached → Keeps before (arrived n now)
-  arrival_keeps before now n fit_before fit set unseen comes waiting stay each still grows moves so_far =
+  -- of a newcomer that has made no move in this attempt of its run
+  pub arrival_keeps : (before now : List RunState) (n : Holder) → RunsFit now
+      → ((h : Holder) → (h ≡ n → ⊥) → Goes h (status before h) (own h (Move.arrive n ∷ [])) (status now h)) → Comes before now n
+      → waits now n ≡ true → HasOneBeside now n → AllStill before now → Grows (arrived n now).runs reached → (start moves : List Move)
+      → LawSoFar (is_in reached g) cancels start before moves → (is_in reached g n ≡ true → own n moves ≡ [])
+      → LawSoFar (is_in reached g) cancels start (arrived n now).runs (moves ++ of_group (is_in reached g) (arrived n now).moves)
+  arrival_keeps before now n fit set comes waiting besides still grows start moves so_far fresh =
       let fit_now : Grows now reached =
       grows_on now (arrived n now).runs reached (stays_grows now (arrived n now).runs (arrival_settles n now fit).stay) grows in
-      arrival_goes_on (is_in reached g) cancels g before now n fit set unseen comes waiting
-      (newcomer_besides before now n stay comes each) (agrees now fit fit_now) still
-      (asked_now now fit fit_now n (one_that_waits now n waiting)) (then_agrees now n fit grows) moves so_far
+      arrival_goes_on (is_in reached g) cancels g before now n fit set comes waiting besides (agrees now fit fit_now) still
+      (asked_now now fit fit_now n (one_that_waits now n waiting)) (then_agrees now n fit grows) start moves so_far fresh
+
+  -- of one that was not there, or was new
+  pub first_arrival_keeps : (before now : List RunState) (n : Holder) → RunsFit now
+      → Tells before (record { runs = now; moves = Move.arrive n ∷ [] }) → status before n ≡ Status.unarrived → Comes before now n
+      → waits now n ≡ true → GroupsStay before now → HasOneEach before → AllStill before now → Grows (arrived n now).runs reached
+      → Keeps before (arrived n now)
+  first_arrival_keeps before now n fit set unseen comes waiting stay each still grows start moves so_far =
+      arrival_keeps before now n fit (λ h other. set h) comes waiting (newcomer_besides before now n stay comes each) still grows start moves
+      so_far (λ is. subst (λ (s : Status). Fits s n (own n moves)) unseen (so_far.each n is))
 
   -- ---- a leg goes on
 
@@ -204,7 +213,7 @@ module _ (reached later : List RunState) (g : Group) (cancels : Holder → Bool)
   leg_arrival_keeps runs p z fit was is each grows =
       let now = with_leg_in leg.Waiting p runs in
       let stay = (newcomer_waits runs p z fit was is).stay in
-      arrival_keeps runs now (Holder.a_leg p) fit stay.fit
+      first_arrival_keeps runs now (Holder.a_leg p) stay.fit
       (leg_set_tells runs p z leg.New leg.Waiting (Move.arrive (Holder.a_leg p)) was is refl (goes_to_arrive (Holder.a_leg p)))
       (ap (status_by status_of_leg) was ∙ ap leg_status is) (newcomer_comes runs p z was)
       (ap (passes (leg_passes leg_waits)) (set_itself runs p z was (leg_in_phase leg.Waiting))) (groups_stay runs now fit stay) each

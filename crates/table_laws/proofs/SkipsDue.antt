@@ -9,6 +9,7 @@ use Rattle.wf_value.specs.declared.code.Code.TheVariants.{LeaseNotHeld, NoRunner
 use Rattle.wf_value.specs.declared.outcome.Outcome.{Outcome}
 use Rattle.run_plan.specs.Admitted.{Admitted}
 use Rattle.run_plan.specs.PlanOf.{plan_of}
+use Rattle.run_plan.specs.declared.command.Attempt.{Attempt}
 use Rattle.run_plan.specs.declared.command.Claim.{Claim as Claimed}
 use Rattle.run_plan.specs.declared.command.Done.{Done as Reported}
 use Rattle.run_plan.specs.declared.command.Command.{Command}
@@ -18,11 +19,12 @@ use Rattle.workflow_runs.specs.Fitting.{first_fit, place_of_lease}
 use Rattle.run_table.specs.Histories.{after}
 use Rattle.workflow_runs.specs.Moves.{Holder}
 use Rattle.run_table.specs.TableState.{Step, TableState}
-use Rattle.workflow_runs.specs.Places.{LegPlace, with_job, with_leg, with_run}
+use Rattle.workflow_runs.specs.Places.{LegPlace, run_at, with_job, with_leg, with_run}
 use Rattle.workflow_runs.specs.Rules.{leg_in_phase}
 use Rattle.run_table.specs.Sound.{IsSound}
 use Rattle.run_table.specs.Step.{empty, entered, unchanged, admission_answer, admitting, admitted, claim_answer, leasing}
-use Rattle.workflow_runs.specs.NewRun.{new_run, leased_leg}
+use Rattle.workflow_runs.specs.NewRun.{again, new_run, leased_leg}
+use Rattle.run_table.specs.Step.{entered_again, rerun, rerun_answer, rerunning}
 use Rattle.run_table.specs.Step.{serving_nothing, claiming, claimed, report_answer, reporting, reported, stepped}
 use Rattle.workflow_runs.specs.StopMoves.{with_ended}
 use Rattle.run_table.specs.Step.{cancel_answer, cancelling, cancelled, losing, lost, refused, released}
@@ -33,6 +35,8 @@ use Rattle.workflow_runs.specs.declared.phases.LegPhase.TheVariants as leg
 use Rattle.run_table.proofs.AdmitKeeps.{all_fit, job_is_blocked}
 use Rattle.run_table.proofs.ClaimKeeps.{leasing_keeps}
 use Rattle.run_table.proofs.Entered.{entered_settles}
+use Rattle.run_table.proofs.EnteredAgain.{again_fits, entered_again_settles}
+use Rattle.workflow_runs.proofs.Changed.{at_another, at_changed}
 use Rattle.workflow_runs.proofs.Found.{at_the_end, before_the_end}
 use Rattle.workflow_runs.proofs.JobKeeps.{job_in}
 use Rattle.run_table.proofs.Kept.{kept_from_sound}
@@ -69,6 +73,30 @@ module _ (runs : List RunState) (event : Admitted) (all : Decided runs) where
             decided_stays runs next all r (ap (option_map (λ (v : RunState). v.admitted)) before)
             (λ i a had. ap (option_and_then (λ (v : RunState). result_in v i)) before ∙ had) j y.phase
             (all r j y (job_in_run runs r j new.run (sym before ∙ new.run_is) ∙ new.job_is))
+      ]
+
+-- ---- a run that begins again
+
+module _ (runs : List RunState) (r : ℕ) (all : Decided runs) where
+  again_blocked : (k j : ℕ) (y : JobState) (o : Option RunState) (x : RunState) → option_map again o ≡ Some x → slice_get x.jobs j ≡ Some y
+      → JobDecided (with_run r again runs) k j y.phase
+  again_blocked k j y None x is e = cc
+  again_blocked k j y (Some was) x is e =
+      subst (λ (v : JobState). JobDecided (with_run r again runs) k j v.phase)
+      (job_is_blocked (plan_of was.admitted.body) j y (ap (λ (v : RunState). slice_get v.jobs j) (same_Some (again was) x is) ∙ e)) tt
+
+  again_decided : Decided (with_run r again runs)
+  again_decided k j y at =
+      let next = with_run r again runs in
+      let its = job_in next k j y at in
+      elim (cases_eq k r) [
+        | inl same ↦
+            again_blocked k j y (run_at runs r) its.run (sym (at_changed r again runs) ∙ ap (run_at next) (sym same) ∙ its.run_is) its.job_is
+        | inr other ↦
+            let before = at_another r again runs k other in
+            decided_stays runs next all k (ap (option_map (λ (v : RunState). v.admitted)) before)
+            (λ i a had. ap (option_and_then (λ (v : RunState). result_in v i)) before ∙ had) j y.phase
+            (all k j y (job_in_run runs k j its.run (sym before ∙ its.run_is) ∙ its.job_is))
       ]
 
 -- ---- the steps
@@ -131,6 +159,14 @@ cancelled_decided t id s all =
     settled_decided (with_run (id - 1) stopped_run t.runs) (stopped_run_settles t.runs fit (id - 1) found.0 found.1).stay.fit
     (stopped_decided t.runs fit all (id - 1) found.0 found.1))
 
+rerun_decided : (t : TableState) (asked : Attempt) → IsSound t → Decided t.runs → Decided (rerun t asked).table.runs
+rerun_decided t asked s all =
+    let r = asked.run - 1 in
+    let fit = (kept_from_sound t s).fit in
+    answered_or_changed t (rerun_answer t asked) (rerunning t asked) all
+    (λ none. settled_decided (entered_again t r).runs (entered_again_settles t r fit).stay.fit
+    (arrival_decided (Holder.a_run r) (with_run r again t.runs) (again_fits t.runs r fit) (again_decided t.runs r all)))
+
 lost_decided : (t : TableState) (name : List ℕ) → IsSound t → Decided t.runs → Decided (lost t name).table.runs
 lost_decided t name s all =
     elim (runner_named t.runners name) as
@@ -158,6 +194,7 @@ stepped_decided t (command.Cancel id) s all = cancelled_decided t id s all
 stepped_decided t (command.Lost name) s all = lost_decided t name s all
 stepped_decided t (command.Fetch id) s all = all
 stepped_decided t (command.Look id) s all = all
+stepped_decided t (command.Rerun asked) s all = rerun_decided t asked s all
 
 -- ---- all commands
 

@@ -1,5 +1,5 @@
 -- Each step keeps the law of every group.
-use Rattle.std.specs.Prelude.{◌≡◌, ℕ, ◌+◌, ◌-◌, List, [], ◌∷◌, ◌++◌, length, Bool, true, false, Option, Some, None}
+use Rattle.std.specs.Prelude.{◌≡◌, ◌⊎◌, ℕ, ◌+◌, ◌-◌, List, [], ◌∷◌, ◌++◌, length, Bool, true, false, Option, Some, None}
 use Rattle.std.specs.Prelude.{option_map}
 use Rattle.std.specs.Prelude.{slice_get, if◌then◌else◌, refl}
 use Rattle.std.specs.Option.{option_map_or}
@@ -10,6 +10,7 @@ use Rattle.wf_value.specs.declared.outcome.Outcome.{Outcome}
 use Rattle.group_name.specs.Group.{Group}
 use Rattle.run_plan.specs.Admitted.{Admitted}
 use Rattle.run_plan.specs.PlanOf.{plan_of}
+use Rattle.run_plan.specs.declared.command.Attempt.{Attempt}
 use Rattle.run_plan.specs.declared.command.Claim.{Claim as Claimed}
 use Rattle.run_plan.specs.declared.command.Command.{Command}
 use Rattle.run_plan.specs.declared.command.Command.TheVariants as command
@@ -33,7 +34,8 @@ use Rattle.run_table.specs.Step.{admission_answer, admitted, admitting, at_rest_
 use Rattle.workflow_runs.specs.NewRun.{blocked_job, leased_leg, new_run}
 use Rattle.run_table.specs.Step.{cancelling, claim_answer, claimed, claiming, claiming_runner, entered, kept_lease_at, lease_at, leasing, losing, lost}
 use Rattle.workflow_runs.specs.StopMoves.{lease_end_moves, with_ended, end_moves, legs_stop_moves, others_stop_moves, stop_holder}
-use Rattle.run_table.specs.Step.{refused, released, report_answer, reported, reporting, reporting_runner, serving_nothing, stepped}
+use Rattle.run_table.specs.Step.{refused, released, report_answer, reported, reporting, reporting_runner, rerun, rerun_answer, rerunning}
+use Rattle.run_table.specs.Step.{serving_nothing, stepped}
 use Rattle.run_table.specs.Step.{unchanged}
 use Rattle.workflow_runs.specs.Stops.{after_end, outcome_of_loss, stops_others, with_stopped_legs}
 use Rattle.workflow_runs.specs.RunState.{RunState}
@@ -41,6 +43,7 @@ use Rattle.run_table.specs.Turns.{runner_named, with_runner}
 use Rattle.workflow_runs.specs.declared.phases.LegPhase.{LegPhase}
 use Rattle.workflow_runs.specs.declared.phases.LegPhase.TheVariants as leg
 use Rattle.run_table.proofs.AdmitKeeps.{all_fit}
+use Rattle.run_table.proofs.BeginsAgain.{BeginsAgain, begins_again}
 use Rattle.run_table.proofs.ClaimKeeps.{fitting_leg}
 use Rattle.run_table.proofs.CommandsOneEach.{ended_one_each, leased_fades, leased_one_each, stopped_one_each}
 use Rattle.run_table.proofs.Entered.{entered_keeps, entered_one_each, entered_settles, groups_before, held, new_run_waits, waited}
@@ -66,13 +69,13 @@ use Rattle.table_laws.proofs.LawSoFar.{GoesOn, end_is_quiet, goes_on_still, goes
 use Rattle.table_laws.proofs.LawSoFar.{unmoved_is_quiet}
 use Rattle.table_laws.proofs.OnlyStops.{job_stops}
 use Rattle.table_laws.proofs.OwnMoves.{own}
-use Rattle.table_laws.proofs.RulesLaw.{arrival_keeps, settled_keeps}
+use Rattle.table_laws.proofs.RulesLaw.{first_arrival_keeps, settled_keeps}
 use Rattle.table_laws.proofs.StopsTold.{Tells, goes_by, goes_same}
 use Rattle.table_laws.proofs.Unbegun.{Still, leg_still, legs_all_still, new_run_still}
 
 -- ---- a new run
 
-no_leg_yet : (j l : ℕ) (event : Admitted) → status_in_run j l (new_run event) ≡ Status.unarrived
+pub no_leg_yet : (j l : ℕ) (event : Admitted) → status_in_run j l (new_run event) ≡ Status.unarrived
 no_leg_yet j l event = ap (status_by (status_in_job l)) (slice_get-map (λ _. blocked_job) (plan_of event.body) j)
     ∙ none (slice_get (plan_of event.body) j)
   where
@@ -217,156 +220,177 @@ found_has runs lease p is =
 
 -- ---- the steps
 
-module _ (later : List RunState) (g : Group) (cancels : Holder → Bool) (asks : (h : Holder) → cancels h ≡ true
-    → cancels_in_progress later h ≡ true)
-  where
-    pub record StepSays (t : TableState) (s : Step) : Type 0 where
-      pub grows : Grows t.runs s.table.runs
-      pub goes_on : Grows s.table.runs later
-          → GoesOn (is_in s.table.runs g) cancels t.runs (record { runs = s.table.runs; moves = s.moves })
+module _ (g : Group) where
+  -- the groups, and who cancels what is in progress, are those of the table after the step
+  abbrev GoesOnTo : List RunState → List RunState → Transition → Type 0
+  GoesOnTo reached runs m =
+      (cancels : Holder → Bool) → ((h : Holder) → cancels h ≡ true → cancels_in_progress reached h ≡ true)
+      → GoesOn (is_in reached g) cancels runs m
 
-    unchanged_says : (t : TableState) (r : Reply) → StepSays t (unchanged t r)
-    unchanged_says t r = record { grows = grows_not t.runs; goes_on = (λ on. goes_on_still (is_in t.runs g) cancels t.runs) }
+  -- a step in which a run begins again
+  pub record RunsAgain (t : TableState) (c : Command) (s : Step) : Type 0 where
+    pub asked : Attempt
+    pub command_is : c ≡ command.Rerun asked
+    pub begins : BeginsAgain t.runs (asked.run - 1) asked.attempt
+    pub is : s ≡ rerunning t asked
 
-    -- a change, and then settling
-    rest_says : (t u : TableState) (moves : List Move) (r : Reply) → RunsFit u.runs → HasOneEach u.runs → Grows t.runs u.runs
-        → (Grows (settled u.runs) later → GoesOn (is_in (settled u.runs) g) cancels t.runs (record { runs = u.runs; moves = moves }))
-        → StepSays t (at_rest_after moves u r)
-    rest_says t u moves r fit each grows first =
-        let rests = stays_grows u.runs (settled u.runs) (settling_settles u.runs fit).stay in
-        record {
-          grows = grows_on t.runs u.runs (settled u.runs) grows rests;
-          goes_on = (λ on.
-              goes_on_then (is_in (settled u.runs) g) cancels t.runs (record { runs = u.runs; moves = moves }) settling (first on)
-              (settled_keeps (settled u.runs) later g cancels on asks (remaining_phases u.runs) u.runs fit each (grows_not (settled u.runs))));
-        }
+  -- and one in which none does
+  pub record StepSays (t : TableState) (s : Step) : Type 0 where
+    pub grows : Grows t.runs s.table.runs
+    pub goes_on : GoesOnTo s.table.runs t.runs (record { runs = s.table.runs; moves = s.moves })
 
-    either_says : (t : TableState) (answer : Option Reply) (change : Step) → (answer ≡ None → StepSays t change)
-        → StepSays t (option_map_or (unchanged t) answer change)
-    either_says t None change says = says refl
-    either_says t (Some r) change says = unchanged_says t r
+  unchanged_says : (t : TableState) (r : Reply) → StepSays t (unchanged t r)
+  unchanged_says t r = record { grows = grows_not t.runs; goes_on = (λ cancels asks. goes_on_still (is_in t.runs g) cancels t.runs) }
 
-    admit_says : (t : TableState) (event : Admitted) → IsSound t → StepSays t (admitted t event)
-    admit_says t event s =
-        either_says t (admission_answer t event) (admitting t event) (λ none.
-        let kept = kept_from_sound t s in
-        let now = t.runs ++ new_run event ∷ [] in
-        let n = Holder.a_run (length t.runs) in
-        let u = record t { runs = (entered t event).runs } in
-        let fit_u = (entered_keeps t event kept none).fit in
-        let entry = stays_grows now u.runs (entered_settles t event kept.fit).stay in
-        let comes : Comes t.runs now n = record { waited = waited t.runs event; held = held t.runs event } in
-        rest_says t u (entered t event).moves (reply.Created (length t.runs + 1)) fit_u
-        (entered_one_each t event kept.fit s.one_of_each_group)
-        (grows_on t.runs now u.runs (new_run_grows t.runs event) entry)
-        (λ on. arrival_keeps (settled u.runs) later g cancels on asks t.runs now n kept.fit (all_fit t.runs event kept.fit)
-        (new_run_tells t.runs event)
-        (new_is_unseen t.runs event) comes (new_run_waits t.runs event) (groups_before t.runs event kept.fit) s.one_of_each_group
-        (new_run_still t.runs event (all_fit t.runs event kept.fit) (new_run_waits t.runs event))
-        (stays_grows u.runs (settled u.runs) (settling_settles u.runs fit_u).stay)))
+  -- a change, and then settling
+  rest_says : (t u : TableState) (moves : List Move) (r : Reply) → RunsFit u.runs → HasOneEach u.runs → Grows t.runs u.runs
+      → GoesOnTo (settled u.runs) t.runs (record { runs = u.runs; moves = moves })
+      → StepSays t (at_rest_after moves u r)
+  rest_says t u moves r fit each grows first =
+      let rests = stays_grows u.runs (settled u.runs) (settling_settles u.runs fit).stay in
+      record {
+        grows = grows_on t.runs u.runs (settled u.runs) grows rests;
+        goes_on = (λ cancels asks.
+            goes_on_then (is_in (settled u.runs) g) cancels t.runs (record { runs = u.runs; moves = moves }) settling (first cancels asks)
+            (settled_keeps (settled u.runs) g cancels asks (remaining_phases u.runs) u.runs fit each (grows_not (settled u.runs))));
+      }
 
-    lease_says : (t : TableState) (claim : Claimed) (p : LegPlace) → IsSound t → claim_answer t claim ≡ None
-        → first_fit claim.labels t.runs ≡ Some p
-        → StepSays t (leasing t claim p)
-    lease_says t claim p s none is =
-        let kept = kept_from_sound t s in
-        let lease = t.last_lease + 1 in
-        let next = with_leg p (λ _. leased_leg lease) t.runs in
-        let ready = fitting_leg claim.labels t.runs p is in
-        let z = ready.leg_of in
-        let unended : leg_has_ended z ≡ false = ap (λ (phase : LegPhase). leg_has_ended (record z { phase = phase })) ready.ready in
-        let place = leg_in t.runs p z ready.is in
-        let stay = leg_stays t.runs kept.fit p z (λ _. leased_leg lease) place unended refl in
-        let tells : Tells t.runs (without_moves next) =
-        leg_tells p (λ _. leased_leg lease) t.runs []
-        (λ y at. goes_same (Holder.a_leg p) (status_of_leg y) (Status.running false)
-        (sym (ap status_of_leg (same_Some y z (sym at ∙ ready.is)) ∙ ap leg_status ready.ready))) (λ nothing. refl) (only_none
-        (Holder.a_leg p)) in
-        rest_says t (record {
-          last_lease = lease;
-          runs = next;
-          runners =
-              with_runner t.runners (claiming_runner claim (Some lease) (given.Lease (kept_lease_at t.runs p lease)));
-        }) [] (reply.Lease (lease_at t.runs p lease)) stay.fit (leased_one_each t.runs kept.fit claim.labels p lease is s.one_of_each_group)
-        (stays_grows t.runs next stay)
-        (λ on. quiet_goes_on (is_in (settled next) g) cancels t.runs (without_moves next)
-        (unmoved_is_quiet (is_in (settled next) g) cancels t.runs next tells (leased_fades t.runs kept.fit claim.labels p lease is).waited
-        (leg_still t.runs p z (λ _. leased_leg lease) ready.is (leg_now t.runs p z (λ _. leased_leg lease) place)
-        (leg_elsewhere t.runs p z (λ _. leased_leg lease) place) (λ before now. true≢false now))))
+  either_says : (t : TableState) (answer : Option Reply) (change : Step) → (answer ≡ None → StepSays t change)
+      → StepSays t (option_map_or (unchanged t) answer change)
+  either_says t None change says = says refl
+  either_says t (Some r) change says = unchanged_says t r
 
-    claim_says : (t : TableState) (claim : Claimed) → IsSound t → StepSays t (claimed t claim)
-    claim_says t claim s =
-        either_says t (claim_answer t claim) (claiming t claim) (λ none.
-        elim (first_fit claim.labels t.runs) as
-        (λ o. first_fit claim.labels t.runs ≡ o → StepSays t (option_map_or (leasing t claim) o (serving_nothing t claim))) [
-          | None ↦ λ is.
-              let u = record t { runners = with_runner t.runners (claiming_runner claim None given.Nothing) } in
-              rest_says t u [] reply.Nothing (kept_from_sound t s).fit s.one_of_each_group (grows_not t.runs)
-              (λ on. goes_on_still (is_in (settled t.runs) g) cancels t.runs)
-          | Some p ↦ λ is. lease_says t claim p s none is
-        ] refl)
+  admit_says : (t : TableState) (event : Admitted) → IsSound t → StepSays t (admitted t event)
+  admit_says t event s =
+      either_says t (admission_answer t event) (admitting t event) (λ none.
+      let kept = kept_from_sound t s in
+      let now = t.runs ++ new_run event ∷ [] in
+      let n = Holder.a_run (length t.runs) in
+      let u = record t { runs = (entered t event).runs } in
+      let fit_u = (entered_keeps t event kept none).fit in
+      let entry = stays_grows now u.runs (entered_settles t event kept.fit).stay in
+      let comes : Comes t.runs now n = record { waited = waited t.runs event; held = held t.runs event } in
+      rest_says t u (entered t event).moves (reply.Created (length t.runs + 1)) fit_u
+      (entered_one_each t event kept.fit s.one_of_each_group)
+      (grows_on t.runs now u.runs (new_run_grows t.runs event) entry)
+      (λ cancels asks. first_arrival_keeps (settled u.runs) g cancels asks t.runs now n (all_fit t.runs event kept.fit)
+      (new_run_tells t.runs event)
+      (new_is_unseen t.runs event) comes (new_run_waits t.runs event) (groups_before t.runs event kept.fit) s.one_of_each_group
+      (new_run_still t.runs event (all_fit t.runs event kept.fit) (new_run_waits t.runs event))
+      (stays_grows u.runs (settled u.runs) (settling_settles u.runs fit_u).stay)))
 
-    end_says : (t : TableState) (runners : List RunnerState) (lease : ℕ) (o : Outcome) → IsSound t → RunsFit (with_ended lease o t.runs)
-        → StayFit t.runs (with_ended lease o t.runs) → ((p : LegPlace) → place_of_lease t.runs lease ≡ Some p
-        → works_at t.runs p ≡ Some lease)
-        → StepSays t (at_rest_after (lease_end_moves lease o t.runs)
-        (record t { runs = with_ended lease o t.runs; runners = runners }) reply.Ok)
-    end_says t runners lease o s fit stay works =
-        rest_says t (record t { runs = with_ended lease o t.runs; runners = runners }) (lease_end_moves lease o t.runs) reply.Ok fit
-        (ended_one_each lease o t.runs (kept_from_sound t s).fit stay s.one_of_each_group) (stays_grows t.runs
-        (with_ended lease o t.runs) stay)
-        (λ on. lease_end_goes_on (is_in (settled (with_ended lease o t.runs)) g) cancels t.runs lease o works)
+  lease_says : (t : TableState) (claim : Claimed) (p : LegPlace) → IsSound t → claim_answer t claim ≡ None
+      → first_fit claim.labels t.runs ≡ Some p
+      → StepSays t (leasing t claim p)
+  lease_says t claim p s none is =
+      let kept = kept_from_sound t s in
+      let lease = t.last_lease + 1 in
+      let next = with_leg p (λ _. leased_leg lease) t.runs in
+      let ready = fitting_leg claim.labels t.runs p is in
+      let z = ready.leg_of in
+      let unended : leg_has_ended z ≡ false = ap (λ (phase : LegPhase). leg_has_ended (record z { phase = phase })) ready.ready in
+      let place = leg_in t.runs p z ready.is in
+      let stay = leg_stays t.runs kept.fit p z (λ _. leased_leg lease) place unended refl in
+      let tells : Tells t.runs (without_moves next) =
+      leg_tells p (λ _. leased_leg lease) t.runs []
+      (λ y at. goes_same (Holder.a_leg p) (status_of_leg y) (Status.running false)
+      (sym (ap status_of_leg (same_Some y z (sym at ∙ ready.is)) ∙ ap leg_status ready.ready))) (λ nothing. refl) (only_none
+      (Holder.a_leg p)) in
+      rest_says t (record {
+        last_lease = lease;
+        runs = next;
+        runners =
+            with_runner t.runners (claiming_runner claim (Some lease) (given.Lease (kept_lease_at t.runs p lease)));
+      }) [] (reply.Lease (lease_at t.runs p lease)) stay.fit (leased_one_each t.runs kept.fit claim.labels p lease is s.one_of_each_group)
+      (stays_grows t.runs next stay)
+      (λ cancels asks. quiet_goes_on (is_in (settled next) g) cancels t.runs (without_moves next)
+      (unmoved_is_quiet (is_in (settled next) g) cancels t.runs next tells (leased_fades t.runs kept.fit claim.labels p lease is).waited
+      (leg_still t.runs p z (λ _. leased_leg lease) ready.is (leg_now t.runs p z (λ _. leased_leg lease) place)
+      (leg_elsewhere t.runs p z (λ _. leased_leg lease) place) (λ before now. true≢false now))))
 
-    report_says : (t : TableState) (report : Reported) → IsSound t → StepSays t (reported t report)
-    report_says t report s =
-        either_says t (report_answer t report) (reporting t report) (λ none.
-        let kept = kept_from_sound t s in
-        end_says t (with_runner t.runners (reporting_runner report)) report.lease report.result s (report_keeps t report kept none).fit
-        (report_stays t report kept none)
-        (λ p is. work_at t (reporting_runner report) report.lease report.result kept (held_for_report t report none) refl (refl, refl) tt p
-        (found_has t.runs report.lease p is)))
+  claim_says : (t : TableState) (claim : Claimed) → IsSound t → StepSays t (claimed t claim)
+  claim_says t claim s =
+      either_says t (claim_answer t claim) (claiming t claim) (λ none.
+      elim (first_fit claim.labels t.runs) as
+      (λ o. first_fit claim.labels t.runs ≡ o → StepSays t (option_map_or (leasing t claim) o (serving_nothing t claim))) [
+        | None ↦ λ is.
+            let u = record t { runners = with_runner t.runners (claiming_runner claim None given.Nothing) } in
+            rest_says t u [] reply.Nothing (kept_from_sound t s).fit s.one_of_each_group (grows_not t.runs)
+            (λ cancels asks. goes_on_still (is_in (settled t.runs) g) cancels t.runs)
+        | Some p ↦ λ is. lease_says t claim p s none is
+      ] refl)
 
-    cancel_says : (t : TableState) (id : ℕ) → IsSound t → StepSays t (cancelled t id)
-    cancel_says t id s =
-        either_says t (cancel_answer t id) (cancelling t id) (λ none.
-        let kept = kept_from_sound t s in
-        let h = Holder.a_run (id - 1) in
-        let stop = run_stop_settles t.runs (id - 1) kept.fit in
-        let next = (stop_holder h t.runs).runs in
-        rest_says t (record t { runs = next }) (stop_holder h t.runs).moves reply.Ok stop.stay.fit
-        (stopped_one_each (id - 1) t.runs kept.fit s.one_of_each_group) (stays_grows t.runs next stop.stay)
-        (λ on. quiet_goes_on (is_in (settled next) g) cancels t.runs (stop_holder h t.runs)
-        (stop_is_quiet (is_in (settled next) g) cancels h t.runs)))
+  end_says : (t : TableState) (runners : List RunnerState) (lease : ℕ) (o : Outcome) → IsSound t → RunsFit (with_ended lease o t.runs)
+      → StayFit t.runs (with_ended lease o t.runs) → ((p : LegPlace) → place_of_lease t.runs lease ≡ Some p
+      → works_at t.runs p ≡ Some lease)
+      → StepSays t (at_rest_after (lease_end_moves lease o t.runs)
+      (record t { runs = with_ended lease o t.runs; runners = runners }) reply.Ok)
+  end_says t runners lease o s fit stay works =
+      rest_says t (record t { runs = with_ended lease o t.runs; runners = runners }) (lease_end_moves lease o t.runs) reply.Ok fit
+      (ended_one_each lease o t.runs (kept_from_sound t s).fit stay s.one_of_each_group) (stays_grows t.runs
+      (with_ended lease o t.runs) stay)
+      (λ cancels asks. lease_end_goes_on (is_in (settled (with_ended lease o t.runs)) g) cancels t.runs lease o works)
 
-    loss_says : (t : TableState) (name : List ℕ) → IsSound t → StepSays t (lost t name)
-    loss_says t name s =
-        elim (runner_named t.runners name) as
-        (λ o. runner_named t.runners name ≡ o → StepSays t (option_map_or
-        (λ runner. option_map_or (losing t (released runner)) runner.holds (unchanged t (refused LeaseNotHeld))) o
-        (unchanged t (refused NoRunner)))) [
-          | None ↦ λ is. unchanged_says t (refused NoRunner)
-          | Some runner ↦ λ is. elim (runner.holds) as
-              (λ h. runner.holds ≡ h → StepSays t (option_map_or (losing t (released runner)) h (unchanged t (refused LeaseNotHeld)))) [
-                | None ↦ λ none. unchanged_says t (refused LeaseNotHeld)
-                | Some lease ↦ λ holds.
-                    let kept = kept_from_sound t s in
-                    let o = outcome_of_loss t.runs lease in
-                    let held_too = held_for_loss t name runner lease is holds in
-                    let at = stood t.runners runner.name in
-                    end_says t (with_runner t.runners (released runner)) lease o s (loss_keeps t name runner lease kept is holds).fit
-                    (loss_stays t name runner lease kept is holds)
-                    (λ p found. work_at t (released runner) lease o kept held_too.1 refl (kept.lasts_are_own at.place runner (at.was
-                    ∙ held_too.0))
-                    (kept.kept_are_had at.place runner (at.was ∙ held_too.0)) p (found_has t.runs lease p found))
-              ] refl
-        ] refl
+  report_says : (t : TableState) (report : Reported) → IsSound t → StepSays t (reported t report)
+  report_says t report s =
+      either_says t (report_answer t report) (reporting t report) (λ none.
+      let kept = kept_from_sound t s in
+      end_says t (with_runner t.runners (reporting_runner report)) report.lease report.result s (report_keeps t report kept none).fit
+      (report_stays t report kept none)
+      (λ p is. work_at t (reporting_runner report) report.lease report.result kept (held_for_report t report none) refl (refl, refl) tt p
+      (found_has t.runs report.lease p is)))
 
-    pub step_says : (t : TableState) (c : Command) → IsSound t → StepSays t (stepped t c)
-    step_says t (command.Admit event) s = admit_says t event s
-    step_says t (command.Claim claim) s = claim_says t claim s
-    step_says t (command.Done report) s = report_says t report s
-    step_says t (command.Beat beat) s = unchanged_says t (stepped t (command.Beat beat)).reply
-    step_says t (command.Cancel id) s = cancel_says t id s
-    step_says t (command.Lost name) s = loss_says t name s
-    step_says t (command.Fetch id) s = unchanged_says t (stepped t (command.Fetch id)).reply
-    step_says t (command.Look id) s = unchanged_says t (stepped t (command.Look id)).reply
+  cancel_says : (t : TableState) (id : ℕ) → IsSound t → StepSays t (cancelled t id)
+  cancel_says t id s =
+      either_says t (cancel_answer t id) (cancelling t id) (λ none.
+      let kept = kept_from_sound t s in
+      let h = Holder.a_run (id - 1) in
+      let stop = run_stop_settles t.runs (id - 1) kept.fit in
+      let next = (stop_holder h t.runs).runs in
+      rest_says t (record t { runs = next }) (stop_holder h t.runs).moves reply.Ok stop.stay.fit
+      (stopped_one_each (id - 1) t.runs kept.fit s.one_of_each_group) (stays_grows t.runs next stop.stay)
+      (λ cancels asks. quiet_goes_on (is_in (settled next) g) cancels t.runs (stop_holder h t.runs)
+      (stop_is_quiet (is_in (settled next) g) cancels h t.runs)))
+
+  loss_says : (t : TableState) (name : List ℕ) → IsSound t → StepSays t (lost t name)
+  loss_says t name s =
+      elim (runner_named t.runners name) as
+      (λ o. runner_named t.runners name ≡ o → StepSays t (option_map_or
+      (λ runner. option_map_or (losing t (released runner)) runner.holds (unchanged t (refused LeaseNotHeld))) o
+      (unchanged t (refused NoRunner)))) [
+        | None ↦ λ is. unchanged_says t (refused NoRunner)
+        | Some runner ↦ λ is. elim (runner.holds) as
+            (λ h. runner.holds ≡ h → StepSays t (option_map_or (losing t (released runner)) h (unchanged t (refused LeaseNotHeld)))) [
+              | None ↦ λ none. unchanged_says t (refused LeaseNotHeld)
+              | Some lease ↦ λ holds.
+                  let kept = kept_from_sound t s in
+                  let o = outcome_of_loss t.runs lease in
+                  let held_too = held_for_loss t name runner lease is holds in
+                  let at = stood t.runners runner.name in
+                  end_says t (with_runner t.runners (released runner)) lease o s (loss_keeps t name runner lease kept is holds).fit
+                  (loss_stays t name runner lease kept is holds)
+                  (λ p found. work_at t (released runner) lease o kept held_too.1 refl (kept.lasts_are_own at.place runner (at.was
+                  ∙ held_too.0))
+                  (kept.kept_are_had at.place runner (at.was ∙ held_too.0)) p (found_has t.runs lease p found))
+            ] refl
+      ] refl
+
+  rerun_says : (t : TableState) (asked : Attempt) → StepSays t (rerun t asked) ⊎ RunsAgain t (command.Rerun asked) (rerun t asked)
+  rerun_says t asked =
+      elim (rerun_answer t asked) as
+      (λ o. rerun_answer t asked ≡ o → StepSays t (option_map_or (unchanged t) o (rerunning t asked))
+      ⊎ RunsAgain t (command.Rerun asked) (option_map_or (unchanged t) o (rerunning t asked))) [
+        | None ↦ λ none. inr (record { asked = asked; command_is = refl; begins = begins_again t asked none; is = refl })
+        | Some r ↦ λ is. inl (unchanged_says t r)
+      ] refl
+
+  pub step_says : (t : TableState) (c : Command) → IsSound t → StepSays t (stepped t c) ⊎ RunsAgain t c (stepped t c)
+  step_says t (command.Admit event) s = inl (admit_says t event s)
+  step_says t (command.Claim claim) s = inl (claim_says t claim s)
+  step_says t (command.Done report) s = inl (report_says t report s)
+  step_says t (command.Beat beat) s = inl (unchanged_says t (stepped t (command.Beat beat)).reply)
+  step_says t (command.Cancel id) s = inl (cancel_says t id s)
+  step_says t (command.Lost name) s = inl (loss_says t name s)
+  step_says t (command.Fetch id) s = inl (unchanged_says t (stepped t (command.Fetch id)).reply)
+  step_says t (command.Look id) s = inl (unchanged_says t (stepped t (command.Look id)).reply)
+  step_says t (command.Rerun asked) s = rerun_says t asked

@@ -5,5 +5,6 @@ pub mod GroupHistories
 pub mod GroupHolders
 pub mod GroupLaw
 pub mod GroupLawTest
+pub mod Names
 pub mod Remembered
 pub mod Skips

@@ -1,15 +1,18 @@
--- What a table remembers of what it was asked: which run the delivery of an event made, and a runner's last command with its reply.
--- GitHub Docs, "Best practices for using webhooks": a redelivery has the id of the delivery (X-GitHub-Delivery). That it makes no second
--- run, and what is kept of a runner, are own.
-use Rattle.std.specs.Prelude.{◌≡◌, ℕ, ◌+◌, ◌<◌, List, [], ◌∷◌, Option, Some, option_map}
+-- What a table remembers of what it was asked: which run the delivery of an event made, the attempt at which a run is, and a runner's last
+-- command with its reply. GitHub Docs, "Best practices for using webhooks": a redelivery has the id of the delivery (X-GitHub-Delivery).
+-- "Contexts reference", github.run_attempt: it grows by 1 with each re-run. That a delivery makes no second run, and a re-run no second attempt,
+-- and what is kept of a runner, are own.
+use Rattle.std.specs.Prelude.{◌≡◌, ℕ, ◌+◌, ◌-◌, ◌<◌, List, [], ◌∷◌, Option, Some, option_map}
 use Rattle.std.specs.List.{position}
 use Rattle.run_plan.specs.LastCommand.{kept_reply}
+use Rattle.run_plan.specs.declared.command.Attempt.{Attempt}
 use Rattle.run_plan.specs.declared.command.Command.{Command}
 use Rattle.run_plan.specs.declared.command.Command.TheVariants as command
 use Rattle.run_plan.specs.declared.last_command.LastCommand.{LastCommand}
 use Rattle.run_plan.specs.declared.last_command.LastCommand.TheVariants as last
 use Rattle.run_plan.specs.declared.reply.Reply.{Reply}
 use Rattle.workflow_runs.specs.NewRun.{is_delivered_as}
+use Rattle.workflow_runs.specs.Places.{run_at}
 use Rattle.run_table.specs.TableState.{RunnerState, TableState}
 use Rattle.run_table.specs.Turns.{runner_named}
 use Rattle.table_laws.specs.ExactlyOnce.{HasTurn, IsRefused}
@@ -23,6 +26,27 @@ run_of_delivery t delivery = option_map (λ i. i + 1) (position (is_delivered_as
 -- The table knows the delivery as this run.
 abbrev pub KnowsDelivery : TableState → List ℕ → ℕ → Type 0
 KnowsDelivery t delivery run = run_of_delivery t delivery ≡ Some run
+
+-- ---- an attempt
+
+-- the attempt at which a run is; ids count from 1
+abbrev pub attempt_of_run : TableState → ℕ → Option ℕ
+attempt_of_run t run = option_map (λ x. x.attempt) (run_at t.runs (run - 1))
+
+-- The table knows this attempt as the present one of the run.
+abbrev pub KnowsAttempt : TableState → ℕ → ℕ → Type 0
+KnowsAttempt t run attempt = attempt_of_run t run ≡ Some attempt
+
+-- This command, with this reply, began no attempt of the run, but perhaps this one: if it asked for another attempt of it, it was refused.
+abbrev pub IsNoOtherAttempt : ℕ → ℕ → Command → Reply → Type 0
+IsNoOtherAttempt run attempt c given =
+    (asked : Attempt) → c ≡ command.Rerun asked → asked.run - 1 ≡ run - 1 → (asked.attempt ≡ attempt → ⊥) → IsRefused given
+
+-- none of these commands did, each with its reply
+abbrev pub AreNoOtherAttempts : ℕ → ℕ → List Command → List Reply → Type 0
+AreNoOtherAttempts run attempt [] given = Unit {0}
+AreNoOtherAttempts run attempt (c ∷ cs) [] = Unit {0}
+AreNoOtherAttempts run attempt (c ∷ cs) (y ∷ ys) = IsNoOtherAttempt run attempt c y × AreNoOtherAttempts run attempt cs ys
 
 -- ---- a runner's last command
 

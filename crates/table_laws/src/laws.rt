@@ -2,6 +2,7 @@
 
 ghost use Rattle.std.specs.Prelude.{◌≡◌, ◌<◌, ◌≤◌, ℕ, List, [], ◌∷◌, ◌++◌, length, false, true, Some, None};
 ghost use Rattle.run_plan.specs.Admitted.{Admitted};
+ghost use Rattle.run_plan.specs.declared.command.Attempt.{Attempt};
 ghost use Rattle.run_plan.specs.declared.command.Command.{Command};
 ghost use Rattle.run_plan.specs.declared.command.Command.TheVariants as command;
 ghost use Rattle.run_plan.specs.declared.reply.Reply.{Reply};
@@ -22,10 +23,12 @@ ghost use Rattle.workflow_runs.specs.RunState.{LegState, RunState};
 ghost use Rattle.workflow_runs.specs.declared.place.Place.{Place};
 ghost use Rattle.wf_value.specs.declared.outcome.Outcome.{Outcome};
 ghost use Rattle.table_laws.specs.ExactlyOnce.{HasTurn, HaveNoLaterTurn, IsRefused};
-ghost use Rattle.table_laws.specs.Remembered.{AreNoLaterTurns, IsNoLaterTurn, KnowsDelivery, LastCommandIs};
+ghost use Rattle.table_laws.specs.Remembered.{AreNoLaterTurns, AreNoOtherAttempts, IsNoLaterTurn, IsNoOtherAttempt, KnowsAttempt};
+ghost use Rattle.table_laws.specs.Remembered.{KnowsDelivery, LastCommandIs};
 ghost use Rattle.table_laws.specs.GroupHistories.{IsOf, NeverBegan, all_moves, asks_for_cancelling};
 ghost use Rattle.table_laws.specs.GroupHolders.{SayWhoHolds};
 ghost use Rattle.table_laws.specs.GroupLaw.{KeepsLaw};
+ghost use Rattle.table_laws.specs.Names.{Names, attempt_of};
 ghost use Rattle.table_laws.specs.Answered.{WasAnswered};
 ghost use Rattle.table_laws.specs.Skips.{SkipsAreDue};
 
@@ -81,39 +84,50 @@ pub fn groups_have_one_holder_of_each_kind()
 {}
 
 /// The law of concurrency groups: over all commands, from any table that keeps what tables keep, the moves of each group keep it,
-/// behind those of the holders that the group has already.
+/// behind those of the holders that the group has already. Each holder is named with the attempt of its run.
 pub fn every_group_keeps_its_law()
-    ensures { (t : TableState) (cs : List Command) (g : Group) → IsSound t → KeepsLaw (asks_for_cancelling g t cs) (all_moves g t cs) }
+    ensures { (names : Names) (t : TableState) (cs : List Command) (g : Group) → IsSound t
+        → KeepsLaw (asks_for_cancelling names g t cs) (all_moves names g t cs) }
 {}
 
 /// The moves of each group say exactly who holds it: after any commands, from any table that keeps what tables keep, the holders that they say
 /// are running, pending and told to stop are those that filters over all runs and legs of the table give.
 pub fn the_moves_say_who_holds_each_group()
-    ensures { (t : TableState) (cs : List Command) (g : Group) → IsSound t → SayWhoHolds (after t cs).runs g (all_moves g t cs) }
+    ensures { (names : Names) (t : TableState) (cs : List Command) (g : Group) → IsSound t
+        → SayWhoHolds names (after t cs).runs g (all_moves names g t cs) }
 {}
 
 /// Between the start of a holder and its end no other holder of its group starts.
 pub fn nobody_starts_before_the_holder_has_ended()
-    ensures { (t : TableState) (cs : List Command) (g : Group) (before between after_it : List Move) (h k : Holder) → IsSound t
-        → all_moves g t cs ≡ before ++ Move.start h ∷ (between ++ Move.start k ∷ after_it) → has_ended h between ≡ true }
+    ensures { (names : Names) (t : TableState) (cs : List Command) (g : Group) (before between after_it : List Move) (h k : Holder)
+        → IsSound t → all_moves names g t cs ≡ before ++ Move.start h ∷ (between ++ Move.start k ∷ after_it) → has_ended h between ≡ true }
 {}
 
-/// A pending holder that a newcomer displaces never begins: all jobs of a run end as cancelled and it has no leg, and a leg ends as
-/// cancelled. In no table on the way has a leg of it a lease.
+/// A pending holder that a newcomer displaces never begins in that attempt of its run: as long as the run is at it, all jobs of a run end as
+/// cancelled and it has no leg, and a leg ends as cancelled. In no table on the way in which the run is at that attempt has a leg of it a lease.
 pub fn displaced_holders_never_begin()
-    ensures cancelled { (t : TableState) (cs : List Command) (g : Group) (before after_it : List Move) (newcomer h : Holder) → IsSound t
-        → all_moves g t cs ≡ before ++ Move.arrive newcomer ∷ after_it → next_displaced before ≡ Some h
+    ensures cancelled { (names : Names) (t : TableState) (cs : List Command) (g : Group) (before after_it : List Move) (newcomer h : Holder)
+        (attempt : ℕ) → IsSound t → all_moves names g t cs ≡ before ++ Move.arrive newcomer ∷ after_it
+        → next_displaced before ≡ Some (names.name attempt h) → attempt_of (after t cs).runs h ≡ attempt
         → NeverBegan (after t cs).runs h }
-    ensures unleased { (t : TableState) (first second : List Command) (g : Group) (before after_it : List Move) (newcomer h : Holder)
-        → IsSound t → all_moves g t (first ++ second) ≡ before ++ Move.arrive newcomer ∷ after_it → next_displaced before ≡ Some h
+    ensures unleased { (names : Names) (t : TableState) (first second : List Command) (g : Group) (before after_it : List Move)
+        (newcomer h : Holder) (attempt : ℕ) → IsSound t
+        → all_moves names g t (first ++ second) ≡ before ++ Move.arrive newcomer ∷ after_it
+        → next_displaced before ≡ Some (names.name attempt h) → attempt_of (after t first).runs h ≡ attempt
         → (p : LegPlace) (leg : LegState) → IsOf h p → leg_at (after t first).runs p ≡ Some leg → leg.lease ≡ None }
+{}
+
+/// There are names by which attempts and holders differ.
+pub fn attempts_have_names()
+    ensures { Names }
 {}
 
 /// The latest arrival is displaced by nobody but a later one: a holder that ends though it has neither started nor been told to
 /// stop had arrived before the newcomer, which has arrived just then.
 pub fn only_later_arrivals_displace()
-    ensures { (t : TableState) (cs : List Command) (g : Group) (before after_it : List Move) (r : Outcome) (h : Holder) → IsSound t
-        → all_moves g t cs ≡ before ++ Move.end_with r h ∷ after_it → has_started h before ≡ false → was_stopped h before ≡ false
+    ensures { (names : Names) (t : TableState) (cs : List Command) (g : Group) (before after_it : List Move) (r : Outcome) (h : Holder)
+        → IsSound t → all_moves names g t cs ≡ before ++ Move.end_with r h ∷ after_it → has_started h before ≡ false
+        → was_stopped h before ≡ false
         → (earlier : List Move) × (newcomer : Holder) × (before ≡ earlier ++ Move.arrive newcomer ∷ []) × (has_arrived h earlier ≡ true) }
 {}
 
@@ -152,6 +166,20 @@ pub fn a_delivery_stays_known()
         → KnowsDelivery (after t later) delivery run }
     ensures answered { (t : TableState) (event : Admitted) (run : ℕ) → KnowsDelivery t event.delivery run
         → step t (command.Admit event) ≡ (t, reply.Created run) }
+{}
+
+/// What a table knows of an attempt: a re-run that is answered with it establishes it, and each step keeps it until a re-run of that run with
+/// another attempt is carried out. Where it is known, a re-run that asks for it is answered with it again, and the table stays: no other attempt
+/// begins.
+pub fn an_attempt_stays_known()
+    ensures established { (t : TableState) (asked : Attempt) → (stepped t (command.Rerun asked)).reply ≡ reply.Again asked
+        → KnowsAttempt (stepped t (command.Rerun asked)).table asked.run asked.attempt }
+    ensures kept { (t : TableState) (c : Command) (run attempt : ℕ) → KnowsAttempt t run attempt
+        → IsNoOtherAttempt run attempt c (stepped t c).reply → KnowsAttempt (stepped t c).table run attempt }
+    ensures kept_on { (t : TableState) (later : List Command) (run attempt : ℕ) → KnowsAttempt t run attempt
+        → AreNoOtherAttempts run attempt later (replies t later) → KnowsAttempt (after t later) run attempt }
+    ensures answered { (t : TableState) (asked : Attempt) → KnowsAttempt t asked.run asked.attempt
+        → step t (command.Rerun asked) ≡ (t, reply.Again asked) }
 {}
 
 /// What a table knows of a runner's last command: a reply to it that is no refusal establishes it, and each step keeps it until a command of

@@ -1,4 +1,5 @@
-use Rattle.table_laws.proofs.HistoryWords.{displaced_never_began, displaced_never_leased}
+use Rattle.table_laws.proofs.HistoryWords.{displaced_never_began}
+use Rattle.table_laws.proofs.NeverLeased.{displaced_never_leased}
 use Rattle.table_laws.proofs.laws.displaced_holders_never_begin.Goals as goal
 
 pub returns-clause-cancelled : goal.returns-clause-cancelled

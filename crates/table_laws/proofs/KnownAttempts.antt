@@ -1,0 +1,163 @@
+-- The attempt at which a run is stays until a re-run begins another one, and a re-run that asks for it is answered with it again.
+use Rattle.std.specs.Prelude.{◌≡◌, ℕ, zero, suc, ◌+◌, ◌-◌, List, [], ◌∷◌, ◌++◌, map, Bool, true, false, nat_eq, nat_le, Option, Some, None}
+use Rattle.std.specs.Prelude.{option_map, slice_get, if◌then◌else◌, refl}
+use Rattle.std.specs.Option.{option_map_or}
+use Rattle.std.proofs.Common.{ap, inl, inr, sym, ◌∙◌}
+use Rattle.std.proofs.lemmas.Bool.{cases_eq, eq-eqb, eqb-true}
+use Rattle.std.proofs.lemmas.Option.{same_Some, slice_get-map}
+use Rattle.run_plan.specs.declared.command.Attempt.{Attempt}
+use Rattle.run_plan.specs.declared.command.Command.{Command}
+use Rattle.run_plan.specs.declared.command.Command.TheVariants as command
+use Rattle.run_plan.specs.declared.reply.Reply.TheVariants as reply
+use Rattle.wf_value.specs.declared.code.Code.TheVariants.{LastCounter, NoRun, RunNotCompleted}
+use Rattle.wf_value.specs.declared.refusal.Refusal.TheVariants.{Turn}
+use Rattle.workflow_runs.specs.Moves.{Holder}
+use Rattle.workflow_runs.specs.NewRun.{again}
+use Rattle.workflow_runs.specs.Places.{run_at, with_run}
+use Rattle.workflow_runs.specs.RunState.{RunState}
+use Rattle.workflow_runs.proofs.Changed.{at_another, at_changed}
+use Rattle.workflow_runs.proofs.LegFacts.{attempt_at}
+use Rattle.run_table.specs.Histories.{after, replies}
+use Rattle.run_table.specs.Step.{answer_of_attempt, answer_of_next, entered_again, has_completed, last_attempt, outcome, refused, rerun_answer, rerunning, step}
+use Rattle.run_table.specs.Step.{stepped, unchanged}
+use Rattle.run_table.specs.TableState.{TableState}
+use Rattle.run_table.proofs.BeginsAgain.{BeginsAgain, begins_again}
+use Rattle.table_laws.specs.ExactlyOnce.{IsRefused}
+use Rattle.table_laws.specs.Remembered.{AreNoOtherAttempts, IsNoOtherAttempt, KnowsAttempt}
+use Rattle.table_laws.proofs.RunsStay.{IsOfCourse, arrived_stays, settled_stays}
+use Rattle.table_laws.proofs.StepsStay.{Keeps, step_stays}
+
+-- ---- a run begins again
+
+abbrev attempt_in : RunState → ℕ
+attempt_in x = x.attempt
+
+its_attempt : IsOfCourse attempt_in
+its_attempt x y event attempt = attempt
+
+-- by place
+by_place : (runs next : List RunState) → map attempt_in next ≡ map attempt_in runs → (k : ℕ) → attempt_at next k ≡ attempt_at runs k
+by_place runs next same k =
+    sym (slice_get-map attempt_in next k) ∙ ap (λ ns. slice_get ns k) same ∙ slice_get-map attempt_in runs k
+
+module _ (t : TableState) (asked : Attempt) (begins : BeginsAgain t.runs (asked.run - 1) asked.attempt) where
+  abbrev r : ℕ
+  r = asked.run - 1
+
+  abbrev reached : List RunState
+  reached = (rerunning t asked).table.runs
+
+  settled_at : (k : ℕ) → attempt_at reached k ≡ attempt_at (with_run r again t.runs) k
+  settled_at =
+      by_place (with_run r again t.runs) reached
+      (settled_stays attempt_in its_attempt (entered_again t r).runs
+      ∙ arrived_stays attempt_in its_attempt (Holder.a_run r) (with_run r again t.runs))
+
+  begun_at : (k : ℕ) → k ≡ r → attempt_at reached k ≡ Some asked.attempt
+  begun_at k same =
+      settled_at k ∙ ap (λ (i : ℕ). attempt_at (with_run r again t.runs) i) same
+      ∙ ap (option_map attempt_in) (at_changed r again t.runs ∙ ap (option_map again) begins.there)
+      ∙ ap (λ n. Some n) (sym begins.next)
+
+  stays_elsewhere : (k : ℕ) → (k ≡ r → ⊥) → attempt_at reached k ≡ attempt_at t.runs k
+  stays_elsewhere k other = settled_at k ∙ ap (option_map attempt_in) (at_another r again t.runs k other)
+
+-- ---- what is answered
+
+-- the answer with the attempt is that of the attempt at which the run is
+answered_now : (x : RunState) (asked : Attempt) → answer_of_attempt x asked ≡ Some (reply.Again asked) → x.attempt ≡ asked.attempt
+answered_now x asked is =
+    elim (nat_eq asked.attempt x.attempt) as
+    (λ b. nat_eq asked.attempt x.attempt ≡ b
+    → (if b then Some (reply.Again asked)
+    else (if nat_eq asked.attempt (x.attempt + 1) then answer_of_next x else Some (reply.Refused (Turn x.attempt)))) ≡ Some (reply.Again asked)
+    → x.attempt ≡ asked.attempt) [
+      | true ↦ λ same e. sym (eqb-true asked.attempt x.attempt same)
+      | false ↦ λ other e. absurd (not_the_next (nat_eq asked.attempt (x.attempt + 1)) e)
+    ] refl is
+  where
+    not_begun : (b c : Bool) → (if b then Some (refused LastCounter) else (if c then None else Some (refused RunNotCompleted)))
+        ≡ Some (reply.Again asked) → ⊥
+    not_begun true c e = cc
+    not_begun false true e = cc
+    not_begun false false e = cc
+
+    not_the_next : (b : Bool) → (if b then answer_of_next x else Some (reply.Refused (Turn x.attempt))) ≡ Some (reply.Again asked) → ⊥
+    not_the_next true e = not_begun (nat_le last_attempt x.attempt) (has_completed x.phase) e
+    not_the_next false e = cc
+
+answered_at : (o : Option RunState) (asked : Attempt)
+    → option_map_or (λ x. answer_of_attempt x asked) o (Some (refused NoRun)) ≡ Some (reply.Again asked)
+    → option_map (λ (x : RunState). x.attempt) o ≡ Some asked.attempt
+answered_at None asked is = cc
+answered_at (Some x) asked is = ap (λ n. Some n) (answered_now x asked is)
+
+pub begun_is_known : (t : TableState) (asked : Attempt) → (stepped t (command.Rerun asked)).reply ≡ reply.Again asked
+    → KnowsAttempt (stepped t (command.Rerun asked)).table asked.run asked.attempt
+begun_is_known t asked =
+    elim (rerun_answer t asked) as
+    (λ o. rerun_answer t asked ≡ o → (option_map_or (unchanged t) o (rerunning t asked)).reply ≡ reply.Again asked
+    → KnowsAttempt (option_map_or (unchanged t) o (rerunning t asked)).table asked.run asked.attempt) [
+      | None ↦ λ none given. begun_at t asked (begins_again t asked none) (asked.run - 1) refl
+      | Some answer ↦ λ is given. answered_at (run_at t.runs (asked.run - 1)) asked (is ∙ ap (λ y. Some y) given)
+    ] refl
+
+pub known_attempt_is_answered : (t : TableState) (asked : Attempt) → KnowsAttempt t asked.run asked.attempt
+    → step t (command.Rerun asked) ≡ (t, reply.Again asked)
+known_attempt_is_answered t asked knows =
+    ap (λ o. outcome (option_map_or (unchanged t) o (rerunning t asked))) (answer_is (run_at t.runs (asked.run - 1)) knows)
+  where
+    answer_is : (o : Option RunState) → option_map (λ (x : RunState). x.attempt) o ≡ Some asked.attempt
+        → option_map_or (λ x. answer_of_attempt x asked) o (Some (refused NoRun)) ≡ Some (reply.Again asked)
+    answer_is None is = cc
+    answer_is (Some x) is =
+        ap (λ b. if b then Some (reply.Again asked)
+        else (if nat_eq asked.attempt (x.attempt + 1) then answer_of_next x else Some (reply.Refused (Turn x.attempt))))
+        (eq-eqb asked.attempt x.attempt (sym (same_Some x.attempt asked.attempt is)))
+
+-- ---- it stays
+
+front_stays : (ns ms : List ℕ) (k n : ℕ) → slice_get ns k ≡ Some n → slice_get (ns ++ ms) k ≡ Some n
+front_stays [] ms k n e = cc
+front_stays (m ∷ ns) ms zero n e = e
+front_stays (m ∷ ns) ms (suc k) n e = front_stays ns ms k n e
+
+kept_by : (t next : TableState) (run attempt : ℕ) → Keeps attempt_in its_attempt t next → KnowsAttempt t run attempt
+    → KnowsAttempt next run attempt
+kept_by t next run attempt keeps knows =
+    sym (slice_get-map attempt_in next.runs (run - 1)) ∙ ap (λ ns. slice_get ns (run - 1)) keeps.1
+    ∙ front_stays (map attempt_in t.runs) keeps.0 (run - 1) attempt (slice_get-map attempt_in t.runs (run - 1) ∙ knows)
+
+still_known : (t : TableState) (asked : Attempt) (run attempt : ℕ) → KnowsAttempt t run attempt
+    → IsNoOtherAttempt run attempt (command.Rerun asked) (rerunning t asked).reply → BeginsAgain t.runs (asked.run - 1) asked.attempt
+    → KnowsAttempt (rerunning t asked).table run attempt
+still_known t asked run attempt knows no_other begins =
+    elim (cases_eq (run - 1) (asked.run - 1)) [
+      | inr other ↦ stays_elsewhere t asked begins (run - 1) other ∙ knows
+      | inl same ↦ elim (cases_eq asked.attempt attempt) [
+        | inl this ↦ begun_at t asked begins (run - 1) same ∙ ap (λ n. Some n) this
+        | inr another ↦ absurd (began (no_other asked refl (sym same) another))
+      ]
+    ]
+  where
+    began : IsRefused (reply.Again asked) → ⊥
+    began refusal = cc refusal.1
+
+pub attempt_after_step : (t : TableState) (c : Command) (run attempt : ℕ) → KnowsAttempt t run attempt
+    → IsNoOtherAttempt run attempt c (stepped t c).reply → KnowsAttempt (stepped t c).table run attempt
+attempt_after_step t (command.Rerun asked) run attempt knows =
+    elim (rerun_answer t asked) as
+    (λ o. rerun_answer t asked ≡ o
+    → IsNoOtherAttempt run attempt (command.Rerun asked) (option_map_or (unchanged t) o (rerunning t asked)).reply
+    → KnowsAttempt (option_map_or (unchanged t) o (rerunning t asked)).table run attempt) [
+      | None ↦ λ none no_other. still_known t asked run attempt knows no_other (begins_again t asked none)
+      | Some given ↦ λ is no_other. knows
+    ] refl
+attempt_after_step t c run attempt knows =
+    λ no_other. kept_by t (stepped t c).table run attempt (step_stays attempt_in its_attempt t c tt) knows
+
+pub attempt_after : (t : TableState) (later : List Command) (run attempt : ℕ) → KnowsAttempt t run attempt
+    → AreNoOtherAttempts run attempt later (replies t later) → KnowsAttempt (after t later) run attempt
+attempt_after t [] run attempt knows no_others = knows
+attempt_after t (c ∷ cs) run attempt knows no_others =
+    attempt_after (stepped t c).table cs run attempt (attempt_after_step t c run attempt knows no_others.0) no_others.1

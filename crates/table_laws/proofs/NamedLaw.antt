@@ -1,0 +1,18 @@
+-- Moves behind others that keep the law, by the names that those have.
+use Rattle.std.specs.Prelude.{◌≡◌, List, ◌++◌, map, Bool, true}
+use Rattle.workflow_runs.specs.GroupWords.{has_arrived}
+use Rattle.workflow_runs.specs.Moves.{Holder, Move}
+use Rattle.table_laws.proofs.Agrees.{Agrees, IsInjective}
+use Rattle.table_laws.specs.GroupLaw.{KeepsLaw}
+use Rattle.table_laws.specs.Names.{renamed}
+use Rattle.table_laws.proofs.GroupLawWalk.{Lawful, law_goes_on}
+use Rattle.table_laws.proofs.ListWalk.{Walk}
+use Rattle.table_laws.proofs.NamedMoves.{walk_named}
+
+pub named_law_goes_on : (name : Holder → Holder) (cancels asks : Holder → Bool) (now whole more : List Move) → IsInjective name
+    → Agrees name now whole → ((k : Holder) → has_arrived k more ≡ true → asks (name k) ≡ true → cancels k ≡ true)
+    → Walk (Lawful cancels) now more → KeepsLaw asks whole
+    → KeepsLaw asks (whole ++ map (renamed name) more) × Agrees name (now ++ more) (whole ++ map (renamed name) more)
+named_law_goes_on name cancels asks now whole more one agrees asked walk law =
+    let both = walk_named name one cancels asks now whole more agrees asked walk in
+    (law_goes_on asks whole (map (renamed name) more) law both.0, both.1)

@@ -1,0 +1,101 @@
+-- What each step but that of a re-run keeps of the runs: they stay, each with what was admitted for it, at its attempt; others come behind them.
+use Rattle.std.proofs.Common.{◌≡◌, ℕ, ◌+◌, ◌-◌, List, [], ◌∷◌, ◌++◌, length, map, refl, sym, ◌∙◌}
+use Rattle.std.specs.Prelude.{Option, Some, None}
+use Rattle.std.specs.Option.{option_map_or}
+use Rattle.std.proofs.lemmas.List.{append-nil, map-append}
+use Rattle.wf_value.specs.declared.code.Code.TheVariants.{LeaseNotHeld, NoRunner}
+use Rattle.wf_value.specs.declared.outcome.Outcome.{Outcome}
+use Rattle.run_plan.specs.Admitted.{Admitted}
+use Rattle.run_plan.specs.declared.command.Claim.{Claim as Claimed}
+use Rattle.run_plan.specs.declared.command.Command.{Command}
+use Rattle.run_plan.specs.declared.command.Command.TheVariants as command
+use Rattle.run_plan.specs.declared.reply.Reply.{Reply}
+use Rattle.workflow_runs.specs.Fitting.{first_fit}
+use Rattle.workflow_runs.specs.Moves.{Holder}
+use Rattle.workflow_runs.specs.NewRun.{leased_leg, new_run}
+use Rattle.workflow_runs.specs.Places.{with_leg}
+use Rattle.workflow_runs.specs.RunState.{LegState, RunState}
+use Rattle.workflow_runs.specs.Settling.{settled}
+use Rattle.workflow_runs.specs.StopMoves.{with_ended, stop_holder}
+use Rattle.workflow_runs.specs.Stops.{outcome_of_loss}
+use Rattle.run_table.specs.Step.{admission_answer, admitting, cancel_answer, cancelling, claim_answer, claiming, entered}
+use Rattle.run_table.specs.Step.{leasing, losing, lost, refused, released, report_answer, reporting, serving_nothing}
+use Rattle.run_table.specs.Step.{stepped, unchanged}
+use Rattle.run_table.specs.TableState.{Step, TableState}
+use Rattle.run_table.specs.Turns.{runner_named}
+use Rattle.table_laws.proofs.RunsStay.{IsOfCourse, arrived_stays, ended_stays, leg_stays, settled_stays, stop_stays}
+
+abbrev pub IsNoRerun : Command → Type 0
+IsNoRerun (command.Rerun asked) = ⊥
+IsNoRerun _ = Unit {0}
+
+module _ {X : Type 0} (read : RunState → X) (of_course : IsOfCourse read) where
+  abbrev reads : List RunState → List X
+  reads runs = map read runs
+
+  -- what is read of the runs of the one table is the first of what is read of the other's
+  abbrev pub Keeps : TableState → TableState → Type 0
+  Keeps t next = (more : List X) × (reads next.runs ≡ reads t.runs ++ more)
+
+  pub keeps_all : (t next : TableState) → reads next.runs ≡ reads t.runs → Keeps t next
+  keeps_all t next same = ([], same ∙ sym (append-nil (reads t.runs)))
+
+  pub keeps_itself : (t : TableState) → Keeps t t
+  keeps_itself t = keeps_all t t refl
+
+  pub answered : (t : TableState) (answer : Option Reply) (change : Step) → Keeps t change.table
+      → Keeps t (option_map_or (unchanged t) answer change).table
+  answered t None change h = h
+  answered t (Some given) change h = keeps_itself t
+
+  pub entered_stays : (t : TableState) (event : Admitted) → reads (admitting t event).table.runs ≡ reads t.runs ++ read (new_run event) ∷ []
+  entered_stays t event =
+      let more = t.runs ++ new_run event ∷ [] in
+      settled_stays read of_course (entered t event).runs ∙ arrived_stays read of_course (Holder.a_run (length t.runs)) more
+      ∙ map-append read t.runs (new_run event ∷ [])
+
+  admits : (t : TableState) (event : Admitted) → Keeps t (admitting t event).table
+  admits t event = (read (new_run event) ∷ [], entered_stays t event)
+
+  claims : (t : TableState) (claim : Claimed) → Keeps t (claiming t claim).table
+  claims t claim = elim (first_fit claim.labels t.runs) as
+      (λ o. Keeps t (option_map_or (leasing t claim) o (serving_nothing t claim)).table) [
+        | None ↦ keeps_all t (serving_nothing t claim).table (settled_stays read of_course t.runs)
+        | Some p ↦ keeps_all t (leasing t claim p).table
+            (let f : LegState → LegState = λ x. leased_leg (t.last_lease + 1) in
+            settled_stays read of_course (with_leg p f t.runs) ∙ leg_stays read of_course p f t.runs)
+      ]
+
+  ends : (t : TableState) (lease : ℕ) (outcome : Outcome) → reads (settled (with_ended lease outcome t.runs)) ≡ reads t.runs
+  ends t lease outcome = settled_stays read of_course (with_ended lease outcome t.runs) ∙ ended_stays read of_course lease outcome t.runs
+
+  cancels : (t : TableState) (id : ℕ) → reads (settled (stop_holder (Holder.a_run (id - 1)) t.runs).runs) ≡ reads t.runs
+  cancels t id = settled_stays read of_course (stop_holder (Holder.a_run (id - 1)) t.runs).runs ∙ stop_stays read of_course (Holder.a_run (id - 1)) t.runs
+
+  loses : (t : TableState) (name : List ℕ) → Keeps t (lost t name).table
+  loses t name =
+      elim (runner_named t.runners name) as
+      (λ o. Keeps t (option_map_or (λ runner. option_map_or (losing t (released runner)) runner.holds (unchanged t (refused LeaseNotHeld))) o
+      (unchanged t (refused NoRunner))).table) [
+        | None ↦ keeps_itself t
+        | Some runner ↦ elim (runner.holds) as
+            (λ h. Keeps t (option_map_or (losing t (released runner)) h (unchanged t (refused LeaseNotHeld))).table) [
+              | None ↦ keeps_itself t
+              | Some lease ↦ keeps_all t (losing t (released runner) lease).table (ends t lease (outcome_of_loss t.runs lease))
+            ]
+      ]
+
+  -- a step of any command but a re-run
+  pub step_stays : (t : TableState) (c : Command) → IsNoRerun c → Keeps t (stepped t c).table
+  step_stays t (command.Admit event) other = answered t (admission_answer t event) (admitting t event) (admits t event)
+  step_stays t (command.Claim claim) other = answered t (claim_answer t claim) (claiming t claim) (claims t claim)
+  step_stays t (command.Done report) other =
+      answered t (report_answer t report) (reporting t report)
+      (keeps_all t (reporting t report).table (ends t report.lease report.result))
+  step_stays t (command.Beat beat) other = keeps_itself t
+  step_stays t (command.Cancel id) other =
+      answered t (cancel_answer t id) (cancelling t id) (keeps_all t (cancelling t id).table (cancels t id))
+  step_stays t (command.Lost name) other = loses t name
+  step_stays t (command.Fetch id) other = keeps_itself t
+  step_stays t (command.Look id) other = keeps_itself t
+  step_stays t (command.Rerun asked) other = absurd other
