@@ -7,6 +7,7 @@ use Rattle.wf_value.specs.declared.outcome.Outcome.{Outcome}
 use Rattle.wf_value.specs.declared.outcome.Outcome.TheVariants as ended
 use Rattle.run_plan.specs.Admitted.{Admitted}
 use Rattle.run_plan.specs.SmallText.{is_short, is_delivery_byte, is_event_byte, is_runner_byte, is_label_byte}
+use Rattle.run_plan.specs.declared.command.Attempt.{Attempt}
 use Rattle.run_plan.specs.declared.command.Beat.{Beat}
 use Rattle.run_plan.specs.declared.command.Claim.{Claim}
 use Rattle.run_plan.specs.declared.command.Done.{Done}
@@ -14,10 +15,10 @@ use Rattle.run_plan.specs.declared.command.Command.{Command}
 use Rattle.run_plan.specs.declared.command.Command.TheVariants as asked
 use Rattle.table_text.specs.Format.{Format, word, text, pair}
 use Rattle.table_text.specs.Commands.{is_numbered, number, small_text, labels, is_faultless, body, outcome_byte, outcome, admit, claim}
-use Rattle.table_text.specs.Commands.{done, beat, IsSpelled, command_bytes, command, batch}
+use Rattle.table_text.specs.Commands.{done, beat, rerun, IsSpelled, command_bytes, command, batch}
 use Rattle.table_text.specs.Reading.{Reader, word_at, text_at, pair_at, parts_at}
 use Rattle.table_text.specs.ReadingCommands.{number_at, small_text_at, labels_at, body_at, result_of, result_at, admit_at, claim_at}
-use Rattle.table_text.specs.ReadingCommands.{done_at, beat_at, command_of, command_at, batch_at}
+use Rattle.table_text.specs.ReadingCommands.{done_at, beat_at, rerun_at, command_of, command_at, batch_at}
 use Rattle.wf_value.proofs.Bytes.{AreBytes, AreBytes-drop}
 use Rattle.table_text.proofs.Readers.{Fronts, Reads, bind_some, some_bind, word_reads, text_reads, only_reads, pair_reads, parts_reads}
 use Rattle.table_text.proofs.Readers.{counted_reads}
@@ -122,6 +123,13 @@ beat_reads =
     (pair (small_text is_runner_byte) number) (pair_at (small_text_at is_runner_byte) number_at) (λ _. refl) (λ _. refl)
     (pair_reads (small_text is_runner_byte) number (small_text_at is_runner_byte) number_at (small_text_reads is_runner_byte) number_reads)
 
+pub rerun_reads : Reads rerun rerun_at
+unfolding rerun_at
+rerun_reads =
+    parts_reads (λ (a : Attempt). (a.run, a.attempt)) (λ (p : ℕ × ℕ). record { run = p.0; attempt = p.1 })
+    (pair number number) (pair_at number_at number_at) (λ _. refl) (λ _. refl)
+    (pair_reads number number number_at number_at number_reads number_reads)
+
 -- what a kind of command is read as, where its byte stands before
 kind_sound : {A : Type 0} (kind : ℕ) (format : Format A) (at : Reader A) (made : A → Command) → Reads format at
     → ((x : A) → format.Takes x → IsSpelled (made x)) → ((x : A) → command_bytes (made x) ≡ kind ∷ format.spelling x)
@@ -167,8 +175,9 @@ kinds_sound kind rest found are h =
     kind_or 6 (small_text is_runner_byte) (small_text_at is_runner_byte) (λ (r : List ℕ). asked.Lost r)
     (small_text_reads is_runner_byte) (λ x t. t) (λ _. refl) kind rest found _ are h6 (λ h7.
     kind_or 7 number number_at (λ (n : ℕ). asked.Look n) number_reads (λ x t. t) (λ _. refl) kind rest found _ are h7 (λ h8.
-    kind_or 8 number number_at (λ (n : ℕ). asked.Fetch n) number_reads (λ x t. t) (λ _. refl) kind rest found _ are h8
-    (λ none. absurd (none-some found none)))))))))
+    kind_or 8 number number_at (λ (n : ℕ). asked.Fetch n) number_reads (λ x t. t) (λ _. refl) kind rest found _ are h8 (λ h9.
+    kind_or 9 rerun rerun_at (λ (a : Attempt). asked.Rerun a) rerun_reads (λ x t. t) (λ _. refl) kind rest found _ are h9
+    (λ none. absurd (none-some found none))))))))))
 
 command_finds : (bytes : List ℕ) (found : Command × List ℕ) → AreBytes bytes → command_at bytes ≡ Some found → Fronts command bytes found
 unfolding command_at
@@ -186,6 +195,7 @@ command_found (asked.Lost runner) rest fits =
     kind_complete (small_text is_runner_byte) (small_text_at is_runner_byte) (λ (r : List ℕ). asked.Lost r)
     (small_text_reads is_runner_byte) runner rest fits
 command_found (asked.Fetch run) rest fits = kind_complete number number_at (λ (n : ℕ). asked.Fetch n) number_reads run rest fits
+command_found (asked.Rerun asks) rest fits = kind_complete rerun rerun_at (λ (a : Attempt). asked.Rerun a) rerun_reads asks rest fits
 command_found (asked.Look run) rest fits = kind_complete number number_at (λ (n : ℕ). asked.Look n) number_reads run rest fits
 
 pub command_reads : Reads command command_at

@@ -88,6 +88,8 @@ length_command (asked.Cancel run) = behind_one _ (length_word run)
 length_command (asked.Lost runner) = behind_one _ (length_text runner)
 length_command (asked.Look run) = behind_one _ (length_word run)
 length_command (asked.Fetch run) = behind_one _ (length_word run)
+length_command (asked.Rerun asks) =
+    behind_one _ (length_two (word_bytes asks.run) (word_bytes asks.attempt) 4 4 (length_word asks.run) (length_word asks.attempt))
 
 pub length_batch : (commands : List Command) → length_of batch commands ≡ batch_length commands
 length_batch commands = length_counted command_bytes command_length commands length_command

@@ -25,6 +25,9 @@ report_has_16 = refl
 look_up_has_5 : (run : ℕ) → command_length (asked.Look run) ≡ 5
 look_up_has_5 run = refl
 
+rerun_has_9 : (run attempt : ℕ) → command_length (asked.Rerun (record { run = run; attempt = attempt })) ≡ 9
+rerun_has_9 run attempt = refl
+
 -- as a batch
 batch_of_a_look_up_has_9 : (run : ℕ) → batch_length (asked.Look run ∷ []) ≡ 9
 batch_of_a_look_up_has_9 run = refl

@@ -1,4 +1,6 @@
 pub mod CommandReaders
+pub mod FirstReaders
+mod FirstRows
 pub mod FormReaders
 pub mod Keeping
 pub mod Known
@@ -10,4 +12,5 @@ pub mod TableKnown
 pub mod TableLengthLaws
 pub mod TableReaders
 mod TableRows
+pub mod WholeFirstTables
 pub mod WholeTables

@@ -256,7 +256,7 @@ kept_found replied.Done rest takes = refl
 pub kept_reads : Reads kept kept_at
 kept_reads = record { sound = kept_finds; complete = kept_found }
 
-last_there : (l : LastParts) → last_of (last_parts l) ≡ Some l
+pub last_there : (l : LastParts) → last_of (last_parts l) ≡ Some l
 last_there (last.Claim claim None) = refl
 last_there (last.Claim claim (Some l)) = refl
 last_there (last.Done report) = refl
@@ -271,7 +271,7 @@ report_back report replied.Nothing l h = absurd (none-some l h)
 report_back report (replied.Leased given) l h = absurd (none-some l h)
 report_back report replied.Done l h = ap last_parts (sym (same_Some (last.Done report) l h))
 
-last_back_of : (c : Command) (k : Kept) (l : LastParts) → last_with c k ≡ Some l → last_parts l ≡ (c, k)
+pub last_back_of : (c : Command) (k : Kept) (l : LastParts) → last_with c k ≡ Some l → last_parts l ≡ (c, k)
 last_back_of (asked.Admit event) k l h = absurd (none-some l h)
 last_back_of (asked.Claim claim) k l h = claim_back claim k l h
 last_back_of (asked.Done report) k l h = report_back report k l h
@@ -280,6 +280,7 @@ last_back_of (asked.Cancel r) k l h = absurd (none-some l h)
 last_back_of (asked.Lost r) k l h = absurd (none-some l h)
 last_back_of (asked.Look r) k l h = absurd (none-some l h)
 last_back_of (asked.Fetch r) k l h = absurd (none-some l h)
+last_back_of (asked.Rerun a) k l h = absurd (none-some l h)
 
 pub last_reads : Reads last_command last_at
 unfolding last_at

@@ -5,6 +5,7 @@ use Rattle.wf_value.specs.declared.outcome.Outcome.TheVariants as ended
 use Rattle.run_plan.specs.Admitted.{Admitted}
 use Rattle.run_plan.specs.PlanOf.{faults_of}
 use Rattle.run_plan.specs.SmallText.{is_short, is_delivery_byte, is_event_byte, is_runner_byte, is_label_byte}
+use Rattle.run_plan.specs.declared.command.Attempt.{Attempt}
 use Rattle.run_plan.specs.declared.command.Beat.{Beat}
 use Rattle.run_plan.specs.declared.command.Claim.{Claim}
 use Rattle.run_plan.specs.declared.command.Done.{Done}
@@ -66,6 +67,10 @@ done = parts (λ (d : Done). (d.runner, (d.number, (d.lease, d.result))))
 abbrev pub beat : Format Beat
 beat = parts (λ b. (b.runner, b.lease)) (pair (small_text is_runner_byte) number)
 
+-- the run and the attempt
+abbrev pub rerun : Format Attempt
+rerun = parts (λ (a : Attempt). (a.run, a.attempt)) (pair number number)
+
 -- ---- commands and batches
 
 abbrev pub IsSpelled : Command → Type 0
@@ -77,6 +82,7 @@ IsSpelled (asked.Cancel run) = number.Takes run
 IsSpelled (asked.Lost runner) = (small_text is_runner_byte).Takes runner
 IsSpelled (asked.Look run) = number.Takes run
 IsSpelled (asked.Fetch run) = number.Takes run
+IsSpelled (asked.Rerun asks) = rerun.Takes asks
 
 -- the byte that says which command it is
 abbrev pub kind_of : Command → ℕ
@@ -88,6 +94,7 @@ kind_of (asked.Cancel run) = 5
 kind_of (asked.Lost runner) = 6
 kind_of (asked.Look run) = 7
 kind_of (asked.Fetch run) = 8
+kind_of (asked.Rerun asks) = 9
 
 -- what stands behind it
 abbrev pub fields_of : Command → List ℕ
@@ -99,6 +106,7 @@ fields_of (asked.Cancel run) = number.spelling run
 fields_of (asked.Lost runner) = (small_text is_runner_byte).spelling runner
 fields_of (asked.Look run) = number.spelling run
 fields_of (asked.Fetch run) = number.spelling run
+fields_of (asked.Rerun asks) = rerun.spelling asks
 
 abbrev pub command_bytes : Command → List ℕ
 command_bytes c = kind_of c ∷ fields_of c

@@ -26,6 +26,7 @@ fields_length (asked.Cancel run) = 4
 fields_length (asked.Lost runner) = text_length runner
 fields_length (asked.Look run) = 4
 fields_length (asked.Fetch run) = 4
+fields_length (asked.Rerun asks) = 4 + 4
 
 -- one byte says which command it is
 abbrev pub command_length : Command → ℕ

@@ -1,10 +1,13 @@
 pub mod Commands
+pub mod FirstLayout
 pub mod Format
 pub mod Lengths
 pub mod Reading
 pub mod ReadingCommands
+pub mod ReadingFirst
 pub mod ReadingTables
 pub mod TableLengths
 pub mod Tables
+pub mod WholeFirstTables
 pub mod WholeTables
 pub mod Writing

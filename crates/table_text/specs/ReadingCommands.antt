@@ -4,6 +4,7 @@ use Rattle.wf_value.specs.declared.outcome.Outcome.{Outcome}
 use Rattle.wf_value.specs.declared.outcome.Outcome.TheVariants as outcome
 use Rattle.run_plan.specs.Admitted.{Admitted}
 use Rattle.run_plan.specs.SmallText.{is_short, is_delivery_byte, is_event_byte, is_runner_byte, is_label_byte}
+use Rattle.run_plan.specs.declared.command.Attempt.{Attempt}
 use Rattle.run_plan.specs.declared.command.Beat.{Beat}
 use Rattle.run_plan.specs.declared.command.Claim.{Claim}
 use Rattle.run_plan.specs.declared.command.Done.{Done}
@@ -47,6 +48,9 @@ done_at bytes = parts_at (λ (p : List ℕ × (ℕ × (ℕ × Outcome))). record
 unfoldable pub beat_at : Reader Beat
 beat_at bytes = parts_at (λ (p : List ℕ × ℕ). record { runner = p.0; lease = p.1 }) (pair_at (small_text_at is_runner_byte) number_at) bytes
 
+unfoldable pub rerun_at : Reader Attempt
+rerun_at bytes = parts_at (λ (p : ℕ × ℕ). record { run = p.0; attempt = p.1 }) (pair_at number_at number_at) bytes
+
 -- what stands behind the byte that says which command it is
 unfoldable pub command_of : ℕ → Reader Command
 command_of kind rest =
@@ -58,7 +62,8 @@ command_of kind rest =
     else (if kind == 6 then parts_at (λ (r : List ℕ). asked.Lost r) (small_text_at is_runner_byte) rest
     else (if kind == 7 then parts_at (λ (n : ℕ). asked.Look n) number_at rest
     else (if kind == 8 then parts_at (λ (n : ℕ). asked.Fetch n) number_at rest
-    else None)))))))
+    else (if kind == 9 then parts_at (λ (a : Attempt). asked.Rerun a) rerun_at rest
+    else None))))))))
 
 unfoldable pub command_at : Reader Command
 command_at [] = None

@@ -132,6 +132,7 @@ last_with (asked.Cancel run) kept = None
 last_with (asked.Lost runner) kept = None
 last_with (asked.Look run) kept = None
 last_with (asked.Fetch run) kept = None
+last_with (asked.Rerun asks) kept = None
 
 abbrev pub last_of : Command × Kept → Option LastParts
 last_of p = last_with p.0 p.1

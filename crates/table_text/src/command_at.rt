@@ -1,17 +1,19 @@
 ghost use Rattle.std.specs.Prelude.{◌≡◌, ◌≢◌, IfOk};
 ghost use Rattle.wf_value.specs.RefusalText.{refusal_number};
+ghost use Rattle.run_plan.specs.declared.command.Attempt.{Attempt};
+ghost use Rattle.run_plan.specs.declared.command.Command.TheVariants as asked;
 ghost use Rattle.table_text.specs.declared.decode_error.DecodeError.TheVariants.{NoSpelling};
 ghost use Rattle.table_text.specs.Commands.{is_faultless};
-ghost use Rattle.table_text.specs.Reading.{Finds, kept};
-ghost use Rattle.table_text.specs.ReadingCommands.{admit_at, batch_at, beat_at, claim_at, command_at, command_of, done_at};
+ghost use Rattle.table_text.specs.Reading.{Finds, kept, parts_at};
+ghost use Rattle.table_text.specs.ReadingCommands.{admit_at, rerun_at, batch_at, beat_at, claim_at, command_at, command_of, done_at};
 
 use crate::decode_error::DecodeError;
 use crate::fields::{is_within, labels_at, number_at, result_at, small_text_at};
 use crate::front::{text_at, word_at};
 use crate::list_at::{ReadAt, list_at};
 use run_plan::{
-    Beat, Claim, Command, DeliveryForm, DeliveryId, Done, EventForm, EventName, Number, Prepared,
-    RunnerForm, prepare,
+    Attempt, Beat, Claim, Command, DeliveryForm, DeliveryId, Done, EventForm, EventName, Number,
+    Prepared, RunnerForm, prepare,
 };
 use std::alloc::Global;
 use wf_value::{Code, Refusal};
@@ -99,6 +101,20 @@ fn beat_at(alloc: Global, bytes: &[u8]) -> Result<(Beat, &[u8]), DecodeError>
     Ok((beat, rest))
 }
 
+/// The command itself, since its attempt is copied.
+#[tactic(auto, unfolding(crate::specs::ReadingCommands::rerun_at))]
+fn rerun_at(bytes: &[u8]) -> Result<(Command, &[u8]), DecodeError>
+    ensures { Finds (λ f. (f.0, f.1.now)) result (parts_at (λ (a : Attempt). asked.Rerun a) rerun_at bytes.now) }
+{
+    let (run, rest) = number_at(bytes)?;
+    let (attempt, rest) = number_at(rest)?;
+    let asks = Attempt {
+        run: Number::new(run),
+        attempt: Number::new(attempt),
+    };
+    Ok((Command::Rerun(asks), rest))
+}
+
 /// The command of a kind, and what stands behind it.
 #[tactic(auto, unfolding(crate::specs::ReadingCommands::command_of))]
 fn command_of(alloc: Global, kind: u8, bytes: &[u8]) -> Result<(Command, &[u8]), DecodeError>
@@ -137,6 +153,7 @@ fn command_of(alloc: Global, kind: u8, bytes: &[u8]) -> Result<(Command, &[u8]),
             let (run, rest) = number_at(bytes)?;
             Ok((Command::Fetch(Number::new(run)), rest))
         }
+        9 => rerun_at(bytes),
         _ => Err(DecodeError::NoSpelling),
     }
 }

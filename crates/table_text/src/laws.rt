@@ -8,6 +8,8 @@ ghost use Rattle.table_text.specs.Lengths.{batch_length, command_length, length_
 ghost use Rattle.run_table.specs.Stored.{StoredTable};
 ghost use Rattle.table_text.specs.TableLengths.{table_length};
 ghost use Rattle.table_text.specs.Tables.{table};
+ghost use Rattle.table_text.specs.FirstLayout.{first_batch};
+ghost use Rattle.table_text.specs.WholeFirstTables.{whole_first_table};
 ghost use Rattle.table_text.specs.WholeTables.{whole_table};
 
 /// No spelling of a command begins another.
@@ -63,4 +65,14 @@ pub fn no_whole_table_begins_another()
 /// Each whole table that has a spelling has one.
 pub fn each_whole_table_has_one_spelling()
     ensures { HasOneSpelling whole_table }
+{}
+
+/// No spelling of a whole table in the first layout begins another.
+pub fn no_whole_first_table_begins_another()
+    ensures { NoneBeginsAnother whole_first_table }
+{}
+
+/// No spelling of a batch in the first layout begins another.
+pub fn no_first_batch_begins_another()
+    ensures { NoneBeginsAnother first_batch }
 {}

@@ -87,6 +87,7 @@ fn fields_length(asked: &Command) -> u64
         Command::Done(report) => done_length(report),
         Command::Beat(asks) => beat_length(asks),
         Command::Lost(runner) => small_text_length(runner),
+        Command::Rerun(_) => WORD + WORD,
         Command::Cancel(_) | Command::Look(_) | Command::Fetch(_) => WORD,
     }
 }

@@ -4,6 +4,7 @@
 mod command_at;
 mod decode_error;
 mod fields;
+mod first;
 mod front;
 mod kept;
 pub mod laws;
@@ -20,6 +21,7 @@ mod table_at;
 mod table_lengths;
 mod write;
 
+pub use first::{is_in_first_layout, read_first_batch, read_first_table};
 pub use lengths::{batch_length, command_length};
 pub use read::{read_batch, read_command, read_parts, read_table};
 pub use table_lengths::table_length;

@@ -2,12 +2,12 @@
 
 ghost use Rattle.std.specs.Prelude.{◌≡◌, [], ◌∷◌, ◌++◌, ◌<◌, ◌^◌, length, OnErr, OnOk};
 ghost use Rattle.table_text.specs.Commands.{IsSpelled, admit, beat, body, claim, command_bytes, done, fields_of, kind_of, labels};
-ghost use Rattle.table_text.specs.Commands.{number, outcome_byte, small_text};
+ghost use Rattle.table_text.specs.Commands.{number, outcome_byte, rerun, small_text};
 ghost use Rattle.table_text.specs.Format.{text_bytes, word_bytes};
 ghost use Rattle.table_text.specs.Writing.{Keeps};
 
 use crate::push_list::{Push, push_list};
-use run_plan::{Beat, Claim, Command, Done, Form, Labels, Number, Prepared, SmallText};
+use run_plan::{Attempt, Beat, Claim, Command, Done, Form, Labels, Number, Prepared, SmallText};
 use std::alloc::AllocError;
 use wf_value::Outcome;
 
@@ -137,6 +137,16 @@ fn push_beat(out: &mut Vec<u8>, asks: &Beat) -> Result<(), AllocError>
     Ok(())
 }
 
+fn push_rerun(out: &mut Vec<u8>, asks: Attempt) -> Result<(), AllocError>
+    ensures takes { OnOk result (rerun.Takes asks) }
+    ensures bytes { OnOk result (out.new.items ≡ out.old.items ++ rerun.spelling asks) }
+    ensures kept { OnErr result (Keeps out.old.items out.new.items) }
+{
+    push_number(out, asks.run)?;
+    push_number(out, asks.attempt)?;
+    Ok(())
+}
+
 /// Appends the byte that says which command it is.
 fn push_kind(out: &mut Vec<u8>, asked: &Command) -> Result<(), AllocError>
     ensures bytes { OnOk result (out.new.items ≡ out.old.items ++ kind_of asked.now ∷ []) }
@@ -151,6 +161,7 @@ fn push_kind(out: &mut Vec<u8>, asked: &Command) -> Result<(), AllocError>
         Command::Lost(_) => out.extend_from_slice(&[6]),
         Command::Look(_) => out.extend_from_slice(&[7]),
         Command::Fetch(_) => out.extend_from_slice(&[8]),
+        Command::Rerun(_) => out.extend_from_slice(&[9]),
     }
 }
 
@@ -166,6 +177,7 @@ fn push_fields(out: &mut Vec<u8>, asked: &Command) -> Result<(), AllocError>
         Command::Done(report) => push_done(out, report),
         Command::Beat(asks) => push_beat(out, asks),
         Command::Lost(runner) => push_small_text(out, runner),
+        Command::Rerun(asks) => push_rerun(out, *asks),
         Command::Cancel(run) | Command::Look(run) | Command::Fetch(run) => push_number(out, *run),
     }
 }

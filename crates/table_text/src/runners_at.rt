@@ -36,7 +36,7 @@ fn report_with(report: Done, kept: Kept) -> Result<LastParts, DecodeError>
 }
 
 /// A claim or a report with what is kept of its reply.
-fn last_with(command: Command, kept: Kept) -> Result<LastParts, DecodeError>
+pub(crate) fn last_with(command: Command, kept: Kept) -> Result<LastParts, DecodeError>
     ensures { Finds (λ l. l) result (last_with command kept) }
 {
     match command {
@@ -81,7 +81,7 @@ impl ReadAt for RunnerParts {
 }
 
 /// The runners, where they stand in the order of their names.
-fn rising(runners: Vec<RunnerParts>) -> Result<Vec<RunnerParts>, DecodeError>
+pub(crate) fn rising(runners: Vec<RunnerParts>) -> Result<Vec<RunnerParts>, DecodeError>
     ensures { Finds (λ r. r.items) result (kept names_rise runners.items) }
 {
     if do_names_rise(&runners) {

@@ -80,7 +80,7 @@ fn attempt_at(bytes: &[u8]) -> Result<(u32, &[u8]), DecodeError>
 }
 
 /// As many jobs as the plan has.
-fn planned_jobs_at<'a>(
+pub(crate) fn planned_jobs_at<'a>(
     alloc: Global,
     prepared: &Prepared,
     bytes: &'a [u8],

@@ -24,7 +24,7 @@ fn last_lease_of(value: u32) -> Result<u32, DecodeError>
 }
 
 #[tactic(auto, unfolding(crate::specs::ReadingTables::last_lease_at))]
-fn last_lease_at(bytes: &[u8]) -> Result<(u32, &[u8]), DecodeError>
+pub(crate) fn last_lease_at(bytes: &[u8]) -> Result<(u32, &[u8]), DecodeError>
     ensures { Finds (λ f. (f.0, f.1.now)) result (last_lease_at bytes.now) }
 {
     let (value, rest) = word_at(bytes)?;

@@ -1,0 +1,13 @@
+use Rattle.std.proofs.Common.{◌≡◌, sym, ◌∙◌, ap}
+use Rattle.std.specs.Prelude.{false}
+use Rattle.std.specs.List.{list_all}
+use Rattle.table_text.specs.FirstLayout.{is_in_first_layout}
+use Rattle.table_text.proofs.WholeFirstTables.{none_of_batch}
+use Rattle.table_text.proofs.first.read_first_batch.Goals as goal
+
+pub returns-clause-front : goal.returns-clause-front
+returns-clause-front c =
+    let not : list_all is_in_first_layout c.in-Some.commands.items ≡ false =
+    ap (λ commands. list_all is_in_first_layout commands) (sym c.deref.ensures.value) ∙ sym c.are_in_first_layout.ensures
+    ∙ c.if-are_in_first_layout.false in
+    none_of_batch c.args.bytes.now c.in-Some.rest.now c.in-Some.commands.items (rw c.in-Some.is at c.in_ok-commands.ensures.front) not

@@ -1,0 +1,77 @@
+-- The spelling of a table and of a batch in the first layout of an area, where it differs from that of the second: the attempt of a run is
+-- not spelled, and is 1; the place of a lease that is kept is not spelled; behind the byte of each kept reply stands a lease, 0 where none was
+-- given; and no command asks for an attempt. It is read, and nothing is written in it. Own: there is no public source.
+use Rattle.std.specs.Prelude.{◌≡◌, ℕ, List, [], Bool, true, false, Option, Some, None}
+use Rattle.std.specs.List.{list_all}
+use Rattle.run_plan.specs.SmallText.{is_runner_byte}
+use Rattle.run_plan.specs.declared.command.Command.{Command}
+use Rattle.run_plan.specs.declared.command.Command.TheVariants as asked
+use Rattle.run_table.specs.Stored.{StoredRunner, StoredTable}
+use Rattle.run_table.specs.declared.parts.LastParts.{LastParts}
+use Rattle.workflow_runs.specs.RunState.{RunState}
+use Rattle.table_text.specs.declared.kept.Kept.{Kept}
+use Rattle.table_text.specs.declared.kept.Kept.TheVariants as replied
+use Rattle.table_text.specs.Commands.{admit, batch, command, number, small_text}
+use Rattle.table_text.specs.Format.{Format, byte, counted, follow, only, pair, parts, row, word}
+use Rattle.table_text.specs.Tables.{flag_byte, is_last_lease, job, jobs_planned, last_parts, lease, names_rise, run_byte}
+
+-- a value that is not spelled, since it is always this one
+abbrev pub unspelled : {A : Type 0} → A → Format A
+unspelled {A} x = record { Takes = λ (y : A). y ≡ x; spelling = λ _. [] }
+
+-- ---- runs
+
+-- what was admitted, the phase, the stop flag and the jobs of the plan; the attempt is 1
+abbrev pub first_run : Format RunState
+first_run = parts (λ (r : RunState). (r.admitted, (r.attempt, (r.phase, (r.stopping, r.jobs)))))
+    (follow admit (λ a. pair (unspelled 1) (pair (parts run_byte byte) (pair (parts flag_byte byte) (row (jobs_planned a) job)))))
+
+-- ---- runners
+
+-- What is kept of a reply: a lease stands without its place.
+abbrev pub IsFirstKept : Kept → Type 0
+IsFirstKept replied.Nothing = Unit {0}
+IsFirstKept (replied.Leased l) = number.Takes l.lease × (l.place ≡ None)
+IsFirstKept replied.Done = Unit {0}
+
+-- Its byte, and its lease.
+abbrev pub first_kept_parts : Kept → ℕ × Option ℕ
+first_kept_parts replied.Nothing = (0, None)
+first_kept_parts (replied.Leased l) = (1, Some l.lease)
+first_kept_parts replied.Done = (2, None)
+
+abbrev pub first_kept : Format Kept
+first_kept = record { Takes = IsFirstKept; spelling = λ k. (pair byte lease).spelling (first_kept_parts k) }
+
+-- the command, and what is kept of its reply
+abbrev pub first_last_command : Format LastParts
+first_last_command = parts last_parts (pair command first_kept)
+
+-- the name, the last number, the last command with its reply, and the lease that the runner holds
+abbrev pub first_runner : Format StoredRunner
+first_runner = parts (λ (r : StoredRunner). (r.name, (r.number, (r.last, r.holds))))
+    (pair (small_text is_runner_byte) (pair number (pair first_last_command lease)))
+
+-- ---- tables
+
+-- the last lease, the runs in the order of their ids, and the runners in the order of their names
+abbrev pub first_table : Format StoredTable
+first_table = parts (λ (t : StoredTable). (t.last_lease, (t.runs, t.runners)))
+    (pair (only is_last_lease word) (pair (counted 0 100000 first_run) (only names_rise (counted 0 4294967295 first_runner))))
+
+-- ---- batches
+
+-- The first layout has each command but the one that asks for an attempt.
+abbrev pub is_in_first_layout : Command → Bool
+is_in_first_layout (asked.Admit event) = true
+is_in_first_layout (asked.Claim asks) = true
+is_in_first_layout (asked.Done report) = true
+is_in_first_layout (asked.Beat asks) = true
+is_in_first_layout (asked.Cancel run) = true
+is_in_first_layout (asked.Lost runner) = true
+is_in_first_layout (asked.Look run) = true
+is_in_first_layout (asked.Fetch run) = true
+is_in_first_layout (asked.Rerun asks) = false
+
+abbrev pub first_batch : Format (List Command)
+first_batch = only (λ commands. list_all is_in_first_layout commands) batch

@@ -1,0 +1,30 @@
+-- The spelling of a whole table in the first layout: of a sound one whose runs are all at their first attempt, the spelling of what that layout
+-- stores of it. A lease that is kept is stored by its number alone: the leg that has it is its place. Own: there is no public source.
+use Rattle.std.specs.Prelude.{map, Some, None}
+use Rattle.run_plan.specs.declared.last_command.ClaimReply.TheVariants as given
+use Rattle.run_plan.specs.declared.last_command.LastCommand.{LastCommand}
+use Rattle.run_plan.specs.declared.last_command.LastCommand.TheVariants as last
+use Rattle.run_table.specs.Sound.{IsSound}
+use Rattle.run_table.specs.Stored.{StoredRunner, StoredTable}
+use Rattle.run_table.specs.TableState.{RunnerState, TableState}
+use Rattle.run_table.specs.declared.parts.LastParts.{LastParts}
+use Rattle.run_table.specs.declared.parts.LastParts.TheVariants as stored
+use Rattle.table_text.specs.FirstLayout.{first_table}
+use Rattle.table_text.specs.Format.{Format}
+
+abbrev pub first_stored_last : LastCommand → LastParts
+first_stored_last (last.Claim claim given.Nothing) = stored.Claim claim None
+first_stored_last (last.Claim claim (given.Lease kept)) = stored.Claim claim (Some (record { lease = kept.told.lease; place = None }))
+first_stored_last (last.Done report) = stored.Done report
+
+abbrev pub first_stored_runner : RunnerState → StoredRunner
+first_stored_runner r = record { name = r.name; number = r.number; last = first_stored_last r.last; holds = r.holds }
+
+abbrev pub first_stored_table : TableState → StoredTable
+first_stored_table t = record { last_lease = t.last_lease; runs = t.runs; runners = map first_stored_runner t.runners }
+
+abbrev pub whole_first_table : Format TableState
+whole_first_table = record {
+  Takes = λ t. IsSound t × first_table.Takes (first_stored_table t);
+  spelling = λ t. first_table.spelling (first_stored_table t);
+}

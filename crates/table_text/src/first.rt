@@ -1,0 +1,89 @@
+//! Texts of the first layout of an area: a table whose runs have no attempts and whose kept leases have no places, and batches without the
+//! command that asks for an attempt. They are read, and not written.
+
+ghost use Rattle.std.specs.Prelude.{◌≡◌, IfErr, IfOk};
+ghost use Rattle.std.specs.List.{list_all};
+ghost use Rattle.std.specs.Option.{option_map};
+ghost use Rattle.wf_value.specs.Gives.{no_memory};
+ghost use Rattle.table_text.specs.FirstLayout.{first_batch, first_table, is_in_first_layout};
+ghost use Rattle.table_text.specs.Format.{StandsAtFront};
+ghost use Rattle.table_text.specs.WholeFirstTables.{whole_first_table};
+
+mod list;
+pub(crate) mod replies;
+mod runners;
+mod runs;
+mod tables;
+
+use crate::decode_error::DecodeError;
+use crate::read::read_batch;
+use run_plan::Command;
+use run_table::{Parts, Table};
+use std::alloc::Global;
+use tables::first_table_at;
+use wf_value::{Code, Refusal};
+
+/// The parts of the table that is spelled in the first layout at the front of the bytes, and the bytes behind it, or `None` where no front
+/// of them spells one. Where memory is refused the answer is 50, and nothing is known.
+fn read_first_parts(alloc: Global, bytes: &[u8]) -> Result<Option<(Parts, &[u8])>, Refusal>
+    ensures front { IfOk result (λ found. StandsAtFront first_table bytes.now (option_map (λ f. (f.0, f.1.now)) found)) }
+    ensures refused { IfErr result (λ e. e ≡ no_memory) }
+{
+    match first_table_at(alloc, bytes) {
+        Ok(found) => Ok(Some(found)),
+        Err(DecodeError::NoSpelling) => Ok(None),
+        Err(DecodeError::NoMemory) => Err(Refusal::Numbered(Code::NoMemory)),
+    }
+}
+
+/// The sound table that is spelled in the first layout at the front of the bytes, and the bytes behind it, or `None` where no front of
+/// them spells one. Each attempt is 1, and each lease that is kept is that of the leg that has it. Where memory is refused the answer is 50,
+/// and nothing is known.
+pub fn read_first_table(alloc: Global, bytes: &[u8]) -> Result<Option<(Table, &[u8])>, Refusal>
+    ensures front { IfOk result (λ found. StandsAtFront whole_first_table bytes.now (option_map (λ f. (f.0, f.1.now)) found)) }
+    ensures refused { IfErr result (λ e. e ≡ no_memory) }
+{
+    let Some((parts, rest)) = read_first_parts(alloc, bytes)? else {
+        return Ok(None);
+    };
+    match Table::of(alloc, &parts)? {
+        Some(table) => Ok(Some((table, rest))),
+        None => Ok(None),
+    }
+}
+
+/// Whether the first layout has a spelling of the command: of each but the one that asks for an attempt.
+pub fn is_in_first_layout(command: &Command) -> bool
+    ensures { result ≡ is_in_first_layout command.now }
+{
+    match command {
+        Command::Rerun(_) => false,
+        Command::Admit(_) | Command::Claim(_) | Command::Done(_) | Command::Beat(_) => true,
+        Command::Cancel(_) | Command::Lost(_) | Command::Look(_) | Command::Fetch(_) => true,
+    }
+}
+
+fn are_in_first_layout(commands: &[Command]) -> bool
+    ensures { result ≡ list_all is_in_first_layout commands.now }
+{
+    commands.iter().all(is_in_first_layout)
+}
+
+/// The batch that is spelled in the first layout at the front of the bytes, and the bytes behind it, or `None` where no front of them spells
+/// one. Where memory is refused the answer is 50, and nothing is known.
+#[tactic(auto, using(crate::proofs::WholeFirstTables::none_without_batch, crate::proofs::WholeFirstTables::none_of_batch, crate::proofs::WholeFirstTables::one_of_batch))]
+pub fn read_first_batch(
+    alloc: Global,
+    bytes: &[u8],
+) -> Result<Option<(Vec<Command>, &[u8])>, Refusal>
+    ensures front { IfOk result (λ found. StandsAtFront first_batch bytes.now (option_map (λ f. (f.0.items, f.1.now)) found)) }
+    ensures refused { IfErr result (λ e. e ≡ no_memory) }
+{
+    let Some((commands, rest)) = read_batch(alloc, bytes)? else {
+        return Ok(None);
+    };
+    if are_in_first_layout(&commands) {
+        return Ok(Some((commands, rest)));
+    }
+    Ok(None)
+}

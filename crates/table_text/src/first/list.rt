@@ -1,0 +1,34 @@
+//! Values of the first layout one behind the other at the front of bytes.
+
+ghost use Rattle.std.specs.Prelude.{ℕ, List, Option};
+ghost use Rattle.table_text.specs.Reading.{Finds, items_at};
+
+use crate::decode_error::DecodeError;
+use std::alloc::Global;
+
+/// What is read from the front of bytes of the first layout, where its spelling differs from that of the second.
+pub(super) trait ReadFirstAt: Drop {
+    ghost stands_first: { List ℕ → Option (Self × List ℕ) };
+
+    /// The value at the front, and what stands behind it.
+    fn read_first_at(alloc: Global, bytes: &[u8]) -> Result<(Self, &[u8]), DecodeError>
+        ensures { Finds (λ f. (f.0, f.1.now)) result (stands_first bytes.now) };
+}
+
+/// So many values, one behind the other, and what stands behind them.
+pub(super) fn first_list_at<T: ReadFirstAt>(
+    alloc: Global,
+    count: usize,
+    bytes: &[u8],
+) -> Result<(Vec<T>, &[u8]), DecodeError>
+    ensures { Finds (λ f. (f.0.items, f.1.now)) result (items_at T.stands_first count bytes.now) }
+{
+    let mut values = Vec::new(alloc);
+    let mut rest = bytes;
+    for _ in 0..count {
+        let (value, behind) = T::read_first_at(alloc, rest)?;
+        values.push(value)?;
+        rest = behind;
+    }
+    Ok((values, rest))
+}

@@ -1,0 +1,51 @@
+//! The runs of a table of the first layout: each is at its first attempt.
+
+ghost use Rattle.table_text.specs.Reading.{Finds};
+ghost use Rattle.table_text.specs.ReadingFirst.{first_run_at, first_runs_at};
+
+use super::list::{ReadFirstAt, first_list_at};
+use crate::command_at::admit_at;
+use crate::decode_error::DecodeError;
+use crate::front::word_at;
+use crate::phases_at::{flag_at, run_phase_at};
+use crate::runs_at::planned_jobs_at;
+use run_plan::Number;
+use std::alloc::Global;
+use wf_value::Sequence;
+use workflow_runs::RunParts;
+use workflow_runs::runs::MOST_RUNS;
+
+impl ReadFirstAt for RunParts {
+    ghost stands_first = { first_run_at };
+
+    #[tactic(auto, unfolding(crate::specs::ReadingFirst::first_run_at, crate::specs::ReadingFirst::first_course_at))]
+    fn read_first_at(alloc: Global, bytes: &[u8]) -> Result<(RunParts, &[u8]), DecodeError> {
+        let (prepared, rest) = admit_at(alloc, bytes)?;
+        let (phase, rest) = run_phase_at(rest)?;
+        let (stopping, rest) = flag_at(rest)?;
+        let (jobs, rest) = planned_jobs_at(alloc, &prepared, rest)?;
+        let run = RunParts {
+            prepared,
+            attempt: Number::new(1),
+            phase,
+            stopping,
+            jobs: Sequence::new(jobs),
+        };
+        Ok((run, rest))
+    }
+}
+
+/// The runs behind their count, and what stands behind them.
+#[tactic(auto, unfolding(crate::specs::ReadingFirst::first_runs_at))]
+pub(super) fn first_runs_at(
+    alloc: Global,
+    bytes: &[u8],
+) -> Result<(Vec<RunParts>, &[u8]), DecodeError>
+    ensures { Finds (λ f. (f.0.items, f.1.now)) result (first_runs_at bytes.now) }
+{
+    let (count, rest) = word_at(bytes)?;
+    if count > MOST_RUNS {
+        return Err(DecodeError::NoSpelling);
+    }
+    first_list_at(alloc, count as usize, rest)
+}
