@@ -20,11 +20,13 @@ use Rattle.act_store.specs.Meaning.{MeansTable}
 use Rattle.act_store.specs.Promise.{IsCounted, IsSettled, IsStanding}
 use Rattle.act_store.specs.Waiting.{Waits, waits_of}
 use Rattle.act_store.specs.declared.entry.Entry.{Entry}
+use Rattle.act_store.specs.declared.layout.Layout.{Layout}
+use Rattle.act_store.specs.declared.layout.Layout.TheVariants as layouts
 use Rattle.act_store.proofs.Settling.{settled_at, settled_stands}
 use Rattle.act_store.proofs.TextOfTable.{empty_spells, empty_text}
 
-abbrev pub begun : {D : Type 0} → D → ℕ → TableState → ℕ → ℕ → Option Checkpoint → Bool → List Entry → StoreState D
-begun disk area base used generation checkpoint failed history = record {
+abbrev pub begun : {D : Type 0} → D → ℕ → TableState → ℕ → ℕ → Layout → Option Checkpoint → Bool → List Entry → StoreState D
+begun disk area base used generation layout checkpoint failed history = record {
   disk = disk;
   area = area;
   base = base;
@@ -32,17 +34,18 @@ begun disk area base used generation checkpoint failed history = record {
   covered = 0;
   used = used;
   generation = generation;
+  layout = layout;
   begun = checkpoint;
   failed = failed;
 }
 
-module _ {D : Type 0} (disk : D) (area : ℕ) (base : TableState) (used generation : ℕ) (checkpoint : Option Checkpoint) (failed : Bool)
-    (history : List Entry) (none : history ≡ []) where
+module _ {D : Type 0} (disk : D) (area : ℕ) (base : TableState) (used generation : ℕ) (layout : Layout) (checkpoint : Option Checkpoint)
+    (failed : Bool) (history : List Entry) (none : history ≡ []) where
   pub counted_begun : IsSound base → (table : TableState) → table ≡ base → (waiting : Waits) → waiting ≡ waits_of [] → IsAreaLength area
       → used < area
-      → IsCounted (begun disk area base used generation checkpoint failed history) table waiting
+      → IsCounted (begun disk area base used generation layout checkpoint failed history) table waiting
   counted_begun sound table same waiting nothing size fits =
-      subst (λ (h : List Entry). IsCounted (begun disk area base used generation checkpoint failed h) table waiting) (sym none) (record {
+      subst (λ (h : List Entry). IsCounted (begun disk area base used generation layout checkpoint failed h) table waiting) (sym none) (record {
         sound = sound;
         legal = refl;
         table_is = same;
@@ -52,19 +55,20 @@ module _ {D : Type 0} (disk : D) (area : ℕ) (base : TableState) (used generati
         gate_fits = fits;
         record_fits = λ less. absurd (omega (arith, less));
         spelled = _;
+        in_layout = _;
         waiting_is = nothing;
       })
 
   pub standing_begun : (images : D → List ℕ → Type 0) (side : Side) (gate : Gate) → IsAreaLength area
-      → IsSettled area side gate generation used base (images disk)
-      → IsStanding images side gate (begun disk area base used generation checkpoint failed history)
+      → IsSettled area side gate generation used layout base (images disk)
+      → IsStanding images side gate (begun disk area base used generation layout checkpoint failed history)
   standing_begun images side gate size settled =
-      subst (λ (h : List Entry). IsStanding images side gate (begun disk area base used generation checkpoint failed h)) (sym none)
+      subst (λ (h : List Entry). IsStanding images side gate (begun disk area base used generation layout checkpoint failed h)) (sym none)
       (let first : take 0 [] ≡ [] = take_all 0 [] (omega arith) in
-      let here = settled_at area side gate generation used base (table_after base (take 0 [])) (images disk)
+      let here = settled_at area side gate generation used layout base (table_after base (take 0 [])) (images disk)
       (ap (λ (l : List Entry). table_after base l) (sym first)) settled in
       record {
-        each = λ c now. inl (settled_stands area side gate generation used (table_after base (take 0 [])) (images disk) size here c now);
+        each = λ c now. inl (settled_stands area side gate generation used layout (table_after base (take 0 [])) (images disk) size here c now);
         settled = λ _. here;
       })
 
@@ -75,10 +79,12 @@ first_head = record { version = current_version; generation = 1; text = empty_te
 
 pub means_first : MeansTable first_head [] empty
 means_first = record {
+  layout = layouts.Second;
+  layout_is = refl;
   first = empty;
   text = empty_spells;
   commands = [];
-  batched = record { version_is = refl; batches = []; takes = _; spelled = refl; commands_are = refl };
+  batched = record { batches = []; takes = _; spelled = refl; commands_are = refl };
   table_is = refl;
 }
 
@@ -91,17 +97,18 @@ pub first_fits : Fits first_head []
 first_fits = record { generation = omega arith; text = omega arith; each = _ }
 
 pub first_settled : (area : ℕ) (images : List ℕ → Type 0) → ((c : List ℕ) → images c → StandsWhole area First Closed c first_head [])
-    → IsSettled area First Closed 1 30 empty images
+    → IsSettled area First Closed 1 30 layouts.Second empty images
 first_settled area images each = record {
   head = first_head;
   bodies = [];
   each = each;
   used_is = refl;
   generation_is = refl;
+  layout_is = refl;
   means = means_first;
 }
 
 pub first_stands : (area : ℕ) (images : List ℕ → Type 0) → IsAreaLength area
     → ((c : List ℕ) → images c → StandsWhole area First Closed c first_head []) → (c : List ℕ) → images c → StandsFor empty c
 first_stands area images size each =
-    settled_stands area First Closed 1 30 empty images size (first_settled area images each)
+    settled_stands area First Closed 1 30 layouts.Second empty images size (first_settled area images each)

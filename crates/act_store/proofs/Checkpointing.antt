@@ -96,6 +96,7 @@ module _ {D : Type 0} (s : StoreState D) (table : TableState) (waiting : Waits) 
     gate_fits = counted.gate_fits;
     record_fits = counted.record_fits;
     spelled = counted.spelled;
+    in_layout = counted.in_layout;
     waiting_is = counted.waiting_is;
   }
 
@@ -106,25 +107,26 @@ module _ {D : Type 0} (s : StoreState D) (table : TableState) (waiting : Waits) 
 
   -- where all images are settled again at the covered entries
   pub standing_with : (images : D → List ℕ → Type 0) (side : Side) (gate : Gate) (disk : D) (checkpoint : Option Checkpoint)
-      → IsSettled s.area side gate s.generation s.used (covered_table s) (images disk)
+      → IsSettled s.area side gate s.generation s.used s.layout (covered_table s) (images disk)
       → IsStanding images side gate (record s { disk = disk; begun = checkpoint })
   standing_with images side gate disk checkpoint settled = record {
-    each = λ c now. inl (settled_stands s.area side gate s.generation s.used (covered_table s) (images disk) counted.size settled c now);
+    each = λ c now. inl (settled_stands s.area side gate s.generation s.used s.layout (covered_table s) (images disk) counted.size settled c now);
     settled = λ _. settled;
   }
 
   module _ (images : D → List ℕ → Type 0) (side : Side) (gate : Gate)
-      (settled : IsSettled s.area side gate s.generation s.used (covered_table s) (images s.disk)) where
+      (settled : IsSettled s.area side gate s.generation s.used s.layout (covered_table s) (images s.disk)) where
     -- the same head and bodies, with the other gate as it is then
     pub settled_again : (now : Gate) (disk : D)
         → ((c : List ℕ) → images disk c → StandsWhole s.area side now c settled.head settled.bodies)
-        → IsSettled s.area side now s.generation s.used (covered_table s) (images disk)
+        → IsSettled s.area side now s.generation s.used s.layout (covered_table s) (images disk)
     settled_again now disk each = record {
       head = settled.head;
       bodies = settled.bodies;
       each = each;
       used_is = settled.used_is;
       generation_is = settled.generation_is;
+      layout_is = settled.layout_is;
       means = settled.means;
     }
 
@@ -136,7 +138,7 @@ module _ {D : Type 0} (s : StoreState D) (table : TableState) (waiting : Waits) 
     pub slice_settles : (disk : D) → gate ≡ Closed
         → (((c : List ℕ) → images s.disk c → StandsWhole s.area side Closed c settled.head settled.bodies)
         → (c : List ℕ) → images disk c → StandsWhole s.area side Closed c settled.head settled.bodies)
-        → IsSettled s.area side gate s.generation s.used (covered_table s) (images disk)
+        → IsSettled s.area side gate s.generation s.used s.layout (covered_table s) (images disk)
     slice_settles disk closed goes_on =
         settled_again gate disk (λ c now. subst (λ (g : Gate). StandsWhole s.area side g c settled.head settled.bodies) (sym closed)
         (goes_on (λ c now. subst (λ (g : Gate). StandsWhole s.area side g c settled.head settled.bodies) closed (settled.each c now)) c now))

@@ -14,6 +14,7 @@ use Rattle.run_table.specs.TableState.{TableState}
 use Rattle.table_text.specs.Commands.{IsSpelled, batch}
 use Rattle.act_store.specs.Entries.{commands_of, table_after}
 use Rattle.act_store.specs.Images.{StandsFor}
+use Rattle.act_store.specs.Layouts.{HasCommand}
 use Rattle.act_store.specs.StoreState.{StoreState, StandsForEither, covered_table, pending_commands, table_of}
 use Rattle.act_store.specs.Plain.{committed, used_after}
 use Rattle.act_store.specs.Promise.{IsCounted, IsSettled, IsStanding}
@@ -77,21 +78,22 @@ module _ {D : Type 0} (s : StoreState D) (table : TableState) (waiting : Waits) 
           gate_fits = omega (arith, counted.record_fits more);
           record_fits = λ less. absurd (omega (arith, less));
           spelled = subst (λ (l : List Entry). AllByRecursion IsSpelled (commands_of l)) (sym all) _;
+          in_layout = subst (λ (l : List Entry). AllByRecursion (HasCommand s.layout) (commands_of l)) (sym all) _;
           waiting_is = none_left left none no_bytes ∙ ap (λ (l : List Entry). waits_of (commands_of l)) (sym all);
         }
 
     module _ (images : D → List ℕ → Type 0) (side : Side) (gate : Gate)
-        (settled : IsSettled s.area side gate s.generation s.used (covered_table s) (images s.disk)) where
+        (settled : IsSettled s.area side gate s.generation s.used s.layout (covered_table s) (images s.disk)) where
       commit_each : (c : List ℕ) → WholeOrGrew s.area side gate settled.head settled.bodies (body_of waiting) c → StandsForEither s c
       commit_each c either =
-          grown images side gate s counted.size settled takes c
+          grown images side gate s counted.size settled takes counted.in_layout c
           (subst (λ (b : List ℕ). WholeOrGrew s.area side gate settled.head settled.bodies b c) waits either)
 
       commit_settled : (disk : D)
           → ((c : List ℕ) → images disk c → StandsWhole s.area side gate c settled.head (settled.bodies ++ body_of waiting ∷ []))
-          → IsSettled s.area side gate s.generation (used_after s) (table_of s) (images disk)
+          → IsSettled s.area side gate s.generation (used_after s) s.layout (table_of s) (images disk)
       commit_settled disk each =
-          resettled images side gate s counted.size settled takes disk (used_after s) refl
+          resettled images side gate s counted.size settled takes counted.in_layout disk (used_after s) refl
           (subst (λ (b : List ℕ). (c : List ℕ) → images disk c → StandsWhole s.area side gate c settled.head (settled.bodies ++ b ∷ []))
           waits each)
 
@@ -143,7 +145,7 @@ module _ {D : Type 0} (honest : D → Type 0) (images : D → List ℕ → Type 
       (c : List ℕ) → images disk c → StandsWhole s.areas.len s.areas.side gate c head (bodies ++ body ∷ [])
 
   pub commit_settles : Promises grown_now → honest s.disk
-      → IsSettled s.areas.len s.areas.side s.other s.generation (used_after (as_state s)) (table_of (as_state s)) (images disk)
+      → IsSettled s.areas.len s.areas.side s.other s.generation (used_after (as_state s)) s.layout (table_of (as_state s)) (images disk)
   commit_settles grows is_honest =
       commit_settled (as_state s) s.table s.waiting counted some images s.areas.side s.other ((standing is_honest).settled live) disk
       (promised grown_now grows is_honest)

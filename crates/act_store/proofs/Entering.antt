@@ -10,8 +10,9 @@ use Rattle.run_table.specs.Step.{stepped}
 use Rattle.run_table.specs.TableState.{TableState}
 use Rattle.table_text.specs.Commands.{IsSpelled, command_bytes}
 use Rattle.act_store.specs.Entries.{IsLegal, commands_of, table_after}
+use Rattle.act_store.specs.Layouts.{HasCommand, has_command}
 use Rattle.act_store.specs.StoreState.{StoreState, pending_commands, table_of}
-use Rattle.act_store.specs.Plain.{area_full, failed_earlier, history_full, record_end, refusal_of_apply, refusal_of_room}
+use Rattle.act_store.specs.Plain.{area_full, failed_earlier, history_full, old_layout, record_end, refusal_of_apply, refusal_of_form, refusal_of_room}
 use Rattle.act_store.specs.Promise.{IsCounted}
 use Rattle.act_store.specs.Waiting.{Waits, waits_of, with_command}
 use Rattle.act_store.specs.declared.entry.Entry.{Entry}
@@ -23,6 +24,7 @@ use Rattle.act_store.proofs.Records.{length_with, waits_more}
 pub record IsAdmitted {D : Type 0} (s : StoreState D) (command : Command) : Type 0 where
   pub live : s.failed ≡ false
   pub fewer : length s.history < 100000
+  pub has : HasCommand s.layout command
   pub room : record_end s (pending_commands s ++ command ∷ []) ≤ s.area
 
 module _ {D : Type 0} (s : StoreState D) (command : Command) where
@@ -32,24 +34,31 @@ module _ {D : Type 0} (s : StoreState D) (command : Command) where
     | inr fits ↦ ltb-false s.area (record_end s (pending_commands s ++ command ∷ [])) fits
   ]
 
-  has_few : (if nat_le 100000 (length s.history) then Some history_full else refusal_of_room s command) ≡ None
-      → (length s.history < 100000) × (refusal_of_room s command ≡ None)
+  has_form : refusal_of_form s command ≡ None → HasCommand s.layout command × (refusal_of_room s command ≡ None)
+  has_form none = elim (cases_Bool (has_command s.layout command)) [
+    | inl has ↦ (has, sym (ap (λ (b : Bool). if b then refusal_of_room s command else Some old_layout) has) ∙ none)
+    | inr old ↦ absurd (cc (sym (ap (λ (b : Bool). if b then refusal_of_room s command else Some old_layout) old) ∙ none))
+  ]
+
+  has_few : (if nat_le 100000 (length s.history) then Some history_full else refusal_of_form s command) ≡ None
+      → (length s.history < 100000) × (refusal_of_form s command ≡ None)
   has_few none = elim (cases_Bool (nat_le 100000 (length s.history))) [
-    | inl full ↦ absurd (cc (sym (ap (λ (b : Bool). if b then Some history_full else refusal_of_room s command) full) ∙ none))
+    | inl full ↦ absurd (cc (sym (ap (λ (b : Bool). if b then Some history_full else refusal_of_form s command) full) ∙ none))
     | inr fewer ↦ (
       leb-false 100000 (length s.history) fewer,
-      sym (ap (λ (b : Bool). if b then Some history_full else refusal_of_room s command) fewer) ∙ none,
+      sym (ap (λ (b : Bool). if b then Some history_full else refusal_of_form s command) fewer) ∙ none,
     )
   ]
 
   pub is_admitted : refusal_of_apply s command ≡ None → IsAdmitted s command
   is_admitted none =
-      let rest = if nat_le 100000 (length s.history) then Some history_full else refusal_of_room s command in
+      let rest = if nat_le 100000 (length s.history) then Some history_full else refusal_of_form s command in
       elim (cases_Bool s.failed) [
         | inl failed ↦ absurd (cc (sym (ap (λ (b : Bool). if b then Some failed_earlier else rest) failed) ∙ none))
         | inr live ↦ (
             let few = has_few (sym (ap (λ (b : Bool). if b then Some failed_earlier else rest) live) ∙ none) in
-            record { live = live; fewer = few.0; room = has_room few.1 }
+            let form = has_form few.1 in
+            record { live = live; fewer = few.0; has = form.0; room = has_room form.1 }
             )
       ]
 
@@ -110,6 +119,8 @@ module _ {D : Type 0} (s : StoreState D) (table : TableState) (waiting : Waits) 
         λ _. subst (λ (cs : List Command). record_end s cs ≤ s.area) (sym pending_more) admitted.room;
     spelled = subst (λ (cs : List Command). AllByRecursion IsSpelled cs) (sym pending_more)
         (all_push IsSpelled (pending_commands s) command counted.spelled spelled);
+    in_layout = subst (λ (cs : List Command). AllByRecursion (HasCommand s.layout) cs) (sym pending_more)
+        (all_push (HasCommand s.layout) (pending_commands s) command counted.in_layout admitted.has);
     waiting_is =
         added ∙ ap (λ (w : Waits). with_command w command) counted.waiting_is ∙ waits_more (pending_commands s) command
         ∙ ap waits_of (sym pending_more);

@@ -19,7 +19,7 @@ use Rattle.run_table.specs.TableState.{TableState}
 use Rattle.table_text.specs.Commands.{IsSpelled, batch, command_bytes}
 use Rattle.act_store.specs.Checkpoints.{first_gate, gate_behind, refusal_of_finish}
 use Rattle.act_store.specs.Entries.{commands_of, table_after}
-use Rattle.act_store.specs.Layouts.{current_version}
+use Rattle.act_store.specs.Layouts.{HasCommand, batch_format, current_version, layout_of}
 use Rattle.act_store.specs.StoreState.{StoreState, StandsForEither, covered_table, table_of}
 use Rattle.act_store.specs.LastPart.{bodies_of, last_part}
 use Rattle.act_store.specs.Meaning.{MeansTable}
@@ -28,8 +28,11 @@ use Rattle.act_store.specs.StoreSeen.{as_checkpoint, as_state}
 use Rattle.act_store.specs.Waiting.{Waits, waits_of}
 use Rattle.act_store.specs.declared.begun.Begun.{Begun}
 use Rattle.act_store.specs.declared.entry.Entry.{Entry}
+use Rattle.act_store.specs.declared.layout.Layout.{Layout}
+use Rattle.act_store.specs.declared.layout.Layout.TheVariants as layouts
 use Rattle.act_store.specs.declared.store.Store.TheInside.{Inside}
 use Rattle.act_store.proofs.Histories.{table_split}
+use Rattle.act_store.proofs.InLayout.{one_layout}
 use Rattle.act_store.proofs.LastPart.{from_on}
 use Rattle.act_store.proofs.Meanings.{means_more}
 use Rattle.act_store.proofs.Records.{length_batch}
@@ -69,9 +72,13 @@ short_bodies area text (c ∷ cs) most room = (omega (arith, most, room), _)
 -- ---- what the area means that was made
 
 means_with : (head : Head) (table : TableState) (commands : List Command) → length commands ≤ 4294967295
-    → AllByRecursion IsSpelled commands → MeansTable head [] table → MeansTable head (bodies_of commands) (after table commands)
-means_with head table [] few spelled means = means
-means_with head table (c ∷ cs) few spelled means = means_more head [] table (c ∷ cs) (omega arith, few, spelled) means
+    → AllByRecursion IsSpelled commands → layout_of head.version ≡ Some layouts.Second → MeansTable head [] table
+    → MeansTable head (bodies_of commands) (after table commands)
+means_with head table [] few spelled second means = means
+means_with head table (c ∷ cs) few spelled second means =
+    means_more head [] table (c ∷ cs) means
+    (subst (λ (l : Layout). (batch_format l).Takes (c ∷ cs)) (one_layout head layouts.Second means.layout second means.layout_is)
+    (omega arith, few, spelled))
 
 -- What a finish is given: the disk turns over with these bytes, the last part, behind what was put.
 pub record Finishes {D : Type 0} (honest : D → Type 0) (images : D → List ℕ → Type 0) (seen : D → List ℕ) (s : Inside D) (at : ℕ)
@@ -148,10 +155,12 @@ module _ {D : Type 0} (honest : D → Type 0) (images : D → List ℕ → Type 
 
   means_first : MeansTable next [] first
   means_first = record {
+    layout = layouts.Second;
+    layout_is = refl;
     first = first;
     text = f.snapshot.spells;
     commands = [];
-    batched = record { version_is = refl; batches = []; takes = _; spelled = refl; commands_are = refl };
+    batched = record { batches = []; takes = _; spelled = refl; commands_are = refl };
     table_is = refl;
   }
 
@@ -165,10 +174,10 @@ module _ {D : Type 0} (honest : D → Type 0) (images : D → List ℕ → Type 
         f.counted.most,
         length-map (drop f.b.place s.history.items) (λ (e : Entry). e.command),
         length-drop f.b.place s.history.items,
-      )) f.spelled means_first)
+      )) f.spelled refl means_first)
 
   module _ (is_honest : honest s.disk) where
-    settled : IsSettled s.areas.len s.areas.side s.other s.generation s.used (covered_table (as_state s)) (images s.disk)
+    settled : IsSettled s.areas.len s.areas.side s.other s.generation s.used s.layout (covered_table (as_state s)) (images s.disk)
     settled = (f.standing is_honest).settled f.may.live
 
     shut : (c : List ℕ) → images s.disk c → StandsWhole s.areas.len s.areas.side Closed c settled.head settled.bodies
@@ -232,7 +241,7 @@ module _ {D : Type 0} (honest : D → Type 0) (images : D → List ℕ → Type 
 
     pub finish_settles : Turns (λ head next bodies others. (c : List ℕ) → images disk c
         → StandsWhole s.areas.len (other s.areas.side) Open c next others) → honest s.disk
-        → IsSettled s.areas.len (other s.areas.side) Open (s.generation + 1) (at + length bytes - 1) (table_of (as_state s))
+        → IsSettled s.areas.len (other s.areas.side) Open (s.generation + 1) (at + length bytes - 1) layouts.Second (table_of (as_state s))
         (images disk)
     finish_settles turns is_honest = record {
       head = next;
@@ -248,6 +257,7 @@ module _ {D : Type 0} (honest : D → Type 0) (images : D → List ℕ → Type 
             length-append (head_bytes next) (record_bytes others),
           );
       generation_is = refl;
+      layout_is = refl;
       means = means_all;
     }
 
@@ -257,6 +267,7 @@ module _ {D : Type 0} (honest : D → Type 0) (images : D → List ℕ → Type 
       covered = covered;
       used = used;
       generation = s.generation + 1;
+      layout = layouts.Second;
       begun = None;
     }
 
@@ -274,21 +285,22 @@ module _ {D : Type 0} (honest : D → Type 0) (images : D → List ℕ → Type 
             gate_fits = omega (arith, here, used_is, room);
             record_fits = λ less. absurd (omega (arith, less, all));
             spelled = subst (λ (l : List Entry). AllByRecursion IsSpelled (commands_of l)) (sym none) _;
+            in_layout = subst (λ (l : List Entry). AllByRecursion (HasCommand layouts.Second) (commands_of l)) (sym none) _;
             waiting_is = nothing ∙ ap (λ (l : List Entry). waits_of (commands_of l)) (sym none);
           }
 
       pub standing_finished : IsSettled s.areas.len (other s.areas.side) Open (s.generation + 1) (at + length bytes - 1)
-          (table_of (as_state s)) (images disk)
+          layouts.Second (table_of (as_state s)) (images disk)
           → IsStanding images (other s.areas.side) Open (done covered used)
       standing_finished now =
           let same : table_of (as_state s) ≡ covered_table (done covered used) =
           ap (λ (l : List Entry). table_after s.base.value l) (sym (take_all covered s.history.items (omega (arith, all)))) in
-          let again = settled_at s.areas.len (other s.areas.side) Open (s.generation + 1) used (table_of (as_state s))
+          let again = settled_at s.areas.len (other s.areas.side) Open (s.generation + 1) used layouts.Second (table_of (as_state s))
           (covered_table (done covered used)) (images disk) same
-          (subst (λ (n : ℕ). IsSettled s.areas.len (other s.areas.side) Open (s.generation + 1) n (table_of (as_state s)) (images disk))
+          (subst (λ (n : ℕ). IsSettled s.areas.len (other s.areas.side) Open (s.generation + 1) n layouts.Second (table_of (as_state s)) (images disk))
           (sym here) now) in
           record {
-            each = λ c there. inl (settled_stands s.areas.len (other s.areas.side) Open (s.generation + 1) used
+            each = λ c there. inl (settled_stands s.areas.len (other s.areas.side) Open (s.generation + 1) used layouts.Second
                 (covered_table (done covered used)) (images disk) f.counted.size again c there);
             settled = λ _. again;
           }

@@ -12,5 +12,5 @@ pub keeps_groups : (base : TableState) (history : List Entry) → IsSound base �
 keeps_groups base history sound = record {
   one_pending = λ before behind g is. one_pending_after base (commands_of before) g sound;
   one_running = λ before behind g is. one_running_after base (commands_of before) g sound;
-  law = λ before behind g is. group_keeps_law base (commands_of before) g sound;
+  law = λ names before behind g is. group_keeps_law names base (commands_of before) g sound;
 }

@@ -1,3 +1,4 @@
+mod AreaFronts
 mod Beginning
 mod Checkpointing
 mod Committing
@@ -5,6 +6,7 @@ mod Entering
 mod Finishing
 mod GroupsOfHistory
 mod Histories
+mod InLayout
 mod LastPart
 mod Meanings
 mod OneTable
@@ -18,6 +20,7 @@ mod Reopening
 mod Replaying
 mod Settling
 mod Snapshots
+mod SpelledAlike
 mod Spelling
 mod TextOfTable
 mod WholeTexts

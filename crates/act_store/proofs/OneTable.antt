@@ -8,40 +8,47 @@ use Rattle.gated_journal.proofs.OneReading.{one_reading}
 use Rattle.run_plan.specs.declared.command.Command.{Command}
 use Rattle.run_table.specs.Histories.{after}
 use Rattle.run_table.specs.TableState.{TableState}
-use Rattle.table_text.specs.Commands.{batch}
-use Rattle.table_text.specs.ReadingCommands.{batch_at}
-use Rattle.table_text.proofs.CommandReaders.{batch_reads}
-use Rattle.table_text.proofs.Readers.{none_begins}
 use Rattle.act_store.specs.Images.{StandsFor}
+use Rattle.act_store.specs.Layouts.{batch_format}
 use Rattle.act_store.specs.Meaning.{MeansTable, SpellCommands}
+use Rattle.act_store.specs.TableText.{SpellsTable}
+use Rattle.act_store.specs.declared.layout.Layout.{Layout}
+use Rattle.act_store.proofs.InLayout.{batches_begin_none, one_layout}
 use Rattle.act_store.proofs.TextOfTable.{one_text}
 
-same_batches : (one two : List (List Command)) → AllByRecursion batch.Takes one → AllByRecursion batch.Takes two
-    → map batch.spelling one ≡ map batch.spelling two → one ≡ two
-same_batches [] [] f s same = refl
-same_batches [] (b ∷ two) f s same = absurd (cc same)
-same_batches (a ∷ one) [] f s same = absurd (cc same)
-same_batches (a ∷ one) (b ∷ two) f s same =
-    let first : batch.spelling a ≡ batch.spelling b = cc same in
-    let rest : map batch.spelling one ≡ map batch.spelling two = cc same in
-    let heads = none_begins batch batch_at batch_reads (batch.spelling a) (batch.spelling b) [] [] a b (f.0, refl) (s.0, refl)
-    (ap (λ (l : List ℕ). l ++ []) first) in
-    ap (λ (x : List Command). x ∷ one) heads.1 ∙ ap (λ (l : List (List Command)). b ∷ l) (same_batches one two f.1 s.1 rest)
+module _ (layout : Layout) where
+  abbrev spelling : List Command → List ℕ
+  spelling = (batch_format layout).spelling
 
-same_commands : (version : ℕ) (bodies : List (List ℕ)) (one two : List Command) → SpellCommands version bodies one
-    → SpellCommands version bodies two → one ≡ two
-same_commands version bodies one two first second =
+  same_batches : (one two : List (List Command)) → AllByRecursion (batch_format layout).Takes one
+      → AllByRecursion (batch_format layout).Takes two → map spelling one ≡ map spelling two → one ≡ two
+  same_batches [] [] f s same = refl
+  same_batches [] (b ∷ two) f s same = absurd (cc same)
+  same_batches (a ∷ one) [] f s same = absurd (cc same)
+  same_batches (a ∷ one) (b ∷ two) f s same =
+      let first : spelling a ≡ spelling b = cc same in
+      let rest : map spelling one ≡ map spelling two = cc same in
+      let heads = batches_begin_none layout (spelling a) (spelling b) [] [] a b (f.0, refl) (s.0, refl)
+      (ap (λ (l : List ℕ). l ++ []) first) in
+      ap (λ (x : List Command). x ∷ one) heads.1 ∙ ap (λ (l : List (List Command)). b ∷ l) (same_batches one two f.1 s.1 rest)
+
+same_commands : (layout : Layout) (bodies : List (List ℕ)) (one two : List Command) → SpellCommands layout bodies one
+    → SpellCommands layout bodies two → one ≡ two
+same_commands layout bodies one two first second =
     first.commands_are
     ∙ ap (λ (l : List (List Command)). flat_map (λ b. b) l)
-    (same_batches first.batches second.batches first.takes second.takes (sym first.spelled ∙ second.spelled))
+    (same_batches layout first.batches second.batches first.takes second.takes (sym first.spelled ∙ second.spelled))
     ∙ sym second.commands_are
 
 one_meaning : (head : Head) (bodies : List (List ℕ)) (one two : TableState) → MeansTable head bodies one
     → MeansTable head bodies two → one ≡ two
 one_meaning head bodies one two first second =
+    let same : second.layout ≡ first.layout = one_layout head second.layout first.layout second.layout_is first.layout_is in
+    let text = subst (λ (l : Layout). SpellsTable l second.first head.text) same second.text in
+    let batched = subst (λ (l : Layout). SpellCommands l bodies second.commands) same second.batched in
     sym first.table_is
-    ∙ ap (λ (t : TableState). after t first.commands) (one_text head.version first.first second.first head.text first.text second.text)
-    ∙ ap (λ (l : List Command). after second.first l) (same_commands head.version bodies first.commands second.commands first.batched second.batched)
+    ∙ ap (λ (t : TableState). after t first.commands) (one_text first.layout first.first second.first head.text first.text text)
+    ∙ ap (λ (l : List Command). after second.first l) (same_commands first.layout bodies first.commands second.commands first.batched batched)
     ∙ second.table_is
 
 pub one_table : (image : List ℕ) (one two : TableState) → StandsFor one image → StandsFor two image → one ≡ two

@@ -38,7 +38,8 @@ module _ (len : ℕ) (file : List ℕ) (long : length file ≡ len + len) where
     }
 
 module _ (found : LocatedArea) (file : List ℕ) (is_found : IsFound found file) where
-  abbrev spelled : SpellsArea (area_on found.area found.chosen.side file) found.spelled.generation found.spelled.used found.spelled.table
+  abbrev spelled : SpellsArea (area_on found.area found.chosen.side file) found.spelled.generation found.spelled.used
+      found.spelled.layout found.spelled.table
   spelled = is_found.spelled
 
   whole : StandsWhole found.area found.chosen.side found.chosen.other file spelled.head spelled.bodies
@@ -51,7 +52,8 @@ module _ (found : LocatedArea) (file : List ℕ) (is_found : IsFound found file)
   }
 
   pub found_settled : (images : List ℕ → Type 0) → Only file images
-      → IsSettled found.area found.chosen.side found.chosen.other found.spelled.generation found.spelled.used found.spelled.table images
+      → IsSettled found.area found.chosen.side found.chosen.other found.spelled.generation found.spelled.used
+      found.spelled.layout found.spelled.table images
   found_settled images only = record {
     head = spelled.head;
     bodies = spelled.bodies;
@@ -59,6 +61,7 @@ module _ (found : LocatedArea) (file : List ℕ) (is_found : IsFound found file)
         (sym ((only c).0 now)) whole;
     used_is = spelled.used_is;
     generation_is = spelled.generation_is;
+    layout_is = spelled.layout_is;
     means = spelled.means;
   }
 
@@ -75,6 +78,11 @@ module _ (found : LocatedArea) (file : List ℕ) (is_found : IsFound found file)
   }
 
   -- by the area that was found
-  pub found_at : IsAreaLength found.area → StandsAt found.spelled.generation found.spelled.used found.spelled.table file
+  pub found_at : IsAreaLength found.area → StandsAt found.spelled.generation found.spelled.used found.spelled.layout found.spelled.table file
   unfolding found_stands
-  found_at size = record { stands = found_stands size; generation_is = spelled.generation_is; used_is = spelled.used_is }
+  found_at size = record {
+    stands = found_stands size;
+    generation_is = spelled.generation_is;
+    used_is = spelled.used_is;
+    layout_is = spelled.layout_is;
+  }

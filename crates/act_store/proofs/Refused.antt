@@ -1,14 +1,16 @@
 -- A step that is refused: for which cause, and what it leaves.
 use Rattle.std.proofs.Common.{◌≡◌, inl, inr, ⊎_elim, ◌+◌, ◌<◌, length, refl, sym, ◌∙◌, ap, subst}
-use Rattle.std.proofs.Common.{Bool, true, false}
+use Rattle.std.proofs.Common.{Bool, true, false, [], ◌∷◌, ◌++◌}
 use Rattle.std.specs.Prelude.{◌⊎◌, Option, Some, None, IfSome, Result, Err, if◌then◌else◌, nat_le, nat_lt, is_some}
 use Rattle.wf_value.specs.Gives.{no_memory}
 use Rattle.wf_value.specs.declared.refusal.Refusal.{Refusal}
 use Rattle.act_disk.specs.Failed.{device_failed}
 use Rattle.run_plan.specs.declared.command.Command.{Command}
 use Rattle.act_store.specs.Checkpoints.{dropped, first_gate, has_no_room, last_counter, refusal_of_last, text_length}
-use Rattle.act_store.specs.StoreState.{Checkpoint, StoreState, table_of}
-use Rattle.act_store.specs.Plain.{area_full, broken, checkpoint_turn, failed_earlier}
+use Rattle.act_store.specs.Layouts.{has_command}
+use Rattle.act_store.specs.StoreState.{Checkpoint, StoreState, pending_commands, table_of}
+use Rattle.act_store.specs.Plain.{area_full, broken, checkpoint_turn, failed_earlier, history_full, old_layout, record_end}
+use Rattle.act_store.specs.Plain.{refusal_of_apply, refusal_of_form, refusal_of_room}
 use Rattle.act_store.specs.Steps.{IsRefused, is_area_full, left_by, refusal_of}
 use Rattle.act_store.specs.declared.step.Step.{Step}
 use Rattle.act_store.specs.declared.step.Step.TheVariants as asked
@@ -19,6 +21,11 @@ cause_has : (P : Refusal → Type 0) (b : Bool) (x e : Refusal) (o : Option Refu
     → (if b then Some x else o) ≡ Some e → P e
 cause_has P true x e o has rest is = let same : x ≡ e = cc is in subst P same has
 cause_has P false x e o has rest is = rest is
+
+form_has : (P : Refusal → Type 0) (b : Bool) (x e : Refusal) (o : Option Refusal) → P x → (o ≡ Some e → P e)
+    → (if b then o else Some x) ≡ Some e → P e
+form_has P true x e o has rest is = rest is
+form_has P false x e o has rest is = let same : x ≡ e = cc is in subst P same has
 
 none_of : (P : Refusal → Type 0) (e : Refusal) → None ≡ Some e → P e
 none_of P e is = absurd (cc is)
@@ -42,6 +49,14 @@ module _ {D : Type 0} where
       last_has (Some checkpoint) is =
           cause_has P (nat_lt 0 checkpoint.left) checkpoint_turn e (if has_no_room s checkpoint then Some area_full else None) turn
           (cause_has P (has_no_room s checkpoint) area_full e None full (none_of P e)) is
+
+  pub apply_no_fault : (s : StoreState D) (command : Command) (e : Refusal) → refusal_of_apply s command ≡ Some e → IsNoFault e
+  apply_no_fault s command e is =
+      cause_has IsNoFault s.failed failed_earlier e _ (λ clash. cc)
+      (cause_has IsNoFault (nat_le 100000 (length s.history)) history_full e (refusal_of_form s command) (λ clash. cc)
+      (form_has IsNoFault (has_command s.layout command) old_layout e (refusal_of_room s command) (λ clash. cc)
+      (cause_has IsNoFault (nat_lt s.area (record_end s (pending_commands s ++ command ∷ []))) area_full e None (λ clash. cc)
+      (none_of IsNoFault e)))) is
 
   begin_no_fault : (s : StoreState D) (e : Refusal) → refusal_of s asked.Begin ≡ Some e → IsNoFault e
   begin_no_fault s e is =

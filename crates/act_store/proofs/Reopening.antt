@@ -3,6 +3,7 @@ use Rattle.std.proofs.Common.{◌≡◌, ⊎_elim, ℕ, zero, suc, ◌+◌, ◌-
 use Rattle.std.proofs.Common.{append_assoc, append-nil, length-append}
 use Rattle.std.proofs.lemmas.List.{drop_at, length-map}
 use Rattle.run_plan.specs.Admitted.{Admitted}
+use Rattle.run_plan.specs.declared.command.Attempt.{Attempt}
 use Rattle.run_plan.specs.declared.command.Command.{Command}
 use Rattle.run_plan.specs.declared.command.Command.TheVariants as command
 use Rattle.run_plan.specs.declared.reply.Reply.{Reply}
@@ -11,7 +12,8 @@ use Rattle.run_table.specs.Histories.{after, replies}
 use Rattle.run_table.specs.Step.{step, stepped}
 use Rattle.run_table.specs.TableState.{TableState}
 use Rattle.table_laws.specs.ExactlyOnce.{HasTurn, IsRefused}
-use Rattle.table_laws.specs.Remembered.{AreNoLaterTurns, KnowsDelivery, LastCommandIs}
+use Rattle.table_laws.specs.Remembered.{AreNoLaterTurns, AreNoOtherAttempts, KnowsAttempt, KnowsDelivery, LastCommandIs}
+use Rattle.table_laws.proofs.KnownAttempts.{attempt_after, begun_is_known, known_attempt_is_answered}
 use Rattle.table_laws.proofs.LeasesStay.{after_both}
 use Rattle.table_laws.proofs.Remembered.{answered_is_last, created_is_known, known_after, known_is_answered, last_after, last_is_answered}
 use Rattle.act_store.specs.Entries.{IsLegal, commands_of, replies_of, table_after}
@@ -138,3 +140,18 @@ module _ (life : Life) (before behind : List Entry) (entry : Entry) (acknowledge
         last_is_answered table entry.command name entry.reply
         (subst (λ (r : Reply). LastCommandIs table name entry.command r) (sym told)
         (subst (λ (x : TableState). LastCommandIs x name entry.command given) (sym found) still))
+
+    -- a re-run
+    pub attempt_again : (asked : Attempt) → entry.command ≡ command.Rerun asked → entry.reply ≡ reply.Again asked
+        → AreNoOtherAttempts asked.run asked.attempt later (replies (stepped here entry.command).table later)
+        → step table (command.Rerun asked) ≡ (table, reply.Again asked)
+    attempt_again asked is given no_others =
+        let next = (stepped here entry.command).table in
+        let answered : (stepped here (command.Rerun asked)).reply ≡ reply.Again asked =
+        ap (λ (c : Command). (stepped here c).reply) (sym is) ∙ sym told ∙ given in
+        let known : KnowsAttempt next asked.run asked.attempt =
+        subst (λ (c : Command). KnowsAttempt (stepped here c).table asked.run asked.attempt) (sym is)
+        (begun_is_known here asked answered) in
+        known_attempt_is_answered table asked
+        (subst (λ (x : TableState). KnowsAttempt x asked.run asked.attempt) (sym found)
+        (attempt_after next later asked.run asked.attempt known no_others))

@@ -3,6 +3,7 @@ use Rattle.std.proofs.Common.{◌≡◌, inl, inr, ⊎_elim, ℕ, ◌+◌, ◌�
 use Rattle.std.proofs.Common.{refl, sym, ◌∙◌, ap, subst, arith, length-append}
 use Rattle.std.proofs.lemmas.List.{take_all, take-append-le}
 use Rattle.std.specs.Int.{to_be_bytes, w32}
+use Rattle.std.specs.List.{AllByRecursion}
 use Rattle.gated_journal.specs.Layout.{Head, framed, opened}
 use Rattle.gated_journal.specs.Whole.{StandsWhole, WholeOrGrew}
 use Rattle.gated_journal.specs.declared.gate.Gate.{Gate}
@@ -14,11 +15,14 @@ use Rattle.table_text.specs.Commands.{batch}
 use Rattle.act_store.specs.Entries.{table_after}
 use Rattle.act_store.specs.Images.{IsAreaLength, StandsAt, StandsFor}
 use Rattle.act_store.specs.StoreState.{StoreState, StandForCovered, StandsForEither, covered_table, pending_commands, table_of}
+use Rattle.act_store.specs.Layouts.{HasCommand, batch_format}
 use Rattle.act_store.specs.Meaning.{MeansTable}
 use Rattle.act_store.specs.Plain.{committed, used_after}
 use Rattle.act_store.specs.Promise.{IsSettled, IsStanding}
 use Rattle.act_store.specs.declared.entry.Entry.{Entry}
+use Rattle.act_store.specs.declared.layout.Layout.{Layout}
 use Rattle.act_store.proofs.Histories.{table_split}
+use Rattle.act_store.proofs.InLayout.{one_layout, takes_batch}
 use Rattle.act_store.proofs.Meanings.{means_more}
 
 -- where the gate behind one record more is
@@ -49,31 +53,32 @@ stands_for len side gate head bodies table c size stands means = record {
   means = means;
 }
 
-pub settled_stands : (len : ℕ) (side : Side) (gate : Gate) (generation used : ℕ) (table : TableState) (images : List ℕ → Type 0)
-    → IsAreaLength len → IsSettled len side gate generation used table images → (c : List ℕ) → images c → StandsFor table c
-settled_stands len side gate generation used table images size settled c now =
+pub settled_stands : (len : ℕ) (side : Side) (gate : Gate) (generation used : ℕ) (layout : Layout) (table : TableState) (images : List ℕ → Type 0)
+    → IsAreaLength len → IsSettled len side gate generation used layout table images → (c : List ℕ) → images c → StandsFor table c
+settled_stands len side gate generation used layout table images size settled c now =
     stands_for len side gate settled.head settled.bodies table c size (settled.each c now) settled.means
 
 -- and it is the area of that generation
-pub settled_at_used : (len : ℕ) (side : Side) (gate : Gate) (generation used : ℕ) (table : TableState) (images : List ℕ → Type 0)
-    → IsAreaLength len → IsSettled len side gate generation used table images → (c : List ℕ) → images c → StandsAt generation used table c
+pub settled_at_used : (len : ℕ) (side : Side) (gate : Gate) (generation used : ℕ) (layout : Layout) (table : TableState) (images : List ℕ → Type 0)
+    → IsAreaLength len → IsSettled len side gate generation used layout table images → (c : List ℕ) → images c → StandsAt generation used layout table c
 unfolding settled_stands stands_for
-settled_at_used len side gate generation used table images size settled c now = record {
-  stands = settled_stands len side gate generation used table images size settled c now;
+settled_at_used len side gate generation used layout table images size settled c now = record {
+  stands = settled_stands len side gate generation used layout table images size settled c now;
   generation_is = settled.generation_is;
   used_is = settled.used_is;
+  layout_is = settled.layout_is;
 }
 
 pub stand_covered : {D : Type 0} (images : D → List ℕ → Type 0) (side : Side) (gate : Gate) (s : StoreState D) → IsAreaLength s.area
     → IsStanding images side gate s → StandForCovered images s
 stand_covered images side gate s size standing live =
-    settled_at_used s.area side gate s.generation s.used (covered_table s) (images s.disk) size (standing.settled live)
+    settled_at_used s.area side gate s.generation s.used s.layout (covered_table s) (images s.disk) size (standing.settled live)
 
 -- a table that is the same one
-pub settled_at : (len : ℕ) (side : Side) (gate : Gate) (generation used : ℕ) (one two : TableState) (images : List ℕ → Type 0)
-    → one ≡ two → IsSettled len side gate generation used one images → IsSettled len side gate generation used two images
-settled_at len side gate generation used one two images same settled =
-    subst (λ (t : TableState). IsSettled len side gate generation used t images) same settled
+pub settled_at : (len : ℕ) (side : Side) (gate : Gate) (generation used : ℕ) (layout : Layout) (one two : TableState) (images : List ℕ → Type 0)
+    → one ≡ two → IsSettled len side gate generation used layout one images → IsSettled len side gate generation used layout two images
+settled_at len side gate generation used layout one two images same settled =
+    subst (λ (t : TableState). IsSettled len side gate generation used layout t images) same settled
 
 module _ {D : Type 0} (images : D → List ℕ → Type 0) (side : Side) (gate : Gate) (s : StoreState D) (size : IsAreaLength s.area) where
   abbrev body : List ℕ
@@ -86,12 +91,19 @@ module _ {D : Type 0} (images : D → List ℕ → Type 0) (side : Side) (gate :
   all_covered : (covered : ℕ) → covered ≡ length s.history → table_after s.base (take covered s.history) ≡ table_of s
   all_covered covered is = ap (λ (l : List Entry). table_after s.base l) (take_all covered s.history (omega (arith, is)))
 
-  module _ (settled : IsSettled s.area side gate s.generation s.used (covered_table s) (images s.disk))
-      (takes : batch.Takes (pending_commands s)) where
+  module _ (settled : IsSettled s.area side gate s.generation s.used s.layout (covered_table s) (images s.disk))
+      (takes : batch.Takes (pending_commands s)) (has : AllByRecursion (HasCommand s.layout) (pending_commands s)) where
+    -- the layout of what the images mean is that of the store
+    takes_means : (batch_format settled.means.layout).Takes (pending_commands s)
+    takes_means =
+        subst (λ (l : Layout). (batch_format l).Takes (pending_commands s))
+        (one_layout settled.head s.layout settled.means.layout settled.layout_is settled.means.layout_is)
+        (takes_batch s.layout (pending_commands s) takes has)
+
     means_all : MeansTable settled.head (settled.bodies ++ body ∷ []) (table_of s)
     means_all =
         subst (λ (t : TableState). MeansTable settled.head (settled.bodies ++ body ∷ []) t) all_after
-        (means_more settled.head settled.bodies (covered_table s) (pending_commands s) takes settled.means)
+        (means_more settled.head settled.bodies (covered_table s) (pending_commands s) settled.means takes_means)
 
     -- an image at any moment of an append
     pub grown : (c : List ℕ) → WholeOrGrew s.area side gate settled.head settled.bodies body c → StandsForEither s c
@@ -102,24 +114,25 @@ module _ {D : Type 0} (images : D → List ℕ → Type 0) (side : Side) (gate :
     -- and once it was done
     pub resettled : (disk : D) (used : ℕ) → used ≡ used_after s
         → ((c : List ℕ) → images disk c → StandsWhole s.area side gate c settled.head (settled.bodies ++ body ∷ []))
-        → IsSettled s.area side gate s.generation used (table_of s) (images disk)
+        → IsSettled s.area side gate s.generation used s.layout (table_of s) (images disk)
     resettled disk used is each = record {
       head = settled.head;
       bodies = settled.bodies ++ body ∷ [];
       each = each;
       used_is = omega (arith, is, settled.used_is, length-opened settled.head settled.bodies body);
       generation_is = settled.generation_is;
+      layout_is = settled.layout_is;
       means = means_all;
     }
 
   -- after a commit
-  pub standing_fresh : (disk : D) → IsSettled s.area side gate s.generation (used_after s) (table_of s) (images disk)
+  pub standing_fresh : (disk : D) → IsSettled s.area side gate s.generation (used_after s) s.layout (table_of s) (images disk)
       → IsStanding images side gate (committed s disk)
   standing_fresh disk settled =
-      let here = settled_at s.area side gate s.generation (used_after s) (table_of s) (covered_table (committed s disk)) (images disk)
+      let here = settled_at s.area side gate s.generation (used_after s) s.layout (table_of s) (covered_table (committed s disk)) (images disk)
       (sym (all_covered (length s.history) (omega arith))) settled in
       record {
-        each = λ c now. inr (settled_stands s.area side gate s.generation (used_after s) (table_of s) (images disk) size settled c now);
+        each = λ c now. inr (settled_stands s.area side gate s.generation (used_after s) s.layout (table_of s) (images disk) size settled c now);
         settled = λ _. here;
       }
 
@@ -131,10 +144,10 @@ module _ {D : Type 0} (images : D → List ℕ → Type 0) (side : Side) (gate :
       ap (λ (l : List Entry). take s.covered l) is ∙ take-append-le s.covered s.history (entry ∷ []) covers in
       let same : covered_table s ≡ table_after s.base (take s.covered history) =
       sym (ap (λ (l : List Entry). table_after s.base l) front) in
-      let settled = settled_at s.area side gate s.generation s.used (covered_table s) (table_after s.base (take s.covered history))
+      let settled = settled_at s.area side gate s.generation s.used s.layout (covered_table s) (table_after s.base (take s.covered history))
       (images s.disk) same (standing.settled live) in
       record {
-        each = λ c now. inl (settled_stands s.area side gate s.generation s.used (table_after s.base (take s.covered history))
+        each = λ c now. inl (settled_stands s.area side gate s.generation s.used s.layout (table_after s.base (take s.covered history))
             (images s.disk) size settled c now);
         settled = λ _. settled;
       }

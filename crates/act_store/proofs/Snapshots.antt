@@ -19,6 +19,7 @@ use Rattle.act_store.specs.Promise.{IsBegun, IsPut, IsSnapshot}
 use Rattle.act_store.specs.TableText.{SpellsTable}
 use Rattle.act_store.specs.declared.begun.Begun.{Begun}
 use Rattle.act_store.specs.declared.entry.Entry.{Entry}
+use Rattle.act_store.specs.declared.layout.Layout.TheVariants as layouts
 
 -- ---- what is said of a value that may be there
 
@@ -54,10 +55,10 @@ pub snapshot_taken : (base table : TableState) (history : List Entry) (generatio
     → table ≡ table_after base history → b.place ≡ length history → b.put ≡ 0 → generation < 18446744073709551615
     → first_gate (text_length table) + 1 ≤ area
     → b.front.items ≡ head_bytes (record { version = current_version; generation = generation + 1; text = whole_table.spelling table })
-    → SpellsTable current_version table (whole_table.spelling table) → IsSnapshot base history generation area b
+    → SpellsTable layouts.Second table (whole_table.spelling table) → IsSnapshot base history generation area b
 snapshot_taken base table history generation area b is place put newer room front spells = record {
   text = whole_table.spelling table;
-  spells = subst (λ (t : TableState). SpellsTable current_version t (whole_table.spelling table))
+  spells = subst (λ (t : TableState). SpellsTable layouts.Second t (whole_table.spelling table))
       (is ∙ ap (λ (l : List Entry). table_after base l) (sym (take_all b.place history (omega (arith, place))))) spells;
   front_is = front;
   place = omega (arith, place);
@@ -91,7 +92,7 @@ pub snapshot_sliced : (base : TableState) (history : List Entry) (generation are
     → IsSnapshot base history generation area b → IsSnapshot base history generation area next
 snapshot_sliced base history generation area b next front place put snapshot = record {
   text = snapshot.text;
-  spells = subst (λ (n : ℕ). SpellsTable current_version (table_after base (take n history)) snapshot.text) (sym place) snapshot.spells;
+  spells = subst (λ (n : ℕ). SpellsTable layouts.Second (table_after base (take n history)) snapshot.text) (sym place) snapshot.spells;
   front_is = front ∙ snapshot.front_is;
   place = omega (arith, place, snapshot.place);
   put = omega (arith, put, ap (λ (l : List ℕ). length l) front);
@@ -113,7 +114,7 @@ snapshot_entered : (base : TableState) (history more : List Entry) (entry : Entr
     → more ≡ history ++ entry ∷ [] → IsSnapshot base history generation area b → IsSnapshot base more generation area b
 snapshot_entered base history more entry generation area b is snapshot = record {
   text = snapshot.text;
-  spells = subst (λ (l : List Entry). SpellsTable current_version (table_after base l) snapshot.text)
+  spells = subst (λ (l : List Entry). SpellsTable layouts.Second (table_after base l) snapshot.text)
       (sym (ap (λ (l : List Entry). take b.place l) is ∙ take-append-le b.place history (entry ∷ []) snapshot.place)) snapshot.spells;
   front_is = snapshot.front_is;
   place = omega (arith, snapshot.place, ap (λ (l : List Entry). length l) is, length-append history (entry ∷ []));

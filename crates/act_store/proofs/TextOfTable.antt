@@ -9,38 +9,42 @@ use Rattle.run_table.proofs.StepKeeps.{empty_is_sound}
 use Rattle.table_text.specs.Format.{OpensWith, StandsAtFront, word_bytes}
 use Rattle.table_text.specs.Tables.{table}
 use Rattle.table_text.specs.WholeTables.{whole_table}
-use Rattle.table_text.proofs.WholeTables.{whole_begins_none}
-use Rattle.act_store.specs.Layouts.{current_version}
+use Rattle.act_store.specs.Layouts.{table_format}
 use Rattle.act_store.specs.TableText.{SpellsTable}
+use Rattle.act_store.specs.declared.layout.Layout.{Layout}
+use Rattle.act_store.specs.declared.layout.Layout.TheVariants as layouts
+use Rattle.act_store.proofs.InLayout.{tables_begin_none, takes_sound}
 use Rattle.act_store.proofs.WholeTexts.{none_longer, none_whole, one_value, whole}
 
-pub one_text : (version : ℕ) (one two : TableState) (text : List ℕ) → SpellsTable version one text → SpellsTable version two text → one ≡ two
+pub one_text : (layout : Layout) (one two : TableState) (text : List ℕ) → SpellsTable layout one text → SpellsTable layout two text → one ≡ two
 unfolding SpellsTable
-one_text version one two text first second = one_value whole_table whole_begins_none text one two first.1 second.1
+one_text layout one two text first second = one_value (table_format layout) (tables_begin_none layout) text one two first second
 
-pub whole_text : (text rest : List ℕ) (found : TableState) → OpensWith whole_table text found rest → length rest ≤ 0
-    → SpellsTable current_version found text
+pub whole_text : (layout : Layout) (text rest : List ℕ) (found : TableState) → OpensWith (table_format layout) text found rest → length rest ≤ 0
+    → SpellsTable layout found text
 unfolding SpellsTable
-whole_text text rest found opens none = (refl, whole whole_table text rest found opens none)
+whole_text layout text rest found opens none = whole (table_format layout) text rest found opens none
 
-pub longer_text : (text rest : List ℕ) (found : TableState) → OpensWith whole_table text found rest → 0 < length rest
-    → (other : TableState) → SpellsTable current_version other text → ⊥
+pub longer_text : (layout : Layout) (text rest : List ℕ) (found : TableState) → OpensWith (table_format layout) text found rest
+    → 0 < length rest → (other : TableState) → SpellsTable layout other text → ⊥
 unfolding SpellsTable
-longer_text text rest found opens some other spells = none_longer whole_table whole_begins_none text rest found opens some other spells.1
+longer_text layout text rest found opens some other spells =
+    none_longer (table_format layout) (tables_begin_none layout) text rest found opens some other spells
 
-pub no_text : (text : List ℕ) → StandsAtFront whole_table text None → (other : TableState) → SpellsTable current_version other text → ⊥
+pub no_text : (layout : Layout) (text : List ℕ) → StandsAtFront (table_format layout) text None → (other : TableState)
+    → SpellsTable layout other text → ⊥
 unfolding SpellsTable
-no_text text none other spells = none_whole whole_table text none other spells.1
+no_text layout text none other spells = none_whole (table_format layout) text none other spells
 
 -- only a sound table has a text
-pub text_sound : (version : ℕ) (t : TableState) (text : List ℕ) → SpellsTable version t text → IsSound t
+pub text_sound : (layout : Layout) (t : TableState) (text : List ℕ) → SpellsTable layout t text → IsSound t
 unfolding SpellsTable
-text_sound version t text spells = spells.1.0.0
+text_sound layout t text spells = takes_sound layout t spells.0
 
--- the spelling of a sound table that has one
-pub table_spells : (t : TableState) → IsSound t → table.Takes (stored_table t) → SpellsTable current_version t (whole_table.spelling t)
+-- the spelling of a sound table that has one, in the layout that is written
+pub table_spells : (t : TableState) → IsSound t → table.Takes (stored_table t) → SpellsTable layouts.Second t (whole_table.spelling t)
 unfolding SpellsTable
-table_spells t sound takes = (refl, ((sound, takes), refl))
+table_spells t sound takes = ((sound, takes), refl)
 
 -- ---- the empty table
 
@@ -55,6 +59,6 @@ empty_spelled : empty_text ≡ table.spelling (stored_table empty)
 unfolding word_bytes
 empty_spelled = refl
 
-pub empty_spells : SpellsTable current_version empty empty_text
+pub empty_spells : SpellsTable layouts.Second empty empty_text
 unfolding SpellsTable
-empty_spells = (refl, ((empty_is_sound, empty_takes), empty_spelled))
+empty_spells = ((empty_is_sound, empty_takes), empty_spelled)

@@ -10,12 +10,13 @@ use Rattle.run_table.specs.TableState.{TableState}
 use Rattle.table_text.specs.WholeTables.{whole_table}
 use Rattle.act_store.specs.Entries.{commands_of}
 use Rattle.act_store.specs.StoreState.{Checkpoint, StoreState, table_of}
+use Rattle.act_store.specs.declared.layout.Layout.TheVariants as layouts
 use Rattle.act_store.specs.Plain.{area_full, batch_length, checkpoint_turn, failed_earlier}
 
 abbrev pub last_counter : Refusal
 last_counter = Numbered LastCounter
 
--- how long the text of a table is
+-- how long the text of a table is, in the second layout, in which a checkpoint writes
 abbrev pub text_length : TableState → ℕ
 text_length table = length (whole_table.spelling table)
 
@@ -92,13 +93,14 @@ refusal_of_finish s = if s.failed then Some failed_earlier else refusal_of_last 
 abbrev pub dropped : {D : Type 0} → StoreState D → StoreState D
 dropped s = record s { begun = None }
 
--- The other area stands, with the text and one record of the entries since. All entries are covered.
+-- The other area stands, in the second layout, with the text and one record of the entries since. All entries are covered.
 abbrev pub finished : {D : Type 0} → StoreState D → Checkpoint → D → StoreState D
 finished s checkpoint disk = record s {
   disk = disk;
   covered = length s.history;
   used = gate_behind checkpoint.text (since s checkpoint);
   generation = s.generation + 1;
+  layout = layouts.Second;
   begun = None;
 }
 

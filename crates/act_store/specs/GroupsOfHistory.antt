@@ -6,16 +6,17 @@ use Rattle.workflow_runs.specs.Groups.{pending_in, running_in}
 use Rattle.run_table.specs.TableState.{TableState}
 use Rattle.table_laws.specs.GroupHistories.{all_moves, asks_for_cancelling}
 use Rattle.table_laws.specs.GroupLaw.{KeepsLaw}
+use Rattle.table_laws.specs.Names.{Names}
 use Rattle.act_store.specs.Entries.{commands_of, table_after}
 use Rattle.act_store.specs.declared.entry.Entry.{Entry}
 
 -- After each front of the history, what a stop leaves of it among them, every group has at most one holder of each kind, of all runs and
 -- legs of the table; and the moves of every group over that front, behind those that stand for the holders it had at the base, keep the
--- group law.
+-- group law, by any names of the holders in the attempts of their runs.
 pub record KeepsGroups (base : TableState) (history : List Entry) : Type 0 where
   pub one_pending : (before behind : List Entry) (g : Group) → history ≡ before ++ behind
       → length (pending_in (table_after base before).runs g) ≤ 1
   pub one_running : (before behind : List Entry) (g : Group) → history ≡ before ++ behind
       → length (running_in (table_after base before).runs g) ≤ 1
-  pub law : (before behind : List Entry) (g : Group) → history ≡ before ++ behind
-      → KeepsLaw (asks_for_cancelling g base (commands_of before)) (all_moves g base (commands_of before))
+  pub law : (names : Names) (before behind : List Entry) (g : Group) → history ≡ before ++ behind
+      → KeepsLaw (asks_for_cancelling names g base (commands_of before)) (all_moves names g base (commands_of before))

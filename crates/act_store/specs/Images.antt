@@ -1,10 +1,12 @@
 -- The table that an image of a disk stands for. Own: there is no public source.
-use Rattle.std.specs.Prelude.{◌≡◌, ℕ, ◌+◌, ◌≤◌, List, length, None}
+use Rattle.std.specs.Prelude.{◌≡◌, ℕ, ◌+◌, ◌≤◌, List, length, None, Some}
 use Rattle.gated_journal.specs.Layout.{Head, opened}
 use Rattle.gated_journal.specs.TwoAreas.{standing, Spells}
 use Rattle.gated_journal.specs.declared.side.Side.{Side}
 use Rattle.run_table.specs.TableState.{TableState}
+use Rattle.act_store.specs.Layouts.{layout_of}
 use Rattle.act_store.specs.Meaning.{MeansTable}
+use Rattle.act_store.specs.declared.layout.Layout.{Layout}
 
 -- how long an area may be
 pub record IsAreaLength (len : ℕ) : Type 0 where
@@ -22,11 +24,12 @@ pub record StandsFor (table : TableState) (image : List ℕ) : Type 0 where
   pub spells : Spells len side image head bodies
   pub means : MeansTable head bodies table
 
--- It stands for this table by an area of this generation, whose first closed gate is at `used`.
-pub record StandsAt (generation used : ℕ) (table : TableState) (image : List ℕ) : Type 0 where
+-- It stands for this table by an area of this generation and this layout, whose first closed gate is at `used`.
+pub record StandsAt (generation used : ℕ) (layout : Layout) (table : TableState) (image : List ℕ) : Type 0 where
   pub stands : StandsFor table image
   pub generation_is : generation ≡ stands.head.generation
   pub used_is : used ≡ length (opened stands.head stands.bodies)
+  pub layout_is : layout_of stands.head.version ≡ Some layout
 
 -- Nothing stands there: it is not as long as two areas, or no area is open.
 abbrev pub HasNoArea : List ℕ → Type 0

@@ -1,15 +1,41 @@
--- The versions of the layout of an area, and the bytes that name them. Own: there is no public source.
-use Rattle.std.specs.Prelude.{ℕ, ◌==◌, Option, Some, None, if◌then◌else◌}
+-- The layouts of an area: the bytes that name them, and what is spelled in each. The second one has the attempts of runs, and is written; the
+-- first one is read. Own: there is no public source.
+use Rattle.std.specs.Prelude.{ℕ, ◌==◌, Bool, true, IsTrue, List, Option, Some, None, if◌then◌else◌}
+use Rattle.run_plan.specs.declared.command.Command.{Command}
+use Rattle.run_table.specs.TableState.{TableState}
+use Rattle.table_text.specs.Commands.{batch}
+use Rattle.table_text.specs.FirstLayout.{first_batch, is_in_first_layout}
+use Rattle.table_text.specs.Format.{Format}
+use Rattle.table_text.specs.WholeFirstTables.{whole_first_table}
+use Rattle.table_text.specs.WholeTables.{whole_table}
 use Rattle.act_store.specs.declared.layout.Layout.{Layout}
-use Rattle.act_store.specs.declared.layout.Layout.TheVariants as layout
+use Rattle.act_store.specs.declared.layout.Layout.TheVariants as layouts
 
 abbrev pub layout_byte : Layout → ℕ
-layout_byte layout.First = 1
-layout_byte layout.Second = 2
+layout_byte layouts.First = 1
+layout_byte layouts.Second = 2
 
 abbrev pub layout_of : ℕ → Option Layout
-layout_of byte = if byte == 1 then Some layout.First else (if byte == 2 then Some layout.Second else None)
+layout_of byte = if byte == 1 then Some layouts.First else (if byte == 2 then Some layouts.Second else None)
 
--- the version in which areas are written, and the only one in which they are read
+-- the version in which areas are written
 abbrev pub current_version : ℕ
-current_version = layout_byte layout.Second
+current_version = layout_byte layouts.Second
+
+-- ---- what is spelled
+
+abbrev pub table_format : Layout → Format TableState
+table_format layouts.First = whole_first_table
+table_format layouts.Second = whole_table
+
+abbrev pub batch_format : Layout → Format (List Command)
+batch_format layouts.First = first_batch
+batch_format layouts.Second = batch
+
+-- whether a layout has a command: the first one has none that asks for an attempt
+abbrev pub has_command : Layout → Command → Bool
+has_command layouts.First command = is_in_first_layout command
+has_command layouts.Second command = true
+
+abbrev pub HasCommand : Layout → Command → Type 0
+HasCommand layout command = IsTrue (has_command layout command)

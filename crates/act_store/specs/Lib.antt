@@ -1,3 +1,4 @@
+pub mod AreaFront
 pub mod Checkpoints
 pub mod Entries
 pub mod GroupsOfHistory

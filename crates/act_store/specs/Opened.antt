@@ -9,4 +9,5 @@ pub record IsFound (found : LocatedArea) (file : List ℕ) : Type 0 where
   pub long : length file ≡ found.area + found.area
   pub stands : standing found.area file ≡ Some found.chosen.side
   pub gate : IsGate found.chosen.other (area_on found.area (other found.chosen.side) file)
-  pub spelled : SpellsArea (area_on found.area found.chosen.side file) found.spelled.generation found.spelled.used found.spelled.table
+  pub spelled : SpellsArea (area_on found.area found.chosen.side file) found.spelled.generation found.spelled.used
+      found.spelled.layout found.spelled.table

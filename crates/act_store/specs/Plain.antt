@@ -1,7 +1,7 @@
 -- The plain store: when each call is refused, what it answers, and what is kept then. It is told with memory and a device that answer;
 -- where they do not, the calls' contracts say what is left. Own: there is no public source.
 use Rattle.std.specs.Prelude.{◌≡◌, ◌⊎◌, ℕ, ◌+◌, List, [], ◌∷◌, ◌++◌, length, is_some, ◌||◌, nat_le, nat_lt, if◌then◌else◌, true, false, Option, Some, None}
-use Rattle.wf_value.specs.declared.code.Code.TheVariants.{AreaFull, CheckpointTurn, DiskNotEmpty, FailedEarlier, HistoryFull, NoArea, NoTable}
+use Rattle.wf_value.specs.declared.code.Code.TheVariants.{AreaFull, CheckpointTurn, DiskNotEmpty, FailedEarlier, HistoryFull, NoArea, NoTable, OldLayout}
 use Rattle.wf_value.specs.declared.refusal.Refusal.{Refusal}
 use Rattle.wf_value.specs.declared.refusal.Refusal.TheVariants.{Numbered}
 use Rattle.wf_value.specs.Gives.{no_memory}
@@ -9,8 +9,10 @@ use Rattle.act_disk.specs.Failed.{device_failed}
 use Rattle.run_plan.specs.declared.command.Command.{Command}
 use Rattle.run_table.specs.Step.{empty, stepped}
 use Rattle.table_text.specs.Commands.{batch}
+use Rattle.act_store.specs.Layouts.{has_command}
 use Rattle.act_store.specs.StoreState.{StoreState, pending_commands, table_of}
 use Rattle.act_store.specs.declared.entry.Entry.{Entry}
+use Rattle.act_store.specs.declared.layout.Layout.TheVariants as layouts
 use Rattle.act_store.specs.declared.receipt.Receipt.{Receipt}
 
 -- after a device fault nothing is known of what the device took, so the store has to be opened again
@@ -22,6 +24,10 @@ history_full = Numbered HistoryFull
 
 abbrev pub area_full : Refusal
 area_full = Numbered AreaFull
+
+-- the layout of the area that stands does not have the command
+abbrev pub old_layout : Refusal
+old_layout = Numbered OldLayout
 
 -- a call of a checkpoint, or a turn over, that is out of its turn
 abbrev pub checkpoint_turn : Refusal
@@ -41,9 +47,13 @@ record_end s commands = s.used + 5 + batch_length commands + 1
 abbrev pub refusal_of_room : {D : Type 0} → StoreState D → Command → Option Refusal
 refusal_of_room s command = if nat_lt s.area (record_end s (pending_commands s ++ command ∷ [])) then Some area_full else None
 
+-- until a checkpoint an area of the first layout takes no command that asks for an attempt
+abbrev pub refusal_of_form : {D : Type 0} → StoreState D → Command → Option Refusal
+refusal_of_form s command = if has_command s.layout command then refusal_of_room s command else Some old_layout
+
 abbrev pub refusal_of_apply : {D : Type 0} → StoreState D → Command → Option Refusal
 refusal_of_apply s command =
-    if s.failed then Some failed_earlier else (if nat_le 100000 (length s.history) then Some history_full else refusal_of_room s command)
+    if s.failed then Some failed_earlier else (if nat_le 100000 (length s.history) then Some history_full else refusal_of_form s command)
 
 -- the entry of a command at the end of the history
 abbrev pub entry_of : {D : Type 0} → StoreState D → ℕ → Command → Entry
@@ -90,7 +100,8 @@ turned_over s = record s { base = table_of s; history = []; covered = 0 }
 abbrev pub disk_not_empty : Refusal
 disk_not_empty = Numbered DiskNotEmpty
 
--- a store that was made on an empty disk: the first area's record gate is behind its gate, its head and the empty table's text
+-- a store that was made on an empty disk, in the second layout: the first area's record gate is behind its gate, its head and the empty
+-- table's text
 abbrev pub fresh : {D : Type 0} → D → ℕ → StoreState D
 fresh disk area = record {
   disk = disk;
@@ -100,6 +111,7 @@ fresh disk area = record {
   covered = 0;
   used = 30;
   generation = 1;
+  layout = layouts.Second;
   begun = None;
   failed = false;
 }

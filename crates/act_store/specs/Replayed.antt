@@ -5,20 +5,21 @@ use Rattle.gated_journal.specs.Layout.{record_bytes}
 use Rattle.run_plan.specs.declared.command.Command.{Command}
 use Rattle.run_table.specs.Histories.{after}
 use Rattle.run_table.specs.TableState.{TableState}
-use Rattle.table_text.specs.Commands.{batch}
 use Rattle.table_text.specs.Format.{Spells}
+use Rattle.act_store.specs.Layouts.{batch_format}
 use Rattle.act_store.specs.Meaning.{SpellCommands}
+use Rattle.act_store.specs.declared.layout.Layout.{Layout}
 
--- The body spells a batch, which leads from the one table to the other; or it spells none.
-abbrev pub IsCarried : List ℕ → TableState → Option TableState → Type 0
-IsCarried body table (Some next) = (commands : List Command) × Spells batch body commands × (after table commands ≡ next)
-IsCarried body table None = (commands : List Command) → Spells batch body commands → ⊥
+-- In this layout the body spells a batch, which leads from the one table to the other; or it spells none.
+abbrev pub IsCarried : Layout → List ℕ → TableState → Option TableState → Type 0
+IsCarried layout body table (Some next) = (commands : List Command) × Spells (batch_format layout) body commands × (after table commands ≡ next)
+IsCarried layout body table None = (commands : List Command) → Spells (batch_format layout) body commands → ⊥
 
--- The same of records with these bodies, whichever they are, in a version of the layout.
-abbrev pub IsReplayed : ℕ → List ℕ → TableState → Option TableState → Type 0
-IsReplayed version records table (Some last) =
+-- The same of records with these bodies, whichever they are.
+abbrev pub IsReplayed : Layout → List ℕ → TableState → Option TableState → Type 0
+IsReplayed layout records table (Some last) =
     (bodies : List (List ℕ)) → AllByRecursion (λ body. length body < 2 ^ 32) bodies → records ≡ record_bytes bodies
-    → (commands : List Command) × SpellCommands version bodies commands × (after table commands ≡ last)
-IsReplayed version records table None =
+    → (commands : List Command) × SpellCommands layout bodies commands × (after table commands ≡ last)
+IsReplayed layout records table None =
     (bodies : List (List ℕ)) (commands : List Command) → AllByRecursion (λ body. length body < 2 ^ 32) bodies
-    → records ≡ record_bytes bodies → SpellCommands version bodies commands → ⊥
+    → records ≡ record_bytes bodies → SpellCommands layout bodies commands → ⊥

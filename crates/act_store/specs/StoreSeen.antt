@@ -21,6 +21,7 @@ as_state s = record {
   covered = s.covered;
   used = s.used;
   generation = s.generation;
+  layout = s.layout;
   begun = option_map as_checkpoint s.begun;
   failed = s.failed;
 }

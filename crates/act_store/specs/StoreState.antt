@@ -5,6 +5,7 @@ use Rattle.run_table.specs.TableState.{TableState}
 use Rattle.act_store.specs.Entries.{commands_of, table_after}
 use Rattle.act_store.specs.Images.{StandsAt, StandsFor}
 use Rattle.act_store.specs.declared.entry.Entry.{Entry}
+use Rattle.act_store.specs.declared.layout.Layout.{Layout}
 
 -- A checkpoint that was begun: the text of the table of how many of the first entries it writes, how long that text is, and how many bytes
 -- are left to write of what stands behind the gate of the other area, which is a head with that text.
@@ -24,8 +25,9 @@ pub record StoreState (D : Type 0) : Type 0 where
   pub covered : ℕ
   -- the offset of the gate behind which the next record goes
   pub used : ℕ
-  -- the generation of the area that stands
+  -- the generation of the area that stands, and the layout of its bytes
   pub generation : ℕ
+  pub layout : Layout
   -- the checkpoint that was begun, if one is
   pub begun : Option Checkpoint
   -- whether the device has failed
@@ -49,11 +51,11 @@ covered_table s = table_after s.base (take s.covered s.history)
 abbrev pub StandsForEither : {D : Type 0} → StoreState D → List ℕ → Type 0
 StandsForEither s c = StandsFor (covered_table s) c ⊎ StandsFor (table_of s) c
 
--- Of a store that has not failed, each image stands for exactly the covered entries, by the area of its generation, whose records end
--- where the next one goes.
+-- Of a store that has not failed, each image stands for exactly the covered entries, by the area of its generation and its layout, whose
+-- records end where the next one goes.
 abbrev pub StandForCovered : {D : Type 0} → (D → List ℕ → Type 0) → StoreState D → Type 0
 StandForCovered images s =
-    s.failed ≡ false → (c : List ℕ) → images s.disk c → StandsAt s.generation s.used (covered_table s) c
+    s.failed ≡ false → (c : List ℕ) → images s.disk c → StandsAt s.generation s.used s.layout (covered_table s) c
 
 -- An image stands for the first entries of a history, so many at least.
 pub record StandsForSome (base : TableState) (history : List Entry) (least : ℕ) (image : List ℕ) : Type 0 where

@@ -29,8 +29,8 @@ impl<D: Disk> Store<D> {
     /// Carries out a command and enters it in the history, with its reply. No device is called.
     ///
     /// It is refused, memory or not, with 52 where the device has failed, else with 46 where the history has 100,000 entries, else
-    /// with 47 where the record of all entries that are not covered would not fit the area with this one. Else only memory can be
-    /// wanting, which is 50. A refused command is not entered, and the store is as it was.
+    /// with 57 where the area that stands has the first layout and the command asks for an attempt, else with 47 where the record of all
+    /// entries that are not covered would not fit the area with this one. Else only memory can be wanting, which is 50. A refused command is not entered, and the store is as it was.
     pub fn apply(&mut self, alloc: Global, seat: u64, command: Command) -> Result<Receipt, Refusal>
         ensures any_moment { D.honest self.old.disk
             → EachSince D.moment D.images_since self.old.disk self.new.disk (StandsForEither self.old) }
@@ -68,6 +68,9 @@ impl<D: Disk> Store<D> {
         }
         if self.history.len() >= MOST_ENTRIES {
             return Some(Refusal::Numbered(Code::HistoryFull));
+        }
+        if !self.layout.has(command) {
+            return Some(Refusal::Numbered(Code::OldLayout));
         }
         let batch = self.waiting.batch_length_with(command);
         if self.areas.len < self.used + FRAME + batch + 1 {

@@ -8,6 +8,7 @@ ghost use Rattle.table_text.specs.WholeTables.{whole_table};
 ghost use Rattle.act_store.specs.Checkpoints.{begun_at, first_gate, refusal_of_begin, text_length};
 ghost use Rattle.act_store.specs.Layouts.{current_version};
 ghost use Rattle.act_store.specs.StoreState.{StandsForEither, table_of};
+ghost use Rattle.act_store.specs.declared.layout.Layout.TheVariants as layouts;
 ghost use Rattle.act_store.specs.Plain.{broken};
 ghost use Rattle.act_store.specs.TableText.{SpellsTable};
 ghost use Rattle.act_store.specs.Told.{TellsFault};
@@ -28,7 +29,7 @@ const FRAME: u64 = 19;
 
 impl<D: Disk> Store<D> {
     /// Begins a checkpoint: takes the text of the present table, and closes the gate of the other area where that is open; else no device
-    /// is called. It answers how many bytes are to be written, 17 and those of the text.
+    /// is called. It answers how many bytes are to be written, 17 and those of the text in the second layout.
     ///
     /// It is refused, memory or not, with 52 where the device has failed, else with 56 where a checkpoint is begun, else with 48 where
     /// the generation is at its last, else with 47 where the text has no room in an area. Else 50 is left, and 51, after which the store
@@ -107,7 +108,7 @@ fn front_of(alloc: Global, generation: u64, table: &Table) -> Result<Vec<u8>, Re
     requires sound { IsSound table.now }
     ensures front { IfOk result (λ bytes. bytes.items
         ≡ head_bytes (record { version = current_version; generation = generation; text = whole_table.spelling table.now })) }
-    ensures spells { OnOk result (SpellsTable current_version table.now (whole_table.spelling table.now)) }
+    ensures spells { OnOk result (SpellsTable layouts.Second table.now (whole_table.spelling table.now)) }
     ensures refused { IfErr result (λ e. e ≡ no_memory) }
 {
     let text = table_length(table);

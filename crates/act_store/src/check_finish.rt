@@ -11,6 +11,7 @@ ghost use Rattle.act_store.specs.Told.{TellsFault};
 
 use crate::begun::Begun;
 use crate::last_part::{last_part, spelled_len};
+use crate::layout::Layout;
 use crate::store::Store;
 use act_disk::Disk;
 use gated_journal::{Gate, Standing};
@@ -22,7 +23,7 @@ const FRAME: u64 = 10;
 
 impl<D: Disk> Store<D> {
     /// Finishes a checkpoint: writes one record of the entries since it was begun behind its text, syncs, opens the gate of its area, and
-    /// syncs. It answers how many entries are covered, which are all.
+    /// syncs. The area that stands then has the second layout. It answers how many entries are covered, which are all.
     ///
     /// It is refused, memory or not, with 52 where the device has failed, else with 56 where none is begun or bytes are left of it, else
     /// with 47 where the record has no room; then the checkpoint is dropped, and all else is as it was. Else 50 is left, and 51, after
@@ -71,6 +72,7 @@ impl<D: Disk> Store<D> {
                 self.other = Gate::Open;
                 self.used = at + last.len() as u64 - 1;
                 self.generation += 1;
+                self.layout = Layout::Second;
                 self.covered = self.history.len();
                 self.waiting.truncate(0, 0);
                 self.begun = None;

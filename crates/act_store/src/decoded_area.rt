@@ -1,22 +1,21 @@
 ghost use Rattle.std.specs.Prelude.{◌≡◌, ◌<◌, IfErr, IfOk, length};
 ghost use Rattle.wf_value.specs.Gives.{no_memory};
 ghost use Rattle.run_table.specs.TableState.{TableState};
-ghost use Rattle.act_store.specs.Layouts.{current_version};
 ghost use Rattle.act_store.specs.Spelled.{IsSpelled, IsTextOf};
 
-use crate::layout::is_read;
+use crate::layout::Layout;
 use crate::replay::replay;
 use gated_journal::scan;
 use run_table::Table;
 use std::alloc::Global;
-use table_text::read_table;
 use wf_value::Refusal;
 
-/// What an area spells: the generation of its head, the offset of its first closed gate, and its table.
+/// What an area spells: the generation of its head, its layout, the offset of its first closed gate, and its table.
 #[derive(Drop)]
 pub struct DecodedArea {
     pub generation: u64,
     pub used: u64,
+    pub layout: Layout,
     pub table: Table,
 }
 
@@ -28,29 +27,30 @@ pub(crate) fn spelled_in(alloc: Global, area: &[u8]) -> Result<Option<DecodedAre
     let Some(found) = scan(area) else {
         return Ok(None);
     };
-    if !is_read(found.head.version) {
-        return Ok(None);
-    }
-    let Some(first) = table_in(alloc, found.head.text)? else {
+    let Some(layout) = Layout::of_byte(found.head.version) else {
         return Ok(None);
     };
-    match replay(alloc, first, found.records)? {
+    let Some(first) = table_in(alloc, layout, found.head.text)? else {
+        return Ok(None);
+    };
+    match replay(alloc, layout, first, found.records)? {
         Some(table) => Ok(Some(DecodedArea {
             generation: found.head.generation,
             used: found.gate,
+            layout,
             table,
         })),
         None => Ok(None),
     }
 }
 
-/// The table that a text spells, or `None` where it spells none. Bytes behind a table make it the text of none.
+/// The table that a text spells in a layout, or `None` where it spells none. Bytes behind a table make it the text of none.
 #[tactic(auto, using(crate::proofs::TextOfTable::whole_text, crate::proofs::TextOfTable::longer_text, crate::proofs::TextOfTable::no_text))]
-fn table_in(alloc: Global, text: &[u8]) -> Result<Option<Table>, Refusal>
-    ensures spelled { IfOk result (λ found. IsTextOf current_version text.now found) }
+fn table_in(alloc: Global, layout: Layout, text: &[u8]) -> Result<Option<Table>, Refusal>
+    ensures spelled { IfOk result (λ found. IsTextOf layout text.now found) }
     ensures refused { IfErr result (λ e. e ≡ no_memory) }
 {
-    let Some((table, rest)) = read_table(alloc, text)? else {
+    let Some((table, rest)) = layout.read_table(alloc, text)? else {
         return Ok(None);
     };
     if rest.len() > 0 {

@@ -5,6 +5,7 @@ ghost use Rattle.run_table.specs.Step.{empty};
 ghost use Rattle.act_store.specs.Images.{StandsFor};
 ghost use Rattle.act_store.specs.Plain.{disk_not_empty, fresh};
 
+use crate::layout::Layout;
 use crate::store::Store;
 use crate::waiting::Waiting;
 use act_disk::Disk;
@@ -14,7 +15,7 @@ use std::alloc::Global;
 use std::snapshot::Snapshot;
 use wf_value::{Code, Refusal};
 
-/// What the first area of a new store holds, behind a closed gate: version 2, generation 1, the text of the empty table behind its
+/// What the first area of a new store holds, behind a closed gate: the second layout, generation 1, the text of the empty table behind its
 /// length, and a closed gate.
 const FRONT: [u8; 31] = [
     0, 2, 0, 0, 0, 0, 0, 0, 0, 1, 0, 0, 0, 0, 0, 0, 0, 12, 0, 0, 0, 0, 0, 0, 0, 0, 0, 0, 0, 0, 0,
@@ -61,6 +62,7 @@ impl<D: Disk> Store<D> {
                     covered: 0,
                     used: USED,
                     generation: 1,
+                    layout: Layout::Second,
                     waiting: Waiting::new(),
                     begun: None,
                     failed: false,

@@ -1,19 +1,29 @@
-//! The versions of the layout of an area.
+//! The layouts of an area, and what is read in each.
 
-ghost use Rattle.std.specs.Prelude.{◌≡◌, ◌==◌};
-ghost use Rattle.act_store.specs.Layouts.{current_version, layout_byte, layout_of};
+ghost use Rattle.std.specs.Prelude.{◌≡◌, IfErr, IfOk};
+ghost use Rattle.std.specs.Option.{option_map};
+ghost use Rattle.wf_value.specs.Gives.{no_memory};
+ghost use Rattle.table_text.specs.Format.{StandsAtFront};
+ghost use Rattle.act_store.specs.Layouts.{batch_format, has_command, layout_byte, layout_of, table_format};
 
-/// A version of the layout, which the byte behind an area's gate names.
+use run_plan::Command;
+use run_table::Table;
+use std::alloc::Global;
+use table_text::{is_in_first_layout, read_batch, read_first_batch, read_first_table, read_table};
+use wf_value::Refusal;
+
+/// The layout of an area, which the byte behind its gate names.
 #[derive(Clone, Copy)]
-pub(crate) enum Layout {
-    /// Runs without attempts, and kept leases without places. It is not read, and nothing is written in it.
+pub enum Layout {
+    /// Runs without attempts, and kept leases without places. It is read, records are added to it, and a checkpoint leaves it.
     First,
+    /// The one in which stores are made and checkpoints write.
     Second,
 }
 
 impl Layout {
-    /// The version that a byte names, where it names one.
-    fn of_byte(byte: u8) -> Option<Self>
+    /// The layout that a byte names, where it names one.
+    pub(crate) fn of_byte(byte: u8) -> Option<Self>
         ensures { result ≡ layout_of byte }
     {
         match byte {
@@ -32,14 +42,44 @@ impl Layout {
             Layout::Second => 2,
         }
     }
-}
 
-/// Whether areas of the version that a byte names are read.
-pub(crate) fn is_read(version: u8) -> bool
-    ensures { result ≡ (version == current_version) }
-{
-    match Layout::of_byte(version) {
-        Some(Layout::Second) => true,
-        Some(Layout::First) | None => false,
+    /// Whether it has a command.
+    pub(crate) fn has(self, command: &Command) -> bool
+        ensures { result ≡ has_command self command.now }
+    {
+        match self {
+            Layout::First => is_in_first_layout(command),
+            Layout::Second => true,
+        }
+    }
+
+    /// The table that is spelled at the front of the bytes, and the bytes behind it, or `None` where no front of them spells one.
+    pub(crate) fn read_table(
+        self,
+        alloc: Global,
+        bytes: &[u8],
+    ) -> Result<Option<(Table, &[u8])>, Refusal>
+        ensures front { IfOk result (λ found. StandsAtFront (table_format self) bytes.now (option_map (λ f. (f.0, f.1.now)) found)) }
+        ensures refused { IfErr result (λ e. e ≡ no_memory) }
+    {
+        match self {
+            Layout::First => read_first_table(alloc, bytes),
+            Layout::Second => read_table(alloc, bytes),
+        }
+    }
+
+    /// The batch that is spelled at the front of the bytes, and the bytes behind it, or `None` where no front of them spells one.
+    pub(crate) fn read_batch(
+        self,
+        alloc: Global,
+        bytes: &[u8],
+    ) -> Result<Option<(Vec<Command>, &[u8])>, Refusal>
+        ensures front { IfOk result (λ found. StandsAtFront (batch_format self) bytes.now (option_map (λ f. (f.0.items, f.1.now)) found)) }
+        ensures refused { IfErr result (λ e. e ≡ no_memory) }
+    {
+        match self {
+            Layout::First => read_first_batch(alloc, bytes),
+            Layout::Second => read_batch(alloc, bytes),
+        }
     }
 }

@@ -3,6 +3,7 @@
 #![tactic(auto)]
 
 mod apply;
+mod area_front;
 mod begun;
 mod check_begin;
 mod check_finish;
@@ -25,6 +26,7 @@ mod turn_over;
 mod waiting;
 
 pub use entry::Entry;
+pub use layout::Layout;
 pub use playing::{play, take};
 pub use receipt::Receipt;
 pub use step::{Played, Step};

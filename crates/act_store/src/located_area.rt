@@ -1,4 +1,4 @@
-ghost use Rattle.std.specs.Prelude.{◌≡◌, ◌⊎◌, ◌<◌, ◌≤◌, ◌+◌, Err, IfErr, IfOk, IfSome, OnOk};
+ghost use Rattle.std.specs.Prelude.{◌≡◌, ◌⊎◌, ◌<◌, ◌≤◌, ◌+◌, ◌^◌, Err, IfErr, IfOk, IfSome, OnOk};
 ghost use Rattle.wf_value.specs.Gives.{no_memory};
 ghost use Rattle.act_disk.specs.Failed.{device_failed};
 ghost use Rattle.act_disk.specs.Images.{Only, SameImages};
@@ -11,6 +11,7 @@ ghost use Rattle.act_store.specs.Plain.{RefusesOpening, TellsNoArea, no_area, no
 ghost use Rattle.act_store.specs.Spelled.{IsHalf, IsSpelled};
 ghost use Rattle.act_store.specs.Told.{TellsFault};
 
+use crate::area_front::read_front;
 use crate::decoded_area::{DecodedArea, spelled_in};
 use act_disk::Disk;
 use gated_journal::{Area, Chosen, Standing, choose};
@@ -40,7 +41,7 @@ pub struct LocatedArea {
     pub spelled: DecodedArea,
 }
 
-/// Reads an area, and what it spells.
+/// Reads an area, as far as it takes to tell what it spells, and that.
 fn spelled_at<D: Disk>(
     alloc: Global,
     disk: &mut D,
@@ -48,6 +49,7 @@ fn spelled_at<D: Disk>(
 ) -> Result<Option<DecodedArea>, Refusal>
     requires countable { D.fault_count disk.old < u64.MAX }
     requires within { area.start + area.len ≤ D.size disk.old }
+    requires addressed { area.start + area.len < 2 ^ 62 }
     ensures spelled { IfOk result (λ found. D.honest disk.new → IsSpelled (part area.start area.len (D.seen disk.old)) found) }
     ensures fits { IfOk result (λ found. IfSome found (λ s. s.used < area.len)) }
     ensures sound { IfOk result (λ found. IfSome found (λ s. IsSound s.table)) }
@@ -56,8 +58,7 @@ fn spelled_at<D: Disk>(
     ensures faults { TellsFault result (D.fault_count disk.old) (D.fault_count disk.new) }
     ensures refused { IfErr result (λ e. (e ≡ no_memory) ⊎ (e ≡ device_failed)) }
 {
-    let mut bytes = vec![in alloc; 0; area.len as usize]?;
-    area.read(disk, bytes.as_mut_slice())?;
+    let bytes = read_front(alloc, disk, area)?;
     spelled_in(alloc, bytes.as_slice())
 }
 

@@ -25,8 +25,8 @@ impl<D: Disk> Store<D> {
         ensures stands { IfOk result (λ s. D.honest s.disk → (c : List ℕ) → D.images s.disk c → StandsFor s.base c) }
         ensures begun { IfOk result (λ s. (s.history ≡ []) × (s.covered ≡ 0) × (s.failed ≡ false)) }
         ensures none_begun { IfOk result (λ s. s.begun ≡ None) }
-        // The generation, and where the next record goes, are those of the area that stands.
-        ensures place { IfOk result (λ s. D.honest s.disk → StandsAt s.generation s.used s.base (D.seen disk)) }
+        // The generation, the layout, and where the next record goes, are those of the area that stands.
+        ensures place { IfOk result (λ s. D.honest s.disk → StandsAt s.generation s.used s.layout s.base (D.seen disk)) }
         ensures size { IfOk result (λ s. D.size disk ≡ s.area + s.area) }
         ensures no_area { IfErr result (λ e. e.1 ≡ no_area → D.honest e.0 → HasNoArea (D.seen disk)) }
         ensures no_table { IfErr result (λ e. e.1 ≡ no_table → D.honest e.0 → HasNoTable (D.seen disk)) }
@@ -57,6 +57,7 @@ impl<D: Disk> Store<D> {
             covered: 0,
             used: found.spelled.used,
             generation: found.spelled.generation,
+            layout: found.spelled.layout,
             waiting: Waiting::new(),
             begun: None,
             failed: false,

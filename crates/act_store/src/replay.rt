@@ -2,28 +2,32 @@ ghost use Rattle.std.specs.Prelude.{◌≡◌, IfErr, IfOk, List, MatchOption};
 ghost use Rattle.wf_value.specs.Gives.{no_memory};
 ghost use Rattle.run_plan.specs.declared.command.Command.{Command};
 ghost use Rattle.run_table.specs.Histories.{after};
-ghost use Rattle.table_text.specs.Commands.{batch};
 ghost use Rattle.table_text.specs.Format.{Spells};
-ghost use Rattle.act_store.specs.Layouts.{current_version};
+ghost use Rattle.act_store.specs.Layouts.{batch_format};
 ghost use Rattle.act_store.specs.Replayed.{IsCarried, IsReplayed};
 
+use crate::layout::Layout;
 use gated_journal::record_at;
 use run_plan::Command;
 use run_table::Table;
 use std::alloc::Global;
-use table_text::read_batch;
 use wf_value::Refusal;
 
-/// Carries out the commands of records, one behind the other. `None` where a body spells no batch.
+/// Carries out the commands of records of a layout, one behind the other. `None` where a body spells no batch.
 #[tactic(auto, using(crate::proofs::Replaying::none_so_far, crate::proofs::Replaying::one_more, gated_journal::proofs::Parting::shorter))]
-pub(crate) fn replay(alloc: Global, first: Table, records: &[u8]) -> Result<Option<Table>, Refusal>
-    ensures replayed { IfOk result (λ last. IsReplayed current_version records.now first last) }
+pub(crate) fn replay(
+    alloc: Global,
+    layout: Layout,
+    first: Table,
+    records: &[u8],
+) -> Result<Option<Table>, Refusal>
+    ensures replayed { IfOk result (λ last. IsReplayed layout records.now first last) }
     ensures refused { IfErr result (λ e. e ≡ no_memory) }
 {
     let mut table = first;
     let mut rest = records;
     while let Some((body, behind)) = record_at(rest) {
-        match carry_body(alloc, table, body)? {
+        match carry_body(alloc, layout, table, body)? {
             Some(next) => table = next,
             None => return Ok(None),
         }
@@ -34,12 +38,12 @@ pub(crate) fn replay(alloc: Global, first: Table, records: &[u8]) -> Result<Opti
 
 /// The commands of a body. `None` where it spells no batch.
 #[tactic(auto, using(crate::proofs::Replaying::whole_batch, crate::proofs::Replaying::left_over, crate::proofs::Replaying::no_batch))]
-fn batch_of(alloc: Global, body: &[u8]) -> Result<Option<Vec<Command>>, Refusal>
-    ensures batch { IfOk result (λ found. MatchOption found ((commands : List Command) → Spells batch body.now commands → ⊥)
-        (λ commands. Spells batch body.now commands.items)) }
+fn batch_of(alloc: Global, layout: Layout, body: &[u8]) -> Result<Option<Vec<Command>>, Refusal>
+    ensures batch { IfOk result (λ found. MatchOption found ((commands : List Command) → Spells (batch_format layout) body.now commands → ⊥)
+        (λ commands. Spells (batch_format layout) body.now commands.items)) }
     ensures refused { IfErr result (λ e. e ≡ no_memory) }
 {
-    let Some((commands, rest)) = read_batch(alloc, body)? else {
+    let Some((commands, rest)) = layout.read_batch(alloc, body)? else {
         return Ok(None);
     };
     if rest.len() > 0 {
@@ -50,11 +54,16 @@ fn batch_of(alloc: Global, body: &[u8]) -> Result<Option<Vec<Command>>, Refusal>
 
 /// Carries out the commands of a body. `None` where it spells no batch.
 #[tactic(auto, using(crate::proofs::Replaying::carried_whole))]
-fn carry_body(alloc: Global, table: Table, body: &[u8]) -> Result<Option<Table>, Refusal>
-    ensures carried { IfOk result (λ next. IsCarried body.now table next) }
+fn carry_body(
+    alloc: Global,
+    layout: Layout,
+    table: Table,
+    body: &[u8],
+) -> Result<Option<Table>, Refusal>
+    ensures carried { IfOk result (λ next. IsCarried layout body.now table next) }
     ensures refused { IfErr result (λ e. e ≡ no_memory) }
 {
-    let Some(commands) = batch_of(alloc, body)? else {
+    let Some(commands) = batch_of(alloc, layout, body)? else {
         return Ok(None);
     };
     let next = carry_all(alloc, table, commands.as_slice())?;

@@ -7,6 +7,7 @@ ghost use Rattle.run_table.specs.Step.{seen};
 
 use crate::begun::Begun;
 use crate::entry::Entry;
+use crate::layout::Layout;
 use crate::waiting::Waiting;
 use act_disk::Disk;
 use gated_journal::{Gate, Standing};
@@ -38,6 +39,8 @@ pub struct Store<D: Disk> {
     /// The offset of the gate behind which the next record goes.
     pub(crate) used: u64,
     pub(crate) generation: u64,
+    /// The layout of the area that stands.
+    pub(crate) layout: Layout,
     /// The commands of the entries that are not covered.
     pub(crate) waiting: Waiting,
     /// The checkpoint that was begun, if one is.
@@ -100,6 +103,13 @@ impl<D: Disk> Store<D> {
         self.areas.len
     }
 
+    /// The layout of the area that stands.
+    pub fn layout(&self) -> Layout
+        ensures { result ≡ self.now.layout }
+    {
+        self.layout
+    }
+
     /// How many bytes the next record's commands and their count may have, so that it fits the area.
     pub fn room(&self) -> u64
         ensures { result ≡ self.now.area - self.now.used - 6 }
@@ -113,6 +123,13 @@ impl<D: Disk> Store<D> {
         ensures sound { IsSound (table_of self.now) }
     {
         self.table.look(run)
+    }
+
+    /// The present table.
+    pub fn table(&self) -> &Table
+        ensures { result.now ≡ table_of self.now }
+    {
+        &self.table
     }
 
     /// The disk, also of a store that has failed.

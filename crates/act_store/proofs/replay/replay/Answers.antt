@@ -9,10 +9,10 @@ pub returns-in-None-clause-replayed : goal.returns-in-None-clause-replayed
 returns-in-None-clause-replayed c =
     let l = c.loop-body in
     let body = c.in-Some.body.now in
-    at_broken c.args.records.now l.rest.now c.args.first l.table l.invariant body c.in-Some.behind.now c.in-Some.ensures.some
-    (subst (λ (o : Option TableState). IsCarried body l.table o) c.in-None.is c.in_ok-next.ensures.carried)
+    at_broken c.args.layout c.args.records.now l.rest.now c.args.first l.table l.invariant body c.in-Some.behind.now c.in-Some.ensures.some
+    (subst (λ (o : Option TableState). IsCarried c.args.layout body l.table o) c.in-None.is c.in_ok-next.ensures.carried)
 
 pub returns-clause-replayed : goal.returns-clause-replayed
 returns-clause-replayed c =
     let l = c.loop-body in
-    at_end c.args.records.now l.rest.now c.args.first l.table l.invariant (c.record_at.ensures.none (search rules))
+    at_end c.args.layout c.args.records.now l.rest.now c.args.first l.table l.invariant (c.record_at.ensures.none (search rules))

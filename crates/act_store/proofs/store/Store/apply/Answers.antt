@@ -1,5 +1,5 @@
 use Rattle.std.proofs.Common.{rules, ◌≡◌, ◌++◌, [], ◌∷◌, refl, sym, subst}
-use Rattle.std.specs.Prelude.{None}
+use Rattle.std.specs.Prelude.{None, Some}
 use Rattle.run_table.specs.Step.{stepped}
 use Rattle.run_table.specs.TableState.{TableState}
 use Rattle.act_disk.specs.Images.{EachSince}
@@ -10,6 +10,7 @@ use Rattle.act_store.specs.Promise.{IsCounted}
 use Rattle.act_store.specs.StoreSeen.{as_state}
 use Rattle.act_store.specs.declared.entry.Entry.{Entry}
 use Rattle.act_store.proofs.Entering.{IsAdmitted, counted_entered, few_wait, is_admitted, record_is_short}
+use Rattle.act_store.proofs.Refused.{apply_no_fault}
 use Rattle.act_store.proofs.Settling.{standing_entered}
 use Rattle.act_store.proofs.Snapshots.{begun_entered}
 use Rattle.act_store.proofs.store.Store.apply.Goals as goal
@@ -59,3 +60,8 @@ returns-in-Some-clause-any_moment g c =
     c.self.view_is
     (λ honest. started disk.moment disk.images_since s.disk (StandsForEither (as_state s))
     (λ i left. (c.self.invariant.2 honest).each i (g.met.D.Disk.only_now s.disk honest i left)))
+
+pub returns-in-Some-clause-no_fault : goal.returns-in-Some-clause-no_fault
+returns-in-Some-clause-no_fault g c =
+    let is : refusal_of_apply c.args.self.now c.args.command ≡ Some c.in-Some.refusal = search rules in
+    apply_no_fault c.args.self.now c.args.command c.in-Some.refusal is

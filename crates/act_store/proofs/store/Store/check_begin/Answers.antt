@@ -1,9 +1,11 @@
 use Rattle.std.proofs.Common.{rules, arith, ◌≡◌, ◌≤◌, ◌+◌, length, true, refl, subst, sym}
 use Rattle.std.specs.Prelude.{Some, option_map}
+use Rattle.act_disk.specs.Images.{EachSince}
+use Rattle.act_disk.specs.Moments.{started}
 use Rattle.gated_journal.specs.TwoAreas.{other, start_of}
 use Rattle.gated_journal.specs.declared.gate.Gate.TheVariants.{Closed}
 use Rattle.act_store.specs.Checkpoints.{first_gate, text_length}
-use Rattle.act_store.specs.StoreState.{StandsForEither}
+use Rattle.act_store.specs.StoreState.{StandsForEither, StoreState}
 use Rattle.act_store.specs.Promise.{IsBegun}
 use Rattle.act_store.specs.StoreSeen.{as_checkpoint, as_state}
 use Rattle.act_store.specs.declared.begun.Begun.{Begun}
@@ -88,3 +90,12 @@ returns-in-Ok-clause-any_moment g c =
     let may = begins s c.args.self.now c.self.view_is (search rules) in
     begin_moments disk.honest disk.images s c.self.invariant.0 may.live c.self.invariant.2 c.close_other.new.disk disk.moment
     disk.images_since c.close_other.ensures.any_moment c.args.self.now c.self.view_is
+
+pub returns-in_err-front-clause-any_moment : goal.returns-in_err-front-clause-any_moment
+returns-in_err-front-clause-any_moment g c =
+    let s = c.self.inside in
+    let disk = g.D.Disk in
+    subst (λ (v : StoreState g.row.D.Denot). disk.honest v.disk → EachSince disk.moment disk.images_since v.disk v.disk (StandsForEither v))
+    c.self.view_is
+    (λ honest. started disk.moment disk.images_since s.disk (StandsForEither (as_state s))
+    (λ i left. (c.self.invariant.2 honest).each i (g.met.D.Disk.only_now s.disk honest i left)))

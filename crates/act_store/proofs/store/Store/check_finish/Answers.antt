@@ -10,6 +10,7 @@ use Rattle.act_store.specs.StoreState.{StoreState, StandsForEither, table_of}
 use Rattle.act_store.specs.Promise.{IsStanding}
 use Rattle.act_store.specs.StoreSeen.{as_checkpoint, as_state}
 use Rattle.act_store.specs.Waiting.{waits_of}
+use Rattle.act_store.specs.declared.layout.Layout.TheVariants as layouts
 use Rattle.act_store.proofs.Checkpointing.{counted_with, standing_failed}
 use Rattle.act_store.proofs.Committing.{none_left, now_of}
 use Rattle.act_store.proofs.Finishing.{counted_finished, done, finish_moments, finish_settles, finishing, standing_finished}
@@ -114,6 +115,6 @@ returns-clause-stands g c = λ honest1.
     c.as_slice.result.now c.in_ok-last.last.items c.as_slice.ensures.value c.in_ok-last.ensures.bytes c.in_ok-last.ensures.spelled in
     let d1 = c.turn.new.disk in
     subst (λ (v : StoreState g.row.D.Denot). (image : List ℕ) → disk.images d1 image → StandsFor (table_of v) image) c.self.view_is
-    (settled_stands s.areas.len (other s.areas.side) Open (s.generation + 1) (at + length bytes - 1) (table_of (as_state s))
+    (settled_stands s.areas.len (other s.areas.side) Open (s.generation + 1) (at + length bytes - 1) layouts.Second (table_of (as_state s))
     (disk.images d1) f.counted.size
     (finish_settles disk.honest disk.images disk.seen s at bytes f d1 c.in-Ok.ensures.turned (c.turn.ensures.honest.0 honest1)))

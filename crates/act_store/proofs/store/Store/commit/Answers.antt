@@ -94,7 +94,7 @@ is_committed g c =
 -- all images are settled at all entries
 settled : (g : Over) (c : goal.After-truncate g) → g.D.Disk.honest c.grow.new.disk
     → IsSettled c.self.inside.areas.len c.self.inside.areas.side c.self.inside.other c.self.inside.generation
-    (used_after (as_state c.self.inside)) (table_of (as_state c.self.inside)) (g.D.Disk.images c.grow.new.disk)
+    (used_after (as_state c.self.inside)) c.self.inside.layout (table_of (as_state c.self.inside)) (g.D.Disk.images c.grow.new.disk)
 settled g c honest1 =
     let disk = g.D.Disk in
     commit_settles disk.honest disk.images c.self.inside c.self.invariant.0 (search rules) (search (rules, arith)) c.self.invariant.2
@@ -133,7 +133,7 @@ returns-in-Ok-clause-stands g c = λ honest1.
     let k = as_state s in
     let images = g.D.Disk.images c.grow.new.disk in
     subst (λ (v : StoreState g.row.D.Denot). (image : List ℕ) → images image → StandsFor (table_of v) image) c.self.view_is
-    (settled_stands s.areas.len s.areas.side s.other s.generation (used_after k) (table_of k) images c.self.invariant.0.size
+    (settled_stands s.areas.len s.areas.side s.other s.generation (used_after k) s.layout (table_of k) images c.self.invariant.0.size
     (settled g c honest1))
 
 pub returns-in-Ok-clause-some : goal.returns-in-Ok-clause-some

@@ -19,13 +19,13 @@ invariant_of-result g c =
     let same : spelled.table ≡ base = search rules in
     let none : c.new.result.items ≡ [] = c.new.ensures.items in
     let area = c.in-Ok.ensures.area in (
-      counted_begun d1 found.area base spelled.used spelled.generation None false c.new.result.items none
+      counted_begun d1 found.area base spelled.used spelled.generation spelled.layout None false c.new.result.items none
           (subst (λ (t : TableState). IsSound t) same c.in-Ok.ensures.sound) spelled.table same c.new-2.result
           c.new-2.ensures area.0 area.1,
       (λ _. search (rules, arith)),
-      λ honest. standing_begun d1 found.area base spelled.used spelled.generation None false c.new.result.items none disk.images found.chosen.side
+      λ honest. standing_begun d1 found.area base spelled.used spelled.generation spelled.layout None false c.new.result.items none disk.images found.chosen.side
           found.chosen.other area.0
-          (settled_at found.area found.chosen.side found.chosen.other spelled.generation spelled.used spelled.table base
+          (settled_at found.area found.chosen.side found.chosen.other spelled.generation spelled.used spelled.layout spelled.table base
           (disk.images d1) same
           (found_settled found file (c.in-Ok.ensures.found honest) (disk.images d1) (c.in-Ok.ensures.stable honest))),
       _,
@@ -51,5 +51,5 @@ returns-clause-place g c = λ honest.
     let file = g.D.Disk.seen c.args.disk in
     let found = c.in-Ok.found in
     let same : found.spelled.table ≡ c.of.result.value = search rules in
-    subst (λ (t : TableState). StandsAt found.spelled.generation found.spelled.used t file) same
+    subst (λ (t : TableState). StandsAt found.spelled.generation found.spelled.used found.spelled.layout t file) same
     (found_at found file (c.in-Ok.ensures.found honest) c.in-Ok.ensures.area.0)

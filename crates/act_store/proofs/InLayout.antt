@@ -1,0 +1,55 @@
+-- What is spelled in a layout.
+use Rattle.std.proofs.Common.{◌≡◌, List, [], ◌∷◌, refl, sym, ◌∙◌, ap}
+use Rattle.std.specs.Prelude.{◌&&◌, Some, true}
+use Rattle.std.specs.List.{AllByRecursion, list_all}
+use Rattle.std.proofs.lemmas.Option.{same_Some}
+use Rattle.gated_journal.specs.Layout.{Head}
+use Rattle.run_plan.specs.declared.command.Command.{Command}
+use Rattle.run_table.specs.Sound.{IsSound}
+use Rattle.run_table.specs.TableState.{TableState}
+use Rattle.table_text.specs.Commands.{batch}
+use Rattle.table_text.specs.FirstLayout.{is_in_first_layout}
+use Rattle.table_text.specs.Format.{NoneBeginsAnother}
+use Rattle.table_text.specs.ReadingCommands.{batch_at}
+use Rattle.table_text.proofs.CommandReaders.{batch_reads}
+use Rattle.table_text.proofs.Readers.{none_begins}
+use Rattle.table_text.proofs.WholeFirstTables.{first_batch_begins_none, first_begins_none}
+use Rattle.table_text.proofs.WholeTables.{whole_begins_none}
+use Rattle.act_store.specs.Layouts.{HasCommand, batch_format, layout_of, table_format}
+use Rattle.act_store.specs.declared.layout.Layout.{Layout}
+use Rattle.act_store.specs.declared.layout.Layout.TheVariants as layouts
+
+-- a head names one layout
+pub one_layout : (head : Head) (a b : Layout) → layout_of head.version ≡ Some a → layout_of head.version ≡ Some b → a ≡ b
+one_layout head a b first second = same_Some a b (sym first ∙ second)
+
+-- ---- tables
+
+pub tables_begin_none : (layout : Layout) → NoneBeginsAnother (table_format layout)
+tables_begin_none layouts.First = first_begins_none
+tables_begin_none layouts.Second = whole_begins_none
+
+pub takes_sound : (layout : Layout) (t : TableState) → (table_format layout).Takes t → IsSound t
+takes_sound layouts.First t takes = takes.0
+takes_sound layouts.Second t takes = takes.0
+
+-- ---- batches
+
+pub batches_begin_none : (layout : Layout) → NoneBeginsAnother (batch_format layout)
+batches_begin_none layouts.First = first_batch_begins_none
+batches_begin_none layouts.Second = none_begins batch batch_at batch_reads
+
+-- each layout spells a batch in the same bytes
+pub same_spelling : (layout : Layout) (commands : List Command) → (batch_format layout).spelling commands ≡ batch.spelling commands
+same_spelling layouts.First commands = refl
+same_spelling layouts.Second commands = refl
+
+listed : (commands : List Command) → AllByRecursion (HasCommand layouts.First) commands → list_all is_in_first_layout commands ≡ true
+listed [] all = refl
+listed (c ∷ cs) all = ap (λ b. b && list_all is_in_first_layout cs) all.0 ∙ listed cs all.1
+
+-- where it has the commands
+pub takes_batch : (layout : Layout) (commands : List Command) → batch.Takes commands → AllByRecursion (HasCommand layout) commands
+    → (batch_format layout).Takes commands
+takes_batch layouts.First commands takes all = (takes, listed commands all)
+takes_batch layouts.Second commands takes all = takes

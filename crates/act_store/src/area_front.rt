@@ -1,0 +1,113 @@
+//! How much of an area is read: no more than tells what stands there, so that an opening costs by what is stored.
+
+ghost use Rattle.std.specs.Prelude.{◌≡◌, ◌⊎◌, ◌+◌, ◌*◌, ◌^◌, ◌<◌, ◌≤◌, true, false, length, take, vec_len, IfErr, IfOk, OnOk};
+ghost use Rattle.wf_value.specs.Gives.{no_memory};
+ghost use Rattle.act_disk.specs.Failed.{device_failed};
+ghost use Rattle.act_disk.specs.Images.{CountsFault, SameImages};
+ghost use Rattle.gated_journal.specs.Choice.{part};
+ghost use Rattle.gated_journal.specs.Layout.{ReadsNothing};
+ghost use Rattle.gated_journal.specs.Reading.{OnlyRead};
+ghost use Rattle.act_store.specs.AreaFront.{IsFrontOf, IsShort, ReadsAlike, ReadsSomething};
+ghost use Rattle.act_store.specs.Told.{TellsFault};
+
+use act_disk::{Disk, DiskFault};
+use gated_journal::{Area, scan};
+use std::alloc::Global;
+use wf_value::Refusal;
+
+/// How many bytes of an area are read first.
+const FIRST: usize = 65_536;
+
+/// Reads an area from its front on, as far as it takes to tell what all of it reads as: twice as many bytes each time, until they read as
+/// something, or are all. So of what stands there half is needed at least, or no more than 65,536 bytes are read.
+pub(crate) fn read_front<D: Disk>(
+    alloc: Global,
+    disk: &mut D,
+    area: Area,
+) -> Result<Vec<u8>, Refusal>
+    requires countable { D.fault_count disk.old < u64.MAX }
+    requires within { area.start + area.len ≤ D.size disk.old }
+    requires addressed { area.start + area.len < 2 ^ 62 }
+    ensures alike { IfOk result (λ bytes. D.honest disk.new → ReadsAlike bytes.items (part area.start area.len (D.seen disk.old))) }
+    ensures within { IfOk result (λ bytes. vec_len bytes ≤ area.len) }
+    ensures short { IfOk result (λ bytes. IsShort bytes.items) }
+    ensures images { D.honest disk.new → SameImages (D.images disk.old) (D.images disk.new) }
+    ensures only_read { OnlyRead D.honest D.seen D.size D.moment D.images D.images_since disk.old disk.new }
+    ensures faults { TellsFault result (D.fault_count disk.old) (D.fault_count disk.new) }
+    ensures refused { IfErr result (λ e. (e ≡ no_memory) ⊎ (e ≡ device_failed)) }
+{
+    let mut bytes = Vec::new(alloc);
+    while !is_enough(bytes.as_slice(), area.len) {
+        read_on(disk, area, &mut bytes)?;
+    }
+    Ok(bytes)
+}
+
+/// Whether the first bytes of an area are all of it, or read as something.
+fn is_enough(bytes: &[u8], len: u64) -> bool
+    ensures enough { result ≡ true → (length bytes.now ≡ len) ⊎ ReadsSomething bytes.now }
+    ensures all { result ≡ false → length bytes.now ≡ len → ⊥ }
+    ensures nothing { result ≡ false → ReadsNothing bytes.now }
+{
+    bytes.len() as u64 == len || scan(bytes).is_some()
+}
+
+/// Reads on, behind the first bytes of an area: as many again, or `FIRST` where that is more, as far as the area goes.
+fn read_on<D: Disk>(disk: &mut D, area: Area, bytes: &mut Vec<u8>) -> Result<(), Refusal>
+    requires countable { D.fault_count disk.old < u64.MAX }
+    requires within { area.start + area.len ≤ D.size disk.old }
+    requires addressed { area.start + area.len < 2 ^ 62 }
+    requires more { vec_len bytes.old < area.len }
+    ensures bytes { OnOk result (D.honest disk.new → IsFrontOf area.start bytes.old.items (D.seen disk.old)
+        → IsFrontOf area.start bytes.new.items (D.seen disk.old)) }
+    ensures front { OnOk result (take (vec_len bytes.old) bytes.new.items ≡ bytes.old.items) }
+    ensures longer { OnOk result (vec_len bytes.old < vec_len bytes.new) }
+    ensures within { OnOk result (vec_len bytes.new ≤ area.len) }
+    ensures at_most { OnOk result ((vec_len bytes.new ≤ 65536) ⊎ (vec_len bytes.new ≤ 2 * vec_len bytes.old)) }
+    ensures images { D.honest disk.new → SameImages (D.images disk.old) (D.images disk.new) }
+    ensures only_read { OnlyRead D.honest D.seen D.size D.moment D.images D.images_since disk.old disk.new }
+    ensures faults { TellsFault result (D.fault_count disk.old) (D.fault_count disk.new) }
+    ensures refused { IfErr result (λ e. (e ≡ no_memory) ⊎ (e ≡ device_failed)) }
+{
+    let from = bytes.len();
+    let to = next_length(from, area.len as usize);
+    bytes.resize(to, 0)?;
+    fill_behind(disk, area, bytes.as_mut_slice(), from)?;
+    Ok(())
+}
+
+/// How many bytes are read next, where so many of an area were.
+fn next_length(read: usize, most: usize) -> usize
+    requires { (read < most) × (most < 2 ^ 62) }
+    ensures longer { read < result }
+    ensures within { result ≤ most }
+    ensures at_most { (result ≤ 65536) ⊎ (result ≤ 2 * read) }
+{
+    (2 * read).max(FIRST).min(most)
+}
+
+/// Fills the bytes behind the first `from` with those that an area has there.
+fn fill_behind<D: Disk>(
+    disk: &mut D,
+    area: Area,
+    bytes: &mut [u8],
+    from: usize,
+) -> Result<(), DiskFault>
+    requires countable { D.fault_count disk.old < u64.MAX }
+    requires within { area.start + area.len ≤ D.size disk.old }
+    requires addressed { area.start + area.len < 2 ^ 62 }
+    requires from { from ≤ length bytes.old }
+    requires fits { length bytes.old ≤ area.len }
+    ensures bytes { OnOk result (D.honest disk.new → IsFrontOf area.start (take from bytes.old) (D.seen disk.old)
+        → IsFrontOf area.start bytes.new (D.seen disk.old)) }
+    ensures front { take from bytes.new ≡ take from bytes.old }
+    ensures images { D.honest disk.new → SameImages (D.images disk.old) (D.images disk.new) }
+    ensures only_read { OnlyRead D.honest D.seen D.size D.moment D.images D.images_since disk.old disk.new }
+    ensures faults { CountsFault result (D.fault_count disk.old) (D.fault_count disk.new) }
+{
+    let behind = Area {
+        start: area.start + from as u64,
+        len: (bytes.len() - from) as u64,
+    };
+    behind.read(disk, &mut bytes[from..])
+}
