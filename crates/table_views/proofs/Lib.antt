@@ -1,0 +1,7 @@
+pub mod Claimed
+pub mod Distinct
+pub mod Found
+pub mod GroupsOnce
+pub mod JobsLeft
+pub mod Joined
+pub mod Placing

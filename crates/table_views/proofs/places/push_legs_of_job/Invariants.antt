@@ -1,0 +1,15 @@
+use Rattle.std.proofs.Common.{◌≡◌, ℕ, ◌++◌, map, take}
+use Rattle.std.specs.List.{All}
+use Rattle.workflow_runs.specs.FirstOf.{placed}
+use Rattle.workflow_runs.specs.Places.{leg_place}
+use Rattle.workflow_runs.specs.RunState.{LegState}
+use Rattle.table_views.specs.Placed.{IsWithin}
+use Rattle.table_views.proofs.places.push_legs_of_job.Given as goal
+
+-- the legs so far have been added
+abbrev pub invariant-loop-l : goal.invariant-loop-l
+invariant-loop-l l = record {
+  added : l.places.items
+      ≡ l.initial.places.items ++ map (λ (x : ℕ × LegState). leg_place l.r l.j x.0) (placed (take l.l l.job.state.legs));
+  within : All IsWithin l.places.items;
+}

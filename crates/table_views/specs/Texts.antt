@@ -1,0 +1,25 @@
+-- The pieces of the lines that an operator is shown (own). A text as JSON: RFC 8259, section 7.
+use Rattle.std.specs.Prelude.{ℕ, ◌+◌, List, [], ◌∷◌, ◌++◌, codes, decimal}
+use Rattle.std.specs.List.{join_with_byte}
+pub use Rattle.json.specs.Print.{quoted}
+use Rattle.workflow_runs.specs.Places.{LegPlace}
+use Rattle.workflow_runs.specs.RunState.{RunState}
+use Rattle.workflow_runs.specs.Words.{job_id}
+
+-- a line, with its line feed
+abbrev pub line : List ℕ → List ℕ
+line text = text ++ 10 ∷ []
+
+-- texts joined by commas, between brackets
+abbrev pub listed : List (List ℕ) → List ℕ
+listed items = codes "[" ++ join_with_byte 44 items ++ codes "]"
+
+-- ---- a leg: its run, its job and its number in the job
+
+abbrev pub leg_words : List RunState → LegPlace → List ℕ
+leg_words runs p = decimal (p.run + 1) ++ codes " " ++ job_id runs p.run p.job ++ codes " " ++ decimal p.leg
+
+-- as members of a JSON object
+abbrev pub leg_members : List RunState → LegPlace → List ℕ
+leg_members runs p =
+    codes "\"run\":" ++ decimal (p.run + 1) ++ codes ",\"job\":" ++ quoted (job_id runs p.run p.job) ++ codes ",\"leg\":" ++ decimal p.leg

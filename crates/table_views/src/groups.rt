@@ -1,0 +1,310 @@
+//! The lines of concurrency groups: who is in progress in each, and who is pending. GitHub Docs, "Control the concurrency of workflows
+//! and jobs".
+
+ghost use Rattle.std.specs.Prelude.{◌≡◌, ◌&&◌, ◌++◌, ◌<◌, ◌≤◌, [], ◌∷◌, IfOk, IfSome, None, Ok, OnOk, Some, codes, filter_map, find, length, map, option_copied, option_map, string_bytes, take};
+ghost use Rattle.std.specs.List.{All, list_any};
+ghost use Rattle.wf_value.specs.Gives.{ErrsOnlyByMemory, Gives};
+ghost use Rattle.group_name.specs.Group.{same_group};
+ghost use Rattle.workflow_runs.specs.Groups.{all_holders, holds, is_pending_in, is_running_in, waits};
+ghost use Rattle.workflow_runs.specs.Holders.{holder_in_words, run_of};
+ghost use Rattle.workflow_runs.specs.Moves.{Holder as HolderOfGroup};
+ghost use Rattle.workflow_runs.specs.Places.{leg_places};
+ghost use Rattle.table_views.specs.Claims.{claim_of, claims_of, line_once, said};
+ghost use Rattle.table_views.specs.GroupLines.{group_in_use, group_line, group_lines, holder_text};
+ghost use Rattle.table_views.specs.Placed.{IsWithin};
+ghost use Rattle.table_views.specs.Texts.{line};
+
+use crate::claim::GroupClaim;
+use crate::form::Form;
+use crate::texts::{leg_members, leg_words, quoted};
+use group_name::GroupKey;
+use std::alloc::{AllocError, Global};
+use wf_value::{Refusal, Same};
+use workflow_runs::holder::Holder;
+use workflow_runs::place::LegPlace;
+use workflow_runs::runs::Runs;
+
+// ---- who holds groups, or waits for them
+
+/// The group that a run or a leg holds or waits for.
+fn group_in_use(alloc: Global, runs: &Runs, holder: &Holder) -> Result<Option<GroupKey>, Refusal>
+    ensures { Gives (λ group. group) result (Ok (group_in_use runs.now (holder_in_words holder.now))) }
+{
+    if runs.waits(holder) || runs.holds(holder) {
+        runs.group(alloc, holder)
+    } else {
+        Ok(None)
+    }
+}
+
+fn push_claim(
+    alloc: Global,
+    runs: &Runs,
+    claims: &mut Vec<GroupClaim>,
+    holder: Holder,
+) -> Result<(), Refusal>
+    requires { run_of (holder_in_words holder) < 100000 }
+    ensures err { ErrsOnlyByMemory result }
+    ensures added { OnOk result (map said claims.new.items
+        ≡ map said claims.old.items ++ filter_map (claim_of runs.now) (holder_in_words holder ∷ [])) }
+{
+    if let Some(group) = group_in_use(alloc, runs, &holder)? {
+        claims.push(GroupClaim { group, holder })?;
+    }
+    Ok(())
+}
+
+/// All of them, by the places of all legs: the runs, and then the legs.
+fn claims_of(alloc: Global, runs: &Runs, places: &[LegPlace]) -> Result<Vec<GroupClaim>, Refusal>
+    requires all { places.now ≡ leg_places runs.now }
+    requires within { All IsWithin places.now }
+    ensures err { ErrsOnlyByMemory result }
+    ensures claims { IfOk result (λ claims. map said claims.items ≡ claims_of runs.now) }
+{
+    let mut claims = Vec::new(alloc);
+    for r in 0..runs.len() {
+        push_claim(alloc, runs, &mut claims, Holder::Run(r))?;
+    }
+    for place in places {
+        push_claim(alloc, runs, &mut claims, Holder::Leg(*place))?;
+    }
+    Ok(claims)
+}
+
+// ---- who of a group
+
+/// Whether the claim is one of the group.
+fn is_of(claim: &GroupClaim, group: &GroupKey) -> bool
+    ensures { result ≡ same_group group.now claim.now.group }
+{
+    group.same(&claim.group)
+}
+
+fn claim_in_progress<'c>(
+    runs: &Runs,
+    claims: &'c [GroupClaim],
+    group: &GroupKey,
+) -> Option<&'c GroupClaim>
+    ensures { option_copied result
+        ≡ find (λ c. same_group group.now c.group && holds runs.now (holder_in_words c.holder)) claims.now }
+{
+    claims
+        .iter()
+        .find(|claim| is_of(claim, group) && runs.holds(&claim.holder))
+}
+
+fn pending_claim<'c>(
+    runs: &Runs,
+    claims: &'c [GroupClaim],
+    group: &GroupKey,
+) -> Option<&'c GroupClaim>
+    ensures { option_copied result
+        ≡ find (λ c. same_group group.now c.group && waits runs.now (holder_in_words c.holder)) claims.now }
+{
+    claims
+        .iter()
+        .find(|claim| is_of(claim, group) && runs.waits(&claim.holder))
+}
+
+/// The holder of a group that is in progress.
+fn running(runs: &Runs, claims: &[GroupClaim], group: &GroupKey) -> Option<Holder>
+    requires { map said claims.now ≡ claims_of runs.now }
+    ensures holder { option_map holder_in_words result ≡ find (is_running_in runs.now group.now) (all_holders runs.now) }
+    ensures within { IfSome result (λ h. run_of (holder_in_words h) < 100000) }
+{
+    match claim_in_progress(runs, claims, group) {
+        Some(claim) => Some(claim.holder),
+        None => None,
+    }
+}
+
+/// The one that is pending.
+fn pending(runs: &Runs, claims: &[GroupClaim], group: &GroupKey) -> Option<Holder>
+    requires { map said claims.now ≡ claims_of runs.now }
+    ensures holder { option_map holder_in_words result ≡ find (is_pending_in runs.now group.now) (all_holders runs.now) }
+    ensures within { IfSome result (λ h. run_of (holder_in_words h) < 100000) }
+{
+    match pending_claim(runs, claims, group) {
+        Some(claim) => Some(claim.holder),
+        None => None,
+    }
+}
+
+// ---- lines
+
+fn text_of_leg(alloc: Global, form: Form, runs: &Runs, place: LegPlace) -> Result<String, Refusal>
+    requires { place.run < 100000 }
+    ensures { Gives string_bytes result (Ok (holder_text form runs.now (Some (HolderOfGroup.a_leg place)))) }
+{
+    match form {
+        Form::Lines => {
+            let leg = leg_words(alloc, runs, place)?;
+            Ok(format!(in alloc; "leg {leg}")?)
+        }
+        Form::Json => {
+            let leg = leg_members(alloc, runs, place)?;
+            Ok(format!(in alloc; "{{{leg}}}")?)
+        }
+    }
+}
+
+fn text_of_run(alloc: Global, form: Form, place: usize) -> Result<String, Refusal>
+    requires { place < 100000 }
+    ensures { Gives string_bytes result (Ok (holder_text form [] (Some (HolderOfGroup.a_run place)))) }
+{
+    let run = place + 1;
+    match form {
+        Form::Lines => Ok(format!(in alloc; "run {run}")?),
+        Form::Json => Ok(format!(in alloc; "{{\"run\":{run}}}")?),
+    }
+}
+
+fn text_of_none(alloc: Global, form: Form) -> Result<String, Refusal>
+    ensures { Gives string_bytes result (Ok (holder_text form [] None)) }
+{
+    let word = match form {
+        Form::Lines => "-",
+        Form::Json => "null",
+    };
+    Ok(String::from_str(alloc, word)?)
+}
+
+fn text_of_holder(
+    alloc: Global,
+    form: Form,
+    runs: &Runs,
+    holder: &Holder,
+) -> Result<String, Refusal>
+    requires { run_of (holder_in_words holder.now) < 100000 }
+    ensures { Gives string_bytes result (Ok (holder_text form runs.now (Some (holder_in_words holder.now)))) }
+{
+    match holder {
+        Holder::Run(r) => text_of_run(alloc, form, *r),
+        Holder::Leg(place) => text_of_leg(alloc, form, runs, *place),
+    }
+}
+
+fn holder_text(
+    alloc: Global,
+    form: Form,
+    runs: &Runs,
+    holder: Option<Holder>,
+) -> Result<String, Refusal>
+    requires { IfSome holder (λ h. run_of (holder_in_words h) < 100000) }
+    ensures { Gives string_bytes result (Ok (holder_text form runs.now (option_map holder_in_words holder))) }
+{
+    match holder {
+        Some(holder) => text_of_holder(alloc, form, runs, &holder),
+        None => text_of_none(alloc, form),
+    }
+}
+
+fn group_words(
+    alloc: Global,
+    repository: &str,
+    name: &str,
+    running: &str,
+    pending: &str,
+) -> Result<String, AllocError>
+    ensures { IfOk result (λ s. string_bytes s ≡ line (codes "group " ++ repository.now ++ codes " " ++ name.now
+        ++ codes " in_progress " ++ running.now ++ codes " pending " ++ pending.now)) }
+{
+    format!(in alloc; "group {repository} {name} in_progress {running} pending {pending}\n")
+}
+
+fn group_object(
+    alloc: Global,
+    repository: &str,
+    name: &str,
+    running: &str,
+    pending: &str,
+) -> Result<String, AllocError>
+    ensures { IfOk result (λ s. string_bytes s ≡ line (codes "{\"repository\":" ++ repository.now ++ codes ",\"group\":" ++ name.now
+        ++ codes ",\"in_progress\":" ++ running.now ++ codes ",\"pending\":" ++ pending.now ++ codes "}")) }
+{
+    format!(in alloc;
+        "{{\"repository\":{repository},\"group\":{name},\"in_progress\":{running},\"pending\":{pending}}}\n"
+    )
+}
+
+/// The line of a group: its repository, its name without its case, who is in progress, and who is pending.
+fn group_line(
+    alloc: Global,
+    form: Form,
+    runs: &Runs,
+    claims: &[GroupClaim],
+    group: &GroupKey,
+) -> Result<String, Refusal>
+    requires { map said claims.now ≡ claims_of runs.now }
+    ensures { Gives string_bytes result (Ok (group_line form runs.now group.now)) }
+{
+    let repository = quoted(alloc, group.repository())?;
+    let name = quoted(alloc, group.name())?;
+    let running = holder_text(alloc, form, runs, running(runs, claims, group))?;
+    let pending = holder_text(alloc, form, runs, pending(runs, claims, group))?;
+    let (repository, name) = (repository.as_str(), name.as_str());
+    let (running, pending) = (running.as_str(), pending.as_str());
+    match form {
+        Form::Lines => Ok(group_words(alloc, repository, name, running, pending)?),
+        Form::Json => Ok(group_object(alloc, repository, name, running, pending)?),
+    }
+}
+
+/// Whether one of the first so many claims is of the group.
+fn has_group(claims: &[GroupClaim], count: usize, group: &GroupKey) -> bool
+    requires { count ≤ length claims.now }
+    ensures { result ≡ list_any (λ c. same_group c.group group.now) (take count claims.now) }
+{
+    claims[..count].iter().any(|claim| claim.group.same(group))
+}
+
+/// The line of the group of a claim, or nothing where a claim before it has the group.
+fn line_at(
+    alloc: Global,
+    form: Form,
+    runs: &Runs,
+    claims: &[GroupClaim],
+    i: usize,
+) -> Result<String, Refusal>
+    requires within { i < length claims.now }
+    requires claims { map said claims.now ≡ claims_of runs.now }
+    ensures { Gives string_bytes result (Ok (line_once (group_line form runs.now) (map (λ c. c.group) claims.now) i)) }
+{
+    let group = &claims[i].group;
+    if has_group(claims, i, group) {
+        return Ok(String::new(alloc));
+    }
+    group_line(alloc, form, runs, claims, group)
+}
+
+fn lines_of(
+    alloc: Global,
+    form: Form,
+    runs: &Runs,
+    claims: &[GroupClaim],
+) -> Result<String, Refusal>
+    requires { map said claims.now ≡ claims_of runs.now }
+    ensures { Gives string_bytes result (Ok (group_lines form runs.now)) }
+{
+    let mut text = String::new(alloc);
+    for i in 0..claims.len() {
+        let line = line_at(alloc, form, runs, claims, i)?;
+        text.push_str(line.as_str())?;
+    }
+    Ok(text)
+}
+
+/// A line for each group that somebody holds or waits for, by the places of all legs.
+pub(crate) fn groups_text(
+    alloc: Global,
+    form: Form,
+    runs: &Runs,
+    places: &[LegPlace],
+) -> Result<String, Refusal>
+    requires all { places.now ≡ leg_places runs.now }
+    requires within { All IsWithin places.now }
+    ensures { Gives string_bytes result (Ok (group_lines form runs.now)) }
+{
+    let claims = claims_of(alloc, runs, places)?;
+    lines_of(alloc, form, runs, claims.as_slice())
+}

@@ -1,0 +1,67 @@
+//! All legs of a table, and all that may hold a concurrency group.
+
+ghost use Rattle.std.specs.Prelude.{◌≡◌, ◌++◌, ◌<◌, ◌≤◌, ◌^◌, IfOk, OnOk, false, length, map};
+ghost use Rattle.std.specs.List.{All};
+ghost use Rattle.std.specs.Option.{option_map_or};
+ghost use Rattle.wf_value.specs.Gives.{Gives};
+ghost use Rattle.workflow_runs.specs.Cells.{states};
+ghost use Rattle.workflow_runs.specs.Fitting.{place_of_lease};
+ghost use Rattle.workflow_runs.specs.Groups.{all_holders};
+ghost use Rattle.workflow_runs.specs.Holders.{holder_in_words};
+ghost use Rattle.workflow_runs.specs.Places.{leg_places, leg_places_of_job, leg_places_of_run};
+ghost use Rattle.table_views.specs.Placed.{IsWithin};
+
+use run_plan::Number;
+use std::alloc::{AllocError, Global};
+use workflow_runs::holder::Holder;
+use workflow_runs::job::Job;
+use workflow_runs::leg::Leg;
+use workflow_runs::place::LegPlace;
+use workflow_runs::run::Run;
+use workflow_runs::runs::Runs;
+
+/// Adds the places of the legs of a job.
+fn push_legs_of_job(
+    places: &mut Vec<LegPlace>,
+    r: usize,
+    j: usize,
+    job: &Job,
+) -> Result<(), AllocError>
+    requires run { r < 100000 }
+    requires within { All IsWithin places.old.items }
+    ensures places { OnOk result (places.new.items ≡ places.old.items ++ leg_places_of_job r (j, job.now.state)) }
+    ensures within { OnOk result (All IsWithin places.new.items) }
+{
+    for l in 0..job.legs().len() {
+        places.push(LegPlace::new(r, j, l))?;
+    }
+    Ok(())
+}
+
+fn push_legs_of_run(places: &mut Vec<LegPlace>, r: usize, run: &Run) -> Result<(), AllocError>
+    requires run { r < 100000 }
+    requires within { All IsWithin places.old.items }
+    ensures places { OnOk result (places.new.items ≡ places.old.items ++ leg_places_of_run (r, run.now)) }
+    ensures within { OnOk result (All IsWithin places.new.items) }
+{
+    let jobs = run.jobs();
+    for j in 0..jobs.len() {
+        let job = &jobs[j];
+        push_legs_of_job(places, r, j, job)?;
+    }
+    Ok(())
+}
+
+/// The places of all legs, in the order of run, job and leg.
+pub(crate) fn leg_places(alloc: Global, runs: &Runs) -> Result<Vec<LegPlace>, AllocError>
+    ensures places { IfOk result (λ places. places.items ≡ leg_places runs.now) }
+    ensures within { IfOk result (λ places. All IsWithin places.items) }
+{
+    let mut places = Vec::new(alloc);
+    let all = runs.as_slice();
+    for r in 0..all.len() {
+        let run = &all[r];
+        push_legs_of_run(&mut places, r, run)?;
+    }
+    Ok(places)
+}

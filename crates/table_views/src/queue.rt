@@ -1,0 +1,112 @@
+//! The lines of the queue: of the legs that are ready, and then of the concurrency groups.
+
+ghost use Rattle.std.specs.Prelude.{◌≡◌, ◌<◌, ◌^◌, Ok, false, map, string_bytes};
+ghost use Rattle.std.specs.List.{All};
+ghost use Rattle.std.specs.Option.{option_map_or};
+ghost use Rattle.wf_value.specs.Gives.{Gives};
+ghost use Rattle.workflow_runs.specs.Fitting.{is_ready};
+ghost use Rattle.workflow_runs.specs.Places.{leg_at, leg_places};
+ghost use Rattle.table_views.specs.Placed.{IsWithin};
+ghost use Rattle.table_views.specs.QueueLines.{is_ready_at, labels_json, queue_lines, ready_line, ready_lines};
+ghost use Rattle.table_views.specs.Texts.{quoted};
+
+use crate::form::Form;
+use crate::groups::groups_text;
+use crate::places::leg_places;
+use crate::texts::{leg_members, leg_words, listed, quoted};
+use run_table::Table;
+use std::alloc::Global;
+use wf_value::{Chars, Refusal};
+use workflow_runs::phases::LegPhase;
+use workflow_runs::place::LegPlace;
+use workflow_runs::runs::Runs;
+
+fn is_ready(phase: LegPhase) -> bool
+    ensures { result ≡ is_ready phase }
+{
+    match phase {
+        LegPhase::Ready => true,
+        LegPhase::New | LegPhase::Waiting => false,
+        LegPhase::Running | LegPhase::Stopping | LegPhase::Ended(_) => false,
+    }
+}
+
+fn is_ready_at(runs: &Runs, place: LegPlace) -> bool
+    ensures { result ≡ is_ready_at runs.now place }
+{
+    match runs.leg(place) {
+        Some(leg) => is_ready(leg.phase),
+        None => false,
+    }
+}
+
+fn quoted_each(alloc: Global, texts: &[Chars]) -> Result<Vec<Chars>, Refusal>
+    ensures { Gives (λ quoted. quoted.items) result (Ok (map quoted texts.now)) }
+{
+    let mut all = Vec::with_capacity(alloc, texts.len())?;
+    for text in texts {
+        let one = quoted(alloc, text.as_str())?;
+        all.push(Chars::new(one))?;
+    }
+    Ok(all)
+}
+
+/// The labels that a leg asks for.
+fn labels_json(alloc: Global, runs: &Runs, place: LegPlace) -> Result<String, Refusal>
+    requires { place.leg < 2 ^ 63 }
+    ensures { Gives string_bytes result (Ok (labels_json runs.now place)) }
+{
+    let labels = runs.label_texts(alloc, place)?;
+    let texts = quoted_each(alloc, labels.as_slice())?;
+    listed(alloc, texts.as_slice())
+}
+
+fn ready_line(alloc: Global, form: Form, runs: &Runs, place: LegPlace) -> Result<String, Refusal>
+    requires { IsWithin place }
+    ensures { Gives string_bytes result (Ok (ready_line form runs.now place)) }
+{
+    let labels = labels_json(alloc, runs, place)?;
+    match form {
+        Form::Lines => {
+            let leg = leg_words(alloc, runs, place)?;
+            Ok(format!(in alloc; "ready {leg} {labels}\n")?)
+        }
+        Form::Json => {
+            let leg = leg_members(alloc, runs, place)?;
+            Ok(format!(in alloc; "{{{leg},\"labels\":{labels}}}\n")?)
+        }
+    }
+}
+
+/// A line for each leg that is ready, by the places of all legs.
+fn ready_text(
+    alloc: Global,
+    form: Form,
+    runs: &Runs,
+    places: &[LegPlace],
+) -> Result<String, Refusal>
+    requires all { places.now ≡ leg_places runs.now }
+    requires within { All IsWithin places.now }
+    ensures { Gives string_bytes result (Ok (ready_lines form runs.now)) }
+{
+    let mut text = String::new(alloc);
+    for place in places {
+        if is_ready_at(runs, *place) {
+            let line = ready_line(alloc, form, runs, *place)?;
+            text.push_str(line.as_str())?;
+        }
+    }
+    Ok(text)
+}
+
+/// The queue of a table.
+pub fn queue_text(alloc: Global, form: Form, table: &Table) -> Result<Chars, Refusal>
+    ensures { Gives (λ text. text) result (Ok (queue_lines form table.now)) }
+{
+    let runs = table.kept_runs();
+    let places = leg_places(alloc, runs)?;
+    let mut text = ready_text(alloc, form, runs, places.as_slice())?;
+    let groups = groups_text(alloc, form, runs, places.as_slice())?;
+    text.push_str(groups.as_str())?;
+    Ok(Chars::new(text))
+}

@@ -1,0 +1,163 @@
+//! The lines of runners.
+
+ghost use Rattle.std.specs.Prelude.{◌≡◌, ◌++◌, ◌<◌, [], IfOk, IfSome, None, Ok, Some, codes, decimal, false, find, option_copied, string_bytes};
+ghost use Rattle.std.specs.List.{All};
+ghost use Rattle.std.specs.Option.{option_map_or};
+ghost use Rattle.wf_value.specs.Gives.{Gives};
+ghost use Rattle.workflow_runs.specs.Fitting.{has_lease, place_of_lease};
+ghost use Rattle.workflow_runs.specs.Places.{leg_at, leg_places};
+ghost use Rattle.table_views.specs.Placed.{IsWithin};
+ghost use Rattle.table_views.specs.RunnerLines.{held_leg, lease_text, runner_line, runner_lines};
+ghost use Rattle.table_views.specs.Texts.{line};
+
+use crate::form::Form;
+use crate::places::leg_places;
+use crate::texts::{leg_members, leg_words, quoted};
+use run_plan::Number;
+use run_table::{Runner, Table};
+use std::alloc::{AllocError, Global};
+use wf_value::{Chars, Refusal};
+use workflow_runs::leg::Leg;
+use workflow_runs::place::LegPlace;
+use workflow_runs::runs::Runs;
+
+fn has_lease(leg: &Leg, lease: Number) -> bool
+    ensures { result ≡ has_lease lease leg.now }
+{
+    match leg.lease {
+        Some(held) => held.get() == lease.get(),
+        None => false,
+    }
+}
+
+fn has_lease_at(runs: &Runs, place: LegPlace, lease: Number) -> bool
+    ensures { result ≡ option_map_or (has_lease lease) (leg_at runs.now place) false }
+{
+    match runs.leg(place) {
+        Some(leg) => has_lease(leg, lease),
+        None => false,
+    }
+}
+
+/// The first of these places whose leg has a lease.
+fn first_with_lease<'p>(runs: &Runs, places: &'p [LegPlace], lease: Number) -> Option<&'p LegPlace>
+    requires { All IsWithin places.now }
+    ensures found { option_copied result ≡ find (λ p. option_map_or (has_lease lease) (leg_at runs.now p) false) places.now }
+    ensures run { IfSome result (λ p. p.now.run < 100000) }
+{
+    places
+        .iter()
+        .find(|place| has_lease_at(runs, **place, lease))
+}
+
+/// The leg that has a lease, by the places of all legs.
+fn place_of_lease(runs: &Runs, places: &[LegPlace], lease: Number) -> Option<LegPlace>
+    requires all { places.now ≡ leg_places runs.now }
+    requires within { All IsWithin places.now }
+    ensures found { result ≡ place_of_lease runs.now lease }
+    ensures run { IfSome result (λ p. p.run < 100000) }
+{
+    match first_with_lease(runs, places, lease) {
+        Some(place) => Some(*place),
+        None => None,
+    }
+}
+
+/// A lease with the leg that has it.
+fn held_text(
+    alloc: Global,
+    form: Form,
+    runs: &Runs,
+    lease: Number,
+    place: LegPlace,
+) -> Result<String, Refusal>
+    requires { place.run < 100000 }
+    ensures { Gives string_bytes result (Ok (lease_text form runs.now (Some (lease, place)))) }
+{
+    let lease = lease.get();
+    match form {
+        Form::Lines => {
+            let leg = leg_words(alloc, runs, place)?;
+            Ok(format!(in alloc; "lease {lease} {leg}")?)
+        }
+        Form::Json => {
+            let leg = leg_members(alloc, runs, place)?;
+            Ok(format!(in alloc; "{{\"lease\":{lease},{leg}}}")?)
+        }
+    }
+}
+
+fn no_lease_text(alloc: Global, form: Form) -> Result<String, Refusal>
+    ensures { Gives string_bytes result (Ok (lease_text form [] None)) }
+{
+    let word = match form {
+        Form::Lines => "-",
+        Form::Json => "null",
+    };
+    Ok(String::from_str(alloc, word)?)
+}
+
+/// What a runner holds.
+fn lease_text(
+    alloc: Global,
+    form: Form,
+    runs: &Runs,
+    places: &[LegPlace],
+    runner: &Runner,
+) -> Result<String, Refusal>
+    requires all { places.now ≡ leg_places runs.now }
+    requires within { All IsWithin places.now }
+    ensures { Gives string_bytes result (Ok (lease_text form runs.now (held_leg runs.now runner.now))) }
+{
+    let Some(lease) = runner.holds else {
+        return no_lease_text(alloc, form);
+    };
+    match place_of_lease(runs, places, lease) {
+        Some(place) => held_text(alloc, form, runs, lease, place),
+        None => no_lease_text(alloc, form),
+    }
+}
+
+fn runner_words(alloc: Global, name: &str, number: u32, lease: &str) -> Result<String, AllocError>
+    ensures { IfOk result (λ s. string_bytes s
+        ≡ line (codes "runner " ++ name.now ++ codes " " ++ decimal number ++ codes " " ++ lease.now)) }
+{
+    format!(in alloc; "runner {name} {number} {lease}\n")
+}
+
+fn runner_line(
+    alloc: Global,
+    form: Form,
+    runs: &Runs,
+    places: &[LegPlace],
+    runner: &Runner,
+) -> Result<String, Refusal>
+    requires all { places.now ≡ leg_places runs.now }
+    requires within { All IsWithin places.now }
+    ensures { Gives string_bytes result (Ok (runner_line form runs.now runner.now)) }
+{
+    let name = runner.name.as_str();
+    let number = runner.number.get();
+    let lease = lease_text(alloc, form, runs, places, runner)?;
+    match form {
+        Form::Lines => Ok(runner_words(alloc, name, number, lease.as_str())?),
+        Form::Json => {
+            let name = quoted(alloc, name)?;
+            Ok(format!(in alloc; "{{\"runner\":{name},\"number\":{number},\"lease\":{lease}}}\n")?)
+        }
+    }
+}
+
+/// A line for each runner of a table, in the order of their names.
+pub fn runners_text(alloc: Global, form: Form, table: &Table) -> Result<Chars, Refusal>
+    ensures { Gives (λ text. text) result (Ok (runner_lines form table.now)) }
+{
+    let runs = table.kept_runs();
+    let places = leg_places(alloc, runs)?;
+    let mut text = String::new(alloc);
+    for runner in table.runners() {
+        let line = runner_line(alloc, form, runs, places.as_slice(), runner)?;
+        text.push_str(line.as_str())?;
+    }
+    Ok(Chars::new(text))
+}
