@@ -1,11 +1,15 @@
 -- What a showing has written, run by run.
-use Rattle.std.proofs.Common.{◌≡◌, ◌∙◌, inl, inr, ℕ, suc, ◌+◌, ◌-◌, ◌<◌, ◌≤◌, List, [], ◌++◌, length, Option, Some, None}
-use Rattle.std.proofs.Common.{Result, Ok, Err, refl, sym, ap, append-nil, arith}
-use Rattle.std.specs.Io.KnownBytes.{Appends}
+use Rattle.std.proofs.Common.{◌≡◌, ◌⊎◌, ◌∙◌, inl, inr, ℕ, suc, ◌+◌, ◌-◌, ◌<◌, ◌≤◌, List, [], ◌++◌, length, Option, Some, None}
+use Rattle.std.proofs.Common.{Result, Ok, Err, IfErr, refl, sym, ap, subst, append-nil, arith}
+use Rattle.std.specs.Io.KnownBytes.{Appends, Keeps}
 use Rattle.std.specs.Option.{option_map_or}
-use Rattle.std.specs.Prelude.{option_map}
+use Rattle.std.specs.Prelude.{IsErrAnd, ok_or, option_map}
+use Rattle.std.proofs.KnownBytes.{Appends-nil}
 use Rattle.std.proofs.lemmas.Option.{slice_get_cases}
+use Rattle.wf_value.specs.Gives.{no_memory}
+use Rattle.wf_value.specs.declared.code.Code.TheVariants.{NoRun}
 use Rattle.wf_value.specs.declared.refusal.Refusal.{Refusal}
+use Rattle.wf_value.specs.declared.refusal.Refusal.TheVariants.{Numbered}
 use Rattle.workflow_runs.specs.RunNumber.{events, run_number}
 use Rattle.run_table.specs.Step.{seen}
 use Rattle.run_table.specs.TableState.{TableState}
@@ -15,12 +19,19 @@ use Rattle.act_store.specs.Entries.{table_after}
 use Rattle.act_store.specs.Images.{HasNoArea, StandsFor}
 use Rattle.act_store.specs.StoreState.{StoreState, table_of}
 use Rattle.act_store.specs.declared.entry.Entry.{Entry}
-use Rattle.acts_ops.specs.Show.{Shows, lines_from, shown, view_line}
+use Rattle.table_views.specs.RunLines.{run_line}
+use Rattle.table_views.specs.declared.form.Form.{Form}
+use Rattle.act_disk.specs.Failed.{device_failed, stream_failed}
+use Rattle.act_store.specs.Told.{TellsFault}
+use Rattle.acts_ops.specs.Show.{Shows, WritesWhat, lines_from, run_lines, shown}
+use Rattle.acts_ops.specs.declared.shown.Shown.{Shown}
+use Rattle.acts_ops.specs.declared.shown.Shown.TheVariants as what
 use Rattle.acts_ops.specs.Writes.{Writes}
+use Rattle.acts_ops.proofs.Writing.{flushed, written_faults}
 
 -- the lines of the runs from a place on
-abbrev pub lines_behind : TableState → ℕ → List ℕ
-lines_behind t place = lines_from t (place + 1) (length t.runs - place)
+abbrev pub lines_behind : Form → TableState → ℕ → List ℕ
+lines_behind form t place = lines_from form t (place + 1) (length t.runs - place)
 
 -- what is seen of a run with an id
 abbrev shown_of : TableState → ℕ → RunState → Seen
@@ -29,11 +40,11 @@ shown_of t id run = record { id = id; number = run_number (events t.runs) (id - 
 abbrev seen_by : TableState → ℕ → Option RunState → Option Seen
 seen_by t id found = option_map (shown_of t id) found
 
-all_behind : (t : TableState) → lines_behind t 0 ≡ shown t
-all_behind t = ap (λ n. lines_from t 1 n) (let same : length t.runs - 0 ≡ length t.runs = omega arith in same)
+all_behind : (form : Form) (t : TableState) → lines_behind form t 0 ≡ run_lines form t
+all_behind form t = ap (λ n. lines_from form t 1 n) (let same : length t.runs - 0 ≡ length t.runs = omega arith in same)
 
-pub before_all : (t : TableState) → [] ++ lines_behind t 0 ≡ shown t
-before_all t = all_behind t
+pub before_all : (form : Form) (t : TableState) → [] ++ lines_behind form t 0 ≡ run_lines form t
+before_all form t = all_behind form t
 
 -- ---- a run that is there
 
@@ -47,21 +58,23 @@ there t place run is =
     ]
 
 -- its line stands before those of the later ones
-pub behind_run : (t : TableState) (out : List ℕ) (place id : ℕ) (run : Seen) → Some run ≡ seen t id → id ≡ place + 1
-    → out ++ lines_behind t place ≡ shown t → out ++ (view_line run ++ lines_behind t (place + 1)) ≡ shown t
-behind_run t out place id run looked id_is h =
+pub behind_run : (form : Form) (t : TableState) (out : List ℕ) (place id : ℕ) (run : Seen) → Some run ≡ seen t id → id ≡ place + 1
+    → out ++ lines_behind form t place ≡ run_lines form t
+    → out ++ (run_line form run ++ lines_behind form t (place + 1)) ≡ run_lines form t
+behind_run form t out place id run looked id_is h =
     let is : seen t (place + 1) ≡ Some run = sym (looked ∙ ap (seen t) id_is) in
     let below : place < length t.runs = there t place run is in
     let left : length t.runs - place ≡ suc (length t.runs - (place + 1)) = omega arith in
-    ap (λ x. out ++ x) (sym (ap (λ n. lines_from t (place + 1) n) left
-    ∙ ap (λ o. option_map_or view_line o [] ++ lines_from t (place + 1 + 1) (length t.runs - (place + 1))) is)) ∙ h
+    ap (λ x. out ++ x) (sym (ap (λ n. lines_from form t (place + 1) n) left
+    ∙ ap (λ o. option_map_or (run_line form) o [] ++ lines_from form t (place + 1 + 1) (length t.runs - (place + 1))) is)) ∙ h
 
 -- ---- the end
 
-pub past_last : (t : TableState) (out all : List ℕ) (place : ℕ) → length t.runs ≤ place → out ++ lines_behind t place ≡ all → out ≡ all
-past_last t out all place past h =
+pub past_last : (form : Form) (t : TableState) (out all : List ℕ) (place : ℕ) → length t.runs ≤ place
+    → out ++ lines_behind form t place ≡ all → out ≡ all
+past_last form t out all place past h =
     let none : length t.runs - place ≡ 0 = omega arith in
-    sym (append-nil out) ∙ ap (λ n. out ++ lines_from t (place + 1) n) (sym none) ∙ h
+    sym (append-nil out) ∙ ap (λ n. out ++ lines_from form t (place + 1) n) (sym none) ∙ h
 
 -- the table of a store that was just opened is its base
 pub opened_table : {D : Type 0} (s : StoreState D) → s.history ≡ [] → s.base ≡ table_of s
@@ -72,8 +85,76 @@ pub stands_somewhere : (t : TableState) (image : List ℕ) → StandsFor t image
 stands_somewhere t image stands none =
     let clash : None ≡ Some stands.side = sym (none stands.len stands.long stands.size) ∙ stands.spells.stands in cc
 
+-- ---- what is written of what is shown
+
+given : (x y : List ℕ) → x ≡ y → ◌≡◌ {A = Result (List ℕ) Refusal} (Ok x) (Ok y)
+given x y is = ap Ok is
+
+refused : (e f : Refusal) → e ≡ f → ◌≡◌ {A = Result (List ℕ) Refusal} (Err e) (Err f)
+refused e f is = ap Err is
+
+same_Err : (e f : Refusal) → ◌≡◌ {A = Result (List ℕ) Refusal} (Err e) (Err f) → e ≡ f
+same_Err e f is = cc
+
+-- how a call ended
+abbrev pub with_error : {V : Type 0} → Refusal → Result V Refusal
+with_error e = Err e
+
+abbrev pub well : {V : Type 0} → V → Result V Refusal
+well v = Ok v
+
+-- a call that was refused passes that on
+pub passed_what : {U : Type 0} (V : Type 0) (old new : Option (List ℕ)) (lines : Result (List ℕ) Refusal) (r : Result U Refusal) (e : Refusal)
+    → IsErrAnd r (λ f. f ≡ e) → WritesWhat old new lines (with_error {V = V} e) → WritesWhat old new lines r
+passed_what V old new (Ok all) (Ok u) e is writes = absurd is
+passed_what V old new (Ok all) (Err f) e is writes =
+    (subst (λ x. (x ≡ stream_failed) ⊎ (x ≡ no_memory)) (sym is) writes.0, writes.1)
+passed_what V old new (Err why) (Ok u) e is writes = absurd is
+passed_what V old new (Err why) (Err f) e is writes = (writes.0, is ∙ writes.1)
+
+-- what is written whole is flushed
+pub flushed_what : {U V : Type 0} (old mid new : Option (List ℕ)) (lines : Result (List ℕ) Refusal) (u : V) (r : Result U Refusal)
+    → WritesWhat old mid lines (well u) → Keeps mid new → IfErr r (λ e. e ≡ stream_failed) → WritesWhat old new lines r
+flushed_what old mid new (Ok all) u r writes kept why = flushed old mid new all r writes kept why
+flushed_what old mid new (Err e) u r writes kept why = absurd writes.1
+
 -- what a showing wrote of a table, all or a front
-pub shows_told : {U : Type 0} (image : List ℕ) (t : TableState) (old new : Option (List ℕ)) (r : Result U Refusal) → StandsFor t image
-    → Writes old new (shown t) r → (out : List ℕ) × Appends old new out × Shows image out r
-shows_told image t old new (Ok u) stands all = (shown t, all, (t, stands, refl))
-shows_told image t old new (Err e) stands part = (part.1.0, part.1.2, inr (part.0, (t, stands, part.1.1, part.1.3)))
+pub shows_told : {U : Type 0} (lines : TableState → Result (List ℕ) Refusal) (image : List ℕ) (t : TableState) (old new : Option (List ℕ))
+    (r : Result U Refusal) → StandsFor t image → WritesWhat old new (lines t) r → (out : List ℕ) × Appends old new out × Shows lines image out r
+shows_told {U} lines image t old new r stands writes = by (lines t) r refl writes
+  where
+    by : (defined : Result (List ℕ) Refusal) (ended : Result U Refusal) → lines t ≡ defined → WritesWhat old new defined ended
+        → (out : List ℕ) × Appends old new out × Shows lines image out ended
+    by (Ok all) (Ok u) is all_written = (all, all_written, (t, stands, is))
+    by (Ok all) (Err e) is part =
+        (part.1.0, part.1.2, inr (inr (part.0, (t, stands, part.1.1, is ∙ given _ _ (sym part.1.3)))))
+    by (Err why) (Ok u) is none = absurd none.1
+    by (Err why) (Err e) is none = ([], none.0, inr (inl (refl, (t, stands, is ∙ refused _ _ (sym none.1)))))
+
+-- what is not there is no fault of the device
+not_there : (o : Option (List ℕ)) (e : Refusal) → ok_or o (Numbered NoRun) ≡ Err e → e ≡ device_failed → ⊥
+not_there None e is device = let clash : Numbered NoRun ≡ device_failed = same_Err _ _ is ∙ device in cc
+not_there (Some text) e is device = cc
+
+no_device : (form : Form) (asked : Shown) (t : TableState) (e : Refusal) → shown form asked t ≡ Err e → e ≡ device_failed → ⊥
+no_device form what.Runs t e is device = cc
+no_device form (what.Run id) t e is device = not_there (option_map (run_line form) (seen t id)) e is device
+no_device form what.Runners t e is device = cc
+no_device form what.Queue t e is device = cc
+
+-- a run that is not there, and nothing written
+pub missing : {U : Type 0} (old : Option (List ℕ)) (found : Option Seen) (form : Form) (r : Result U Refusal) → None ≡ found
+    → IsErrAnd r (λ f. f ≡ Numbered NoRun) → WritesWhat old old (ok_or (option_map (run_line form) found) (Numbered NoRun)) r
+missing old None form r is refused_so = (Appends-nil old, refused_so)
+missing old (Some run) form r is refused_so = absurd cc
+
+pub shown_faults : {U : Type 0} (form : Form) (asked : Shown) (t : TableState) (old new : Option (List ℕ)) (r : Result U Refusal)
+    (before after : ℕ) → WritesWhat old new (shown form asked t) r → after ≡ before → TellsFault r before after
+shown_faults {U} form asked t old new r before after writes same = by (shown form asked t) r refl writes
+  where
+    by : (defined : Result (List ℕ) Refusal) (ended : Result U Refusal) → shown form asked t ≡ defined → WritesWhat old new defined ended
+        → TellsFault ended before after
+    by (Ok lines) ended is all = written_faults old new lines ended before after all same
+    by (Err why) (Ok u) is none = absurd none.1
+    by (Err why) (Err e) is none =
+        inr (no_device form asked t e (is ∙ refused _ _ (sym none.1)), same)

@@ -24,6 +24,7 @@ without_disk s = record {
   covered = s.covered;
   used = s.used;
   generation = s.generation;
+  layout = s.layout;
   begun = s.begun;
   failed = s.failed;
 }

@@ -3,7 +3,8 @@ ghost use Rattle.wf_value.specs.Gives.{Gives};
 ghost use Rattle.acts_ops.specs.Line.{command_by, command_of};
 
 use command_lines::{
-    admit_of, at_space, beat_of, cancel_of, claim_of, done_of, fetch_of, look_of, lost_of, spelled,
+    admit_of, at_space, beat_of, cancel_of, claim_of, done_of, fetch_of, look_of, lost_of,
+    rerun_of, spelled,
 };
 use run_plan::Command;
 use std::alloc::Global;
@@ -28,14 +29,16 @@ fn command_by(alloc: Global, word: &[u8], fields: &[u8]) -> Result<Command, Refu
         look_of(fields)
     } else if word == b"fetch".as_slice() {
         fetch_of(fields)
+    } else if word == b"rerun".as_slice() {
+        rerun_of(fields)
     } else {
         spelled(None)
     }
 }
 
 /// The command of a line: `admit DELIVERY EVENT BODY`, `claim RUNNER NUMBER LABELS`,
-/// `done RUNNER NUMBER LEASE RESULT`, `beat RUNNER LEASE`, `cancel RUN`, `lost RUNNER`, `look RUN` or `fetch RUN`,
-/// parted by one space. BODY is all that follows the third space. Every other line is refused 75, and a body with a
+/// `done RUNNER NUMBER LEASE RESULT`, `beat RUNNER LEASE`, `cancel RUN`, `lost RUNNER`, `look RUN`, `fetch RUN` or
+/// `rerun RUN ATTEMPT`, parted by one space. BODY is all that follows the third space. Every other line is refused 75, and a body with a
 /// fault with the first one's number: 10 to 26. Want of memory is 50.
 pub fn command_of(alloc: Global, line: &[u8]) -> Result<Command, Refusal>
     ensures { Gives (λ c. c) result (command_of line.now) }

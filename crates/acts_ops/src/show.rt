@@ -1,83 +1,145 @@
-//! What `acts show` does: the views of the runs of the table that a disk stands for.
+//! What `acts show`, `acts runners` and `acts queue` do: lines of the table that a disk stands for.
 
-ghost use Rattle.std.specs.Prelude.{◌<◌, ℕ, List, Ok, string_bytes, IsErrAnd};
+ghost use Rattle.std.specs.Prelude.{◌<◌, ℕ, List, IsErrAnd};
 ghost use Rattle.std.specs.Io.KnownBytes.{Appends};
-ghost use Rattle.wf_value.specs.Gives.{Gives};
 ghost use Rattle.act_disk.specs.Images.{EachSince};
 ghost use Rattle.act_store.specs.Images.{HasNoArea};
 ghost use Rattle.act_store.specs.StoreState.{table_of};
 ghost use Rattle.act_store.specs.Plain.{TellsNoArea};
 ghost use Rattle.act_store.specs.Told.{TellsFault};
-ghost use Rattle.acts_ops.specs.Show.{Shows, shown, view_line};
+ghost use Rattle.table_views.specs.QueueLines.{queue_lines};
+ghost use Rattle.table_views.specs.RunLines.{run_line};
+ghost use Rattle.table_views.specs.RunnerLines.{runner_lines};
+ghost use Rattle.acts_ops.specs.Show.{Shows, WritesWhat, one_run, run_lines, shown};
 ghost use Rattle.acts_ops.specs.Writes.{Writes};
 
+use crate::shown::Shown;
 use act_disk::Disk;
 use act_store::Store;
 use byte_streams::{flush, write_whole};
 use run_plan::Number;
-use run_table::RunView;
+use run_table::{RunView, Table};
 use std::alloc::Global;
 use std::io::Write;
-use wf_value::Refusal;
+use table_views::{Form, queue_text, run_line, runners_text};
+use wf_value::{Code, Refusal};
 use workflow_runs::runs::MOST_RUNS;
 
-/// The view of a run, and a line feed.
-fn view_text(alloc: Global, view: &RunView<'_>) -> Result<String, Refusal>
-    ensures { Gives (λ text. string_bytes text) result (Ok (view_line view.now)) }
+fn write_view<W: Write>(
+    alloc: Global,
+    form: Form,
+    view: &RunView<'_>,
+    writer: &mut W,
+) -> Result<(), Refusal>
+    ensures { Writes (W.contents writer.old) (W.contents writer.new) (run_line form view.now) result }
 {
-    let mut text = view.text(alloc)?.into_string();
-    text.push_str("\n")?;
-    Ok(text)
-}
-
-fn write_view<W: Write>(alloc: Global, view: &RunView<'_>, writer: &mut W) -> Result<(), Refusal>
-    ensures { Writes (W.contents writer.old) (W.contents writer.new) (view_line view.now) result }
-{
-    let text = view_text(alloc, view)?;
+    let text = run_line(alloc, form, view)?;
     write_whole(writer, text.as_bytes())
 }
 
-/// Writes the view of each run of a store, in the order of their ids.
+/// Writes the line of each run of a store, in the order of their ids.
 fn write_views<D: Disk, W: Write>(
     alloc: Global,
+    form: Form,
     store: &Store<D>,
     writer: &mut W,
 ) -> Result<(), Refusal>
-    ensures { Writes (W.contents writer.old) (W.contents writer.new) (shown (table_of store.now)) result }
+    ensures { Writes (W.contents writer.old) (W.contents writer.new) (run_lines form (table_of store.now)) result }
 {
     for place in 0..MOST_RUNS {
         let Some(view) = store.look(Number::new(place + 1)) else {
             return Ok(());
         };
-        write_view(alloc, &view, writer)?;
+        write_view(alloc, form, &view, writer)?;
     }
     Ok(())
 }
 
-/// Writes the view of each run of a store, and flushes the writer.
-fn show_store<D: Disk, W: Write>(
+/// Writes the line of one run. One that is not there is refused 40.
+fn write_run<D: Disk, W: Write>(
     alloc: Global,
+    form: Form,
+    store: &Store<D>,
+    run: Number,
+    writer: &mut W,
+) -> Result<(), Refusal>
+    ensures { WritesWhat (W.contents writer.old) (W.contents writer.new) (one_run form (table_of store.now) run) result }
+{
+    match store.look(run) {
+        Some(view) => write_view(alloc, form, &view, writer),
+        None => Err(Refusal::Numbered(Code::NoRun)),
+    }
+}
+
+fn write_runners<W: Write>(
+    alloc: Global,
+    form: Form,
+    table: &Table,
+    writer: &mut W,
+) -> Result<(), Refusal>
+    ensures { Writes (W.contents writer.old) (W.contents writer.new) (runner_lines form table.now) result }
+{
+    let text = runners_text(alloc, form, table)?;
+    write_whole(writer, text.as_str().as_bytes())
+}
+
+fn write_queue<W: Write>(
+    alloc: Global,
+    form: Form,
+    table: &Table,
+    writer: &mut W,
+) -> Result<(), Refusal>
+    ensures { Writes (W.contents writer.old) (W.contents writer.new) (queue_lines form table.now) result }
+{
+    let text = queue_text(alloc, form, table)?;
+    write_whole(writer, text.as_str().as_bytes())
+}
+
+fn write_shown<D: Disk, W: Write>(
+    alloc: Global,
+    form: Form,
+    what: Shown,
     store: &Store<D>,
     writer: &mut W,
 ) -> Result<(), Refusal>
-    ensures { Writes (W.contents writer.old) (W.contents writer.new) (shown (table_of store.now)) result }
+    ensures { WritesWhat (W.contents writer.old) (W.contents writer.new) (shown form what (table_of store.now)) result }
 {
-    write_views(alloc, store, writer)?;
+    match what {
+        Shown::Runs => write_views(alloc, form, store, writer),
+        Shown::Run(run) => write_run(alloc, form, store, run, writer),
+        Shown::Runners => write_runners(alloc, form, store.table(), writer),
+        Shown::Queue => write_queue(alloc, form, store.table(), writer),
+    }
+}
+
+/// Writes what is shown of a store, and flushes the writer.
+fn show_store<D: Disk, W: Write>(
+    alloc: Global,
+    form: Form,
+    what: Shown,
+    store: &Store<D>,
+    writer: &mut W,
+) -> Result<(), Refusal>
+    ensures { WritesWhat (W.contents writer.old) (W.contents writer.new) (shown form what (table_of store.now)) result }
+{
+    write_shown(alloc, form, what, store, writer)?;
     flush(writer)
 }
 
-/// Shows what a disk stands for: opens it, and writes the view of each run, in the order of their ids, and a
-/// line feed. The disk is given back as it is then, with how the call ended. A disk on which no area is open is
-/// refused 53, one whose area spells no table 54, with nothing written. Where the device fails that is 51, a
-/// failed write is 61, and want of memory 50.
+/// Shows what a disk stands for: opens it, and writes a line for each run, for one of them, for each runner, or for all that is in the
+/// queue. The disk is given back as it is then, with how the call ended. A disk on which no area is
+/// open is refused 53, one whose area spells no table 54, and one without the run that is asked for 40, with nothing written. Where the
+/// device fails that is 51, a failed write is 61, and want of memory 50.
 pub fn run_show<D: Disk, W: Write>(
     alloc: Global,
     disk: D,
+    what: Shown,
+    form: Form,
     writer: &mut W,
 ) -> (D, Result<(), Refusal>)
     requires { D.fault_count disk < u64.MAX }
     ensures written { D.honest result.0 → (out : List ℕ) × Appends (W.contents writer.old) (W.contents writer.new) out
-        × Shows (D.seen disk) out result.1 }
+        × Shows (shown form what) (D.seen disk) out result.1 }
     // 51 is told exactly where a call of the disk failed, and 53 or 51 where no area stands, memory or not.
     ensures faults { TellsFault result.1 (D.fault_count disk) (D.fault_count result.0) }
     ensures nothing_stands { D.honest result.0 → HasNoArea (D.seen disk) → IsErrAnd result.1 TellsNoArea }
@@ -86,7 +148,7 @@ pub fn run_show<D: Disk, W: Write>(
 {
     match Store::open(alloc, disk) {
         Ok(store) => {
-            let ended = show_store(alloc, &store, writer);
+            let ended = show_store(alloc, form, what, &store, writer);
             (store.into_disk(), ended)
         }
         Err((disk, refusal)) => (disk, Err(refusal)),

@@ -4,8 +4,7 @@ use Rattle.run_table.specs.TableState.{TableState}
 use Rattle.act_store.specs.Images.{StandsFor}
 use Rattle.act_store.specs.StoreState.{table_of}
 use Rattle.acts_ops.specs.Show.{shown}
-use Rattle.acts_ops.proofs.Showing.{opened_table, shows_told, stands_somewhere}
-use Rattle.acts_ops.proofs.Writing.{written_faults}
+use Rattle.acts_ops.proofs.Showing.{opened_table, shown_faults, shows_told, stands_somewhere}
 use Rattle.acts_ops.proofs.show.run_show.Goals as goal
 
 pub returns-in-Err-clause-written : goal.returns-in-Err-clause-written
@@ -21,12 +20,12 @@ returns-in-Ok-clause-written g c = λ honest.
     let image = g.D.Disk.seen c.args.disk in
     let stands : StandsFor (table_of s) image =
     subst (λ (t : TableState). StandsFor t image) (opened_table s c.in-Ok.ensures.begun.0) (c.in-Ok.ensures.base (subst g.D.Disk.honest c.into_disk.ensures honest)) in
-    shows_told image (table_of s) (g.W.Write.contents c.args.writer.now) (g.W.Write.contents c.show_store-ended.new.writer)
+    shows_told (shown c.args.form c.args.what) image (table_of s) (g.W.Write.contents c.args.writer.now) (g.W.Write.contents c.show_store-ended.new.writer)
     c.show_store-ended.result stands c.show_store-ended.ensures
 
 pub returns-in-Ok-clause-faults : goal.returns-in-Ok-clause-faults
 returns-in-Ok-clause-faults g c =
-    written_faults _ _ (shown (table_of c.in-Ok.store)) c.show_store-ended.result _ _ c.show_store-ended.ensures
+    shown_faults c.args.form c.args.what (table_of c.in-Ok.store) _ _ c.show_store-ended.result _ _ c.show_store-ended.ensures
     (ap g.D.Disk.fault_count c.into_disk.ensures ∙ c.in-Ok.ensures.faults)
 
 pub returns-in-Ok-clause-nothing_stands : goal.returns-in-Ok-clause-nothing_stands

@@ -2,25 +2,26 @@ use Rattle.std.proofs.Common.{◌≤◌, ◌+◌, ◌++◌, [], length, subst, a
 use Rattle.std.specs.Io.KnownBytes.{Appends}
 use Rattle.std.proofs.KnownBytes.{Appends-nil, Appends-trans}
 use Rattle.act_store.specs.StoreState.{table_of}
-use Rattle.acts_ops.specs.Show.{shown, view_line}
+use Rattle.table_views.specs.RunLines.{run_line}
+use Rattle.acts_ops.specs.Show.{run_lines}
 use Rattle.acts_ops.proofs.Showing.{before_all, behind_run, lines_behind, past_last}
 use Rattle.acts_ops.proofs.Writing.{more_written, past_part, stopped}
 use Rattle.acts_ops.proofs.show.write_views.Goals as goal
 
 pub loop-place-init : goal.loop-place-init
 loop-place-init g c =
-    ([], Appends-nil (g.W.Write.contents c.args.writer.now), before_all (table_of c.args.store.now), λ some. absurd (omega (arith, some)))
+    ([], Appends-nil (g.W.Write.contents c.args.writer.now), before_all c.args.form (table_of c.args.store.now), λ some. absurd (omega (arith, some)))
 
 pub loop-place-preserved : goal.loop-place-preserved
 loop-place-preserved g c =
     let so_far = c.loop-place.invariant in
     let t = table_of c.args.store.now in
     let place = c.loop-place.place in
-    let line = view_line c.in-Some.view in (
+    let line = run_line c.args.form c.in-Some.view in (
       so_far.0 ++ line,
       Appends-trans _ _ _ so_far.0 line so_far.1 c.in_ok-write_view.ensures,
-      past_part so_far.0 line (lines_behind t (place + 1)) (shown t)
-          (behind_run t so_far.0 place c.new.result c.in-Some.view c.in-Some.ensures.seen c.new.ensures so_far.2),
+      past_part so_far.0 line (lines_behind c.args.form t (place + 1)) (run_lines c.args.form t)
+          (behind_run c.args.form t so_far.0 place c.new.result c.in-Some.view c.in-Some.ensures.seen c.new.ensures so_far.2),
       λ some. c.in-Some.ensures.sound.few_runs,
     )
 
@@ -29,9 +30,9 @@ returns-in_err-write_view g c =
     let so_far = c.loop-place.invariant in
     let t = table_of c.args.store.now in
     let place = c.loop-place.place in
-    stopped _ _ (shown t) _ c.in_err-write_view.field-0.0 c.from_residual.ensures.1 c.in_err-write_view.ensures.0
-    (more_written _ _ _ so_far.0 (view_line c.in-Some.view) (lines_behind t (place + 1)) (shown t) so_far.1
-    (behind_run t so_far.0 place c.new.result c.in-Some.view c.in-Some.ensures.seen c.new.ensures so_far.2)
+    stopped _ _ (run_lines c.args.form t) _ c.in_err-write_view.field-0.0 c.from_residual.ensures.1 c.in_err-write_view.ensures.0
+    (more_written _ _ _ so_far.0 (run_line c.args.form c.in-Some.view) (lines_behind c.args.form t (place + 1)) (run_lines c.args.form t) so_far.1
+    (behind_run c.args.form t so_far.0 place c.new.result c.in-Some.view c.in-Some.ensures.seen c.new.ensures so_far.2)
     c.in_err-write_view.ensures.1)
 
 pub returns : goal.returns
@@ -40,4 +41,4 @@ returns g c =
     let t = table_of c.args.store.now in
     let place = c.loop-place.place in
     let few : length t.runs ≤ 100000 = so_far.3 (omega arith) in
-    subst (Appends _ _) (past_last t so_far.0 (shown t) place (omega arith) so_far.2) so_far.1
+    subst (Appends _ _) (past_last c.args.form t so_far.0 (run_lines c.args.form t) place (omega arith) so_far.2) so_far.1

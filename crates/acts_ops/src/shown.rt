@@ -1,0 +1,13 @@
+use run_plan::Number;
+
+/// What is shown of a store.
+#[derive(Clone, Copy)]
+pub enum Shown {
+    /// The view of each run, in the order of their ids.
+    Runs,
+    /// The view of the run with an id.
+    Run(Number),
+    Runners,
+    /// The legs that are ready, and the concurrency groups.
+    Queue,
+}
