@@ -1,5 +1,6 @@
 pub mod Adding
 pub mod Causes
+pub mod EnteredAt
 pub mod Crossing
 pub mod Fronts
 pub mod Lists

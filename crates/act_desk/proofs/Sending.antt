@@ -23,10 +23,11 @@ use Rattle.run_plan.specs.contracts.prepared.Prepared.{the_row}
 use Rattle.run_plan.specs.contracts.prepared.Prepared.TheInside.{the_row as inside}
 use Rattle.std.proofs.result.Result.TheSendSync as result
 use Rattle.wf_value.proofs.refusal.Refusal.TheSendSync as refusal
-use Rattle.run_plan.proofs.reply.Reply.TheSendSync as reply
+use Rattle.run_plan.proofs.boxed_lease.BoxedLease.TheSendSync as lease
 use Rattle.run_plan.proofs.number.Number.TheSendSync as number
 use Rattle.run_plan.proofs.command.Claim.TheSendSync as claim
 use Rattle.run_plan.proofs.command.Done.TheSendSync as done
+use Rattle.run_plan.proofs.command.Attempt.TheSendSync as attempt
 use Rattle.run_plan.proofs.command.Beat.TheSendSync as beat
 use Rattle.act_sessions.proofs.transcript.Ending.TheSendSync as ending
 use Rattle.workflow_runs.proofs.phases.RunPhase.TheSendSync as phase
@@ -36,6 +37,9 @@ use Rattle.workflow_runs.proofs.runs.index.Index.TheSendSync as index
 use Rattle.workflow_runs.proofs.runs.marks.RunMarks.TheSendSync as marks
 use Rattle.run_table.proofs.runners.Runners.TheSendSync as runners
 use Rattle.run_plan.specs.contracts.command.Command.{the_row as command, enum as command_variants}
+use Rattle.run_plan.specs.contracts.reply.Reply.{the_row as reply, enum as reply_variants}
+use Rattle.run_plan.specs.contracts.shared_body.SharedBody.{the_row as body}
+use Rattle.run_plan.specs.contracts.shared_body.SharedBody.TheInside.{the_row as body_inside}
 use Rattle.act_store.specs.contracts.entry.Entry.{the_row as entry, the_type as entry_type}
 use Rattle.act_sessions.specs.contracts.transcript.Asked.{the_row as asked, the_type as asked_type}
 use Rattle.act_sessions.specs.contracts.transcript.Transcript.{the_row as transcript, the_type as transcript_type}
@@ -51,6 +55,7 @@ use denote.RattleType.{RattleType}
 use Rattle.act_disk.specs.declared.disk.Disk.{Ghosts}
 use Rattle.gated_journal.proofs.standing.Standing.TheSendSync as standing
 use Rattle.gated_journal.proofs.gate.Gate.TheSendSync as gate
+use Rattle.act_store.proofs.layout.Layout.TheSendSync as layout
 use Rattle.act_store.proofs.waiting.Waiting.TheSendSync as waiting
 use Rattle.act_store.proofs.begun.Begun.TheSendSync as begun
 use Rattle.act_store.specs.contracts.store.Store.{the_row as store}
@@ -125,16 +130,26 @@ command_send =
         (search (parts, claim.the_send) depth 6, tt),
         (
           (search (parts, done.the_send) depth 6, tt),
-          ((search (parts, beat.the_send) depth 6, tt), ((search (parts, number.the_send) depth 6, tt), ((search (parts, small.the_send) depth 6, tt), ((search (parts, number.the_send) depth 6, tt), ((search (parts, number.the_send) depth 6, tt), tt))))),
+          ((search (parts, beat.the_send) depth 6, tt), ((search (parts, number.the_send) depth 6, tt), ((search (parts, small.the_send) depth 6, tt), ((search (parts, number.the_send) depth 6, tt), ((search (parts, number.the_send) depth 6, tt), ((search (parts, attempt.the_send) depth 6, tt), tt)))))),
         ),
       ),
     )
 
+body_send : IsSend body
+body_send = view_send body_inside _ _ _ _ (search (parts, prepared_send) depth 6)
+
+reply_send : IsSend reply
+reply_send =
+    variants_send reply_variants (
+      (search (parts, number.the_send) depth 6, tt),
+      ((search (parts, lease.the_send) depth 6, tt), (tt, (tt, (tt, (tt, ((search (parts, chars.the_send) depth 6, tt), ((body_send, tt), ((search (parts, attempt.the_send) depth 6, tt), ((search (parts, refusal.the_send) depth 6, tt), tt))))))))),
+    )
+
 pub entry_send : IsSend entry
-entry_send = declared_send entry_type (search parts depth 6, (search (parts, command_send) depth 6, (search (parts, reply.the_send) depth 6, tt)))
+entry_send = declared_send entry_type (search parts depth 6, (search (parts, command_send) depth 6, (search (parts, reply_send) depth 6, tt)))
 
 asked_send : IsSend asked
-asked_send = declared_send asked_type (search (parts, command_send) depth 6, (search (parts, reply.the_send, refusal.the_send, result.the_send) depth 8, tt))
+asked_send = declared_send asked_type (search (parts, command_send) depth 6, (search (parts, reply_send, refusal.the_send, result.the_send) depth 8, tt))
 
 pub transcript_send : IsSend transcript
 transcript_send = declared_send transcript_type (search (parts, asked_send) depth 10, (search parts depth 6, (search (parts, ending.the_send) depth 6, tt)))
@@ -164,7 +179,7 @@ store_send D g disk =
             search parts depth 6,
             (
               search (parts, table_send) depth 6,
-              (search (parts, entry_send) depth 10, (search parts depth 6, (search parts depth 6, (search parts depth 6, (search (parts, waiting.the_send) depth 6, (search (parts, begun.the_send) depth 8, (search parts depth 6, tt))))))),
+              (search (parts, entry_send) depth 10, (search parts depth 6, (search parts depth 6, (search parts depth 6, (search (parts, layout.the_send) depth 6, (search (parts, waiting.the_send) depth 6, (search (parts, begun.the_send) depth 8, (search parts depth 6, tt)))))))),
             ),
           ),
         ),

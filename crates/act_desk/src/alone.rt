@@ -61,7 +61,7 @@ impl<D: Disk> Answer for Alone<D> {
     ///
     /// Room in the list and a copy of the command for it are made first: where they are refused, the answer is 50, nothing was entered,
     /// and the list is as it was. Where a copy of the answer for the list is refused, the answer is 50, and listed so, and the entry
-    /// stands. All other refusals are those of the store: 46, 47, 50 and 52 before the command is entered, 51 after it.
+    /// stands. All other refusals are those of the store: 46, 47, 50, 52 and 57 before the command is entered, 51 after it.
     fn ask(&mut self, command: Command) -> Result<Reply, Refusal>
         ensures asks { Asks self.old.asked self.new.asked command result }
         ensures answered { IfOk result (λ reply. IsAnswered self.old.store self.new.store 0 command reply) }

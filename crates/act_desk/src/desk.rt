@@ -2,7 +2,7 @@ ghost use Rattle.std.specs.Prelude.{◌≡◌, ◌⊎◌, ◌+◌, ◌<◌, ◌�
 ghost use mathlib.Core.List.{IsPrefix};
 ghost use Rattle.wf_value.specs.Gives.{no_memory};
 ghost use Rattle.act_disk.specs.Failed.{device_failed};
-ghost use Rattle.act_store.specs.Plain.{area_full, failed_earlier, history_full};
+ghost use Rattle.act_store.specs.Plain.{area_full, failed_earlier, history_full, old_layout};
 ghost use Rattle.act_desk.specs.Answered.{unsettled};
 ghost use Rattle.act_desk.specs.Begins.{Stands};
 ghost use Rattle.act_desk.specs.Shown.{IsReplyTo, StandsIn};
@@ -103,8 +103,8 @@ impl<D: Disk, E: Named, T: Ledger> Desk<D, E, T> {
         (seat.entered(), seat.told())
     }
 
-    /// Enters a command, and keeps its reply back. It is refused with 46, 47, 50 or 52, as `Store::apply` refuses it, and then nothing was
-    /// entered.
+    /// Enters a command, and keeps its reply back. It is refused with 46, 47, 50, 52 or 57, as `Store::apply` refuses it, and then nothing
+    /// was entered.
     pub fn enter(
         &self,
         rt: &impl Wait,
@@ -115,7 +115,7 @@ impl<D: Disk, E: Named, T: Ledger> Desk<D, E, T> {
         ensures pending { IfOk result (λ p. (p.seat ≡ seat.old.number) × (p.command ≡ command) × IsPrefix p.seen seat.new.seen) }
         ensures entered { OnOk result (seat.new.entered ≡ seat.old.entered + 1) }
         ensures unchanged { OnErr result (seat.new ≡ seat.old) }
-        ensures cause { IfErr result (λ e. (e ≡ no_memory) ⊎ (e ≡ history_full) ⊎ (e ≡ area_full) ⊎ (e ≡ failed_earlier)) }
+        ensures cause { IfErr result (λ e. (e ≡ no_memory) ⊎ (e ≡ history_full) ⊎ (e ≡ old_layout) ⊎ (e ≡ area_full) ⊎ (e ≡ failed_earlier)) }
         ensures same { (seat.new.told ≡ seat.old.told) × (seat.new.number ≡ seat.old.number) × IsPrefix seat.old.seen seat.new.seen }
     {
         self.moves(rt, 1);
@@ -134,7 +134,7 @@ impl<D: Disk, E: Named, T: Ledger> Desk<D, E, T> {
         ensures pending { IfOk result (λ p. (p.seat ≡ seat.old.number) × (p.command ≡ command) × IsPrefix p.seen seat.new.seen) }
         ensures entered { OnOk result (seat.new.entered ≡ seat.old.entered + 1) }
         ensures unchanged { OnErr result (seat.new ≡ seat.old) }
-        ensures cause { IfErr result (λ e. (e ≡ no_memory) ⊎ (e ≡ history_full) ⊎ (e ≡ area_full) ⊎ (e ≡ failed_earlier)) }
+        ensures cause { IfErr result (λ e. (e ≡ no_memory) ⊎ (e ≡ history_full) ⊎ (e ≡ old_layout) ⊎ (e ≡ area_full) ⊎ (e ≡ failed_earlier)) }
         ensures same { (seat.new.told ≡ seat.old.told) × (seat.new.number ≡ seat.old.number) × IsPrefix seat.old.seen seat.new.seen }
     {
         let mut guard = self.line.lock(rt);
@@ -258,12 +258,15 @@ impl<D: Disk, E: Named, T: Ledger> Desk<D, E, T> {
         flush.round(alloc, &mut line.desked)
     }
 
-    /// Rests until other than so many entries are covered, or the sessions have ended, and for so long at most.
-    pub(crate) fn rest<R: Wait + Clock>(&self, rt: &R, covered: u64, most: Duration) {
-        let guard = self.line.lock(rt);
-        if !guard.ended && guard.desked.covered() == covered {
-            drop(self.turned.wait_timeout(rt, guard, most));
+    /// Rests until other than so many entries are covered, or the sessions have ended, and for so long at most. It answers whether nothing
+    /// was new.
+    pub(crate) fn rest<R: Wait + Clock>(&self, rt: &R, covered: u64, most: Duration) -> bool {
+        let mut guard = self.line.lock(rt);
+        if guard.has_news(covered) {
+            return false;
         }
+        (guard, _) = self.turned.wait_timeout(rt, guard, most);
+        !guard.has_news(covered)
     }
 
     /// Has a flusher that rests look whether it is to stop, now that the sessions have ended.
@@ -274,7 +277,7 @@ impl<D: Disk, E: Named, T: Ledger> Desk<D, E, T> {
 
     /// Enters a command, and gives its reply once its entry is covered.
     ///
-    /// Refused with 46, 47 or 50 it has entered nothing. Refused with 51 or 60 its entry may stand or not, and with 52 too; no reply was
+    /// Refused with 46, 47, 50 or 57 it has entered nothing. Refused with 51 or 60 its entry may stand or not, and with 52 too; no reply was
     /// given then.
     pub fn submit<R: Wait + Clock>(
         &self,
@@ -289,8 +292,8 @@ impl<D: Disk, E: Named, T: Ledger> Desk<D, E, T> {
         ensures told { OnOk result (seat.new.told ≡ seat.old.told + 1) }
         ensures untold { OnErr result (seat.new.told ≡ seat.old.told) }
         ensures may_enter { OnErr result ((seat.new.entered ≡ seat.old.entered) ⊎ (seat.new.entered ≡ seat.old.entered + 1)) }
-        ensures refused { IfErr result (λ e. (e ≡ no_memory) ⊎ (e ≡ history_full) ⊎ (e ≡ area_full) → seat.new ≡ seat.old) }
-        ensures cause { IfErr result (λ e. (e ≡ no_memory) ⊎ (e ≡ history_full) ⊎ (e ≡ area_full) ⊎ (e ≡ failed_earlier) ⊎ (e ≡ device_failed) ⊎ (e ≡ unsettled)) }
+        ensures refused { IfErr result (λ e. (e ≡ no_memory) ⊎ (e ≡ history_full) ⊎ (e ≡ old_layout) ⊎ (e ≡ area_full) → seat.new ≡ seat.old) }
+        ensures cause { IfErr result (λ e. (e ≡ no_memory) ⊎ (e ≡ history_full) ⊎ (e ≡ old_layout) ⊎ (e ≡ area_full) ⊎ (e ≡ failed_earlier) ⊎ (e ≡ device_failed) ⊎ (e ≡ unsettled)) }
         ensures seen { (seat.new.number ≡ seat.old.number) × IsPrefix seat.old.seen seat.new.seen }
     {
         let pending = self.enter(rt, alloc, seat, command)?;

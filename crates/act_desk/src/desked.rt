@@ -10,7 +10,7 @@ ghost use Rattle.act_store.specs.Images.{StandsFor};
 ghost use Rattle.act_store.specs.StoreState.{StandsForEither, table_of};
 ghost use Rattle.act_store.specs.declared.entry.Entry.{Entry};
 ghost use Rattle.act_desk.specs.Answered.{unsettled};
-ghost use Rattle.act_store.specs.Plain.{area_full, broken, entered, entry_of, failed_earlier, history_full, refusal_of_apply};
+ghost use Rattle.act_store.specs.Plain.{area_full, broken, entered, entry_of, failed_earlier, history_full, old_layout, refusal_of_apply};
 ghost use Rattle.act_desk.specs.Shown.{IsKnown, IsReplyTo, StandsIn};
 
 use crate::front::{Front, Head};
@@ -161,7 +161,7 @@ impl<D: Disk, E: Named, T: Ledger> Desked<D, E, T> {
 
     /// Enters a command for a seat, and keeps its reply back. No device is called.
     ///
-    /// It is refused as `Store::apply` refuses it, with 52, 46, 47 or 50, and then nothing has changed.
+    /// It is refused as `Store::apply` refuses it, with 52, 46, 57, 47 or 50, and then nothing has changed.
     #[tactic(auto, using(crate::proofs::Causes::causes))]
     pub fn enter(
         &mut self,
@@ -178,7 +178,7 @@ impl<D: Disk, E: Named, T: Ledger> Desked<D, E, T> {
         ensures told { self.new.told ≡ self.old.told }
         ensures refused { IfSome (refusal_of_apply self.old.store command) (λ refusal. OnOk result ⊥ × IfErr result (λ e. e ≡ refusal)) }
         ensures cause { IfErr result (λ e. (e ≡ no_memory) ⊎ (refusal_of_apply self.old.store command ≡ Some e)) }
-        ensures kind { IfErr result (λ e. (e ≡ no_memory) ⊎ (e ≡ history_full) ⊎ (e ≡ area_full) ⊎ (e ≡ failed_earlier)) }
+        ensures kind { IfErr result (λ e. (e ≡ no_memory) ⊎ (e ≡ history_full) ⊎ (e ≡ old_layout) ⊎ (e ≡ area_full) ⊎ (e ≡ failed_earlier)) }
         ensures unchanged { OnErr result ((self.new ≡ self.old) × (seat.new ≡ seat.old)) }
     {
         let asked = Snapshot::of(&command);

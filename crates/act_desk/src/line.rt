@@ -58,6 +58,11 @@ impl<D: Disk, E: Named, T: Ledger> Line<D, E, T> {
         self.desked.covered() >= place
     }
 
+    /// Whether other than so many entries are covered, or the sessions have ended.
+    pub(crate) fn has_news(&self, covered: u64) -> bool {
+        self.ended || self.desked.covered() != covered
+    }
+
     /// A seat goes to sleep. It answers the turn in which it does.
     pub(crate) fn sleeps(&mut self, seat: u64) -> u64 {
         self.waiting = self.waiting.saturating_add(1);

@@ -1,10 +1,12 @@
 ghost use Rattle.std.specs.Prelude.{◌≡◌, ◌<◌, ◌≤◌, [], IfOk};
 
+use crate::commit::VERSION;
 use crate::explain::{Explanation, explanation_of, numbers};
-use crate::store_file::{RealDisk, create_for_server, open_for_reading, open_for_server};
+use crate::store_file::{RealDisk, create_for_server, open_for_server};
+use crate::views::{View, form_of, runs_of, show, with_views};
 use act_disk::MemoryDisk;
 use act_store::Store;
-use acts_ops::{run_check, run_init, run_script, run_show};
+use acts_ops::{Shown, run_check, run_init, run_script};
 use acts_serve::{Limits, serve_forever, serve_rounds};
 use clap::builder::ValueParser;
 use clap::error::ErrorKind;
@@ -21,9 +23,6 @@ use std::time::{Clock, Duration};
 use std::{env, io};
 use wf_value::{Code, Refusal};
 
-/// The version of the program.
-const VERSION: &str = "0.1.0";
-
 /// The least length of an area, and the most.
 const LEAST_AREA: u64 = 4_096;
 
@@ -31,6 +30,10 @@ const MOST_AREA: u64 = 1_073_741_824;
 
 /// The last port.
 const MOST_PORT: u64 = 65_535;
+
+const HOOK_PORT: &str = "The port of 127.0.0.1 for events, looks and cancels over HTTP, 1 to 65535";
+
+const RUNNER_PORT: &str = "The port of 127.0.0.1 for the lines of runners, 1 to 65535";
 
 /// The most sessions of a port.
 const MOST_SESSIONS: u64 = 32;
@@ -101,18 +104,21 @@ enum Request<'a> {
     Check,
     /// A new store in this file.
     Init(&'a str, AreaLength),
-    /// The runs of the store in this file.
-    Show(&'a str),
+    /// What is shown of a store.
+    Show(View<'a>),
     Serve(Serving<'a>),
     Explain(&'static Explanation),
 }
 
 /// `acts init FILE AREA`.
 fn init_command<'a>(alloc: Global) -> Result<Command<'a>, AllocError> {
-    let file = Arg::new(alloc, "FILE").required(true);
+    let file = Arg::new(alloc, "FILE")
+        .required(true)
+        .help("The file to be made; one that is there has to be empty");
     let area = Arg::new(alloc, "AREA")
         .required(true)
-        .value_parser(ValueParser::unsigned(LEAST_AREA, MOST_AREA));
+        .value_parser(ValueParser::unsigned(LEAST_AREA, MOST_AREA))
+        .help("How long each of the two areas is, 4096 to 1073741824 bytes");
     Command::new(alloc, "init")
         .about(
             "Makes an empty store of two areas of AREA bytes in FILE, which is made where it is not there",
@@ -121,21 +127,14 @@ fn init_command<'a>(alloc: Global) -> Result<Command<'a>, AllocError> {
         .arg(area)
 }
 
-/// `acts show FILE`.
-fn show_command<'a>(alloc: Global) -> Result<Command<'a>, AllocError> {
-    let file = Arg::new(alloc, "FILE").required(true);
-    Command::new(alloc, "show")
-        .about("Prints the view of each run of the store in FILE")
-        .arg(file)
-}
-
 /// A port of this machine, from 1 to 65,535.
-fn port_option<'a>(alloc: Global, name: &'a str) -> Arg<'a> {
+fn port_option<'a>(alloc: Global, name: &'a str, help: &'a str) -> Arg<'a> {
     Arg::new(alloc, name)
         .long(name)
         .required(true)
         .value_name("PORT")
         .value_parser(ValueParser::unsigned(1, MOST_PORT))
+        .help(help)
 }
 
 /// How many rounds of sessions there are: one, where nothing is said.
@@ -143,7 +142,7 @@ fn rounds_option<'a>(alloc: Global) -> Arg<'a> {
     Arg::new(alloc, "rounds")
         .long("rounds")
         .value_name("ROUNDS")
-        .help("Ends after ROUNDS rounds, each with a history of its own")
+        .help("Ends after ROUNDS rounds, 1 to 18446744073709551615, each with a history of its own")
         .default_value("1")
         .value_parser(ValueParser::unsigned(1, u64::MAX))
 }
@@ -162,7 +161,7 @@ fn idle_option<'a>(alloc: Global) -> Result<Arg<'a>, AllocError> {
     Arg::new(alloc, "idle")
         .long("idle")
         .value_name("SECONDS")
-        .help("With --forever: lets a client go that has said nothing for SECONDS")
+        .help("With --forever: lets a client go that has said nothing for SECONDS, 1 to 86400")
         .default_value("300")
         .value_parser(ValueParser::unsigned(1, MOST_IDLE))
         .requires_arg("forever")
@@ -174,7 +173,7 @@ fn turn_over_option<'a>(alloc: Global) -> Result<Arg<'a>, AllocError> {
         .long("turn-over")
         .value_name("COMMANDS")
         .help(
-            "With --forever: begins a new history after COMMANDS commands, or 64 MiB that clients have sent or were answered",
+            "With --forever: begins a new history after COMMANDS commands, 1 to 50000, or 64 MiB that clients have sent or were answered",
         )
         .default_value("50000")
         .value_parser(ValueParser::unsigned(1, MOST_COMMANDS))
@@ -184,19 +183,22 @@ fn turn_over_option<'a>(alloc: Global) -> Result<Arg<'a>, AllocError> {
 /// `acts serve FILE --hook-port PORT --runner-port PORT --sessions COUNT`, with `--rounds ROUNDS`, or with `--forever` and what belongs to
 /// it, where that is wanted.
 fn serve_command<'a>(alloc: Global) -> Result<Command<'a>, AllocError> {
-    let file = Arg::new(alloc, "FILE").required(true);
+    let file = Arg::new(alloc, "FILE")
+        .required(true)
+        .help("The file of the store, which no other server may have");
     let sessions = Arg::new(alloc, "sessions")
         .long("sessions")
         .required(true)
         .value_name("COUNT")
-        .value_parser(ValueParser::unsigned(1, MOST_SESSIONS));
+        .value_parser(ValueParser::unsigned(1, MOST_SESSIONS))
+        .help("How many sessions each port holds at a time, 1 to 32");
     Command::new(alloc, "serve")
         .about(
             "Serves the store in FILE on 127.0.0.1: in each round, or at a time, COUNT sessions of HTTP on one port, and as many of runner lines on the other",
         )
         .arg(file)?
-        .arg(port_option(alloc, "hook-port"))?
-        .arg(port_option(alloc, "runner-port"))?
+        .arg(port_option(alloc, "hook-port", HOOK_PORT))?
+        .arg(port_option(alloc, "runner-port", RUNNER_PORT))?
         .arg(sessions)?
         .arg(rounds_option(alloc))?
         .arg(forever_option(alloc)?)?
@@ -222,7 +224,8 @@ fn check_command<'a>(alloc: Global) -> Command<'a> {
 fn explain_command<'a>(alloc: Global, numbers: &'a [&'a str]) -> Result<Command<'a>, AllocError> {
     let number = Arg::new(alloc, "NUMBER")
         .required(true)
-        .value_parser(numbers);
+        .value_parser(numbers)
+        .help("The number of a refusal, as it stands behind the word refused");
     Command::new(alloc, "explain")
         .about("Says what the refusal with a number means, and what helps")
         .arg(number)
@@ -237,7 +240,7 @@ fn with_readers<'a>(alloc: Global, acts: Command<'a>) -> Result<Command<'a>, All
 /// Adds the subcommands over a store in a file.
 fn with_stores<'a>(alloc: Global, acts: Command<'a>) -> Result<Command<'a>, AllocError> {
     let acts = acts.subcommand(init_command(alloc)?)?;
-    let acts = acts.subcommand(show_command(alloc)?)?;
+    let acts = with_views(alloc, acts)?;
     acts.subcommand(serve_command(alloc)?)
 }
 
@@ -270,12 +273,6 @@ fn init_of<'a>(matches: &ArgMatches<'a>) -> Option<Request<'a>> {
     let file = matches.get_str("FILE")?;
     let area = matches.get_one::<u64>("AREA")?;
     Some(Request::Init(file, AreaLength::of(area)?))
-}
-
-/// What the words of `acts show` ask for.
-fn show_of<'a>(matches: &ArgMatches<'a>) -> Option<Request<'a>> {
-    let file = matches.get_str("FILE")?;
-    Some(Request::Show(file))
 }
 
 /// The port that an option names.
@@ -311,16 +308,34 @@ fn explain_of<'a>(matches: &ArgMatches<'a>) -> Option<Request<'a>> {
     Some(Request::Explain(explanation))
 }
 
+fn view_of<'a>(matches: &ArgMatches<'a>, what: Shown) -> Option<Request<'a>> {
+    Some(Request::Show(View {
+        file: matches.get_str("FILE")?,
+        what,
+        form: form_of(matches),
+    }))
+}
+
+/// What the words of a subcommand with this name ask for, where it shows a store.
+fn view_asked<'a>(name: &str, matches: &ArgMatches<'a>) -> Option<Request<'a>> {
+    match name {
+        "show" => view_of(matches, runs_of(matches)?),
+        "runners" => view_of(matches, Shown::Runners),
+        "queue" => view_of(matches, Shown::Queue),
+        _ => None,
+    }
+}
+
 /// What the words that `clap` took ask for.
 fn request_of<'a>(matches: &ArgMatches<'a>) -> Option<Request<'a>> {
     match matches.subcommand() {
         Some(("play", _)) => Some(Request::Play),
         Some(("check", _)) => Some(Request::Check),
         Some(("init", matches)) => init_of(matches),
-        Some(("show", matches)) => show_of(matches),
         Some(("serve", matches)) => serve_of(matches),
         Some(("explain", matches)) => explain_of(matches),
-        _ => None,
+        Some((name, matches)) => view_asked(name, matches),
+        None => None,
     }
 }
 
@@ -372,12 +387,6 @@ fn init<R: Print + Files<File = File> + AllocGlobal>(
 ) -> Result<(), Refusal> {
     let disk = create_for_server(rt, file)?;
     run_init(rt.alloc(), disk, area.bytes, &mut output(rt)?).1
-}
-
-/// Shows the runs of the store in a file.
-fn show<R: Print + Files<File = File> + AllocGlobal>(rt: &R, file: &str) -> Result<(), Refusal> {
-    let disk = open_for_reading(rt, file)?;
-    run_show(rt.alloc(), disk, &mut output(rt)?).1
 }
 
 /// The store in a file that nobody else serves.
@@ -456,7 +465,7 @@ fn obey<
         Ok(Request::Play) => play(rt)?,
         Ok(Request::Check) => check(rt)?,
         Ok(Request::Init(file, area)) => init(rt, file, area)?,
-        Ok(Request::Show(file)) => show(rt, file)?,
+        Ok(Request::Show(view)) => show(rt, &view, &mut output(rt)?)?,
         Ok(Request::Serve(serving)) => serve(rt, system, &serving)?,
         Ok(Request::Explain(explanation)) => print_line(rt, explanation)?,
         Err(error) => return tell(rt, &error),

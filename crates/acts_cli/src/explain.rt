@@ -132,7 +132,7 @@ static OF_WORKFLOWS: [Explanation; 17] = [
 ];
 
 /// What the run table refuses a command for.
-static OF_COMMANDS: [Explanation; 9] = [
+static OF_COMMANDS: [Explanation; 10] = [
     Explanation {
         number: "40",
         meaning: "there is no run with this id",
@@ -153,11 +153,11 @@ static OF_COMMANDS: [Explanation; 9] = [
     },
     Explanation {
         number: "43",
-        meaning: "a command is out of its runner's turn; the runner's last number follows, 0 where it \
-            has none",
+        meaning: "a command is out of its runner's turn, or a re-run does not name the attempt that comes next; the runner's last \
+            number follows, 0 where it has none, or the run's attempt",
         input: "the line: claim r1 2 linux, as the first of runner r1",
         remedy: "number the commands of each runner 1, 2, 3 and so on, and repeat a command word for \
-            word, with its number, to get its reply again",
+            word, with its number, to get its reply again; to re-run a run name one more than its attempt",
     },
     Explanation {
         number: "44",
@@ -187,14 +187,20 @@ static OF_COMMANDS: [Explanation; 9] = [
     },
     Explanation {
         number: "48",
-        meaning: "a counter is at its last value: 100,000 runs, or 999,999,999 leases",
+        meaning: "a counter is at its last value: 100,000 runs, 999,999,999 leases, or 1,000 attempts of a run",
         input: "the admit of a run past 100,000",
-        remedy: "begin again with an empty table",
+        remedy: "begin again with an empty table; in place of a 1,001st attempt, admit the event anew under another delivery id",
+    },
+    Explanation {
+        number: "49",
+        meaning: "the run has not completed, so it can't be re-run",
+        input: "the line: rerun 1 2, after run 1 was admitted, and before it has completed",
+        remedy: "wait until a look shows the run as completed, or cancel it first",
     },
 ];
 
 /// What memory and a store's file fail with.
-static OF_STORES: [Explanation; 7] = [
+static OF_STORES: [Explanation; 8] = [
     Explanation {
         number: "50",
         meaning: "memory was refused, and what was asked was not done",
@@ -241,6 +247,13 @@ static OF_STORES: [Explanation; 7] = [
             write, or a finish where none is begun or something is left",
         input: "the line: finish, before any begin",
         remedy: "write begin, then slice until it answers left 0, then finish; a service makes its checkpoints by itself",
+    },
+    Explanation {
+        number: "57",
+        meaning: "the area that stands has the layout of an earlier program, in which no run has an attempt but its first",
+        input: "a re-run, over a file of an earlier program in whose areas a checkpoint has no room",
+        remedy: "make a new store with larger areas by acts init, as after 47; a service brings a file to the present layout \
+            before it is ready, where a checkpoint has room, and checkpoints beside its sessions do so too",
     },
 ];
 

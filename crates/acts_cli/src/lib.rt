@@ -3,7 +3,9 @@
 #![tactic(auto)]
 
 mod cli;
+mod commit;
 mod explain;
 mod store_file;
+mod views;
 
 pub use cli::run;

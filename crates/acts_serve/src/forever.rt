@@ -7,6 +7,7 @@ use crate::histories::hold_histories;
 use crate::port::Port;
 use crate::service::{Limits, Service};
 use crate::telling::tell_ready;
+use crate::upgrade::brought_up;
 use crate::watch::watch;
 use act_disk::Disk;
 use act_store::Store;
@@ -52,23 +53,24 @@ fn serve_watched<D: Disk + Drop + Send, R: Threads + Wait + Clock + Sync, O: Wri
             requires fresh { store.history ≡ [] }
             requires sessions { (0 < sessions) × (sessions ≤ 32) }
         {
-            let watching = scope.spawn(move || watch(service, alloc, poll, events));
-            if watching.is_err() {
+            let Ok(watching) = scope.spawn(move || watch(service, alloc, poll, events)) else {
                 return Err(Refusal::Numbered(Code::NoMemory));
-            }
+            };
             let ended = hold_histories(service, alloc, store, sessions, out);
+            service.end();
+            watching.join(rt);
             if let Err(Refusal::Numbered(Code::DeviceFailed | Code::FailedEarlier)) = ended {
                 part_with_all(rt, alloc, service.hooks);
                 part_with_all(rt, alloc, service.runners);
             }
-            service.end();
             ended
         },
     )
 }
 
 /// Serves a store that has no entries yet on two ports, and goes on doing so: so many seats on each, which the clients of the port share, those of
-/// HTTP on the one and those of runner lines on the other. It writes `ready` before the first client.
+/// HTTP on the one and those of runner lines on the other. A store that stands in the first layout is brought up to the second, and then it
+/// writes `ready`, before the first client.
 ///
 /// After so many commands, or 64 MiB that clients have sent or were answered, the history turns over: each seat leaves its client between two requests, what
 /// each seat was answered is compared with the history, `settled COUNT` is written, and the next history begins at the table that stands,
@@ -98,6 +100,7 @@ pub fn serve_forever<D: Disk + Drop + Send, R: Threads + Wait + Clock + Sync + N
     hook_port.watch_listener().map_err(|e| refusal_of(&e))?;
     runner_port.watch_listener().map_err(|e| refusal_of(&e))?;
     let service = Service::new(rt, &hook_port, &runner_port, limits);
+    let store = brought_up(alloc, store)?;
     tell_ready(out)?;
     serve_watched(&service, alloc, poll, events, store, sessions, out)
 }

@@ -13,6 +13,7 @@ mod seat;
 mod serve;
 mod service;
 mod telling;
+mod upgrade;
 mod visit;
 mod watch;
 

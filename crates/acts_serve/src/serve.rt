@@ -1,6 +1,7 @@
 ghost use Rattle.std.specs.Prelude.{◌≡◌, ◌<◌, ◌≤◌, [], length, IfOk};
 
 use crate::telling::{tell_ready, tell_settled};
+use crate::upgrade::brought_up;
 use crate::visit::Visit;
 use act_desk::{Fault, Free, serve_all};
 use act_disk::Disk;
@@ -110,7 +111,7 @@ pub fn serve_on<D: Disk + Drop + Send, R: Threads + Wait + Clock + Sync, O: Writ
 /// Serves a store as `serve_on` does, in so many rounds, one at least: once all sessions of a round have ended, and `settled COUNT` is
 /// written for it, the history begins anew at the table that they left, and the next round holds as many sessions on the same ports.
 ///
-/// `ready` is written once. A stream that fails ends no round but the last, behind which the service is refused with 61. Of several rounds one
+/// A store that stands in the first layout is brought up to the second before. `ready` is written once. A stream that fails ends no round but the last, behind which the service is refused with 61. Of several rounds one
 /// in which no session could be started ends the service with 50. Else what refuses a round ends the service, and so does the store where
 /// its history cannot begin anew: with 52 where the device has failed, and with 56 where memory was wanting to end a checkpoint.
 pub fn serve_rounds<D: Disk + Drop + Send, R: Threads + Wait + Clock + Sync, O: Write>(
@@ -127,6 +128,7 @@ pub fn serve_rounds<D: Disk + Drop + Send, R: Threads + Wait + Clock + Sync, O: 
     requires sessions { (0 < sessions) × (sessions ≤ 32) }
 {
     let first = visits(alloc, hooks, runners, sessions)?;
+    let store = brought_up(alloc, store)?;
     tell_ready(out)?;
     let mut round = serve_round(rt, alloc, store, first, out)?;
     let mut broken = round.broken;

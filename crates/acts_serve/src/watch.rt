@@ -40,7 +40,7 @@ fn accepted(listener: &TcpListener) -> io::Result<Option<TcpStream>> {
 }
 
 /// Accepts who has come to a port, while it has places. Others wait in the system's queue.
-fn accept_all<P: Protocol, R: Wait + Clock>(
+pub(crate) fn accept_all<P: Protocol, R: Wait + Clock>(
     rt: &R,
     alloc: Global,
     port: &Port<'_, P>,

@@ -1,0 +1,30 @@
+-- What is known of a command once it is entered: the reply is one that its step gives, and the entry stands at the end of the history.
+use Rattle.std.proofs.Common.{◌≡◌, ℕ, ◌+◌, ◌-◌, List, [], ◌∷◌, ◌++◌, length, Some, sym, ap, subst, ◌∙◌, arith, length-append}
+use Rattle.std.specs.Prelude.{slice_get}
+use Rattle.std.proofs.Math.Seq.{get_or-append_seam}
+use Rattle.std.proofs.lemmas.Option.{slice_get-get_or}
+use Rattle.run_plan.specs.declared.command.Command.{Command}
+use Rattle.act_store.specs.Plain.{entered, entry_of, receipt_of}
+use Rattle.act_store.specs.StoreState.{StoreState, table_of}
+use Rattle.act_store.specs.declared.entry.Entry.{Entry}
+use Rattle.act_store.specs.declared.receipt.Receipt.{Receipt}
+use Rattle.act_desk.specs.Shown.{IsReplyTo}
+
+last_stands : (history : List Entry) (e : Entry) → slice_get (history ++ e ∷ []) (length history + 1 - 1) ≡ Some e
+last_stands history e =
+    let long = length-append history (e ∷ []) in
+    let place : length history + 1 - 1 ≡ length history = omega arith in
+    ap (slice_get (history ++ e ∷ [])) place ∙ slice_get-get_or (history ++ e ∷ []) (length history) e (omega arith)
+    ∙ ap Some (get_or-append_seam history e [] e)
+
+pub stands : {D : Type 0} (s t : StoreState D) (command : Command) (seat : ℕ) (receipt : Receipt) (front : List Entry)
+    → t ≡ entered s seat command → receipt ≡ receipt_of s command → front ≡ t.history
+    → slice_get front (receipt.place - 1) ≡ Some (record { seat = seat; command = command; reply = receipt.reply })
+stands {D} s t command seat receipt front new given same =
+    subst (λ (r : Receipt). slice_get front (r.place - 1) ≡ Some (record { seat = seat; command = command; reply = r.reply })) (sym given)
+    (ap (λ (f : List Entry). slice_get f (length s.history + 1 - 1)) (same ∙ ap (λ (u : StoreState D). u.history) new)
+    ∙ last_stands s.history (entry_of s seat command))
+
+pub gives_reply : {D : Type 0} (s : StoreState D) (command : Command) (receipt : Receipt) → receipt ≡ receipt_of s command
+    → IsReplyTo command receipt.reply
+gives_reply s command receipt given = (table_of s, ap (λ (r : Receipt). r.reply) given)
