@@ -2,13 +2,14 @@
 
 use crate::kind::Kind;
 use crate::sessions::{Setting, written_at_each_cut};
+use crate::views::push_views;
 use act_disk::MemoryDisk;
 use acts_ops::{run_check, run_script};
 use std::alloc::{AllocError, Global};
 use wf_value::Refusal;
 
 /// Ends the answers of a call by its refusal, where it was refused.
-fn push_refusal(
+pub fn push_refusal(
     alloc: Global,
     answers: &mut Vec<u8>,
     ended: Result<(), Refusal>,
@@ -74,6 +75,7 @@ pub fn answers_to(alloc: Global, kind: Kind, row: &Row<'_>) -> Result<Vec<u8>, A
         Kind::Script => push_played(alloc, &mut answers, row.given)?,
         Kind::Workflow => push_checked(alloc, &mut answers, row.given)?,
         Kind::Workflows => push_all_checked(alloc, &mut answers, row.given)?,
+        Kind::Views => push_views(alloc, &mut answers, row.given)?,
         Kind::Session(protocol) => {
             push_session(alloc, &mut answers, Setting { protocol, before }, row)?;
         }

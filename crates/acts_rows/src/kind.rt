@@ -11,6 +11,8 @@ pub enum Kind {
     Workflow,
     /// Workflows that are checked, each in a line.
     Workflows,
+    /// What is shown of the store that a script leaves.
+    Views,
     /// A session.
     Session(Protocol),
 }
@@ -20,6 +22,7 @@ const ENDINGS: &[(Kind, &str, &str)] = &[
     (Kind::Script, ".script", ".answers"),
     (Kind::Workflow, ".workflow", ".lines"),
     (Kind::Workflows, ".workflows", ".lines"),
+    (Kind::Views, ".store", ".views"),
     (Kind::Session(Protocol::Http), ".http", ".reply"),
     (Kind::Session(Protocol::Lines), ".runner", ".replies"),
 ];

@@ -4,6 +4,7 @@
 //! - `NAME.script`, the bytes of a script, has to be answered by those of `NAME.answers`.
 //! - `NAME.workflow`, the bytes of a workflow that is checked, by those of `NAME.lines`: the lines of its legs, or its refusal.
 //! - `NAME.workflows`, a workflow in each line, by the same of each in turn.
+//! - `NAME.store`, a script, by those of `NAME.views`: what is shown of the store that it leaves, runs, runners and queue, each as lines and as JSON.
 //! - `NAME.http` and `NAME.runner`, the bytes that come into a session of HTTP and of runner lines, by those of `NAME.reply` and `NAME.replies`,
 //!   wherever the input is cut in two. The session is over a store in memory, and `NAME.before` is what came into one of HTTP before it.
 //!
@@ -16,6 +17,7 @@ mod folder;
 mod kind;
 mod row;
 mod sessions;
+mod views;
 
 use folder::names_in;
 use row::play_file;

@@ -4,6 +4,8 @@
 #[cfg(test)]
 mod alone;
 #[cfg(test)]
+mod first_layout;
+#[cfg(test)]
 mod flusher;
 #[cfg(test)]
 mod gates;

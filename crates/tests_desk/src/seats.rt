@@ -26,7 +26,7 @@ const BY_TURNS: &[(Words<'static>, &str)] = &[
     ),
 ];
 
-fn seat_of<E: Named, T: Ledger>(
+pub fn seat_of<E: Named, T: Ledger>(
     rt: &(impl Wait + Clock + Abort),
     desk: &Desk<MemoryDisk, E, T>,
     number: u64,
@@ -36,7 +36,7 @@ fn seat_of<E: Named, T: Ledger>(
     seat
 }
 
-fn submit<E: Named, T: Ledger>(
+pub fn submit<E: Named, T: Ledger>(
     rt: &(impl Wait + Clock + Abort),
     alloc: Global,
     desk: &Desk<MemoryDisk, E, T>,

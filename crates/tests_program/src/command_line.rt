@@ -97,7 +97,7 @@ const ROWS: &[(&[&str], usize, Ended<'static>)] = &[
     (
         &["acts", "--version"],
         10_000,
-        (0, Some("acts 0.1.0\n"), Some("")),
+        (0, Some("acts 0.1.0 (no commit named)\n"), Some("")),
     ),
     (
         &["acts", "explain", "15"],
@@ -107,6 +107,13 @@ const ROWS: &[(&[&str], usize, Ended<'static>)] = &[
     (&["acts", "init", "store", "4096"], 10_000, FULL),
     (&["acts", "init", "store", "1073741824"], 10_000, FULL),
     (&["acts", "show", "store"], 10_000, FULL),
+    (
+        &["acts", "show", "store", "999999999", "--json"],
+        10_000,
+        FULL,
+    ),
+    (&["acts", "runners", "store"], 10_000, FULL),
+    (&["acts", "queue", "--json", "store"], 10_000, FULL),
     (SERVE, 10_000, FULL),
     (ROUNDS, 10_000, FULL),
 ];
@@ -127,6 +134,13 @@ const FAULTS: &[&[&str]] = &[
     &["acts", "init", "store", "1073741825"],
     &["acts", "init", "store"],
     &["acts", "show"],
+    &["acts", "show", "store", "0"],
+    &["acts", "show", "store", "1000000000"],
+    &["acts", "show", "store", "1", "2"],
+    &["acts", "runners"],
+    &["acts", "runners", "store", "r1"],
+    &["acts", "queue"],
+    &["acts", "queue", "store", "--text"],
     &["acts", "serve", "store", "--hook-port", "8080"],
     &[
         "acts",
@@ -229,8 +243,8 @@ fn ends_a_check_with_its_status(rt: HostRuntime) {
 /// The numbers that can be met.
 const NUMBERS: &[&str] = &[
     "10", "11", "12", "13", "14", "15", "16", "17", "18", "19", "20", "21", "22", "23", "24", "25",
-    "26", "40", "41", "42", "43", "44", "45", "46", "47", "48", "50", "51", "52", "53", "54", "55",
-    "56", "60", "61", "70", "71", "72", "73", "74", "75", "76",
+    "26", "40", "41", "42", "43", "44", "45", "46", "47", "48", "49", "50", "51", "52", "53", "54",
+    "55", "56", "57", "60", "61", "70", "71", "72", "73", "74", "75", "76",
 ];
 
 #[test]

@@ -1,9 +1,12 @@
 //! What is made and shown of disks.
 
+ghost use Rattle.std.specs.Prelude.{◌≤◌};
+
 use crate::holds::holds;
 use act_disk::{Disk, Fill, FuseDisk, MemoryDisk};
 use act_store::Store;
-use acts_ops::{run_init, run_show};
+use acts_ops::{Form, Shown, run_init, run_show};
+use run_plan::Number;
 use std::alloc::Global;
 use std::process::Abort;
 use tests_common::commands::{Words, command_of};
@@ -54,7 +57,7 @@ fn makes_a_store(rt: HostRuntime) {
     expect_making(&rt, alloc, spared, 0, "made\n");
 }
 
-/// A showing prints this, and ends with this number.
+/// A showing of the runs prints this, and ends with this number.
 fn expect_showing<D: Disk + Drop>(
     rt: &impl Abort,
     alloc: Global,
@@ -62,9 +65,17 @@ fn expect_showing<D: Disk + Drop>(
     number: u64,
     printed: &str,
 ) {
+    expect_view(rt, alloc, disk, (Shown::Runs, Form::Lines, number, printed));
+}
+
+/// What is shown, and how, with the number with which that ends, and what it prints.
+type View<'a> = (Shown, Form, u64, &'a str);
+
+fn expect_view<D: Disk + Drop>(rt: &impl Abort, alloc: Global, disk: D, view: View<'_>) {
+    let (what, form, number, printed) = view;
     holds!(rt; disk.faults() < u64::MAX);
     let mut text = Vec::new(alloc);
-    let (_, ended) = run_show(alloc, disk, &mut text);
+    let (_, ended) = run_show(alloc, disk, what, form, &mut text);
     holds!(rt; number_of(ended) == number, number);
     holds!(rt; text.as_slice() == printed.as_bytes(), printed);
 }
@@ -118,6 +129,105 @@ fn shows_the_runs_of_a_store(rt: HostRuntime) {
     expect_showing(&rt, alloc, two, 0, TWO_RUNS);
 }
 
+/// Two legs, of which the second asks for a label with a quotation mark in it, in a group of the run.
+const GROUPED: &str = concat!(
+    "{\"repo\":\"o/r\",\"path\":\"ci.json\",\"workflow\":{\"concurrency\":\"Deploy\",",
+    "\"jobs\":{\"a\":{\"runs-on\":[\"linux\",\"${{ matrix.os }}\"],\"strategy\":{\"matrix\":{\"os\":[\"x64\",\"a\\\"b\"]}}}}}}",
+);
+
+/// Two legs that share a group of the job.
+const LOCKED: &str = concat!(
+    "{\"repo\":\"o/r\",\"path\":\"ci.json\",\"workflow\":{",
+    "\"jobs\":{\"b\":{\"runs-on\":\"linux\",\"concurrency\":\"lock\",\"strategy\":{\"matrix\":{\"n\":[1,2]}}}}}}",
+);
+
+const AT_WORK: &[Words<'static>] = &[
+    Words::Admit("d1", BUILD),
+    Words::Admit("d2", GROUPED),
+    Words::Admit("d3", GROUPED),
+    Words::Admit("d4", LOCKED),
+    Words::Claim("r1", "1", "linux"),
+    Words::Claim("r2", "1", "linux,x64"),
+    Words::Claim("r3", "1", "windows"),
+];
+
+const RUNNERS: &str = concat!(
+    "runner r1 1 lease 1 1 build 0\n",
+    "runner r2 1 lease 2 2 a 0\n",
+    "runner r3 1 -\n",
+);
+
+const RUNNERS_AS_JSON: &str = concat!(
+    "{\"runner\":\"r1\",\"number\":1,\"lease\":{\"lease\":1,\"run\":1,\"job\":\"build\",\"leg\":0}}\n",
+    "{\"runner\":\"r2\",\"number\":1,\"lease\":{\"lease\":2,\"run\":2,\"job\":\"a\",\"leg\":0}}\n",
+    "{\"runner\":\"r3\",\"number\":1,\"lease\":null}\n",
+);
+
+const QUEUE: &str = concat!(
+    "ready 2 a 1 [\"linux\",\"a\\\"b\"]\n",
+    "ready 4 b 0 [\"linux\"]\n",
+    "group \"o/r\" \"deploy\" in_progress run 2 pending run 3\n",
+    "group \"o/r\" \"lock\" in_progress leg 4 b 0 pending leg 4 b 1\n",
+);
+
+const QUEUE_AS_JSON: &str = concat!(
+    "{\"run\":2,\"job\":\"a\",\"leg\":1,\"labels\":[\"linux\",\"a\\\"b\"]}\n",
+    "{\"run\":4,\"job\":\"b\",\"leg\":0,\"labels\":[\"linux\"]}\n",
+    "{\"repository\":\"o/r\",\"group\":\"deploy\",\"in_progress\":{\"run\":2},\"pending\":{\"run\":3}}\n",
+    "{\"repository\":\"o/r\",\"group\":\"lock\",\"in_progress\":{\"run\":4,\"job\":\"b\",\"leg\":0},\"pending\":{\"run\":4,\"job\":\"b\",\"leg\":1}}\n",
+);
+
+const SECOND: &str = "run 2 2 in_progress - a:open(running,ready)\n";
+
+const SECOND_AS_JSON: &str = concat!(
+    "{\"run\":2,\"number\":2,\"attempt\":1,\"status\":\"in_progress\",\"conclusion\":\"-\",",
+    "\"jobs\":[{\"id\":\"a\",\"state\":\"open\",\"legs\":[\"running\",\"ready\"]}]}\n",
+);
+
+const THIRD_AS_JSON: &str = concat!(
+    "{\"run\":3,\"number\":3,\"attempt\":1,\"status\":\"pending\",\"conclusion\":\"-\",",
+    "\"jobs\":[{\"id\":\"a\",\"state\":\"blocked\",\"legs\":[]}]}\n",
+);
+
+fn view_of_run(run: u32, form: Form, number: u64, printed: &'static str) -> View<'static>
+    requires some { 1 ≤ run }
+    requires most { run ≤ 9 }
+{
+    (Shown::Run(Number::new(run)), form, number, printed)
+}
+
+#[test]
+fn shows_what_is_at_work(rt: HostRuntime) {
+    let alloc = rt.alloc();
+    let views = [
+        (Shown::Runners, Form::Lines, 0, RUNNERS),
+        (Shown::Runners, Form::Json, 0, RUNNERS_AS_JSON),
+        (Shown::Queue, Form::Lines, 0, QUEUE),
+        (Shown::Queue, Form::Json, 0, QUEUE_AS_JSON),
+        view_of_run(2, Form::Lines, 0, SECOND),
+        view_of_run(2, Form::Json, 0, SECOND_AS_JSON),
+        view_of_run(3, Form::Json, 0, THIRD_AS_JSON),
+        view_of_run(5, Form::Lines, 40, ""),
+    ];
+    for view in views {
+        expect_view(&rt, alloc, disk_after(&rt, alloc, AT_WORK), view);
+    }
+}
+
+/// Of an empty table there is nothing to show.
+#[test]
+fn shows_nothing_of_an_empty_store(rt: HostRuntime) {
+    let alloc = rt.alloc();
+    let views = [
+        (Shown::Runners, Form::Lines, 0, ""),
+        (Shown::Queue, Form::Json, 0, ""),
+        view_of_run(1, Form::Json, 40, ""),
+    ];
+    for view in views {
+        expect_view(&rt, alloc, disk_after(&rt, alloc, &[]), view);
+    }
+}
+
 /// The bytes of a new store that are no zeros: an open gate, version 2, generation 1, and the length of the empty table's text.
 const FRONT: &[(usize, u8)] = &[(0, 0xA5), (1, 2), (9, 1), (17, 12)];
 
@@ -142,11 +252,12 @@ fn zeros(alloc: Global) -> Result<MemoryDisk, Refusal> {
     MemoryDisk::from_slice(alloc, &bytes)
 }
 
-/// A byte of a new store that is another one, and the number with which its showing ends: the area's gate, its version, a last lease out
-/// of range, and the gate of the first record, which is closed by any byte but one, and by that opens a record without a batch.
+/// A byte of a new store that is another one, and the number with which its showing ends: the area's gate, its layout, of which the first
+/// spells an empty table too and there is no third, a last lease out of range, and the gate of the first record, which is closed by any
+/// byte but one, and by that opens a record without a batch.
 const BYTES: &[(usize, u8, u64)] = &[
     (0, 0, 53),
-    (1, 1, 54),
+    (1, 1, 0),
     (1, 3, 54),
     (18, 0xFF, 54),
     (30, 1, 0),

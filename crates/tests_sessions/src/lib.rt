@@ -10,6 +10,8 @@ mod runner_plain;
 #[cfg(test)]
 mod runner_rows;
 #[cfg(test)]
+mod webhook_bounds;
+#[cfg(test)]
 mod webhook_fakes;
 #[cfg(test)]
 mod webhook_faults;

@@ -2,9 +2,11 @@
 ghost use Rattle.std.specs.Prelude.{Ok};
 ghost use Rattle.wf_value.specs.Gives.{Gives};
 
+use crate::webhook_rows::BODY;
 use act_sessions::{Answer, Asked};
 use run_plan::{BoxedLease, Claim, Command, Lease, Number, Reply};
 use std::alloc::Global;
+use tests_common::commands::shared_body;
 use wf_value::{Chars, Code, Combo, Refusal, TryCopy};
 
 /// Answers by what it is asked alone, and lists that.
@@ -59,7 +61,7 @@ fn answer_to(alloc: Global, command: &Command) -> Result<Reply, Refusal> {
         Command::Done(_) => Ok(Reply::Ok),
         Command::Beat(beat) if beat.lease.get() == 1 => Ok(Reply::GoOn),
         Command::Beat(_) => Ok(Reply::Stop),
-        Command::Fetch(run) if run.get() == 1 => Ok(Reply::Body(Chars::from_str(alloc, "{}")?)),
+        Command::Fetch(run) if run.get() == 1 => Ok(Reply::Body(shared_body(alloc, BODY)?)),
         Command::Fetch(run) => answer_to_fetch(run.get()),
         _ => Ok(Reply::Refused(Refusal::Numbered(Code::NoRun))),
     }

@@ -16,7 +16,7 @@ const MOST_LINE: usize = 512;
 const MOST_LINES: usize = 1_024;
 
 /// The answers after which a session ends.
-const LAST: [u64; 7] = [46, 47, 48, 50, 51, 52, 60];
+const LAST: [u64; 8] = [46, 47, 48, 50, 51, 52, 57, 60];
 
 fn outcome_of(word: &str) -> Result<Outcome, Refusal> {
     match word {

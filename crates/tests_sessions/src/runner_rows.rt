@@ -18,7 +18,14 @@ pub const ANSWERS: &str = "lease 1 1 build 0 {}\nrefused 42\ngo on\nrefused 75\n
 pub const ROWS: &[(&str, &str, usize)] = &[
     ("", "", 0),
     (LINES, ANSWERS, 4),
-    ("FETCH 1\n", "body 2\n{}\n", 1),
+    (
+        "FETCH 1\n",
+        concat!(
+            "body 81\n",
+            "{\"repo\":\"o/r\",\"path\":\"ci.json\",\"workflow\":{\"jobs\":{\"build\":{\"runs-on\":\"linux\"}}}}\n",
+        ),
+        1,
+    ),
     ("BEAT r1 2\n", "stop\n", 1),
     ("CLAIM idle 7 a,b\n", "nothing\n", 1),
     ("CLAIM r1 3 linux\n", "refused 43 1\n", 1),

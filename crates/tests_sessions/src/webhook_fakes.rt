@@ -4,10 +4,11 @@ ghost use Rattle.wf_value.specs.Gives.{Gives};
 
 use crate::webhook_rows::BODY;
 use act_sessions::{Answer, Asked};
-use run_plan::{Command, Reply};
+use run_plan::{Attempt, Command, Reply};
 use std::alloc::Global;
 use std::io;
 use std::io::{ErrorKind, Read, Write};
+use tests_common::commands::shared_body;
 use wf_value::{Chars, Code, Refusal, TryCopy};
 
 /// Gives pieces of so many bytes at most, the first of another length, and fails once so many were given.
@@ -140,8 +141,9 @@ fn answer_to(alloc: Global, command: &Command) -> Result<Reply, Refusal> {
         Command::Look(run) if run.get() == 1 => {
             Ok(Reply::Run(Chars::from_str(alloc, "run 1 1 queued - build:open(ready)")?))
         }
-        Command::Fetch(run) if run.get() == 1 => Ok(Reply::Body(Chars::from_str(alloc, BODY)?)),
+        Command::Fetch(run) if run.get() == 1 => Ok(Reply::Body(shared_body(alloc, BODY)?)),
         Command::Cancel(run) => answer_to_cancel(run.get()),
+        Command::Rerun(attempt) => answer_to_rerun(*attempt),
         Command::Lost(runner) if runner.as_str() == "r1" => Ok(Reply::Ok),
         Command::Lost(_) => Ok(Reply::Refused(Refusal::Numbered(Code::NoRunner))),
         _ => Ok(Reply::Refused(Refusal::Numbered(Code::NoRun))),
@@ -157,6 +159,18 @@ fn answer_to_cancel(run: u32) -> Result<Reply, Refusal> {
         46 => Err(Refusal::Numbered(Code::HistoryFull)),
         48 => Ok(Reply::Refused(Refusal::Numbered(Code::LastCounter))),
         60 => Err(Refusal::Numbered(Code::Unsettled)),
+        _ => Ok(Reply::Refused(Refusal::Numbered(Code::NoRun))),
+    }
+}
+
+/// The same of a run that is run again.
+fn answer_to_rerun(attempt: Attempt) -> Result<Reply, Refusal> {
+    match attempt.run.get() {
+        1 => Ok(Reply::Again(attempt)),
+        43 => Ok(Reply::Refused(Refusal::Turn(2))),
+        48 => Ok(Reply::Refused(Refusal::Numbered(Code::LastCounter))),
+        49 => Ok(Reply::Refused(Refusal::Numbered(Code::RunNotCompleted))),
+        57 => Err(Refusal::Numbered(Code::OldLayout)),
         _ => Ok(Reply::Refused(Refusal::Numbered(Code::NoRun))),
     }
 }

@@ -1,7 +1,8 @@
 //! A session of HTTP/1.1 as a plain program over all of its bytes, without a buffer and without pieces; and sessions that write the same.
 
+use crate::webhook_bounds::{LONG, spelled};
 use crate::webhook_fakes::{Fake, Pieces};
-use crate::webhook_rows::{LONG, ROWS, expect_answered, spelled};
+use crate::webhook_rows::{ROWS, expect_answered};
 use act_sessions::Answer;
 use httparse::{EMPTY_HEADER, Header, Request, Status};
 use run_plan::{Command, DeliveryId, EventName, Reply, prepare};
@@ -117,19 +118,22 @@ fn body_length(alloc: Global, head: &Request<'_, '_>) -> Result<usize, Fault> {
 fn path_of(target: &str) -> Option<(&'static str, Option<Words<'_>>)> {
     let mut parts = target.split('/');
     let first = (parts.next(), parts.next(), parts.next());
-    let more = (parts.next(), parts.next());
+    let more = (parts.next(), parts.next(), parts.next());
     match (first, more) {
-        ((Some(""), Some("events"), None), (None, None)) => Some(("POST", None)),
-        ((Some(""), Some("runs"), Some(run)), (None, None)) => {
+        ((Some(""), Some("events"), None), (None, None, None)) => Some(("POST", None)),
+        ((Some(""), Some("runs"), Some(run)), (None, None, None)) => {
             Some(("GET", Some(Words::Look(run))))
         }
-        ((Some(""), Some("runs"), Some(run)), (Some("body"), None)) => {
+        ((Some(""), Some("runs"), Some(run)), (Some("body"), None, None)) => {
             Some(("GET", Some(Words::Fetch(run))))
         }
-        ((Some(""), Some("runs"), Some(run)), (Some("cancel"), None)) => {
+        ((Some(""), Some("runs"), Some(run)), (Some("cancel"), None, None)) => {
             Some(("POST", Some(Words::Cancel(run))))
         }
-        ((Some(""), Some("runners"), Some(name)), (Some("lost"), None)) => {
+        ((Some(""), Some("runs"), Some(run)), (Some("attempts"), Some(attempt), None)) => {
+            Some(("POST", Some(Words::Rerun(run, attempt))))
+        }
+        ((Some(""), Some("runners"), Some(name)), (Some("lost"), None, None)) => {
             Some(("POST", Some(Words::Lost(name))))
         }
         _ => None,
@@ -220,7 +224,7 @@ fn refused(alloc: Global, fault: Fault) -> Result<Said, Refusal> {
 fn status_of_refusal(number: u64) -> u16 {
     match number {
         40 | 45 => 404,
-        41 | 44 => 409,
+        41 | 43 | 44 | 49 => 409,
         _ => 503,
     }
 }
@@ -235,7 +239,7 @@ fn replied(alloc: Global, reply: &Reply) -> Result<Said, Refusal> {
         });
     }
     let status = match reply {
-        Reply::Created(_) => 201,
+        Reply::Created(_) | Reply::Again(_) => 201,
         Reply::Ok => 202,
         Reply::Refused(refusal) => status_of_refusal(refusal.number()),
         _ => 200,

@@ -37,7 +37,7 @@ pub const SEEN: &str = concat!(
     "run 1 1 queued - build:open(ready)\n",
 );
 
-const SEEN_AT_LAST: &str = concat!(
+pub const SEEN_AT_LAST: &str = concat!(
     "HTTP/1.1 200 OK\r\n",
     "Content-Type: text/plain\r\n",
     "Content-Length: 35\r\n",
@@ -125,6 +125,22 @@ pub const ROWS: &[(&str, &str, usize)] = &[
         refused!("409 Conflict", "44"),
         1,
     ),
+    (
+        "POST /runs/1/attempts/2 HTTP/1.1\r\n\r\n",
+        "HTTP/1.1 201 Created\r\nContent-Type: text/plain\r\nContent-Length: 10\r\n\r\nagain 1 2\n",
+        1,
+    ),
+    (
+        "POST /runs/43/attempts/4 HTTP/1.1\r\n\r\n",
+        "HTTP/1.1 409 Conflict\r\nContent-Type: text/plain\r\nContent-Length: 13\r\n\r\nrefused 43 2\n",
+        1,
+    ),
+    (
+        "POST /runs/49/attempts/2 HTTP/1.1\r\n\r\n",
+        refused!("409 Conflict", "49"),
+        1,
+    ),
+    ("POST /runs/9/attempts/2 HTTP/1.1\r\n\r\n", NO_RUN, 1),
     // Several requests in one piece.
     (
         concat!(
@@ -207,7 +223,26 @@ pub const ROWS: &[(&str, &str, usize)] = &[
     ("PUT /events HTTP/1.1\r\n\r\n", POST_ALONE, 0),
     ("GET /runs/1/cancel HTTP/1.1\r\n\r\n", POST_ALONE, 0),
     ("GET /runners/r1/lost HTTP/1.1\r\n\r\n", POST_ALONE, 0),
+    ("GET /runs/1/attempts/2 HTTP/1.1\r\n\r\n", POST_ALONE, 0),
     // Targets match exactly.
+    ("POST /runs/1/attempts HTTP/1.1\r\n\r\n", NO_PATH, 0),
+    ("POST /runs/1/attempts/ HTTP/1.1\r\n\r\n", NO_PATH, 0),
+    ("POST /runs/1/attempts/0 HTTP/1.1\r\n\r\n", NO_PATH, 0),
+    ("POST /runs/1/attempts/02 HTTP/1.1\r\n\r\n", NO_PATH, 0),
+    ("POST /runs/01/attempts/2 HTTP/1.1\r\n\r\n", NO_PATH, 0),
+    ("POST /runs/1/attempts/2/ HTTP/1.1\r\n\r\n", NO_PATH, 0),
+    ("POST /runs/1/attempts/2?x HTTP/1.1\r\n\r\n", NO_PATH, 0),
+    (
+        "POST /runs/1/attempts/2/cancel HTTP/1.1\r\n\r\n",
+        NO_PATH,
+        0,
+    ),
+    ("POST /runs/1/body/attempts/2 HTTP/1.1\r\n\r\n", NO_PATH, 0),
+    (
+        "POST /runs/1/attempts/1000000000 HTTP/1.1\r\n\r\n",
+        NO_PATH,
+        0,
+    ),
     ("GET / HTTP/1.1\r\n\r\n", NO_PATH, 0),
     ("GET /runs/01 HTTP/1.1\r\n\r\n", NO_PATH, 0),
     ("GET /runs/1000000000 HTTP/1.1\r\n\r\n", NO_PATH, 0),
@@ -331,6 +366,16 @@ pub const ROWS: &[(&str, &str, usize)] = &[
         1,
     ),
     (
+        "POST /runs/48/attempts/1001 HTTP/1.1\r\n\r\nGET /runs/1 HTTP/1.1\r\n\r\n",
+        refused!("503 Service Unavailable", "48", "Connection: close"),
+        1,
+    ),
+    (
+        "POST /runs/57/attempts/2 HTTP/1.1\r\n\r\nGET /runs/1 HTTP/1.1\r\n\r\n",
+        refused!("503 Service Unavailable", "57", "Connection: close"),
+        1,
+    ),
+    (
         "POST /runs/60/cancel HTTP/1.1\r\n\r\nGET /runs/1 HTTP/1.1\r\n\r\n",
         refused!("503 Service Unavailable", "60", "Connection: close"),
         1,
@@ -416,98 +461,5 @@ fn answers_an_event_that_is_cut(rt: HostRuntime) {
     for cut in 1..=EVENT.len() {
         let reader = Pieces::cut(EVENT.as_bytes(), cut);
         expect_answered(&rt, rt.alloc(), reader, CREATED.as_bytes(), 1);
-    }
-}
-
-/// The pieces of an input, each with how often it stands there, and the same of what answers it; and how many commands it asks.
-pub type Long = (
-    &'static [(&'static str, usize)],
-    &'static [(&'static str, usize)],
-    usize,
-);
-
-pub const LONG: &[Long] = &[
-    // A head of 8,192 bytes without an end, one that ends there, and one that is a byte longer.
-    (
-        &[("GET /runs/1 HTTP/1.1\r\nx:", 1), ("y", 8_167)],
-        &[("", 0)],
-        0,
-    ),
-    (
-        &[("GET /runs/1 HTTP/1.1\r\nx:", 1), ("y", 8_168)],
-        &[(BAD_HEAD, 1)],
-        0,
-    ),
-    (
-        &[
-            ("GET /runs/1 HTTP/1.1\r\nx:", 1),
-            ("y", 8_164),
-            ("\r\n\r\n", 1),
-        ],
-        &[(SEEN, 1)],
-        1,
-    ),
-    (
-        &[
-            ("GET /runs/1 HTTP/1.1\r\nx:", 1),
-            ("y", 8_165),
-            ("\r\n\r\n", 1),
-        ],
-        &[(BAD_HEAD, 1)],
-        0,
-    ),
-    // 64 fields, and a 65th.
-    (
-        &[
-            ("GET /runs/1 HTTP/1.1\r\n", 1),
-            ("x:y\r\n", 64),
-            ("\r\n", 1),
-        ],
-        &[(SEEN, 1)],
-        1,
-    ),
-    (
-        &[
-            ("GET /runs/1 HTTP/1.1\r\n", 1),
-            ("x:y\r\n", 65),
-            ("\r\n", 1),
-        ],
-        &[(BAD_HEAD, 1)],
-        0,
-    ),
-    // The longest body, and the 64th request.
-    (
-        &[
-            ("GET /runs/0 HTTP/1.1\r\nContent-Length: 65536\r\n\r\n", 1),
-            ("x", 65_536),
-        ],
-        &[(NO_PATH, 1)],
-        0,
-    ),
-    (&[(LOOK, 65)], &[(SEEN, 63), (SEEN_AT_LAST, 1)], 64),
-];
-
-/// The pieces in a row, each so many times.
-pub fn spelled(rt: &impl Abort, alloc: Global, pieces: &[(&str, usize)]) -> Vec<u8> {
-    let mut bytes = Vec::new(alloc);
-    for &(piece, times) in pieces {
-        for _ in 0..times {
-            bytes
-                .extend_from_slice(piece.as_bytes())
-                .expect(rt, "memory");
-        }
-    }
-    bytes
-}
-
-#[test]
-fn bounds_a_session(rt: HostRuntime) {
-    for &(input, output, asked) in LONG {
-        let input = spelled(&rt, rt.alloc(), input);
-        let output = spelled(&rt, rt.alloc(), output);
-        for piece in [1_000, 100_000] {
-            let reader = Pieces::new(input.as_slice(), piece);
-            expect_answered(&rt, rt.alloc(), reader, output.as_slice(), asked);
-        }
     }
 }

@@ -78,7 +78,7 @@ const MOST: u64 = 40;
 #[test]
 fn faults_leave_what_was_covered_or_all(rt: HostRuntime) {
     let alloc = rt.alloc();
-    let tables = tables(&rt, alloc);
+    let tables = tables(&rt, alloc, SCRIPT);
     for call in 0..=MOST {
         let once = FuseDisk::once(fresh(&rt, alloc), call);
         let from = FuseDisk::from(fresh(&rt, alloc), call);

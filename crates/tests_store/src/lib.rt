@@ -11,6 +11,8 @@ mod events;
 #[cfg(test)]
 mod faults;
 #[cfg(test)]
+mod first_layout;
+#[cfg(test)]
 mod holds;
 #[cfg(test)]
 mod layout;
@@ -20,6 +22,8 @@ mod memory;
 mod openings;
 #[cfg(test)]
 mod plays;
+#[cfg(test)]
+mod reruns;
 #[cfg(test)]
 mod script;
 #[cfg(test)]

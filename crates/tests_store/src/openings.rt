@@ -49,8 +49,23 @@ const ROWS: &[(usize, u8, u8, &[u8], u64)] = &[
     (8_192, 0xA4, 2, &[], 53),
     // other versions
     (8_192, 0xA5, 0, &[], 54),
-    (8_192, 0xA5, 1, &[], 54),
     (8_192, 0xA5, 3, &[], 54),
+    // the first layout, with a look-up, and with a re-run, which it does not have
+    (8_192, 0xA5, 1, &[], 0),
+    (
+        8_192,
+        0xA5,
+        1,
+        &[0xA5, 0, 0, 0, 9, 0, 0, 0, 1, 7, 0, 0, 0, 1],
+        0,
+    ),
+    (
+        8_192,
+        0xA5,
+        1,
+        &[0xA5, 0, 0, 0, 13, 0, 0, 0, 1, 9, 0, 0, 0, 1, 0, 0, 0, 2],
+        54,
+    ),
     // a batch of one command, and the same with a byte behind it
     (
         8_192,
@@ -80,7 +95,22 @@ const ROWS: &[(usize, u8, u8, &[u8], u64)] = &[
         8_192,
         0xA5,
         2,
-        &[0xA5, 0, 0, 0, 9, 0, 0, 0, 1, 9, 0, 0, 0, 1],
+        &[0xA5, 0, 0, 0, 9, 0, 0, 0, 1, 10, 0, 0, 0, 1],
+        54,
+    ),
+    // a re-run, and one of attempt 0
+    (
+        8_192,
+        0xA5,
+        2,
+        &[0xA5, 0, 0, 0, 13, 0, 0, 0, 1, 9, 0, 0, 0, 1, 0, 0, 0, 2],
+        0,
+    ),
+    (
+        8_192,
+        0xA5,
+        2,
+        &[0xA5, 0, 0, 0, 13, 0, 0, 0, 1, 9, 0, 0, 0, 1, 0, 0, 0, 0],
         54,
     ),
     // behind a closed gate nothing counts
@@ -88,7 +118,7 @@ const ROWS: &[(usize, u8, u8, &[u8], u64)] = &[
         8_192,
         0xA5,
         2,
-        &[0, 0, 0, 0, 9, 0, 0, 0, 1, 9, 0, 0, 0, 1],
+        &[0, 0, 0, 0, 9, 0, 0, 0, 1, 10, 0, 0, 0, 1],
         0,
     ),
     // a body that passes the area, whose own gate is open

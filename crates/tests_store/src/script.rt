@@ -1,4 +1,4 @@
-//! A script, the tables that it leads to, and what tells these apart.
+//! Scripts, the tables that they lead to, and what tells these apart.
 
 use crate::events::{BUILD, BUILD_ELSEWHERE, THREE};
 use crate::holds::holds;
@@ -36,6 +36,25 @@ pub const SCRIPT: &[Ask] = &[
     Ask::Apply(Words::Claim("r1", "3", "linux,x")),
 ];
 
+/// Two re-runs of a run, one before the snapshot of a checkpoint and one after it. What comes last is not covered.
+pub const RERUNS: &[Ask] = &[
+    Ask::Apply(Words::Admit("d1", BUILD)),
+    Ask::Apply(Words::Claim("r1", "1", "linux")),
+    Ask::Apply(Words::Done("r1", "2", "1", Outcome::Failure)),
+    Ask::Commit,
+    Ask::Apply(Words::Rerun("1", "2")),
+    Ask::Begin,
+    Ask::Apply(Words::Claim("r1", "3", "linux")),
+    Ask::Commit,
+    Ask::Apply(Words::Done("r1", "4", "2", Outcome::Success)),
+    Ask::Slice,
+    Ask::Apply(Words::Rerun("1", "3")),
+    Ask::Finish,
+    Ask::Apply(Words::Claim("r1", "5", "linux")),
+    Ask::Commit,
+    Ask::Apply(Words::Lost("r1")),
+];
+
 /// A step: how many entries were covered before it, and how many there were.
 #[derive(Clone, Copy)]
 pub struct Span {
@@ -63,10 +82,15 @@ fn told_by<D: Disk>(alloc: Global, store: &mut Store<D>) -> Result<String, Refus
     Ok(told)
 }
 
-/// Applies the first commands of the script, so many of them.
-fn apply_first<D: Disk>(alloc: Global, store: &mut Store<D>, count: usize) -> Result<(), Refusal> {
+/// Applies the first commands of a script, so many of them.
+fn apply_first<D: Disk>(
+    alloc: Global,
+    store: &mut Store<D>,
+    script: &[Ask],
+    count: usize,
+) -> Result<(), Refusal> {
     let mut left = count;
-    for ask in SCRIPT {
+    for ask in script {
         if left > 0 && matches!(ask, Ask::Apply(_)) {
             let _answer = asked(alloc, store, ask)?;
             left -= 1;
@@ -75,21 +99,25 @@ fn apply_first<D: Disk>(alloc: Global, store: &mut Store<D>, count: usize) -> Re
     Ok(())
 }
 
-/// What is told after so many commands of the script.
-fn told_after(rt: &impl Abort, alloc: Global, count: usize) -> String {
+/// What is told after so many commands of a script.
+fn told_after(rt: &impl Abort, alloc: Global, script: &[Ask], count: usize) -> String {
     let mut store = made(rt, alloc, LEAST);
-    apply_first(alloc, &mut store, count).expect(rt, "memory");
+    apply_first(alloc, &mut store, script, count).expect(rt, "memory");
     let told = told_by(alloc, &mut store).expect(rt, "memory");
     close(store);
     told
 }
 
-/// What is told after 0, 1, 2 and more commands of the script.
-pub fn tables(rt: &impl Abort, alloc: Global) -> Vec<String> {
+/// What is told after 0, 1, 2 and more commands of a script.
+pub fn tables(rt: &impl Abort, alloc: Global, script: &[Ask]) -> Vec<String> {
+    let commands = script
+        .iter()
+        .filter(|ask| matches!(ask, Ask::Apply(_)))
+        .count();
     let mut tables = Vec::new(alloc);
-    for count in 0..12 {
+    for count in 0..=commands {
         tables
-            .push(told_after(rt, alloc, count))
+            .push(told_after(rt, alloc, script, count))
             .expect(rt, "memory");
     }
     tables

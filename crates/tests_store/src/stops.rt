@@ -1,8 +1,8 @@
-//! A script, stopped inside each call of the disk: what is left opens to the entries that were covered, or to all.
+//! Scripts, stopped inside each call of the disk: what is left opens to the entries that were covered, or to all.
 
 use crate::holds::holds;
-use crate::script::{SCRIPT, Span, expect_either, tables};
-use crate::stores::{LEAST, asked, made, number_of_opening};
+use crate::script::{RERUNS, SCRIPT, Span, expect_either, tables};
+use crate::stores::{Ask, LEAST, asked, made, number_of_opening};
 use act_disk::{Fill, MemoryDisk};
 use std::alloc::Global;
 use std::process::Abort;
@@ -12,10 +12,10 @@ const MAKES: usize = 6;
 
 const FILLS: &[Fill] = &[Fill::Old, Fill::New, Fill::Half, Fill::Gates];
 
-/// The first steps of the script, so many of them: how many entries are covered then, and how many there are, and the disk.
-fn played(rt: &impl Abort, alloc: Global, count: usize) -> (Span, MemoryDisk) {
+/// The first steps of a script, so many of them: how many entries are covered then, and how many there are, and the disk.
+fn played(rt: &impl Abort, alloc: Global, script: &[Ask], count: usize) -> (Span, MemoryDisk) {
     let mut store = made(rt, alloc, LEAST);
-    for ask in SCRIPT.iter().take(count) {
+    for ask in script.iter().take(count) {
         let _answer = asked(alloc, &mut store, ask).expect(rt, "memory");
     }
     let (from, to) = (store.covered(), store.entries());
@@ -39,9 +39,9 @@ fn expect_call(
 }
 
 /// The images of a stop inside each call of a step.
-fn expect_step(rt: &impl Abort, alloc: Global, tables: &[String], step: usize) {
-    let (before, old) = played(rt, alloc, step);
-    let (after, disk) = played(rt, alloc, step.saturating_add(1));
+fn expect_step(rt: &impl Abort, alloc: Global, script: &[Ask], tables: &[String], step: usize) {
+    let (before, old) = played(rt, alloc, script, step);
+    let (after, disk) = played(rt, alloc, script, step.saturating_add(1));
     let span = Span {
         from: before.from,
         to: after.to,
@@ -51,14 +51,24 @@ fn expect_step(rt: &impl Abort, alloc: Global, tables: &[String], step: usize) {
     }
 }
 
+/// The images of a stop inside each call of a script, of which there are so many.
+fn expect_script(rt: &impl Abort, alloc: Global, script: &[Ask], calls: usize) {
+    let tables = tables(rt, alloc, script);
+    for step in 0..script.len() {
+        expect_step(rt, alloc, script, tables.as_slice(), step);
+    }
+    let (last, disk) = played(rt, alloc, script, script.len());
+    holds!(rt; disk.calls().len() == calls && last.from < last.to);
+}
+
 #[test]
 fn stops_leave_what_was_covered_or_all(rt: HostRuntime) {
-    let tables = tables(&rt, rt.alloc());
-    for step in 0..SCRIPT.len() {
-        expect_step(&rt, rt.alloc(), tables.as_slice(), step);
-    }
-    let (last, disk) = played(&rt, rt.alloc(), SCRIPT.len());
-    holds!(&rt; disk.calls().len() == MAKES + 28 && last.from < last.to);
+    expect_script(&rt, rt.alloc(), SCRIPT, MAKES + 28);
+}
+
+#[test]
+fn stops_among_reruns_leave_what_was_covered_or_all(rt: HostRuntime) {
+    expect_script(&rt, rt.alloc(), RERUNS, MAKES + 17);
 }
 
 /// Whether what a stop inside a call of the making leaves is no store yet, or one that opens.

@@ -50,6 +50,9 @@ const COMMANDS: &[Words<'static>] = &[
     Words::Look("2"),
     Words::Fetch("1"),
     Words::Fetch("2"),
+    Words::Rerun("1", "2"),
+    Words::Rerun("2", "2"),
+    Words::Rerun("1", "3"),
 ];
 
 fn commands(alloc: Global) -> Result<Vec<Command>, Refusal> {

@@ -23,6 +23,7 @@ const SIZES: &[(Words<'static>, usize)] = &[
     (Words::Lost("r1"), 7),
     (Words::Look("1"), 5),
     (Words::Fetch("1"), 5),
+    (Words::Rerun("1", "2"), 9),
 ];
 
 /// Commands, and the bytes of each. 999,999,999 is 3B 9A C9 FF, and 258 is 00 00 01 02.
@@ -36,6 +37,10 @@ const BYTES: &[(Words<'static>, &[u8])] = &[
     (Words::Lost("r1"), &[6, 0, 0, 0, 2, b'r', b'1']),
     (Words::Look("1"), &[7, 0, 0, 0, 1]),
     (Words::Fetch("258"), &[8, 0, 0, 1, 2]),
+    (
+        Words::Rerun("258", "999999999"),
+        &[9, 0, 0, 1, 2, 0x3B, 0x9A, 0xC9, 0xFF],
+    ),
 ];
 
 /// `cancel 1`, `lost r1` and `fetch 1`.
@@ -51,15 +56,21 @@ const NO_COMMANDS: &[&[u8]] = &[
     // nothing, commands of no kind, and too few bytes
     &[],
     &[0, 0, 0, 0, 1],
-    &[9, 0, 0, 0, 1],
+    &[10, 0, 0, 0, 1, 0, 0, 0, 2],
     &[7, 0, 0, 0],
     &[5, 0, 0, 0],
+    &[9, 0, 0, 0, 1],
+    &[9, 0, 0, 0, 1, 0, 0, 0],
     &[6, 0, 0, 0, 2, b'r'],
     // run 0, the empty name, and a name with a slash
     &[5, 0, 0, 0, 0],
     &[8, 0, 0, 0, 0],
     &[6, 0, 0, 0, 0],
     &[6, 0, 0, 0, 2, b'r', b'/'],
+    // run 0, attempt 0 and attempt 1,000,000,000
+    &[9, 0, 0, 0, 0, 0, 0, 0, 2],
+    &[9, 0, 0, 0, 1, 0, 0, 0, 0],
+    &[9, 0, 0, 0, 1, 0x3B, 0x9A, 0xCA, 0],
     // the numbers 0 and 1,000,000,000, and 64 with its least significant byte first
     &[7, 0, 0, 0, 0],
     &[7, 0x3B, 0x9A, 0xCA, 0],

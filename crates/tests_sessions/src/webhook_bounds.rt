@@ -1,0 +1,99 @@
+//! The longest heads, bodies and sessions, and what is a byte, a field or a request longer.
+
+use crate::webhook_fakes::Pieces;
+use crate::webhook_rows::{BAD_HEAD, LOOK, NO_PATH, SEEN, SEEN_AT_LAST, expect_answered};
+use std::alloc::Global;
+use std::process::Abort;
+
+/// The pieces of an input, each with how often it stands there, and the same of what answers it; and how many commands it asks.
+pub type Long = (
+    &'static [(&'static str, usize)],
+    &'static [(&'static str, usize)],
+    usize,
+);
+
+pub const LONG: &[Long] = &[
+    // A head of 8,192 bytes without an end, one that ends there, and one that is a byte longer.
+    (
+        &[("GET /runs/1 HTTP/1.1\r\nx:", 1), ("y", 8_167)],
+        &[("", 0)],
+        0,
+    ),
+    (
+        &[("GET /runs/1 HTTP/1.1\r\nx:", 1), ("y", 8_168)],
+        &[(BAD_HEAD, 1)],
+        0,
+    ),
+    (
+        &[
+            ("GET /runs/1 HTTP/1.1\r\nx:", 1),
+            ("y", 8_164),
+            ("\r\n\r\n", 1),
+        ],
+        &[(SEEN, 1)],
+        1,
+    ),
+    (
+        &[
+            ("GET /runs/1 HTTP/1.1\r\nx:", 1),
+            ("y", 8_165),
+            ("\r\n\r\n", 1),
+        ],
+        &[(BAD_HEAD, 1)],
+        0,
+    ),
+    // 64 fields, and a 65th.
+    (
+        &[
+            ("GET /runs/1 HTTP/1.1\r\n", 1),
+            ("x:y\r\n", 64),
+            ("\r\n", 1),
+        ],
+        &[(SEEN, 1)],
+        1,
+    ),
+    (
+        &[
+            ("GET /runs/1 HTTP/1.1\r\n", 1),
+            ("x:y\r\n", 65),
+            ("\r\n", 1),
+        ],
+        &[(BAD_HEAD, 1)],
+        0,
+    ),
+    // The longest body, and the 64th request.
+    (
+        &[
+            ("GET /runs/0 HTTP/1.1\r\nContent-Length: 65536\r\n\r\n", 1),
+            ("x", 65_536),
+        ],
+        &[(NO_PATH, 1)],
+        0,
+    ),
+    (&[(LOOK, 65)], &[(SEEN, 63), (SEEN_AT_LAST, 1)], 64),
+];
+
+/// The pieces in a row, each so many times.
+pub fn spelled(rt: &impl Abort, alloc: Global, pieces: &[(&str, usize)]) -> Vec<u8> {
+    let mut bytes = Vec::new(alloc);
+    for &(piece, times) in pieces {
+        for _ in 0..times {
+            bytes
+                .extend_from_slice(piece.as_bytes())
+                .expect(rt, "memory");
+        }
+    }
+    bytes
+}
+
+#[test]
+fn bounds_a_session(rt: HostRuntime) {
+    for &(input, output, asked) in LONG {
+        let input = spelled(&rt, rt.alloc(), input);
+        let output = spelled(&rt, rt.alloc(), output);
+        for piece in [1_000, 100_000] {
+            let reader = Pieces::new(input.as_slice(), piece);
+            expect_answered(&rt, rt.alloc(), reader, output.as_slice(), asked);
+        }
+    }
+}
