@@ -4,6 +4,7 @@ import os
 import random
 import re
 import resource
+import select
 import socket
 import struct
 import subprocess
@@ -75,6 +76,7 @@ class Service:
     def __init__(self, acts, path, sessions, rounds=1, settings=None, limit=None, limits=(), user=None, endless=None):
         self.hooks, self.runners = free_ports()
         self.seen, told = os.pipe()
+        self.said = b''
         # A shell may know descriptors of one digit alone, and a path of one is not for another user.
         first = [f'exec 9>&{told};' if told < 10 else f'exec 9> /proc/self/fd/{told};']
         if limit is not None:
@@ -89,6 +91,19 @@ class Service:
         os.close(told)
         self.ready = self.child.stdout.readline() == b'ready\n'
 
+    def wait_failure(self, timeout):
+        """Waits until a library has failed a call, and answers when it did. None: it has not."""
+        if not select.select([self.seen], [], [], timeout)[0]:
+            return None
+        self.said += os.read(self.seen, 64)
+        return float(self.said or 'nan')
+
+    def has_failed(self):
+        """Whether a library told that it failed a call, of a service that has ended."""
+        self.said += os.read(self.seen, 64)
+        os.close(self.seen)
+        return self.said != b''
+
     def end(self, timeout=60):
         """Waits for its end: the status, what it wrote after `ready`, standard error, and whether a library told that it failed a call."""
         try:
@@ -97,9 +112,7 @@ class Service:
             self.child.kill()
             self.child.communicate()
             raise
-        told = os.read(self.seen, 16) != b''
-        os.close(self.seen)
-        return self.child.returncode, out.decode(), err.decode(), told
+        return self.child.returncode, out.decode(), err.decode(), self.has_failed()
 
     def hook(self):
         return Hook(self.hooks)
@@ -147,9 +160,7 @@ class Forever(Service):
         with self.child.stderr as file:
             err = file.read().decode()
         self.child.stdout.close()
-        told = os.read(self.seen, 16) != b''
-        os.close(self.seen)
-        return status, b''.join(self.strange).decode(), err, told
+        return status, b''.join(self.strange).decode(), err, self.has_failed()
 
     def kill(self):
         """Ends it as a crash would. What was wrong until then, or None: it has ended before, or said what it should not."""
@@ -217,6 +228,11 @@ class Client:
         except (BrokenPipeError, ConnectionResetError):
             raise Ended(self.held) from None
 
+    def ask(self, what):
+        """Sends what is one request, or one line, and waits for its answer."""
+        self.send(what)
+        return self.answer()
+
     def close(self):
         self.stream.close()
 
@@ -239,9 +255,8 @@ class Client:
 class Hook(Client):
     """A sender of requests, which is answered before it sends the next."""
 
-    def ask(self, request):
+    def answer(self):
         """The status, and what is answered, without its line feed."""
-        self.send(request)
         head = self.until(b'\r\n\r\n').decode()
         length = int(head.split('Content-Length: ')[1].split('\r\n')[0])
         return int(head.split(' ')[1]), self.take(length).decode().rstrip('\n')
@@ -250,8 +265,7 @@ class Hook(Client):
 class Runner(Client):
     """A runner."""
 
-    def ask(self, line):
-        self.send(line)
+    def answer(self):
         return None, self.until(b'\n').decode().rstrip('\n')
 
 
@@ -263,6 +277,10 @@ def event(delivery, body=BODY):
 
 def look(run):
     return f'GET /runs/{run} HTTP/1.1\r\n\r\n'.encode()
+
+
+def rerun(run, attempt):
+    return f'POST /runs/{run}/attempts/{attempt} HTTP/1.1\r\n\r\n'.encode()
 
 
 def asks(runs, body=BODY):

@@ -8,7 +8,6 @@ opens the file.
 import collections
 import os
 import random
-import select
 import subprocess
 import time
 
@@ -29,9 +28,8 @@ def meet(acts, path, load, dice, settings):
         expect((status, out, err, failed) == (1, '', 'acts: refused 51\n', True), settings, 'an opening that failed', status, out, err)
         return 'at the opening', 0.0, 0
     load.begin(service, 1 << 30)
-    seen, _, _ = select.select([service.seen], [], [], 60)
-    fault = time.monotonic()
-    expect(seen, settings, 'no call has failed for 60 seconds, after', load.told.answers, 'answers')
+    fault = service.wait_failure(60)
+    expect(fault is not None, settings, 'no call has failed for 60 seconds, after', load.told.answers, 'answers')
     try:
         status, out, err, failed = service.end(SECONDS)
     except subprocess.TimeoutExpired:

@@ -89,6 +89,7 @@ def check(acts, folder, amount):
         chains.append((chain, checkpoints_in(path)))
         os.remove(path)
     runs, leases = (sum(len(getattr(chain.load.told, name)) for chain, _ in chains) for name in ('runs', 'leases'))
+    again = sum(attempt - 1 for chain, _ in chains for attempt in chain.load.told.begun.values())
     yield (f'{kills} services killed, {sum(chain.early for chain, _ in chains)} of them as they began, over {len(chains)} stores; '
            f'{sum(chain.turned for chain, _ in chains)} histories had turned over, {sum(count for _, count in chains)} checkpoints stand, '
-           f'{sum(chain.answers for chain, _ in chains)} answers; {runs} runs of as many deliveries, {leases} leases, none lost and none twice')
+           f'{sum(chain.answers for chain, _ in chains)} answers; {runs} runs of as many deliveries, run again {again} times, {leases} leases, none lost and none twice')

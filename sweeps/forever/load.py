@@ -1,10 +1,12 @@
 """Senders and runners that go on over one service after the other, and what they were told. Whatever was told has to stand.
 
-A sender posts events, looks at their runs, and posts some once more. A runner claims, asks whether to go on, and reports. Where a service ends before an
-answer, both say the same again to the next one: a delivery gets the run that it has, and a runner's last command the reply that it got. So no
-delivery makes two runs, each leg is leased once, and no number of a runner is out of turn.
+A sender posts events, looks at their runs, posts some once more, and has some run again. A runner claims, asks whether to go on, and reports. Where a
+service ends before an answer, both say the same again to the next one: a delivery gets the run that it has, an attempt is answered as it was, and a
+runner's last command gets the reply that it got. So no delivery makes two runs, no attempt begins twice, each leg is leased once, and no number of a
+runner is out of turn.
 """
 
+import collections
 import random
 import re
 import threading
@@ -17,11 +19,23 @@ REQUESTS, LINES = 64, 1024
 REFUSED = ('refused 51', 'refused 52')
 
 
+def attempt_in(view):
+    """The attempt at which a view shows its run."""
+    return int(re.match(r'run \d+ \d+(?:\.(\d+))? ', view)[1] or 1)
+
+
+def succeeded(run, attempt):
+    """The view of a run whose leg has ended in this attempt."""
+    number = run if attempt == 1 else f'{run}.{attempt}'
+    return f'run {run} {number} completed success build:success(success)'
+
+
 class Told:
     """What was answered, of all clients."""
 
     def __init__(self):
-        self.lock, self.runs, self.leases, self.done = threading.Lock(), {}, {}, set()
+        self.lock, self.runs, self.leases, self.done = threading.Lock(), {}, {}, collections.Counter()
+        self.wanted, self.begun = {}, {} # of runs that are run again: the last attempt that was asked for, and the last that was answered
         self.enough, self.answers, self.over, self.ends = 0, 0, threading.Event(), threading.Event()
 
     def begin(self, enough):
@@ -47,16 +61,25 @@ class Told:
         with self.lock:
             expect(self.leases.get(lease, (run, claim)) == (run, claim), 'lease', lease, 'was given to', self.leases.get(lease), 'and to', (run, claim))
             if lease not in self.leases:
-                expect(all(run != other for other, _ in self.leases.values()), 'run', run, 'is leased twice')
                 self.leases[lease] = (run, claim)
+                times = sum(run == other for other, _ in self.leases.values())
+                expect(times <= self.wanted.get(run, 1), 'run', run, 'is leased', times, 'times in', self.wanted.get(run, 1), 'attempts')
 
     def ended(self, run):
         with self.lock:
-            self.done.add(run)
+            self.done[run] += 1
+
+    def wants(self, run, attempt):
+        with self.lock:
+            self.wanted[run] = max(attempt, self.wanted.get(run, 1))
+
+    def again(self, run, attempt):
+        with self.lock:
+            self.begun[run] = max(attempt, self.begun.get(run, 1))
 
 
 class Client:
-    """One who asks, over one stream after the other. `asked` is when it asked what it was not answered yet."""
+    """One who asks, over one stream after the other. `asked` is when it had sent what it was not answered yet."""
 
     def __init__(self, told, name, dice):
         self.told, self.name, self.dice, self.asked, self.refused = told, name, dice, None, None
@@ -78,8 +101,9 @@ class Client:
 
     def ask(self, client, what):
         """The answer, or None where the device has failed."""
+        client.send(what)
         self.asked = time.monotonic()
-        status, answer = client.ask(what)
+        status, answer = client.answer()
         self.asked = None
         self.told.count()
         if answer in REFUSED:
@@ -106,6 +130,8 @@ class Sender(Client):
             if mine == self.next and self.next and self.dice.random() < 0.3:
                 answer = self.ask(client, served.look(self.told.runs[f'{self.name}-{self.next - 1}']))
                 expect(answer is None or answer.startswith('run '), self.name, 'looks and is answered', answer)
+            elif self.next and self.dice.random() < 0.3:
+                answer = self.rerun(client, self.told.runs[f'{self.name}-{self.dice.randrange(self.next)}'])
             else:
                 self.sent = max(self.sent, mine + 1)
                 answer = self.ask(client, served.event(delivery))
@@ -116,6 +142,20 @@ class Sender(Client):
                     self.next = max(self.next, mine + 1)
             if answer is None:
                 return
+
+    def rerun(self, client, run):
+        """Has a run of its own run again, or asks for the attempt at which it is."""
+        present = self.told.begun.get(run, 1)
+        attempt = present if self.dice.random() < 0.3 else present + 1
+        self.told.wants(run, attempt)
+        answer = self.ask(client, served.rerun(run, attempt))
+        if answer == f'again {run} {attempt}':
+            self.told.again(run, attempt)
+        else:
+            # where an answer was lost, the run may be at the next attempt already
+            allowed = ('refused 49',) if attempt > present else (f'refused 43 {present + 1}',)
+            expect(answer is None or answer in allowed, 'attempt', attempt, 'of run', run, 'is answered', answer)
+        return answer
 
 
 class Runner(Client):
@@ -213,10 +253,13 @@ class Load:
         expect(len(views) <= sum(sender.sent for sender in self.senders), len(views), 'runs of', sum(sender.sent for sender in self.senders), 'deliveries')
         for delivery, run in told.runs.items():
             expect(run in views, 'LOST: run', run, 'of the delivery', delivery)
-        for run, claim in told.leases.values():
-            expect('open(ready)' not in views[run], 'LOST: the lease of', claim, views[run])
-        for run in told.done:
-            expect(views[run] == f'run {run} {run} completed success build:success(success)', 'LOST: a report', views[run])
+        leased = collections.Counter(run for run, _ in told.leases.values())
+        for run, view in views.items():
+            attempt = attempt_in(view)
+            expect(told.begun.get(run, 1) <= attempt <= told.wanted.get(run, 1), 'LOST, or begun twice: an attempt up to', told.wanted.get(run, 1), view)
+            expect(told.done[run] <= leased[run] <= attempt, leased[run], 'leases and', told.done[run], 'reports', view)
+            expect(leased[run] < attempt or 'open(ready)' not in view, 'LOST: the last of', leased[run], 'leases', view)
+            expect(told.done[run] < attempt or view == succeeded(run, attempt), 'LOST: a report', view)
 
     def settle(self, service):
         """Has each client ask again what it was not answered, and the runners go on until nothing is left. Then each run has ended."""
@@ -237,10 +280,12 @@ class Load:
         at_once([lambda runner=runner: runner.drain(service) for runner in self.runners], 60)
 
     def all_ended(self, shown):
-        """Behind `settle` there is a run for each delivery, each was leased once, and has ended."""
+        """Behind `settle` there is a run for each delivery, each was leased once in each attempt, and has ended."""
         self.look_at(shown)
         count = sum(sender.sent for sender in self.senders)
         expect(len(shown) == count == len(self.told.runs), len(shown), 'runs of', count, 'deliveries, of which', len(self.told.runs), 'were answered')
         expect(sorted(self.told.runs.values()) == list(range(1, count + 1)), 'the ids of the runs')
-        expect(sorted(run for run, _ in self.told.leases.values()) == list(range(1, count + 1)), len(self.told.leases), 'leases of', count, 'runs')
-        expect(len(self.told.done) == count, len(self.told.done), 'reports of', count, 'runs')
+        leased = collections.Counter(run for run, _ in self.told.leases.values())
+        for run, view in enumerate(shown, 1):
+            attempts = attempt_in(view)
+            expect(leased[run] == self.told.done[run] == attempts, leased[run], 'leases and', self.told.done[run], 'reports of', view)

@@ -1,19 +1,27 @@
 // For LD_PRELOAD: fails the write or sync of a file whose number stands in FAIL_AT, counting from 1, and where FAIL_AFTER is set all behind
-// it too. Where FAIL_HALF is set, half of the bytes of a write that fails are written. Says on descriptor 9 that it did.
+// it too. Where FAIL_HALF is set, half of the bytes of a write that fails are written. Says on descriptor 9 when it first did, in seconds of the
+// clock that only goes forward.
 #define _GNU_SOURCE
 #include <dlfcn.h>
 #include <errno.h>
 #include <stdatomic.h>
+#include <stdio.h>
 #include <stdlib.h>
+#include <time.h>
 #include <unistd.h>
 
 static atomic_long count;
+
+static void tell(void) {
+    struct timespec now;
+    if (clock_gettime(CLOCK_MONOTONIC, &now) != 0 || dprintf(9, "%lld.%09ld", (long long)now.tv_sec, now.tv_nsec) < 0) _exit(9);
+}
 
 static int fails(void) {
     const char *text = getenv("FAIL_AT");
     long at = text ? atol(text) : 0, now = ++count;
     if (at == 0 || now < at || (now > at && !getenv("FAIL_AFTER"))) return 0;
-    if (now == at && write(9, "x", 1) != 1) _exit(9);
+    if (now == at) tell();
     return 1;
 }
 
