@@ -13,9 +13,14 @@ first-run:
 	@sed 's/^/> /' $(FIRST)/stdin | paste -d '\n' - $(FIRST)/out/answers
 	@echo 'This was a trial run, which proves nothing; `make build` makes the proved program.' >&2
 
-# Proves and builds `acts` and the crates below it.
+# Proves and builds `acts` and the crates below it. While it builds, a line of the source names the commit, for `acts --version`.
+COMMIT_LINE := crates/acts_cli/src/commit.rt
+COMMIT_KEPT := crates/acts_cli/commit.kept
+COMMIT := $(shell git describe --always --dirty --exclude '*' 2> /dev/null)
+
 build:
-	cd crates/acts && rt run -- play < /dev/null
+	@cp $(COMMIT_LINE) $(COMMIT_KEPT); trap 'mv $(CURDIR)/$(COMMIT_KEPT) $(CURDIR)/$(COMMIT_LINE)' EXIT; trap 'exit 130' INT TERM; \
+		$(if $(COMMIT),sed -i 's/no commit named/commit $(COMMIT)/' $(COMMIT_LINE);) cd crates/acts && rt run -- play < /dev/null
 
 # Puts the program that `make build` has made, its manual page, which is made from its help texts, and the unit for systemd below PREFIX;
 # DESTDIR, where it is given, stands before all of them. `make install PREFIX=$HOME/.local`, and `make install ACTS=PATH` of another program.
@@ -67,6 +72,7 @@ hostile: build
 	sweeps/crowd/run $(ACTS)
 	sweeps/forever/run $(ACTS) --kills 60 --faults 20 --changed 200
 	sweeps/damaged_files/run $(ACTS)
+	sweeps/first_layout/run $(ACTS)
 	sweeps/failover/run $(ACTS)
 	sweeps/one_server/run $(ACTS)
 
