@@ -11,6 +11,7 @@ mod LastPart
 mod Meanings
 mod OneTable
 mod Opening
+mod OtherGates
 mod Plays
 mod ReadTwice
 mod Records

@@ -7,6 +7,7 @@ pub mod LastPart
 pub mod Layouts
 pub mod Meaning
 pub mod Opened
+pub mod OtherGate
 pub mod Plain
 pub mod Promise
 pub mod Reopened

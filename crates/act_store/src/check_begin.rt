@@ -7,6 +7,7 @@ ghost use Rattle.run_table.specs.Sound.{IsSound};
 ghost use Rattle.table_text.specs.WholeTables.{whole_table};
 ghost use Rattle.act_store.specs.Checkpoints.{begun_at, first_gate, refusal_of_begin, text_length};
 ghost use Rattle.act_store.specs.Layouts.{current_version};
+ghost use Rattle.act_store.specs.OtherGate.{IsShutBeside};
 ghost use Rattle.act_store.specs.StoreState.{StandsForEither, table_of};
 ghost use Rattle.act_store.specs.declared.layout.Layout.TheVariants as layouts;
 ghost use Rattle.act_store.specs.Plain.{broken};
@@ -44,6 +45,8 @@ impl<D: Disk> Store<D> {
         ensures broken { result ≡ Err device_failed → self.new ≡ broken self.old self.new.disk }
         ensures unchanged { IfErr result (λ e. (e ≡ device_failed → ⊥) → self.new ≡ self.old) }
         ensures faults { TellsFault result (D.fault_count self.old.disk) (D.fault_count self.new.disk) }
+        // Beside a gate that is closed no device is called.
+        ensures uncalled { D.honest self.old.disk → IsShutBeside self.old.area (D.seen self.old.disk) → self.new.disk ≡ self.old.disk }
         ensures calls { D.calls self.new.disk ≤ D.calls self.old.disk + 2 }
         ensures honest { D.honest self.new.disk ↔ D.honest self.old.disk }
     {

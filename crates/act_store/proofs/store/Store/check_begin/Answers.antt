@@ -11,6 +11,7 @@ use Rattle.act_store.specs.StoreSeen.{as_checkpoint, as_state}
 use Rattle.act_store.specs.declared.begun.Begun.{Begun}
 use Rattle.act_store.proofs.Checkpointing.{begin_moments, counted_with, few_runners, settled_again, standing_failed, standing_with, table_sound}
 use Rattle.act_store.proofs.Committing.{now_of}
+use Rattle.act_store.proofs.OtherGates.{uncalled}
 use Rattle.act_store.proofs.RefusalsOfCheckpoints.{begins, none_begun}
 use Rattle.act_store.proofs.Snapshots.{held_none, if_none, snapshot_taken}
 use Rattle.act_store.proofs.store.Store.check_begin.Goals as goal
@@ -99,3 +100,19 @@ returns-in_err-front-clause-any_moment g c =
     c.self.view_is
     (λ honest. started disk.moment disk.images_since s.disk (StandsForEither (as_state s))
     (λ i left. (c.self.invariant.2 honest).each i (g.met.D.Disk.only_now s.disk honest i left)))
+
+pub returns-in-Err-clause-uncalled : goal.returns-in-Err-clause-uncalled
+returns-in-Err-clause-uncalled g c =
+    let s = c.self.inside in
+    let disk = g.D.Disk in
+    let may = begins s c.args.self.now c.self.view_is (search rules) in
+    uncalled disk.honest disk.images disk.seen s may.live c.self.invariant.2 (g.met.D.Disk.seen_is_image s.disk) c.close_other.new.disk
+    (λ is. (c.close_other.ensures.same is).0) c.args.self.now c.self.view_is
+
+pub returns-in-Ok-clause-uncalled : goal.returns-in-Ok-clause-uncalled
+returns-in-Ok-clause-uncalled g c =
+    let s = c.self.inside in
+    let disk = g.D.Disk in
+    let may = begins s c.args.self.now c.self.view_is (search rules) in
+    uncalled disk.honest disk.images disk.seen s may.live c.self.invariant.2 (g.met.D.Disk.seen_is_image s.disk) c.close_other.new.disk
+    (λ is. (c.close_other.ensures.same is).0) c.args.self.now c.self.view_is
