@@ -2,8 +2,12 @@ pub mod Adding
 pub mod Causes
 pub mod EnteredAt
 pub mod Crossing
+pub mod Definite
+pub mod Flushes
 pub mod Fronts
+pub mod GivenUp
 pub mod Lists
 pub mod Parts
 pub mod Sending
 pub mod StandsLater
+pub mod Unfailed

@@ -1,6 +1,7 @@
 pub mod Answered
 pub mod Begins
 pub mod Faults
+pub mod Flushing
 pub mod Lone
 pub mod Rules
 pub mod Settled

@@ -1,18 +1,16 @@
 -- What the sessions asked, compared with the history of the store. Own: there is no public source.
-use Rattle.std.specs.Prelude.{◌≡◌, ◌≢◌, ◌⊎◌, ◌==◌, ◌||◌, ◌<◌, ℕ, Bool, true, false, List, [], ◌∷◌, ◌++◌, filter, flat_map, length, get_or, Result, Ok, Err, Option, Some, None, IfSome, All}
+use Rattle.std.specs.Prelude.{◌≡◌, ◌≢◌, ◌⊎◌, ◌==◌, ◌||◌, ◌<◌, ℕ, Bool, true, false, List, [], ◌∷◌, ◌++◌, filter, flat_map, length, get_or, Ok, Err, ⊤, Option, Some, None, IfSome, All}
 use Rattle.wf_value.specs.RefusalText.{refusal_number}
-use Rattle.wf_value.specs.declared.refusal.Refusal.{Refusal}
-use Rattle.run_plan.specs.declared.reply.Reply.{Reply}
 use Rattle.act_sessions.specs.declared.transcript.Ending.TheVariants.{Broken, Memory}
 use Rattle.act_sessions.specs.declared.transcript.Transcript.{Transcript}
-use Rattle.act_sessions.specs.Told.{Told, told_by}
+use Rattle.act_sessions.specs.Told.{Response, Told, leaves_open, told_by}
 use Rattle.act_store.specs.declared.entry.Entry.{Entry}
 
 -- the entries that a seat has made
 abbrev pub part_of : ℕ → List Entry → List Entry
 part_of seat history = filter (λ (e : Entry). e.seat == seat) history
 
--- a command that got a reply stands in the history with it, and one that was refused does not
+-- a command that got a reply stands in the history with it
 abbrev pub entries_of_one : ℕ → Told → List Entry
 entries_of_one seat (command, Ok reply) = record { seat = seat; command = command; reply = reply } ∷ []
 entries_of_one seat (command, Err refusal) = []
@@ -20,13 +18,17 @@ entries_of_one seat (command, Err refusal) = []
 abbrev pub entries_of : ℕ → List Told → List Entry
 entries_of seat told = flat_map (entries_of_one seat) told
 
--- 50, 51, 52 and 60 do not say whether the command was entered
-abbrev pub open_number : ℕ → Bool
-open_number n = (n == 50) || (n == 51) || (n == 52) || (n == 60)
+-- an answer that says whether its command was entered: a reply, that it was; 46, 47 and 57, the history or the area is full, or the area is
+-- of the first layout, that it was not
+abbrev pub is_definite : Response → Bool
+is_definite (Ok reply) = true
+is_definite (Err refusal) = (refusal_number refusal == 46) || (refusal_number refusal == 47) || (refusal_number refusal == 57)
 
-abbrev pub leaves_open : Result Reply Refusal → Bool
-leaves_open (Ok reply) = false
-leaves_open (Err refusal) = open_number (refusal_number refusal)
+-- Each answer says whether its command was entered, but that the last one may leave that open: 50, 51, 52 and 60 do.
+abbrev pub AreDefinite : List Told → Type 0
+AreDefinite [] = ⊤
+AreDefinite (t ∷ []) = (is_definite t.1 || leaves_open t.1) ≡ true
+AreDefinite (t ∷ u ∷ told) = (is_definite t.1 ≡ true) × AreDefinite (u ∷ told)
 
 -- the entry of the last command that was asked, where its answer leaves open whether there is one
 pub record IsOfLast (seat : ℕ) (told : List Told) (entry : Entry) : Type 0 where
@@ -41,9 +43,10 @@ abbrev pub if_any : Option Entry → List Entry
 if_any None = []
 if_any (Some entry) = entry ∷ []
 
--- The seat's part of the history is what was asked, in order, each once, with the replies; and at its end the last command may stand,
--- where its answer leaves that open.
+-- The seat's part of the history is what was asked and got a reply, in order, each once, with the replies; and at its end the last command
+-- may stand, where its answer leaves that open. No other answer was given but 46, 47 and 57.
 pub record Agrees (seat : ℕ) (told : List Told) (history : List Entry) : Type 0 where
+  pub answered : AreDefinite told
   pub over : Option Entry
   pub part_is : part_of seat history ≡ entries_of seat told ++ if_any over
   pub of_last : IfSome over (IsOfLast seat told)

@@ -1,9 +1,12 @@
-ghost use Rattle.std.specs.Prelude.{◌≡◌, ◌⊎◌, ℕ, List, [], Err, IfOk, IfSome, OnOk};
+ghost use Rattle.std.specs.Prelude.{◌≡◌, ◌⊎◌, ℕ, List, [], Err, IfErr, IfNone, IfOk, IfSome, OnOk};
 ghost use Rattle.wf_value.specs.Gives.{no_memory};
+ghost use Rattle.wf_value.specs.RefusalText.{ids_of_cycle};
 ghost use Rattle.act_sessions.specs.Told.{Asks};
 ghost use Rattle.act_store.specs.Images.{StandsFor};
+ghost use Rattle.act_store.specs.Plain.{committed, entered, refusal_of_apply};
 ghost use Rattle.act_store.specs.StoreState.{table_of};
-ghost use Rattle.act_desk.specs.Answered.{IsAnswered, MayHaveEntered};
+ghost use Rattle.act_store.specs.Told.{TellsFault};
+ghost use Rattle.act_desk.specs.Answered.{IsAnswered, IsNotDone, IsUnanswered, MayHaveEntered};
 
 use act_disk::Disk;
 use act_sessions::{Answer, Asked};
@@ -67,6 +70,10 @@ impl<D: Disk> Answer for Alone<D> {
         ensures answered { IfOk result (λ reply. IsAnswered self.old.store self.new.store 0 command reply) }
         ensures survives { OnOk result (D.honest self.new.store.disk → (c : List ℕ) → D.images self.new.store.disk c → StandsFor (table_of self.new.store) c) }
         ensures entered { MayHaveEntered self.old.store self.new.store 0 command }
+        ensures cause { IfErr result (IsUnanswered self.old.store self.new.store 0 command) }
+        // What is not listed was not entered.
+        ensures unlisted { self.new.asked ≡ self.old.asked → self.new ≡ self.old }
+        ensures faults { TellsFault result (D.fault_count self.old.store.disk) (D.fault_count self.new.store.disk) }
     {
         self.asked.reserve(1)?;
         let copy = command.copy(self.alloc)?;
@@ -85,6 +92,11 @@ fn submit<D: Disk>(alloc: Global, store: &mut Store<D>, command: Command) -> Res
     ensures answered { IfOk result (λ reply. IsAnswered store.old store.new 0 command reply) }
     ensures survives { OnOk result (D.honest store.new.disk → (c : List ℕ) → D.images store.new.disk c → StandsFor (table_of store.new) c) }
     ensures entered { MayHaveEntered store.old store.new 0 command }
+    ensures done { OnOk result (store.new ≡ committed (entered store.old 0 command) store.new.disk) }
+    ensures cause { IfErr result (IsNotDone store.old store.new 0 command) }
+    ensures refused { IfSome (refusal_of_apply store.old command) (λ refusal. IfErr result (λ e. (e ≡ refusal) ⊎ (e ≡ no_memory)) × OnOk result ⊥
+        × (store.new ≡ store.old)) }
+    ensures faults { TellsFault result (D.fault_count store.old.disk) (D.fault_count store.new.disk) }
 {
     let Receipt { reply, .. } = store.apply(alloc, SEAT, command)?;
     store.commit()?;
@@ -97,7 +109,7 @@ fn twice(
     answer: Result<Reply, Refusal>,
 ) -> (Result<Reply, Refusal>, Result<Reply, Refusal>)
     ensures same { result.0 ≡ result.1 }
-    ensures either { (result.0 ≡ answer) ⊎ (result.0 ≡ Err no_memory) }
+    ensures either { (result.0 ≡ answer) ⊎ ((result.0 ≡ Err no_memory) × IfErr answer (λ e. ids_of_cycle e ≡ [] → ⊥)) }
 {
     match copy_of(alloc, &answer) {
         Some(copy) => (answer, copy),
@@ -108,9 +120,10 @@ fn twice(
     }
 }
 
-/// A copy, or `None` where memory is refused.
+/// A copy, or `None` where memory is refused. A refusal without ids takes none.
 fn copy_of(alloc: Global, answer: &Result<Reply, Refusal>) -> Option<Result<Reply, Refusal>>
-    ensures { IfSome result (λ copy. copy ≡ answer.now) }
+    ensures copy { IfSome result (λ copy. copy ≡ answer.now) }
+    ensures none { IfNone result (IfErr answer.now (λ e. ids_of_cycle e ≡ [] → ⊥)) }
 {
     match answer {
         Ok(reply) => Some(Ok(reply.copy(alloc).ok()?)),

@@ -35,7 +35,7 @@ pub struct Desk<D: Disk, E: Named, T: Ledger> {
     line: Mutex<Line<D, E, T>>,
     /// A leader has done.
     turned: Condvar,
-    /// All whom a leader waits for are back.
+    /// As many as a leader waits for are back.
     gathered: Condvar,
     /// How many seats are on their way in or out.
     moving: Mutex<u64>,
@@ -118,7 +118,7 @@ impl<D: Disk, E: Named, T: Ledger> Desk<D, E, T> {
         ensures cause { IfErr result (λ e. (e ≡ no_memory) ⊎ (e ≡ history_full) ⊎ (e ≡ old_layout) ⊎ (e ≡ area_full) ⊎ (e ≡ failed_earlier)) }
         ensures same { (seat.new.told ≡ seat.old.told) × (seat.new.number ≡ seat.old.number) × IsPrefix seat.old.seen seat.new.seen }
     {
-        self.moves(rt, 1);
+        let _ = self.moves(rt, 1);
         let entered = self.enter_now(rt, alloc, seat, command);
         self.moved(rt);
         entered
@@ -159,14 +159,14 @@ impl<D: Disk, E: Named, T: Ledger> Desk<D, E, T> {
         ensures cause { IfErr result (λ e. (e ≡ failed_earlier) ⊎ (e ≡ device_failed) ⊎ (e ≡ unsettled)) }
         ensures same { (seat.new.entered ≡ seat.old.entered) × (seat.new.number ≡ seat.old.number) × (seat.new.seen ≡ seat.old.seen) }
     {
-        let (mut guard, turn) = self.turn(rt, seat.number(), pending.place());
+        let (mut guard, turn) = self.turn(rt, pending.place());
         let line = &mut *guard;
         let began = Instant::now(rt).ok();
         let (answer, woken) = line.finish(seat, pending, turn);
+        let came = self.moves(rt, woken);
         if turn == Turn::Leads && answer.is_ok() {
-            line.linger.has_committed(since(rt, began));
+            line.linger.has_committed(since(rt, began), came);
         }
-        self.moves(rt, woken);
         drop(guard);
         match turn {
             Turn::Leads => self.turned.notify_all(),
@@ -176,13 +176,8 @@ impl<D: Disk, E: Named, T: Ledger> Desk<D, E, T> {
         answer
     }
 
-    /// Waits until the entry of a seat at a place is covered, or until the seat is to lead and all are still.
-    fn turn<R: Wait + Clock>(
-        &self,
-        rt: &R,
-        seat: u64,
-        place: u64,
-    ) -> (MutexGuard<'_, Line<D, E, T>>, Turn) {
+    /// Waits until the entry at a place is covered, or until its seat is to lead and all are still.
+    fn turn<R: Wait + Clock>(&self, rt: &R, place: u64) -> (MutexGuard<'_, Line<D, E, T>>, Turn) {
         let mut guard = self.line.lock(rt);
         if guard.is_covered(place) {
             return (guard, Turn::Found);
@@ -191,12 +186,12 @@ impl<D: Disk, E: Named, T: Ledger> Desk<D, E, T> {
             if !guard.leading {
                 break;
             }
-            let turn = guard.sleeps(seat);
+            let turn = guard.sleeps();
             if guard.linger.is_over() {
                 self.gathered.notify_one();
             }
             guard = self.turned.wait(rt, guard);
-            let counted = guard.wakes(seat, turn);
+            let counted = guard.wakes(turn);
             if guard.is_covered(place) {
                 return (guard, if counted { Turn::Woke } else { Turn::Found });
             }
@@ -204,13 +199,13 @@ impl<D: Disk, E: Named, T: Ledger> Desk<D, E, T> {
                 self.moved(rt);
             }
         }
-        guard.leads(seat);
+        guard.leads();
         self.linger(rt, guard);
         self.wait_until_still(rt);
         (self.line.lock(rt), Turn::Leads)
     }
 
-    /// Waits for those whom the last commit covered, until they are back, for a quarter of a commit at most.
+    /// Waits until as many are back as are expected, for half of a commit at most.
     fn linger<R: Wait + Clock>(&self, rt: &R, guard: MutexGuard<'_, Line<D, E, T>>) {
         let mut guard = guard;
         if let Some(limit) = guard.linger.begins() {
@@ -227,10 +222,12 @@ impl<D: Disk, E: Named, T: Ledger> Desk<D, E, T> {
         );
     }
 
-    /// So many more are on their way.
-    fn moves(&self, rt: &impl Wait, count: u64) {
+    /// So many more are on their way. It answers how many were before.
+    fn moves(&self, rt: &impl Wait, count: u64) -> u64 {
         let mut moving = self.moving.lock(rt);
-        *moving = moving.saturating_add(count);
+        let before = *moving;
+        *moving = before.saturating_add(count);
+        before
     }
 
     /// One has arrived.

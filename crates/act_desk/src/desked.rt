@@ -3,7 +3,7 @@ ghost use mathlib.Core.List.{IsPrefix};
 ghost use Rattle.wf_value.specs.Gives.{no_memory};
 ghost use Rattle.act_disk.specs.Failed.{device_failed};
 ghost use Rattle.act_disk.specs.Images.{EachSince};
-ghost use Rattle.act_store.specs.Checkpoints.{IsFinished, begun_at, dropped, left_of, refusal_of_begin, refusal_of_finish, refusal_of_slice, sliced};
+ghost use Rattle.act_store.specs.Checkpoints.{IsFinished, begun_at, dropped, left_of, refusal_of_begin, refusal_of_finish, refusal_of_slice, sliced, text_length};
 ghost use Rattle.act_store.specs.Entries.{IsLegal};
 ghost use Rattle.act_store.specs.GroupsOfHistory.{KeepsGroups};
 ghost use Rattle.act_store.specs.Images.{StandsFor};
@@ -11,6 +11,8 @@ ghost use Rattle.act_store.specs.StoreState.{StandsForEither, table_of};
 ghost use Rattle.act_store.specs.declared.entry.Entry.{Entry};
 ghost use Rattle.act_desk.specs.Answered.{unsettled};
 ghost use Rattle.act_store.specs.Plain.{area_full, broken, entered, entry_of, failed_earlier, history_full, old_layout, refusal_of_apply};
+ghost use Rattle.act_store.specs.Told.{TellsFault};
+ghost use Rattle.act_desk.specs.Begins.{IsLonger};
 ghost use Rattle.act_desk.specs.Shown.{IsKnown, IsReplyTo, StandsIn};
 
 use crate::front::{Front, Head};
@@ -116,6 +118,8 @@ impl<D: Disk, E: Named, T: Ledger> Desked<D, E, T> {
         ensures any_moment { D.honest self.old.store.disk
             → EachSince D.moment D.images_since self.old.store.disk self.new.store.disk (StandsForEither self.old.store) }
         ensures begun { OnOk result (self.new.store ≡ begun_at self.old.store self.new.store.disk) }
+        ensures left { IfOk result (λ left. left ≡ 17 + text_length (table_of self.old.store)) }
+        ensures faults { TellsFault result (D.fault_count self.old.store.disk) (D.fault_count self.new.store.disk) }
         ensures refused { IfSome (refusal_of_begin self.old.store) (λ refusal. result ≡ Err refusal) }
         ensures cause { IfErr result (λ e. (e ≡ no_memory) ⊎ (e ≡ device_failed) ⊎ (refusal_of_begin self.old.store ≡ Some e)) }
         ensures broken { result ≡ Err device_failed → self.new.store ≡ broken self.old.store self.new.store.disk }
@@ -132,6 +136,7 @@ impl<D: Disk, E: Named, T: Ledger> Desked<D, E, T> {
             → EachSince D.moment D.images_since self.old.store.disk self.new.store.disk (StandsForEither self.old.store) }
         ensures sliced { OnOk result (self.new.store ≡ sliced self.old.store self.new.store.disk) }
         ensures left { IfOk result (λ left. left ≡ left_of self.new.store.begun) }
+        ensures faults { TellsFault result (D.fault_count self.old.store.disk) (D.fault_count self.new.store.disk) }
         ensures refused { IfSome (refusal_of_slice self.old.store) (λ refusal. (result ≡ Err refusal) × (self.new ≡ self.old)) }
         ensures cause { IfErr result (λ e. (e ≡ device_failed) ⊎ (refusal_of_slice self.old.store ≡ Some e)) }
         ensures broken { result ≡ Err device_failed → self.new.store ≡ broken self.old.store self.new.store.disk }
@@ -148,6 +153,7 @@ impl<D: Disk, E: Named, T: Ledger> Desked<D, E, T> {
         ensures stands { OnOk result (D.honest self.new.store.disk → (c : List ℕ) → D.images self.new.store.disk c → StandsFor (table_of self.old.store) c) }
         ensures finished { OnOk result (IsFinished self.old.store self.new.store) }
         ensures covered { OnOk result (self.new.store.covered ≡ length self.old.store.history) }
+        ensures faults { TellsFault result (D.fault_count self.old.store.disk) (D.fault_count self.new.store.disk) }
         ensures refused { IfSome (refusal_of_finish self.old.store) (λ refusal. result ≡ Err refusal) }
         ensures dropped { result ≡ Err area_full → self.new.store ≡ dropped self.old.store }
         ensures broken { result ≡ Err device_failed → self.new.store ≡ broken self.old.store self.new.store.disk }
@@ -180,6 +186,9 @@ impl<D: Disk, E: Named, T: Ledger> Desked<D, E, T> {
         ensures cause { IfErr result (λ e. (e ≡ no_memory) ⊎ (refusal_of_apply self.old.store command ≡ Some e)) }
         ensures kind { IfErr result (λ e. (e ≡ no_memory) ⊎ (e ≡ history_full) ⊎ (e ≡ old_layout) ⊎ (e ≡ area_full) ⊎ (e ≡ failed_earlier)) }
         ensures unchanged { OnErr result ((self.new ≡ self.old) × (seat.new ≡ seat.old)) }
+        // The history is given up only where a longer one was seen, and only then the entry is not shown.
+        ensures lost { self.new.lost ≡ true → (self.old.lost ≡ true) ⊎ IsLonger self.old.store.history seat.new.seen }
+        ensures shown { IfOk result (λ p. p.shown ≡ false → self.new.lost ≡ true) }
     {
         let asked = Snapshot::of(&command);
         let number = seat.number();
@@ -216,6 +225,7 @@ impl<D: Disk, E: Named, T: Ledger> Desked<D, E, T> {
         ensures untold { OnErr result ((seat.new.told ≡ seat.old.told) × (self.new.told ≡ self.old.told)) }
         ensures same { (seat.new.entered ≡ seat.old.entered) × (seat.new.number ≡ seat.old.number) × (seat.new.seen ≡ seat.old.seen) }
         ensures history { (self.new.store.history ≡ self.old.store.history) × (self.new.store.base ≡ self.old.store.base) }
+        ensures kept { self.new.lost ≡ self.old.lost }
         ensures no_call { pending.place ≤ self.old.store.covered → self.new.store ≡ self.old.store }
         ensures cause { IfErr result (λ e. (e ≡ failed_earlier) ⊎ (e ≡ device_failed) ⊎ (e ≡ unsettled)) }
         ensures failed { IfErr result (λ e. e ≡ failed_earlier → self.old.store.failed ≡ true) }
@@ -297,6 +307,9 @@ fn show<D: Disk, E: Named>(
     requires few { lost.old ≡ false → length front.old < 2 ^ 62 }
     ensures shown { result ≡ true → front.new ≡ store.now.history }
     ensures lost { lost.new ≡ false → result ≡ true }
+    ensures given_up { result ≡ false → lost.new ≡ true }
+    ensures kept { result ≡ true → lost.new ≡ false }
+    ensures longer { result ≡ false → lost.old ≡ false → IsLonger front.old front.new }
 {
     if *lost {
         return false;

@@ -64,26 +64,26 @@ impl<D: Disk, E: Named, T: Ledger> Line<D, E, T> {
     }
 
     /// A seat goes to sleep. It answers the turn in which it does.
-    pub(crate) fn sleeps(&mut self, seat: u64) -> u64 {
+    pub(crate) fn sleeps(&mut self) -> u64 {
         self.waiting = self.waiting.saturating_add(1);
-        self.linger.comes(seat);
+        self.linger.comes();
         self.turns
     }
 
     /// A seat wakes from a sleep that began in a turn. It answers whether a leader has counted it among those on their way.
-    pub(crate) fn wakes(&mut self, seat: u64, turn: u64) -> bool {
+    pub(crate) fn wakes(&mut self, turn: u64) -> bool {
         if self.turns != turn {
             return true;
         }
         self.waiting = self.waiting.saturating_sub(1);
-        self.linger.goes(seat);
+        self.linger.goes();
         false
     }
 
     /// A seat leads from now on.
-    pub(crate) fn leads(&mut self, seat: u64) {
+    pub(crate) fn leads(&mut self) {
         self.leading = true;
-        self.linger.comes(seat);
+        self.linger.comes();
     }
 
     /// Covers the entry unless it is, and gives its reply. A leader leads no more, and where it has committed it also answers how many

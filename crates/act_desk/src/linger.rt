@@ -1,22 +1,25 @@
 use std::time::Duration;
 
-/// How many commits nobody is waited for, after seats were waited for in vain.
-const REST: u64 = 16;
+/// How many commits nobody is waited for, at most, after seats were waited for in vain.
+const MOST_REST: u64 = 16;
 
-/// Whom a leader waits for before it commits: the seats that the last commit covered, which are about to come back with their next command.
+/// How many a leader waits for before it commits: as many as the last commit covered, whose clients are about to come back with their next
+/// command, and those who came meanwhile.
 ///
 /// Without that two groups of clients take turns: while the entries of the one are committed the other's clients read their answers, and so
-/// each command waits for two commits.
+/// each command waits for two commits. They are counted, since a client may come back to another seat: a sender and a runner take turns.
 #[derive(Drop)]
 pub(crate) struct Linger {
-    /// The seats whose entries the last commit covered, a bit each by their numbers.
-    covered: u64,
-    /// The seats that wait for the next commit, or lead it.
+    /// How many seats are expected before the next commit.
+    expected: u64,
+    /// How many seats wait for the next commit, or lead it.
     back: u64,
     /// How long a commit takes in the mean.
     commit: Duration,
     /// How many commits nobody is waited for.
     rest: u64,
+    /// How many they are after the next time in vain: twice as many each time in a row.
+    next_rest: u64,
     /// A leader waits.
     waits: bool,
 }
@@ -24,34 +27,35 @@ pub(crate) struct Linger {
 impl Linger {
     pub(crate) fn new() -> Linger {
         Linger {
-            covered: 0,
+            expected: 0,
             back: 0,
             commit: Duration::ZERO,
             rest: 0,
+            next_rest: 1,
             waits: false,
         }
     }
 
     /// A seat waits for the next commit, or leads it.
-    pub(crate) fn comes(&mut self, seat: u64) {
-        self.back |= bit(seat);
+    pub(crate) fn comes(&mut self) {
+        self.back = self.back.saturating_add(1);
     }
 
     /// A seat waits no more, and its entry was not covered.
-    pub(crate) fn goes(&mut self, seat: u64) {
-        self.back &= !bit(seat);
+    pub(crate) fn goes(&mut self) {
+        self.back = self.back.saturating_sub(1);
     }
 
     fn are_back(&self) -> bool {
-        self.covered & !self.back == 0
+        self.back >= self.expected
     }
 
-    /// Whether a leader waits, and all that the last commit covered are back.
+    /// Whether a leader waits, and as many are back as are expected.
     pub(crate) fn is_over(&self) -> bool {
         self.waits && self.are_back()
     }
 
-    /// A leader is to commit. It answers for how long it waits first, if it does: a quarter of a commit, at most.
+    /// A leader is to commit. It answers for how long it waits first, if it does: half of a commit, at most.
     pub(crate) fn begins(&mut self) -> Option<Duration> {
         if self.are_back() {
             return None;
@@ -61,30 +65,25 @@ impl Linger {
             return None;
         }
         self.waits = true;
-        self.commit.checked_div(4)
+        self.commit.checked_div(2)
     }
 
-    /// A leader has waited. In vain, none does for a while.
+    /// A leader has waited. In vain, none does for a while, and for longer each time in a row.
     pub(crate) fn ends(&mut self) {
         self.waits = false;
-        if !self.are_back() {
-            self.rest = REST;
+        if self.are_back() {
+            self.next_rest = 1;
+        } else {
+            self.rest = self.next_rest;
+            self.next_rest = self.next_rest.saturating_mul(2).min(MOST_REST);
         }
     }
 
-    /// All that wait are covered, by a commit that took so long.
-    pub(crate) fn has_committed(&mut self, took: Duration) {
-        self.covered = self.back;
+    /// All that wait are covered, by a commit that took so long. So many others came meanwhile.
+    pub(crate) fn has_committed(&mut self, took: Duration, came: u64) {
+        self.expected = self.back.saturating_add(came);
         self.back = 0;
         self.commit = mean(self.commit, took);
-    }
-}
-
-/// The bit of a seat's number, which is below 64.
-fn bit(seat: u64) -> u64 {
-    match u32::try_from(seat) {
-        Ok(number) => 1u64.checked_shl(number).unwrap_or(0),
-        Err(_) => 0,
     }
 }
 

@@ -28,7 +28,7 @@ use std::time::Clock;
 /// After `Ok` each session has ended as its bytes say, or, where no thread could be started for it, with `Ending::Memory` and nothing
 /// read; and the part of each seat in the history is what the session of that number asked, in order, each command once, with the
 /// replies; there is no other part. A command refused with 46, 47 or 57 stands nowhere; the last one of a session may stand or not where its
-/// answer was 50, 51, 52 or 60.
+/// answer was 50, 51, 52 or 60. No other answer was given.
 ///
 /// It is refused with 50 only before a session is started, and then gives all back; with 60 where that comparison fails; and with 61,
 /// once all have ended and it holds, where a session was ended by its reader or its writer.

@@ -1,11 +1,12 @@
 //! The comparison of the history with what the sessions asked. It takes no memory.
 
-ghost use Rattle.std.specs.Prelude.{◌≡◌, ◌≢◌, ◌<◌, ◌≤◌, ◌+◌, ℕ, List, [], ◌∷◌, ◌++◌, All, length, take, false, true, IfSome, None, Some};
-ghost use Rattle.act_sessions.specs.Told.{told_in};
-ghost use Rattle.act_desk.specs.Settled.{Agrees, IsOfLast, IsSettled, NoneBroken, entries_of, if_any, leaves_open as leaves, open_number, part_of};
+ghost use Rattle.std.specs.Prelude.{◌≡◌, ◌≢◌, ◌<◌, ◌≤◌, ◌+◌, ℕ, List, [], ◌∷◌, ◌++◌, ◌==◌, ◌||◌, All, get_or, length, take, false, true, IfSome, None, Some};
+ghost use Rattle.act_sessions.specs.Told.{leaves_open as leaves, told_in};
+ghost use Rattle.act_sessions.specs.declared.transcript.Asked.{Asked as AskedOne};
+ghost use Rattle.act_desk.specs.Settled.{Agrees, AreDefinite, IsOfLast, IsSettled, NoneBroken, entries_of, if_any, is_definite as definite, part_of};
 
 use act_disk::Disk;
-use act_sessions::{Asked, Ending, Transcript};
+use act_sessions::{Asked, Ending, Transcript, leaves_open};
 use act_store::{Entry, Store};
 use run_plan::Reply;
 use std::marker::Model;
@@ -47,20 +48,54 @@ impl Found {
     }
 }
 
-/// Whether an answer leaves open that the command was entered.
-fn leaves_open(answer: &Result<Reply, Refusal>) -> bool
-    ensures { result ≡ leaves answer.now }
+/// Whether an answer says if its command was entered: a reply does, and so do 46, 47 and 57.
+fn is_definite(answer: &Result<Reply, Refusal>) -> bool
+    ensures { result ≡ definite answer.now }
 {
     match answer {
-        Ok(_) => false,
-        Err(refusal) => is_open(refusal.number()),
+        Ok(_) => true,
+        Err(refusal) => is_of_a_full_store(refusal.number()),
     }
 }
 
-fn is_open(number: u64) -> bool
-    ensures { result ≡ open_number number }
+fn is_of_a_full_store(number: u64) -> bool
+    ensures { result ≡ ((number == 46) || (number == 47) || (number == 57)) }
 {
-    number == 50 || number == 51 || number == 52 || number == 60
+    number == 46 || number == 47 || number == 57
+}
+
+/// Whether each answer says if its command was entered.
+fn are_definite(asked: &[Asked]) -> bool
+    ensures { result ≡ true → ((k : ℕ) (one : AskedOne) → k < length asked.now → definite (get_or asked.now k one).answer ≡ true) }
+{
+    for one in asked {
+        if !is_definite(&one.answer) {
+            return false;
+        }
+    }
+    true
+}
+
+/// Whether an answer may be the last one: it says if its command was entered, or leaves that open.
+fn may_be_last(answer: &Result<Reply, Refusal>) -> bool
+    ensures { result ≡ (definite answer.now || leaves answer.now) }
+{
+    is_definite(answer) || leaves_open(answer)
+}
+
+/// Whether each answer says if its command was entered, but the last one perhaps, which may leave that open.
+fn may_be_answered(asked: &[Asked]) -> bool
+    ensures { result ≡ true → AreDefinite (told_in asked.now) }
+{
+    match asked.split_last() {
+        None => true,
+        Some((last, front)) => {
+            if !may_be_last(&last.answer) {
+                return false;
+            }
+            are_definite(front)
+        }
+    }
 }
 
 /// The next place with a reply.
@@ -144,10 +179,13 @@ fn find_reply(asked: &[Asked], seat: u64, entry: &Entry, at: usize) -> Option<Fo
     Some(Found::first(at + 1))
 }
 
-/// Whether the entries of a seat are what its session asked.
+/// Whether the entries of a seat are what its session asked, and its answers leave nothing else open.
 fn agrees<D: Disk>(store: &Store<D>, seat: u64, asked: &[Asked]) -> bool
     ensures { result ≡ true → Agrees seat (told_in asked.now) store.now.history }
 {
+    if !may_be_answered(asked) {
+        return false;
+    }
     let mut found = Found::first(0);
     for index in 0..store.entries() {
         let Some(entry) = store.entry(index + 1) else {
