@@ -1,0 +1,5 @@
+pub mod Behind
+pub mod Here
+pub mod Laws
+pub mod PlanLaws
+pub mod Texts

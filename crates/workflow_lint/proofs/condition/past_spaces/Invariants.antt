@@ -1,0 +1,10 @@
+use Rattle.std.proofs.Common.{◌≡◌, length}
+use Rattle.wf_reader.specs.Condition.{past_spaces}
+use Rattle.workflow_lint.proofs.condition.past_spaces.Given as goal
+
+-- what was cut off was a space
+abbrev pub invariant-loop-text : goal.invariant-loop-text
+invariant-loop-text l = past_spaces l.text ≡ past_spaces l.fn.text
+
+abbrev pub decreases-loop-text : goal.decreases-loop-text
+decreases-loop-text l = length l.text

@@ -1,0 +1,12 @@
+use Rattle.std.proofs.Common.{◌≡◌, ◌++◌, drop, map}
+use Rattle.std.specs.List.{enumerate_from, flat_map}
+use Rattle.serde_json.specs.View.{view}
+use Rattle.workflow_lint.specs.Checks.{found_by, items_at}
+use Rattle.workflow_lint.specs.Paths.{item_path}
+use Rattle.workflow_lint.proofs.lists.check_items.Given as goal
+
+-- what is found so far, before what is found in the items that are left
+abbrev pub invariant-loop-i : goal.invariant-loop-i
+invariant-loop-i l =
+    l.found.items ++ flat_map (λ item. found_by l.check (item_path l.path item.0) item.1) (enumerate_from l.i (map view (drop l.i l.values)))
+    ≡ l.initial.found.items ++ items_at (found_by l.check) l.path (map view l.values)

@@ -1,0 +1,12 @@
+-- What a lint finds (own): each fault beside the path of the member that has it.
+use Rattle.std.specs.Prelude.{ℕ, List, map}
+use Rattle.wf_value.specs.declared.refusal.Refusal.{Refusal}
+use Rattle.workflow_lint.specs.declared.finding.Finding.{Finding}
+
+-- these faults, all of them of the member at a path
+abbrev pub at : List ℕ → List Refusal → List Finding
+at path faults = map (λ f. record { path = path; refusal = f }) faults
+
+-- without the paths
+abbrev pub refusals : List Finding → List Refusal
+refusals found = map (λ f. f.refusal) found
