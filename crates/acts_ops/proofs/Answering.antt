@@ -6,11 +6,13 @@ use Rattle.std.specs.Prelude.{IsSomeAnd, Option, Some, None, nat_lt, if◌then�
 use Rattle.wf_value.specs.Gives.{no_memory}
 use Rattle.wf_value.specs.RefusalText.{refusal_text}
 use Rattle.wf_value.specs.declared.refusal.Refusal.{Refusal}
+use Rattle.act_disk.specs.Failed.{device_failed}
 use Rattle.run_plan.specs.declared.reply.Reply.{Reply}
 use Rattle.act_store.specs.Checkpoints.{dropped, finished, left_of}
 use Rattle.act_store.specs.StoreState.{Checkpoint, StoreState}
 use Rattle.act_store.specs.Plain.{committed}
-use Rattle.act_store.specs.Steps.{Counts, Covers, IsRefused, MayCallDevice, MayTakeMemory, Replies, Takes, is_area_full, left_by, refusal_of}
+use Rattle.act_store.specs.Steps.{Counts, Covers, IsRefused, MayCallDevice, MayTakeMemory, Replies, Takes, TellsStep, is_area_full, left_by, refusal_of}
+use Rattle.act_store.specs.Told.{IsCause}
 use Rattle.act_store.specs.declared.step.Played.{Played}
 use Rattle.act_store.specs.declared.step.Played.TheVariants as told
 use Rattle.act_store.specs.declared.step.Step.{Step}
@@ -18,8 +20,9 @@ use Rattle.act_store.specs.declared.step.Step.TheVariants as asked
 use Rattle.acts_ops.specs.Answers.{counted_as, played_text}
 use Rattle.acts_ops.specs.PlainStore.{PlainStore, all_checked, all_covered, done, taken_unless, without_disk}
 use Rattle.acts_ops.specs.Play.{IsAnswerOf, IsOfCommand, WantsMemory}
+use Rattle.acts_ops.proofs.Causes.{cause_is_other, none_failed, one_failed}
 
-module _ {D : Type 0} (old new : StoreState D) where
+module _ {D : Type 0} (old new : StoreState D) (faults more : ℕ) where
   abbrev plain : PlainStore
   plain = without_disk old
 
@@ -43,13 +46,14 @@ module _ {D : Type 0} (old new : StoreState D) where
       by_test false = refl
 
   as_defined : (step : Step) (o : Option Refusal) (answer : Played) → refusal_of old step ≡ o
-      → without_disk new ≡ (taken_unless plain step o).0 → answer ≡ (taken_unless plain step o).1
-      → IsAnswerOf plain (Ok step) (played_text (counted_as step) answer) (without_disk new)
-  as_defined step o answer is after same =
+      → without_disk new ≡ (taken_unless plain step o).0 → answer ≡ (taken_unless plain step o).1 → more ≡ faults
+      → IsAnswerOf plain faults (Ok step) (played_text (counted_as step) answer) (without_disk new) more
+  as_defined step o answer is after same unfailed =
       let cause : o ≡ refusal_of plain step = sym (same_refusal step ∙ is) in
       inl (
         ap (λ (p : Played). played_text (counted_as step) p) (same ∙ ap (λ (x : Option Refusal). (taken_unless plain step x).1) cause),
         after ∙ ap (λ (x : Option Refusal). (taken_unless plain step x).0) cause,
+        unfailed,
       )
 
   covers_plain : (count : ℕ) → Covers old count new → without_disk new ≡ all_covered plain
@@ -100,27 +104,34 @@ module _ {D : Type 0} (old new : StoreState D) where
   calls_device asked.Slice may = tt
   calls_device asked.Finish may = tt
 
-  refused_plain : (step : Step) (e : Refusal) → IsRefused old step e new
-      → IsAnswerOf plain (Ok step) (refusal_text e) (without_disk new)
-  refused_plain step e refused =
+  refused_plain : (step : Step) (e : Refusal) → IsRefused old step e new → IsCause e faults more
+      → IsAnswerOf plain faults (Ok step) (refusal_text e) (without_disk new) more
+  refused_plain step e refused told_so =
       ⊎_elim (λ cause. as_defined step (Some e) (told.Refused e) cause.0
-      (ap (λ (k : StoreState D). without_disk k) cause.1 ∙ left_plain step e) refl)
+      (ap (λ (k : StoreState D). without_disk k) cause.1 ∙ left_plain step e) refl
+      (none_failed e faults more (λ fault. cause_is_other old step (cause.0 ∙ ap (λ (x : Refusal). Some x) fault)) told_so))
       (λ rest. ⊎_elim
-      (λ memory. inr (inl (wants_memory step memory.0 memory.1, ap refusal_text memory.2, ap (λ (k : StoreState D). without_disk k) memory.3)))
+      (λ memory. inr (inl (
+        wants_memory step memory.0 memory.1,
+        ap refusal_text memory.2,
+        ap (λ (k : StoreState D). without_disk k) memory.3,
+        none_failed e faults more (λ fault. let clash : no_memory ≡ device_failed = sym memory.2 ∙ fault in cc) told_so,
+      )))
       (λ fault. inr (inr (
         (same_refusal step ∙ fault.0, calls_device step fault.1),
         ap refusal_text fault.2,
         ap (λ (k : StoreState D). without_disk k) fault.3,
+        one_failed e faults more fault.2 told_so,
       )))
       rest) refused
 
-  pub answers_as : (step : Step) (answer : Played) → Takes old step answer new
-      → IsAnswerOf plain (Ok step) (played_text (counted_as step) answer) (without_disk new)
-  answers_as step (told.Replied reply) takes =
-      let so = replied_plain step reply takes.1 in as_defined step None (told.Replied reply) takes.0 so.0 so.1
-  answers_as step (told.Count count) takes =
-      let so = counted_plain step count takes.1 in as_defined step None (told.Count count) takes.0 so.0 so.1
-  answers_as step (told.Refused e) takes = refused_plain step e takes
+  pub answers_as : (step : Step) (answer : Played) → Takes old step answer new → TellsStep answer faults more
+      → IsAnswerOf plain faults (Ok step) (played_text (counted_as step) answer) (without_disk new) more
+  answers_as step (told.Replied reply) takes unfailed =
+      let so = replied_plain step reply takes.1 in as_defined step None (told.Replied reply) takes.0 so.0 so.1 unfailed
+  answers_as step (told.Count count) takes unfailed =
+      let so = counted_plain step count takes.1 in as_defined step None (told.Count count) takes.0 so.0 so.1 unfailed
+  answers_as step (told.Refused e) takes told_so = refused_plain step e takes told_so
 
 -- ---- a line that asks for no step
 
@@ -132,8 +143,9 @@ wants_of s (Ok asked.Begin) of = absurd of
 wants_of s (Ok asked.Slice) of = absurd of
 wants_of s (Ok asked.Finish) of = absurd of
 
-pub refused_line : (s : PlainStore) (wanted : Result Step Refusal) (e : Refusal) → (e ≡ no_memory) ⊎ (wanted ≡ Err e) → IsOfCommand wanted
-    → IsAnswerOf s wanted (refusal_text e) s
-refused_line s wanted e told of =
-    ⊎_elim (λ memory. inr (inl (wants_of s wanted of, ap refusal_text memory, refl)))
-    (λ is. let P : Result Step Refusal → Type 0 = λ r. IsAnswerOf s r (refusal_text e) s in subst P (sym is) (inl (refl, refl))) told
+pub refused_line : (s : PlainStore) (faults : ℕ) (wanted : Result Step Refusal) (e : Refusal) → (e ≡ no_memory) ⊎ (wanted ≡ Err e)
+    → IsOfCommand wanted → IsAnswerOf s faults wanted (refusal_text e) s faults
+refused_line s faults wanted e told of =
+    ⊎_elim (λ memory. inr (inl (wants_of s wanted of, ap refusal_text memory, refl, refl)))
+    (λ is. let P : Result Step Refusal → Type 0 = λ r. IsAnswerOf s faults r (refusal_text e) s faults in subst P (sym is) (inl (refl, refl, refl)))
+    told

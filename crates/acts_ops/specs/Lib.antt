@@ -2,6 +2,7 @@ pub mod Answers
 pub mod Check
 pub mod Input
 pub mod Line
+pub mod Lint
 pub mod Made
 pub mod PlainStore
 pub mod Play

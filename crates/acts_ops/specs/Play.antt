@@ -1,5 +1,6 @@
--- What a play of a script may write, with want of memory and failing streams.
-use Rattle.std.specs.Prelude.{◌≡◌, ◌≢◌, ◌⊎◌, ℕ, ◌≤◌, ◌<◌, List, [], ◌∷◌, ◌++◌, length, Result, Ok, Err, None, ⊤}
+-- What a play of a script may write, with want of memory and failing streams, and how many calls of the disk have failed before it and by
+-- its end.
+use Rattle.std.specs.Prelude.{◌≡◌, ◌≢◌, ◌⊎◌, ℕ, ◌+◌, ◌≤◌, ◌<◌, List, [], ◌∷◌, ◌++◌, length, Result, Ok, Err, None, ⊤}
 use Rattle.std.specs.List.{All}
 use Rattle.wf_value.specs.Gives.{no_memory}
 use Rattle.wf_value.specs.RefusalText.{refusal_text}
@@ -49,47 +50,53 @@ abbrev pub CallsDisk : PlainStore → Result Step Refusal → Type 0
 CallsDisk s (Err e) = ⊥
 CallsDisk s (Ok step) = (refusal_of s step ≡ None) × MayCallDevice s step
 
--- memory was refused, and the store is as it was
-abbrev pub IsWithoutMemory : PlainStore → Result Step Refusal → List ℕ → PlainStore → Type 0
-IsWithoutMemory s wanted a after = WantsMemory s wanted × (a ≡ memory_refused) × (after ≡ s)
+-- memory was refused, and the store is as it was; no call of the disk failed
+abbrev pub IsWithoutMemory : PlainStore → ℕ → Result Step Refusal → List ℕ → PlainStore → ℕ → Type 0
+IsWithoutMemory s faults wanted a after more = WantsMemory s wanted × (a ≡ memory_refused) × (after ≡ s) × (more ≡ faults)
 
--- the disk failed, and the store has failed: from then on each step is answered 52
-abbrev pub IsBreak : PlainStore → Result Step Refusal → List ℕ → PlainStore → Type 0
-IsBreak s wanted a after = CallsDisk s wanted × (a ≡ device_refused) × (after ≡ broken s tt)
+-- a call of the disk failed, and the store with it: from then on each step is answered 52
+abbrev pub IsBreak : PlainStore → ℕ → Result Step Refusal → List ℕ → PlainStore → ℕ → Type 0
+IsBreak s faults wanted a after more = CallsDisk s wanted × (a ≡ device_refused) × (after ≡ broken s tt) × (more ≡ faults + 1)
 
--- A line is answered as it is defined, or memory or the disk failed it.
-abbrev pub IsAnswerOf : PlainStore → Result Step Refusal → List ℕ → PlainStore → Type 0
-IsAnswerOf s wanted a after =
-    ((a ≡ (carried_out s wanted).1) × (after ≡ (carried_out s wanted).0))
-    ⊎ (IsWithoutMemory s wanted a after ⊎ IsBreak s wanted a after)
+-- A line is answered as it is defined, and no call of the disk failed, or memory or the disk failed it.
+abbrev pub IsAnswerOf : PlainStore → ℕ → Result Step Refusal → List ℕ → PlainStore → ℕ → Type 0
+IsAnswerOf s faults wanted a after more =
+    ((a ≡ (carried_out s wanted).1) × (after ≡ (carried_out s wanted).0) × (more ≡ faults))
+    ⊎ (IsWithoutMemory s faults wanted a after more ⊎ IsBreak s faults wanted a after more)
 
-abbrev pub IsAnswer : PlainStore → List ℕ → List ℕ → PlainStore → Type 0
-IsAnswer s line a after = IsAnswerOf s (step_of line) a after
+abbrev pub IsAnswer : PlainStore → ℕ → List ℕ → List ℕ → PlainStore → ℕ → Type 0
+IsAnswer s faults line a after more = IsAnswerOf s faults (step_of line) a after more
 
 -- one answer for each line, each from the store that the line before it left
-abbrev pub Answers : PlainStore → List (List ℕ) → List (List ℕ) → Type 0
-Answers s [] [] = ⊤
-Answers s [] (a ∷ others) = ⊥
-Answers s (line ∷ lines) [] = ⊥
-Answers s (line ∷ lines) (a ∷ others) = (after : PlainStore) × IsAnswer s line a after × Answers after lines others
+abbrev pub Answers : PlainStore → ℕ → List (List ℕ) → List (List ℕ) → ℕ → Type 0
+Answers s faults [] [] end = end ≡ faults
+Answers s faults [] (a ∷ others) end = ⊥
+Answers s faults (line ∷ lines) [] end = ⊥
+Answers s faults (line ∷ lines) (a ∷ others) end =
+    (after : PlainStore) × (more : ℕ) × IsAnswer s faults line a after more × Answers after more lines others end
 
 -- what a script may have written: where neither memory nor the disk failed a line it is what the script prints
-abbrev pub PlaysFrom : PlainStore → List ℕ → List ℕ → Type 0
-PlaysFrom s script out =
-    (answers : List (List ℕ)) × Answers s (script_lines script) answers × (out ≡ printed answers)
+abbrev pub PlaysFrom : PlainStore → ℕ → List ℕ → List ℕ → ℕ → Type 0
+PlaysFrom s faults script out end =
+    (answers : List (List ℕ)) × Answers s faults (script_lines script) answers end × (out ≡ printed answers)
     × (All (λ a. (a ≢ memory_refused) × (a ≢ device_refused)) answers → out ≡ output_from s script)
 
-abbrev pub Plays : List ℕ → List ℕ → Type 0
-Plays script out = PlaysFrom start script out
+abbrev pub Plays : ℕ → List ℕ → List ℕ → ℕ → Type 0
+Plays faults script out end = PlaysFrom start faults script out end
 
 -- all of what a script may write, or a front of it
-abbrev pub PlaysTo : List ℕ → List ℕ → Type 0
-PlaysTo script out = (length script ≤ most_bytes) × (rest : List ℕ) × Plays script (out ++ rest)
+abbrev pub PlaysTo : ℕ → List ℕ → List ℕ → ℕ → Type 0
+PlaysTo faults script out end = (length script ≤ most_bytes) × (rest : List ℕ) × Plays faults script (out ++ rest) end
+
+-- nothing was written, and no call of the disk failed
+abbrev pub IsUnplayed : ℕ → List ℕ → ℕ → Type 0
+IsUnplayed faults out end = (out ≡ []) × (end ≡ faults)
 
 -- How a call on a script ends, and what it has written by then: where the disk can't be made, and for a script that is too long, nothing is
 -- written; after a failed stream and after want of memory outside a line a front has been written.
-abbrev pub Ends : {U : Type 0} → List ℕ → List ℕ → Result U Refusal → Type 0
-Ends script out (Ok u) = (length script ≤ most_bytes) × Plays script out
-Ends script out (Err e) =
-    ((e ≡ Numbered InputTooLong) × (most_bytes < length script) × (out ≡ []))
-    ⊎ (((e ≡ device_failed) × (out ≡ [])) ⊎ (((e ≡ stream_failed) ⊎ (e ≡ no_memory)) × ((out ≡ []) ⊎ PlaysTo script out)))
+abbrev pub Ends : {U : Type 0} → ℕ → List ℕ → List ℕ → ℕ → Result U Refusal → Type 0
+Ends faults script out end (Ok u) = (length script ≤ most_bytes) × Plays faults script out end
+Ends faults script out end (Err e) =
+    ((e ≡ Numbered InputTooLong) × (most_bytes < length script) × IsUnplayed faults out end)
+    ⊎ (((e ≡ device_failed) × (out ≡ []) × (end ≡ faults + 1))
+    ⊎ (((e ≡ stream_failed) ⊎ (e ≡ no_memory)) × (IsUnplayed faults out end ⊎ PlaysTo faults script out end)))

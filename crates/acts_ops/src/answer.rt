@@ -49,9 +49,11 @@ fn counted_as(step: &Step) -> &'static str
     }
 }
 
-/// The answer to a line, which is a step of the store. A line that is refused leaves the store.
+/// The answer to a line, which is a step of the store. A line that is refused leaves the store. It is answered 51 only where a call of the
+/// disk failed in its step.
 pub fn answer_to<D: Disk>(alloc: Global, store: &mut Store<D>, line: &[u8]) -> Answer
-    ensures { IsAnswer (without_disk store.old) line.now (played_text result.word.now result.played) (without_disk store.new) }
+    ensures { IsAnswer (without_disk store.old) (D.fault_count store.old.disk) line.now (played_text result.word.now result.played)
+        (without_disk store.new) (D.fault_count store.new.disk) }
 {
     match step_of(alloc, line) {
         Ok(step) => Answer {

@@ -25,9 +25,11 @@ fn play_line<D: Disk, W: Write>(
     line: &[u8],
     writer: &mut W,
 ) -> Result<(), Refusal>
-    ensures all { OnOk result ((a : List ℕ) × IsAnswer (without_disk store.old) line.now a (without_disk store.new)
+    ensures all { OnOk result ((a : List ℕ)
+        × IsAnswer (without_disk store.old) (D.fault_count store.old.disk) line.now a (without_disk store.new) (D.fault_count store.new.disk)
         × Appends (W.contents writer.old) (W.contents writer.new) (a ++ 10 ∷ [])) }
-    ensures front { (a : List ℕ) × (n : ℕ) × IsAnswer (without_disk store.old) line.now a (without_disk store.new)
+    ensures front { (a : List ℕ) × (n : ℕ)
+        × IsAnswer (without_disk store.old) (D.fault_count store.old.disk) line.now a (without_disk store.new) (D.fault_count store.new.disk)
         × Appends (W.contents writer.old) (W.contents writer.new) (take n (a ++ 10 ∷ [])) }
     ensures err { IfErr result (λ e. (e ≡ stream_failed) ⊎ (e ≡ no_memory)) }
 {
@@ -44,9 +46,9 @@ fn play<D: Disk, W: Write>(
     writer: &mut W,
 ) -> Result<(), Refusal>
     ensures all { OnOk result ((out : List ℕ) × Appends (W.contents writer.old) (W.contents writer.new) out
-        × PlaysFrom (without_disk store.old) script.now out) }
+        × PlaysFrom (without_disk store.old) (D.fault_count store.old.disk) script.now out (D.fault_count store.new.disk)) }
     ensures front { (out : List ℕ) × (rest : List ℕ) × Appends (W.contents writer.old) (W.contents writer.new) out
-        × PlaysFrom (without_disk store.old) script.now (out ++ rest) }
+        × PlaysFrom (without_disk store.old) (D.fault_count store.old.disk) script.now (out ++ rest) (D.fault_count store.new.disk) }
     ensures err { IfErr result (λ e. (e ≡ stream_failed) ⊎ (e ≡ no_memory)) }
 {
     let mut rest = script;
@@ -70,7 +72,8 @@ fn play_input<D: Disk, R: Read, W: Write>(
     ensures no_fault { IfErr result (λ e. e ≢ device_failed) }
     ensures read { ReadsAtMost 1048577 (R.remaining reader.old) (R.remaining reader.new) }
     ensures written { IfSome (R.remaining reader.old) (λ script. (out : List ℕ)
-        × Appends (W.contents writer.old) (W.contents writer.new) out × Ends script out result) }
+        × Appends (W.contents writer.old) (W.contents writer.new) out
+        × Ends (D.fault_count store.old.disk) script out (D.fault_count store.new.disk) result) }
 {
     let script = read_input(alloc, reader)?;
     match play(alloc, store, &script, writer) {
@@ -85,7 +88,8 @@ fn play_input<D: Disk, R: Read, W: Write>(
 /// write is 61. Where memory is refused for a line's command, or for a checkpoint, the line is answered
 /// `refused 50` and the store is as it was. Where the disk fails, which one in memory does where memory is refused
 /// to it, a commit or a step of a checkpoint is answered 51, after which each step is answered 52; as the store is
-/// made, that ends the call with 51, before anything is read. Memory that is refused elsewhere ends it with 50.
+/// made, that ends the call with 51, before anything is read. No line is answered 51 but the one in whose step a call
+/// of the disk failed. Memory that is refused elsewhere ends it with 50.
 pub fn run_script<D: Disk, R: Read, W: Write>(
     alloc: Global,
     disk: D,
@@ -96,7 +100,8 @@ pub fn run_script<D: Disk, R: Read, W: Write>(
     requires countable { D.fault_count disk < u64.MAX }
     ensures read { ReadsAtMost 1048577 (R.remaining reader.old) (R.remaining reader.new) }
     ensures written { IfSome (R.remaining reader.old) (λ script. (out : List ℕ)
-        × Appends (W.contents writer.old) (W.contents writer.new) out × Ends script out result.1) }
+        × Appends (W.contents writer.old) (W.contents writer.new) out
+        × Ends (D.fault_count disk) script out (D.fault_count result.0) result.1) }
     // The call ends with 51 only where a call of the disk failed.
     ensures faults { IfErr result.1 (λ e. e ≡ device_failed → D.fault_count result.0 ≡ D.fault_count disk + 1) }
 {

@@ -10,4 +10,4 @@ pub returns-in-Err-clause-written : goal.returns-in-Err-clause-written
 returns-in-Err-clause-written g c =
     let failed = c.in-Err.ensures.refused c.requires.empty in
     for_any (g.R.Read.remaining c.args.reader.now)
-    (λ script. ([], Appends-nil (g.W.Write.contents c.args.writer.now), inr (inl (failed.0, refl))))
+    (λ script. ([], Appends-nil (g.W.Write.contents c.args.writer.now), inr (inl (failed.0, refl, failed.1))))

@@ -1,0 +1,32 @@
+-- What `acts lint` prints (own): a line for each fault of a workflow.
+use Rattle.std.specs.Prelude.{◌≡◌, ◌⊎◌, ℕ, ◌≤◌, ◌<◌, List, [], ◌∷◌, ◌++◌, length, Bool, true, false, Result, Ok, Err}
+use Rattle.wf_value.specs.Gives.{no_memory}
+use Rattle.wf_value.specs.declared.code.Code.TheVariants.{InputTooLong}
+use Rattle.wf_value.specs.declared.refusal.Refusal.{Refusal}
+use Rattle.wf_value.specs.declared.refusal.Refusal.TheVariants.{Numbered}
+use Rattle.act_disk.specs.Failed.{stream_failed}
+use Rattle.workflow_lint.specs.Lines.{finding_lines}
+use Rattle.workflow_lint.specs.Plans.{found_in}
+use Rattle.workflow_lint.specs.declared.finding.Finding.{Finding}
+use Rattle.acts_ops.specs.Play.{most_bytes}
+
+abbrev pub linted : List ℕ → List ℕ
+linted text = finding_lines (found_in text)
+
+-- whether there is one
+abbrev pub is_any : List Finding → Bool
+is_any [] = false
+is_any (f ∷ fs) = true
+
+abbrev pub IsFront : List ℕ → List ℕ → Type 0
+IsFront text out = (rest : List ℕ) × (out ++ rest ≡ linted text)
+
+-- what is written of a text: all lines, or after a failed stream or want of memory a front of them
+abbrev pub Lints : List ℕ → List ℕ → Result Bool Refusal → Type 0
+Lints text out (Ok faulty) = (out ≡ linted text) × (faulty ≡ is_any (found_in text))
+Lints text out (Err e) = ((e ≡ stream_failed) ⊎ (e ≡ no_memory)) × IsFront text out
+
+-- How a call on a text ends, and what it has written by then: a text that is too long is refused with nothing written.
+abbrev pub LintsTo : List ℕ → List ℕ → Result Bool Refusal → Type 0
+LintsTo text out (Ok faulty) = (length text ≤ most_bytes) × Lints text out (Ok faulty)
+LintsTo text out (Err e) = ((e ≡ Numbered InputTooLong) × (most_bytes < length text) × (out ≡ [])) ⊎ Lints text out (Err e)
