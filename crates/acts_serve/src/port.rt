@@ -21,8 +21,8 @@ const PORTS: usize = 2;
 /// How many answers a seat gives a client, at least, before it takes one of those that wait.
 const SLICE: u64 = 16;
 
-/// How often a port may be found without a seat before its history turns over.
-const UNSEATED: u64 = 4;
+/// How often a port may be found without a seat before its history turns over: for ten seconds, since a thread may begin late on a busy machine.
+const UNSEATED: u64 = 40;
 
 /// Whom a token stands for: a client, by its port and its place there.
 pub(crate) fn client_of(token: Token) -> Option<(usize, usize)> {

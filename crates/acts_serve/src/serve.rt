@@ -1,9 +1,14 @@
-ghost use Rattle.std.specs.Prelude.{◌≡◌, ◌<◌, ◌≤◌, [], length, IfOk};
+ghost use Rattle.std.specs.Prelude.{◌≡◌, ◌⊎◌, ◌<◌, ◌≤◌, ◌+◌, ◌∷◌, List, [], length, true, false, IfErr, IfOk};
+ghost use Rattle.std.specs.Io.KnownBytes.{Appends};
+ghost use Rattle.act_store.specs.declared.entry.Entry.{Entry};
+ghost use Rattle.acts_serve.specs.Rounds.{AreHeld, HasServed, IsRound};
+ghost use Rattle.acts_serve.specs.Telling.{line_of_history, service_lines};
+ghost use Rattle.acts_serve.specs.Visits.{AreByTurns};
 
 use crate::telling::{tell_ready, tell_settled};
 use crate::upgrade::brought_up;
 use crate::visit::Visit;
-use act_desk::{Fault, Free, serve_all};
+use act_desk::{Fault, Free, Settled, serve_all};
 use act_disk::Disk;
 use act_sessions::{Ending, Transcript};
 use act_store::Store;
@@ -23,7 +28,8 @@ fn visits<'a>(
     sessions: u64,
 ) -> Result<Vec<Visit<'a>>, Refusal>
     requires { (0 < sessions) × (sessions ≤ 32) }
-    ensures { IfOk result (λ v. (0 < length v.items) × (length v.items ≤ 64)) }
+    ensures count { IfOk result (λ v. length v.items ≡ sessions + sessions) }
+    ensures by_turns { IfOk result (λ v. AreByTurns hooks.now runners.now v.items) }
 {
     let mut visits = Vec::new(alloc);
     for _ in 0..sessions {
@@ -49,8 +55,27 @@ fn are_unserved(transcripts: &[Transcript]) -> bool {
         && transcript.written == 0)
 }
 
-/// Holds sessions over a store that has no entries yet, each in a thread of its own and at the same time, and tells how many entries
-/// they made.
+/// Holds sessions over a store that has no entries yet, each in a thread of its own and at the same time. It says whether a stream failed in
+/// one of them, or could not be accepted.
+fn serve_visits<'a, D: Disk + Drop + Send, R: Threads + Wait + Clock + Sync>(
+    rt: &R,
+    alloc: Global,
+    store: Store<D>,
+    visits: Vec<Visit<'a>>,
+) -> Result<(Settled<D>, bool), Refusal>
+    requires fresh { store.history ≡ [] }
+    requires visits { (0 < length visits.items) × (length visits.items ≤ 64) }
+    ensures { IfOk result (λ held. AreHeld visits.entry.items held.1 held.0.store.history) }
+{
+    match serve_all(rt, alloc, store, visits, &Free) {
+        Ok(settled) => Ok((settled, false)),
+        Err(Fault::Broken(settled)) => Ok((settled, true)),
+        Err(Fault::Unsettled(_)) => Err(Refusal::Numbered(Code::Unsettled)),
+        Err(Fault::Memory(..)) => Err(Refusal::Numbered(Code::NoMemory)),
+    }
+}
+
+/// Holds sessions as above, and tells how many entries they made.
 fn serve_round<'a, D: Disk + Drop + Send, R: Threads + Wait + Clock + Sync, O: Write>(
     rt: &R,
     alloc: Global,
@@ -60,13 +85,10 @@ fn serve_round<'a, D: Disk + Drop + Send, R: Threads + Wait + Clock + Sync, O: W
 ) -> Result<Round<D>, Refusal>
     requires fresh { store.history ≡ [] }
     requires visits { (0 < length visits.items) × (length visits.items ≤ 64) }
+    ensures told { IfOk result (λ round. Appends (O.contents out.old) (O.contents out.new) (line_of_history round.store.history)) }
+    ensures held { IfOk result (λ round. AreHeld visits.entry.items round.broken round.store.history) }
 {
-    let (settled, broken) = match serve_all(rt, alloc, store, visits, &Free) {
-        Ok(settled) => (settled, false),
-        Err(Fault::Broken(settled)) => (settled, true),
-        Err(Fault::Unsettled(_)) => return Err(Refusal::Numbered(Code::Unsettled)),
-        Err(Fault::Memory(..)) => return Err(Refusal::Numbered(Code::NoMemory)),
-    };
+    let (settled, broken) = serve_visits(rt, alloc, store, visits)?;
     tell_settled(settled.store.entries(), out)?;
     let unserved = are_unserved(settled.transcripts.as_slice());
     Ok(Round {
@@ -83,6 +105,44 @@ fn turned_over<D: Disk + Drop>(store: Store<D>) -> Result<Store<D>, Refusal>
     let mut store = store;
     store.turn_over()?;
     Ok(store)
+}
+
+/// Holds a round over the table that the one before left. Behind one in which no session could be started there is none.
+fn serve_next<D: Disk + Drop + Send, R: Threads + Wait + Clock + Sync, O: Write>(
+    rt: &R,
+    alloc: Global,
+    last: Round<D>,
+    hooks: &TcpListener,
+    runners: &TcpListener,
+    sessions: u64,
+    out: &mut O,
+) -> Result<Round<D>, Refusal>
+    requires { (0 < sessions) × (sessions ≤ 32) }
+    ensures told { IfOk result (λ round. Appends (O.contents out.old) (O.contents out.new) (line_of_history round.store.history)) }
+    ensures ended { IfOk result (λ round. IsRound hooks.now runners.now sessions round.broken round.store.history) }
+{
+    if last.unserved {
+        return Err(Refusal::Numbered(Code::NoMemory));
+    }
+    let next = visits(alloc, hooks, runners, sessions)?;
+    let anew = turned_over(last.store)?;
+    serve_round(rt, alloc, anew, next, out)
+}
+
+/// How a service of so many rounds ends behind the last one: where no session of that could be started, which one round alone may be, with
+/// 50, and where a stream failed in one of them, with 61.
+fn ended<D: Disk + Drop>(last: Round<D>, broken: bool, rounds: u64) -> Result<Store<D>, Refusal>
+    ensures ok { IfOk result (λ store. (broken ≡ false) × (store ≡ last.store)) }
+    ensures err { IfErr result (λ e. ((e ≡ Refusal.Numbered Code.NoMemory) × (last.unserved ≡ true) × (1 < rounds))
+        ⊎ ((e ≡ Refusal.Numbered Code.StreamFailed) × (broken ≡ true))) }
+{
+    if last.unserved && rounds > 1 {
+        return Err(Refusal::Numbered(Code::NoMemory));
+    }
+    if broken {
+        return Err(Refusal::Numbered(Code::StreamFailed));
+    }
+    Ok(last.store)
 }
 
 /// Serves a store that has no entries yet: holds so many sessions on each of two ports, each in a thread of its own and at the same time,
@@ -103,6 +163,10 @@ pub fn serve_on<D: Disk + Drop + Send, R: Threads + Wait + Clock + Sync, O: Writ
 ) -> Result<u64, Refusal>
     requires fresh { store.history ≡ [] }
     requires sessions { (0 < sessions) × (sessions ≤ 32) }
+    // Where it ends well no stream failed: each session spoke as its port does, and the history is what they asked.
+    ensures served { IfOk result (λ count. (history : List Entry) × (count ≡ length history)
+        × IsRound hooks.now runners.now sessions false history
+        × Appends (O.contents out.old) (O.contents out.new) (service_lines (history ∷ []))) }
 {
     let store = serve_rounds(rt, alloc, store, hooks, runners, sessions, 1, out)?;
     Ok(store.entries())
@@ -111,9 +175,10 @@ pub fn serve_on<D: Disk + Drop + Send, R: Threads + Wait + Clock + Sync, O: Writ
 /// Serves a store as `serve_on` does, in so many rounds, one at least: once all sessions of a round have ended, and `settled COUNT` is
 /// written for it, the history begins anew at the table that they left, and the next round holds as many sessions on the same ports.
 ///
-/// A store that stands in the first layout is brought up to the second before. `ready` is written once. A stream that fails ends no round but the last, behind which the service is refused with 61. Of several rounds one
-/// in which no session could be started ends the service with 50. Else what refuses a round ends the service, and so does the store where
-/// its history cannot begin anew: with 52 where the device has failed, and with 56 where memory was wanting to end a checkpoint.
+/// A store that stands in the first layout is brought up to the second before. `ready` is written once. A stream that fails ends no round
+/// but the last, behind which the service is refused with 61. Of several rounds one in which no session could be started ends the service
+/// with 50. Else what refuses a round ends the service, and so does the store where its history cannot begin anew: with 52 where the
+/// device has failed, and with 56 where memory was wanting to end a checkpoint.
 pub fn serve_rounds<D: Disk + Drop + Send, R: Threads + Wait + Clock + Sync, O: Write>(
     rt: &R,
     alloc: Global,
@@ -126,6 +191,8 @@ pub fn serve_rounds<D: Disk + Drop + Send, R: Threads + Wait + Clock + Sync, O: 
 ) -> Result<Store<D>, Refusal>
     requires fresh { store.history ≡ [] }
     requires sessions { (0 < sessions) × (sessions ≤ 32) }
+    // Where it ends well no stream failed in any round, and the store has the history of the last one.
+    ensures served { IfOk result (λ store. HasServed hooks.now runners.now sessions rounds (O.contents out.old) (O.contents out.new) store.history) }
 {
     let first = visits(alloc, hooks, runners, sessions)?;
     let store = brought_up(alloc, store)?;
@@ -133,19 +200,8 @@ pub fn serve_rounds<D: Disk + Drop + Send, R: Threads + Wait + Clock + Sync, O: 
     let mut round = serve_round(rt, alloc, store, first, out)?;
     let mut broken = round.broken;
     for _ in 1..rounds {
-        if round.unserved {
-            break;
-        }
-        let next = visits(alloc, hooks, runners, sessions)?;
-        let anew = turned_over(round.store)?;
-        round = serve_round(rt, alloc, anew, next, out)?;
+        round = serve_next(rt, alloc, round, hooks, runners, sessions, out)?;
         broken = broken || round.broken;
     }
-    if round.unserved && rounds > 1 {
-        return Err(Refusal::Numbered(Code::NoMemory));
-    }
-    if broken {
-        return Err(Refusal::Numbered(Code::StreamFailed));
-    }
-    Ok(round.store)
+    ended(round, broken, rounds)
 }

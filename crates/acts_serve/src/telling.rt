@@ -1,23 +1,36 @@
 //! What a service tells of itself on its output.
 
+ghost use Rattle.std.specs.Prelude.{◌≡◌, OnOk, IfErr};
+ghost use Rattle.std.specs.Io.KnownBytes.{Appends};
+ghost use Rattle.acts_serve.specs.Telling.{ready_line, settled_line};
+
 use byte_streams::{flush, write_whole};
 use itoa::Buffer;
 use std::io::Write;
-use wf_value::Refusal;
+use wf_value::{Code, Refusal};
 
 /// Writes a text to where the service tells how it is, and sends it on. A failure is 61.
-fn tell<O: Write>(out: &mut O, text: &[u8]) -> Result<(), Refusal> {
+fn tell<O: Write>(out: &mut O, text: &[u8]) -> Result<(), Refusal>
+    ensures told { OnOk result (Appends (O.contents out.old) (O.contents out.new) text.now) }
+    ensures err { IfErr result (λ e. e ≡ Refusal.Numbered Code.StreamFailed) }
+{
     write_whole(out, text)?;
     flush(out)
 }
 
 /// Tells that both ports take clients.
-pub(crate) fn tell_ready<O: Write>(out: &mut O) -> Result<(), Refusal> {
+pub(crate) fn tell_ready<O: Write>(out: &mut O) -> Result<(), Refusal>
+    ensures told { OnOk result (Appends (O.contents out.old) (O.contents out.new) ready_line) }
+    ensures err { IfErr result (λ e. e ≡ Refusal.Numbered Code.StreamFailed) }
+{
     tell(out, b"ready\n")
 }
 
 /// Tells how many entries a settled history has. It takes no memory.
-pub(crate) fn tell_settled<O: Write>(entries: u64, out: &mut O) -> Result<(), Refusal> {
+pub(crate) fn tell_settled<O: Write>(entries: u64, out: &mut O) -> Result<(), Refusal>
+    ensures told { OnOk result (Appends (O.contents out.old) (O.contents out.new) (settled_line entries)) }
+    ensures err { IfErr result (λ e. e ≡ Refusal.Numbered Code.StreamFailed) }
+{
     let mut digits = Buffer::new();
     write_whole(out, b"settled ")?;
     write_whole(out, digits.format(entries).as_bytes())?;

@@ -1,0 +1,4 @@
+-- Lemmas of a service.
+pub mod Held
+pub mod Lines
+pub mod Turns
