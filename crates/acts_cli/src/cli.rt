@@ -6,7 +6,7 @@ use crate::store_file::{RealDisk, create_for_server, open_for_server};
 use crate::views::{View, form_of, runs_of, show, with_views};
 use act_disk::MemoryDisk;
 use act_store::Store;
-use acts_ops::{Shown, run_check, run_init, run_script};
+use acts_ops::{Shown, run_check, run_init, run_lint, run_script};
 use acts_serve::{Limits, serve_forever, serve_rounds};
 use clap::builder::ValueParser;
 use clap::error::ErrorKind;
@@ -102,6 +102,7 @@ struct Serving<'a> {
 enum Request<'a> {
     Play,
     Check,
+    Lint,
     /// A new store in this file.
     Init(&'a str, AreaLength),
     /// What is shown of a store.
@@ -220,6 +221,13 @@ fn check_command<'a>(alloc: Global) -> Command<'a> {
     )
 }
 
+/// `acts lint`.
+fn lint_command<'a>(alloc: Global) -> Command<'a> {
+    Command::new(alloc, "lint").about(
+        "Reads the JSON of a workflow on standard input, and prints a line NUMBER PATH: MEANING for each fault",
+    )
+}
+
 /// `acts explain NUMBER`, of one of these numbers.
 fn explain_command<'a>(alloc: Global, numbers: &'a [&'a str]) -> Result<Command<'a>, AllocError> {
     let number = Arg::new(alloc, "NUMBER")
@@ -234,7 +242,8 @@ fn explain_command<'a>(alloc: Global, numbers: &'a [&'a str]) -> Result<Command<
 /// Adds the subcommands that read standard input.
 fn with_readers<'a>(alloc: Global, acts: Command<'a>) -> Result<Command<'a>, AllocError> {
     acts.subcommand(play_command(alloc))?
-        .subcommand(check_command(alloc))
+        .subcommand(check_command(alloc))?
+        .subcommand(lint_command(alloc))
 }
 
 /// Adds the subcommands over a store in a file.
@@ -331,6 +340,7 @@ fn request_of<'a>(matches: &ArgMatches<'a>) -> Option<Request<'a>> {
     match matches.subcommand() {
         Some(("play", _)) => Some(Request::Play),
         Some(("check", _)) => Some(Request::Check),
+        Some(("lint", _)) => Some(Request::Lint),
         Some(("init", matches)) => init_of(matches),
         Some(("serve", matches)) => serve_of(matches),
         Some(("explain", matches)) => explain_of(matches),
@@ -377,6 +387,12 @@ fn play<R: Input + Print + AllocGlobal>(rt: &R) -> Result<(), Refusal> {
 /// Checks the workflow on standard input, and prints its legs to standard output.
 fn check<R: Input + Print + AllocGlobal>(rt: &R) -> Result<(), Refusal> {
     run_check(rt.alloc(), &mut rt.reader(), &mut output(rt)?)
+}
+
+/// Lints the workflow on standard input, prints its faults to standard output, and gives the status: 1 where there is one.
+fn lint<R: Input + Print + AllocGlobal>(rt: &R) -> Result<u8, Refusal> {
+    let faulty = run_lint(rt.alloc(), &mut rt.reader(), &mut output(rt)?)?;
+    Ok(if faulty { 1 } else { 0 })
 }
 
 /// Makes a store in a file, which is made first where it is not there, and which nobody else serves.
@@ -464,6 +480,7 @@ fn obey<
     match parse(rt.alloc(), numbers.as_slice(), words.as_slice()) {
         Ok(Request::Play) => play(rt)?,
         Ok(Request::Check) => check(rt)?,
+        Ok(Request::Lint) => return lint(rt),
         Ok(Request::Init(file, area)) => init(rt, file, area)?,
         Ok(Request::Show(view)) => show(rt, &view, &mut output(rt)?)?,
         Ok(Request::Serve(serving)) => serve(rt, system, &serving)?,

@@ -322,7 +322,7 @@ static OF_INPUT: [Explanation; 2] = [
     },
     Explanation {
         number: "76",
-        meaning: "a script, or what acts check reads, is longer than 1,048,576 bytes",
+        meaning: "a script, or what acts check or acts lint reads, is longer than 1,048,576 bytes",
         input: "a script of 1,048,577 bytes",
         remedy: "part the script in two; a workflow is 65,536 bytes at most (24)",
     },
