@@ -1,10 +1,11 @@
 //! What the product answers a row.
 
+use crate::brought_up::push_brought_up;
 use crate::kind::Kind;
 use crate::sessions::{Setting, written_at_each_cut};
 use crate::views::push_views;
 use act_disk::MemoryDisk;
-use acts_ops::{run_check, run_script};
+use acts_ops::{run_check, run_lint, run_script};
 use std::alloc::{AllocError, Global};
 use wf_value::Refusal;
 
@@ -46,6 +47,29 @@ fn push_all_checked(
     Ok(())
 }
 
+/// The faults of a workflow, or `fine` where it has none.
+fn push_linted(alloc: Global, answers: &mut Vec<u8>, workflow: &[u8]) -> Result<(), AllocError> {
+    let mut reader = workflow;
+    match run_lint(alloc, &mut reader, answers) {
+        Ok(true) => Ok(()),
+        Ok(false) => answers.extend_from_slice(b"fine\n"),
+        Err(refusal) => push_refusal(alloc, answers, Err(refusal)),
+    }
+}
+
+fn push_all_linted(
+    alloc: Global,
+    answers: &mut Vec<u8>,
+    workflows: &[u8],
+) -> Result<(), AllocError> {
+    for workflow in workflows.split(|byte| *byte == b'\n') {
+        if !workflow.is_empty() {
+            push_linted(alloc, answers, workflow)?;
+        }
+    }
+    Ok(())
+}
+
 /// What the session of a row writes, wherever its input is cut.
 fn push_session(
     alloc: Global,
@@ -75,7 +99,9 @@ pub fn answers_to(alloc: Global, kind: Kind, row: &Row<'_>) -> Result<Vec<u8>, A
         Kind::Script => push_played(alloc, &mut answers, row.given)?,
         Kind::Workflow => push_checked(alloc, &mut answers, row.given)?,
         Kind::Workflows => push_all_checked(alloc, &mut answers, row.given)?,
+        Kind::Lints => push_all_linted(alloc, &mut answers, row.given)?,
         Kind::Views => push_views(alloc, &mut answers, row.given)?,
+        Kind::BroughtUp => push_brought_up(alloc, &mut answers, row)?,
         Kind::Session(protocol) => {
             push_session(alloc, &mut answers, Setting { protocol, before }, row)?;
         }

@@ -11,8 +11,12 @@ pub enum Kind {
     Workflow,
     /// Workflows that are checked, each in a line.
     Workflows,
+    /// Workflows that are linted, each in a line.
+    Lints,
     /// What is shown of the store that a script leaves.
     Views,
+    /// What is shown of a file of the first layout, before and behind a session of runners and a checkpoint.
+    BroughtUp,
     /// A session.
     Session(Protocol),
 }
@@ -22,7 +26,9 @@ const ENDINGS: &[(Kind, &str, &str)] = &[
     (Kind::Script, ".script", ".answers"),
     (Kind::Workflow, ".workflow", ".lines"),
     (Kind::Workflows, ".workflows", ".lines"),
+    (Kind::Lints, ".lints", ".faults"),
     (Kind::Views, ".store", ".views"),
+    (Kind::BroughtUp, ".first", ".views"),
     (Kind::Session(Protocol::Http), ".http", ".reply"),
     (Kind::Session(Protocol::Lines), ".runner", ".replies"),
 ];

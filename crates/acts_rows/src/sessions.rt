@@ -28,7 +28,7 @@ fn alone(alloc: Global) -> Result<Alone<MemoryDisk>, Refusal> {
 }
 
 /// The bytes that a session writes. What it asks is answered by the store.
-fn written<R: Read>(
+pub fn written<R: Read>(
     alloc: Global,
     protocol: Protocol,
     reader: &mut R,

@@ -21,25 +21,26 @@ fn push_view(
     Ok(disk)
 }
 
-/// A view as lines, and then as JSON.
-fn push_both(
+/// The runs, the runners and the queue of a disk, as lines and as JSON.
+pub fn push_shown(
     alloc: Global,
     answers: &mut Vec<u8>,
     disk: MemoryDisk,
-    what: Shown,
 ) -> Result<MemoryDisk, AllocError> {
-    let disk = push_view(alloc, answers, disk, what, Form::Lines)?;
-    push_view(alloc, answers, disk, what, Form::Json)
+    let disk = push_view(alloc, answers, disk, Shown::Runs, Form::Lines)?;
+    let disk = push_view(alloc, answers, disk, Shown::Runs, Form::Json)?;
+    let disk = push_view(alloc, answers, disk, Shown::Runners, Form::Lines)?;
+    let disk = push_view(alloc, answers, disk, Shown::Runners, Form::Json)?;
+    let disk = push_view(alloc, answers, disk, Shown::Queue, Form::Lines)?;
+    push_view(alloc, answers, disk, Shown::Queue, Form::Json)
 }
 
-/// The runs, the runners and the queue behind a script, as lines and as JSON. What it has not committed is not shown.
+/// The same of the disk that a script leaves. What it has not committed is not shown.
 pub fn push_views(alloc: Global, answers: &mut Vec<u8>, script: &[u8]) -> Result<(), AllocError> {
     let mut reader = script;
     let mut replies = Vec::new(alloc);
     let (disk, ended) = run_script(alloc, MemoryDisk::new(alloc), &mut reader, &mut replies);
     push_refusal(alloc, answers, ended)?;
-    let disk = push_both(alloc, answers, disk, Shown::Runs)?;
-    let disk = push_both(alloc, answers, disk, Shown::Runners)?;
-    push_both(alloc, answers, disk, Shown::Queue)?;
+    push_shown(alloc, answers, disk)?;
     Ok(())
 }

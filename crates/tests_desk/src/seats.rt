@@ -2,7 +2,7 @@
 ghost use Rattle.std.specs.Prelude.{◌≡◌, []};
 
 use crate::holds::holds;
-use crate::stores::{BUILD, command, expect_answer, expect_entry, made_in_memory};
+use crate::stores::{BUILD, command, expect_answer, expect_entry, made_in_memory, made_of};
 use act_desk::{Desk, Ledgers, Named, Pending, Seat};
 use act_disk::{Call, MemoryDisk};
 use act_store::Store;
@@ -192,4 +192,38 @@ fn one_gate_covers_many(rt: HostRuntime) {
     let calls = disk.calls();
     holds!(rt; made <= calls.len());
     expect_writes(&rt, &calls[made..]);
+}
+
+/// How long a history is that a desk has to know whole, and how long each area of its store is.
+const MANY: u64 = 20_000;
+
+const AREA: u64 = 1_048_576;
+
+/// One seat looks up a run that is not there, very often, and each look-up is answered.
+fn long_history<E: Named, T: Ledger, R: Wait + Clock + Abort>(
+    rt: &R,
+    alloc: Global,
+    ledgers: Ledgers,
+)
+    requires entries { (ledgers.entries.name ≡ E.name) × (E.parts ≡ 64) }
+    requires replies { (ledgers.replies.name ≡ T.name) × (T.parts ≡ 64) }
+    requires history { ledgers.history.seen.book ≡ E.book }
+{
+    let store = made_of(rt, alloc, MemoryDisk::new(alloc), AREA);
+    let desk: Desk<MemoryDisk, E, T> = Desk::new(store, ledgers);
+    let mut seat = seat_of(rt, &desk, 0);
+    for _ in 0..MANY {
+        let pending = enter(rt, alloc, &desk, &mut seat);
+        cover(rt, alloc, &desk, &mut seat, pending);
+    }
+    holds!(rt; desk.give_back(seat) == (MANY, MANY));
+    let (store, whole) = desk.into_parts();
+    holds!(rt; store.entries() == MANY && store.covered() == MANY);
+    holds!(rt; whole.is_some());
+    let _disk = store.into_disk();
+}
+
+#[test]
+fn a_desk_knows_a_long_history(rt: HostRuntime) {
+    long_history::<Brand, Brand, HostRuntime>(&rt, rt.alloc(), Ledgers::new());
 }

@@ -4,7 +4,7 @@ use crate::gates::Meeting;
 use crate::holds::holds;
 use crate::lines::{Session, session, settled};
 use crate::stores::{expect_answer, expect_entry, made, made_in_memory};
-use act_desk::serve_all;
+use act_desk::{Free, serve_all};
 use act_disk::{FuseDisk, MemoryDisk};
 use act_sessions::{Ending, Transcript};
 use std::alloc::Global;
@@ -55,6 +55,22 @@ fn sessions_overlap(rt: HostRuntime) {
     holds!(rt; settled.store.entries() == 2 && settled.store.covered() == 2);
     expect_entry(&rt, alloc, &settled.store, 1, (1, "refused 40"));
     expect_entry(&rt, alloc, &settled.store, 2, (0, "nothing"));
+}
+
+/// As many sessions as there may be: each is held, and answered; each answer stands in the history, also that of a run which no table can have.
+#[test]
+fn all_of_64_sessions_are_held(rt: HostRuntime) {
+    let alloc = rt.alloc();
+    let works = works(&rt, alloc, &["FETCH 100001\n"; 64]);
+    holds!(rt; works.len() == 64);
+    let store = made_in_memory(&rt, alloc);
+    let settled = settled(&rt, serve_all(&rt, alloc, store, works, &Free));
+    holds!(rt; settled.transcripts.len() == 64);
+    for transcript in settled.transcripts.iter() {
+        expect_answered(&rt, alloc, transcript, "refused 40");
+    }
+    holds!(rt; settled.store.entries() == 64 && settled.store.covered() == 64);
+    let _disk = settled.store.into_disk();
 }
 
 /// How many calls of the disk the making of a store takes.

@@ -18,8 +18,16 @@ pub const BUILD: &str =
 pub fn made<D: Disk>(rt: &impl Abort, alloc: Global, disk: D) -> Store<D>
     ensures { result.history ≡ [] }
 {
+    made_of(rt, alloc, disk, 4_096)
+}
+
+/// A new store on a disk, in areas of so many bytes.
+pub fn made_of<D: Disk>(rt: &impl Abort, alloc: Global, disk: D, area: u64) -> Store<D>
+    ensures { result.history ≡ [] }
+{
     holds!(rt; disk.faults() < u64::MAX);
-    match Store::init(alloc, disk, 4_096) {
+    holds!(rt; 4_096 <= area && area <= 1_073_741_824);
+    match Store::init(alloc, disk, area) {
         Ok(store) => store,
         Err((_disk, refusal)) => panic!(rt; "not made: {refusal}"),
     }

@@ -53,6 +53,16 @@ const HELP: &[&str] = &["acts", "--help"];
 
 const CHECK: &[&str] = &["acts", "check"];
 
+const LINT: &[&str] = &["acts", "lint"];
+
+/// A workflow with a fault in its name and one in its job.
+const FAULTY: &str = "{\"name\":5,\"jobs\":{\"build\":{\"runs-on\":[\"x\",5]}}}";
+
+const ITS_FAULTS: &str = concat!(
+    "11 name: of the wrong kind, or missing\n",
+    "11 jobs.build.runs-on[1]: of the wrong kind, or missing\n",
+);
+
 /// The most that each number may be.
 const SERVE: &[&str] = &[
     "acts",
@@ -124,6 +134,7 @@ const FAULTS: &[&[&str]] = &[
     &["acts", "serve"],
     &["acts", "play", "script"],
     &["acts", "check", "workflow"],
+    &["acts", "lint", "workflow"],
     &["acts", "--verbose", "play"],
     &["acts", "explain"],
     &["acts", "explain", "17", "18"],
@@ -237,6 +248,20 @@ const CHECKS: &[(&str, usize, Ended<'static>)] = &[
 fn ends_a_check_with_its_status(rt: HostRuntime) {
     for &(workflow, room, ended) in CHECKS {
         expect(&rt, rt.alloc(), CHECK, workflow, room, ended);
+    }
+}
+
+/// A workflow that is linted, the room on standard output, and how that ends: with 1 where there is a fault.
+const LINTS: &[(&str, usize, Ended<'static>)] = &[
+    (MATRIX, 0, (0, Some(""), Some(""))),
+    (FAULTY, 10_000, (1, Some(ITS_FAULTS), Some(""))),
+    (FAULTY, 0, FULL),
+];
+
+#[test]
+fn ends_a_lint_with_its_status(rt: HostRuntime) {
+    for &(workflow, room, ended) in LINTS {
+        expect(&rt, rt.alloc(), LINT, workflow, room, ended);
     }
 }
 

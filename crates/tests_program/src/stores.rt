@@ -1,7 +1,5 @@
 //! What is made and shown of disks.
 
-ghost use Rattle.std.specs.Prelude.{◌≤◌};
-
 use crate::holds::holds;
 use act_disk::{Disk, Fill, FuseDisk, MemoryDisk};
 use act_store::Store;
@@ -70,6 +68,9 @@ fn expect_showing<D: Disk + Drop>(
 
 /// What is shown, and how, with the number with which that ends, and what it prints.
 type View<'a> = (Shown, Form, u64, &'a str);
+
+/// How a run is shown, with the number with which that ends, and what it prints.
+type Seen<'a> = (Form, u64, &'a str);
 
 fn expect_view<D: Disk + Drop>(rt: &impl Abort, alloc: Global, disk: D, view: View<'_>) {
     let (what, form, number, printed) = view;
@@ -189,43 +190,76 @@ const THIRD_AS_JSON: &str = concat!(
     "\"jobs\":[{\"id\":\"a\",\"state\":\"blocked\",\"legs\":[]}]}\n",
 );
 
-fn view_of_run(run: u32, form: Form, number: u64, printed: &'static str) -> View<'static>
-    requires some { 1 ≤ run }
-    requires most { run ≤ 9 }
-{
-    (Shown::Run(Number::new(run)), form, number, printed)
-}
-
 #[test]
 fn shows_what_is_at_work(rt: HostRuntime) {
     let alloc = rt.alloc();
-    let views = [
-        (Shown::Runners, Form::Lines, 0, RUNNERS),
+    let disk = disk_after(&rt, alloc, AT_WORK);
+    expect_view(&rt, alloc, disk, (Shown::Runners, Form::Lines, 0, RUNNERS));
+    let disk = disk_after(&rt, alloc, AT_WORK);
+    expect_view(
+        &rt,
+        alloc,
+        disk,
         (Shown::Runners, Form::Json, 0, RUNNERS_AS_JSON),
-        (Shown::Queue, Form::Lines, 0, QUEUE),
+    );
+    let disk = disk_after(&rt, alloc, AT_WORK);
+    expect_view(&rt, alloc, disk, (Shown::Queue, Form::Lines, 0, QUEUE));
+    let disk = disk_after(&rt, alloc, AT_WORK);
+    expect_view(
+        &rt,
+        alloc,
+        disk,
         (Shown::Queue, Form::Json, 0, QUEUE_AS_JSON),
-        view_of_run(2, Form::Lines, 0, SECOND),
-        view_of_run(2, Form::Json, 0, SECOND_AS_JSON),
-        view_of_run(3, Form::Json, 0, THIRD_AS_JSON),
-        view_of_run(5, Form::Lines, 40, ""),
-    ];
-    for view in views {
-        expect_view(&rt, alloc, disk_after(&rt, alloc, AT_WORK), view);
-    }
+    );
+}
+
+/// The runs of a store, by their numbers.
+fn expect_run<D: Disk + Drop>(
+    rt: &impl Abort,
+    alloc: Global,
+    disk: D,
+    run: Number,
+    view: Seen<'_>,
+) {
+    let (form, number, printed) = view;
+    expect_view(rt, alloc, disk, (Shown::Run(run), form, number, printed));
+}
+
+#[test]
+fn shows_a_run(rt: HostRuntime) {
+    let alloc = rt.alloc();
+    let disk = disk_after(&rt, alloc, AT_WORK);
+    expect_run(&rt, alloc, disk, Number::new(2), (Form::Lines, 0, SECOND));
+    let disk = disk_after(&rt, alloc, AT_WORK);
+    expect_run(
+        &rt,
+        alloc,
+        disk,
+        Number::new(2),
+        (Form::Json, 0, SECOND_AS_JSON),
+    );
+    let disk = disk_after(&rt, alloc, AT_WORK);
+    expect_run(
+        &rt,
+        alloc,
+        disk,
+        Number::new(3),
+        (Form::Json, 0, THIRD_AS_JSON),
+    );
+    let disk = disk_after(&rt, alloc, AT_WORK);
+    expect_run(&rt, alloc, disk, Number::new(5), (Form::Lines, 40, ""));
 }
 
 /// Of an empty table there is nothing to show.
 #[test]
 fn shows_nothing_of_an_empty_store(rt: HostRuntime) {
     let alloc = rt.alloc();
-    let views = [
-        (Shown::Runners, Form::Lines, 0, ""),
-        (Shown::Queue, Form::Json, 0, ""),
-        view_of_run(1, Form::Json, 40, ""),
-    ];
-    for view in views {
-        expect_view(&rt, alloc, disk_after(&rt, alloc, &[]), view);
-    }
+    let disk = disk_after(&rt, alloc, &[]);
+    expect_view(&rt, alloc, disk, (Shown::Runners, Form::Lines, 0, ""));
+    let disk = disk_after(&rt, alloc, &[]);
+    expect_view(&rt, alloc, disk, (Shown::Queue, Form::Json, 0, ""));
+    let disk = disk_after(&rt, alloc, &[]);
+    expect_run(&rt, alloc, disk, Number::new(1), (Form::Json, 40, ""));
 }
 
 /// The bytes of a new store that are no zeros: an open gate, version 2, generation 1, and the length of the empty table's text.

@@ -21,3 +21,5 @@ mod webhook_over_a_store;
 mod webhook_plain;
 #[cfg(test)]
 mod webhook_rows;
+#[cfg(test)]
+mod works;

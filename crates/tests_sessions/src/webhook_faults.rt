@@ -10,7 +10,7 @@ use std::process::Abort;
 use webhook_sessions::Session;
 
 /// The two worked requests and what answers them.
-const INPUT: &str = concat!(
+pub const INPUT: &str = concat!(
     "POST /events HTTP/1.1\r\n",
     "Host: x\r\n",
     "X-GitHub-Delivery: d1\r\n",
@@ -21,7 +21,7 @@ const INPUT: &str = concat!(
     "GET /runs/1 HTTP/1.1\r\n\r\n",
 );
 
-const OUTPUT: &str = concat!(
+pub const OUTPUT: &str = concat!(
     "HTTP/1.1 201 Created\r\nContent-Type: text/plain\r\nContent-Length: 10\r\n\r\ncreated 1\n",
     "HTTP/1.1 200 OK\r\nContent-Type: text/plain\r\nContent-Length: 35\r\n\r\nrun 1 1 queued - build:open(ready)\n",
 );

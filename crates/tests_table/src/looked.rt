@@ -64,3 +64,37 @@ fn a_step_that_settles_nothing_tries_no_rule(rt: HostRuntime) {
     step(alloc, &mut table, &Words::Look("1")).expect(&rt, "memory");
     holds!(rt; table.looked() == 0);
 }
+
+/// How many jobs the event has whose admission takes many rules.
+const JOBS: u64 = 100;
+
+/// The rules that settle a job without needs or group: it opens, its leg arrives, and the leg is ready.
+const OF_A_JOB: u64 = 3;
+
+/// The body of an event of so many jobs.
+fn body_of(alloc: Global, jobs: u64) -> Result<String, Refusal> {
+    let mut body = String::new(alloc);
+    body.push_str("{\"repo\":\"o/r\",\"path\":\"ci.json\",\"workflow\":{\"jobs\":{")?;
+    for job in 0..jobs {
+        let comma = if job == 0 { "" } else { "," };
+        let text = format!(in alloc; "{comma}\"j{job}\":{{\"runs-on\":\"linux\"}}")?;
+        body.push_str(text.as_str())?;
+    }
+    body.push_str("}}}")?;
+    Ok(body)
+}
+
+/// How often the admission of an event of so many jobs tries a rule.
+fn tries_of(alloc: Global, jobs: u64) -> Result<u64, Refusal> {
+    let mut table = Table::new(alloc);
+    let body = body_of(alloc, jobs)?;
+    step(alloc, &mut table, &Words::Admit("d1", body.as_str()))?;
+    Ok(table.looked())
+}
+
+/// Each rule that is taken was tried: the run goes live, and each job is settled.
+#[test]
+fn each_rule_that_is_taken_counts(rt: HostRuntime) {
+    let tries = tries_of(rt.alloc(), JOBS).expect(&rt, "memory");
+    holds!(rt; tries > JOBS * OF_A_JOB, tries);
+}

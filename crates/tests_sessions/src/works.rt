@@ -1,0 +1,93 @@
+//! Sessions as works, whose answers have to reach the writer that they were given; and sessions whose input ends inside a request, which is no
+//! failure.
+
+use crate::runner_fake::Service;
+use crate::runner_rows::{ANSWERS, LINES};
+use crate::webhook_fakes::{Fake, Pieces};
+use crate::webhook_faults::{INPUT, OUTPUT};
+use crate::webhook_rows::{CREATED, EVENT};
+use act_sessions::{Ending, SessionFault, Transcript, Work};
+use runner_sessions::Lines;
+use std::alloc::Global;
+use std::process::Abort;
+use webhook_sessions::Hook;
+
+/// That a session ended well, after so many commands and with these bytes written.
+fn expect_well(
+    rt: &impl Abort,
+    ended: Result<Transcript, SessionFault>,
+    written: &[u8],
+    (asked, output): (usize, &str),
+) {
+    match ended {
+        Ok(transcript) => {
+            assert!(rt; transcript.ending == Ending::Done);
+            assert!(rt; transcript.asked.len() == asked);
+            assert!(rt; transcript.written == output.len() as u64);
+        }
+        Err(fault) => panic!(rt; "ended with {}", fault.refusal()),
+    }
+    assert!(rt; written == output.as_bytes());
+}
+
+/// That so many bytes of a sender are answered so.
+fn expect_hook(rt: &impl Abort, alloc: Global, given: usize, wanted: (usize, &str)) {
+    let mut output = Vec::new(alloc);
+    let mut fake = Fake::new(alloc);
+    let input = INPUT.as_bytes();
+    assert!(rt; given <= input.len());
+    let hook = Hook {
+        reader: Pieces::new(&input[..given], 50),
+        writer: &mut output,
+    };
+    let ended = hook.work(alloc, &mut fake);
+    expect_well(rt, ended, output.as_slice(), wanted);
+}
+
+/// That so many bytes of a runner are answered so.
+fn expect_lines(rt: &impl Abort, alloc: Global, given: usize, wanted: (usize, &str)) {
+    let mut output = Vec::new(alloc);
+    let mut service = Service::new(alloc);
+    let input = LINES.as_bytes();
+    assert!(rt; given <= input.len());
+    let lines = Lines {
+        reader: Pieces::new(&input[..given], 9),
+        writer: &mut output,
+    };
+    let ended = lines.work(alloc, &mut service);
+    expect_well(rt, ended, output.as_slice(), wanted);
+}
+
+#[test]
+fn a_hook_answers_to_its_writer(rt: HostRuntime) {
+    expect_hook(&rt, rt.alloc(), INPUT.len(), (2, OUTPUT));
+}
+
+#[test]
+fn lines_are_answered_to_their_writer(rt: HostRuntime) {
+    expect_lines(&rt, rt.alloc(), LINES.len(), (4, ANSWERS));
+}
+
+/// Whatever is there of the second request, the first is answered, and the session has ended well.
+#[test]
+fn a_hook_ends_inside_a_request(rt: HostRuntime) {
+    for given in 0..INPUT.len() {
+        let wanted = if given < EVENT.len() {
+            (0, "")
+        } else {
+            (1, CREATED)
+        };
+        expect_hook(&rt, rt.alloc(), given, wanted);
+    }
+}
+
+/// Inside the first line, and inside the second.
+#[test]
+fn lines_end_inside_a_line(rt: HostRuntime) {
+    for given in 0..17 {
+        expect_lines(&rt, rt.alloc(), given, (0, ""));
+    }
+    for given in 17..34 {
+        expect_lines(&rt, rt.alloc(), given, (1, "lease 1 1 build 0 {}\n"));
+    }
+}
