@@ -1,12 +1,13 @@
 /* Pairs of one session of HTTP and one of runner lines, each pair in a thread, in lockstep: an event is posted, its leg claimed and
  * reported done, and the run looked at, over and over. Prints the lifecycles, the seconds from the first request to the last answer, and
- * those that the slowest answer took.
+ * those that the slowest answer took, and 99 of 100 at most.
  * Arguments: HOOK_PORT RUNNER_PORT PAIRS LIFECYCLES [SESSIONS]; a session takes 64 requests, so LIFECYCLES is 32 at most. Each pair has so many
  * sessions (1) one after the other. */
 #define _GNU_SOURCE
 #include <arpa/inet.h>
 #include <netinet/tcp.h>
 #include <pthread.h>
+#include <stdatomic.h>
 #include <stdio.h>
 #include <stdlib.h>
 #include <string.h>
@@ -19,7 +20,8 @@
 
 static int ports[2];
 static long lifecycles, sessions = 1;
-static double slowest[MOST_PAIRS];
+static double *took;
+static atomic_long answers;
 static pthread_barrier_t begin;
 
 static void fail(const char *what) {
@@ -55,10 +57,15 @@ static void ask_once(int stream, const char *text, char *answer, size_t room, in
     }
 }
 
-static void ask(long pair, int stream, const char *text, char *answer, size_t room, int is_http) {
+static void ask(int stream, const char *text, char *answer, size_t room, int is_http) {
     double start = now();
     ask_once(stream, text, answer, room, is_http);
-    if (now() - start > slowest[pair]) slowest[pair] = now() - start;
+    took[atomic_fetch_add(&answers, 1)] = now() - start;
+}
+
+static int order(const void *one, const void *other) {
+    double a = *(const double *)one, b = *(const double *)other;
+    return (a > b) - (a < b);
 }
 
 static void *work(void *given) {
@@ -76,16 +83,16 @@ static void *work(void *given) {
         }
         snprintf(body, sizeof body, BODY, pair);
         snprintf(text, sizeof text, "POST /events HTTP/1.1\r\nX-GitHub-Delivery: d%ld-%ld\r\nX-GitHub-Event: push\r\nContent-Length: %zu\r\n\r\n%s", pair, i, strlen(body), body);
-        ask(pair, hook, text, answer, sizeof answer, 1);
+        ask(hook, text, answer, sizeof answer, 1);
         if (sscanf(strstr(answer, "\r\n\r\n"), " created %ld", &run) != 1) fail(answer);
         snprintf(text, sizeof text, "CLAIM r%ld %ld l%ld\n", pair, 2 * i + 1, pair);
-        ask(pair, runner, text, answer, sizeof answer, 0);
+        ask(runner, text, answer, sizeof answer, 0);
         if (sscanf(answer, "lease %ld", &lease) != 1) fail(answer);
         snprintf(text, sizeof text, "DONE r%ld %ld %ld success\n", pair, 2 * i + 2, lease);
-        ask(pair, runner, text, answer, sizeof answer, 0);
+        ask(runner, text, answer, sizeof answer, 0);
         if (strcmp(answer, "ok\n") != 0) fail(answer);
         snprintf(text, sizeof text, "GET /runs/%ld HTTP/1.1\r\n\r\n", run);
-        ask(pair, hook, text, answer, sizeof answer, 1);
+        ask(hook, text, answer, sizeof answer, 1);
         if (strstr(answer, " 200 OK\r\n") == NULL) fail(answer);
     }
     close(hook);
@@ -95,7 +102,7 @@ static void *work(void *given) {
 
 int main(int argc, char **argv) {
     pthread_t threads[MOST_PAIRS];
-    double start, end, longest = 0;
+    double start, end;
     if (argc != 5 && argc != 6) return 2;
     ports[0] = atoi(argv[1]);
     ports[1] = atoi(argv[2]);
@@ -103,13 +110,15 @@ int main(int argc, char **argv) {
     lifecycles = atol(argv[4]);
     if (argc == 6) sessions = atol(argv[5]);
     if (pairs < 1 || pairs > MOST_PAIRS || sessions < 1) return 2;
+    took = calloc(pairs * lifecycles * sessions * 4, sizeof *took);
+    if (took == NULL) fail("memory");
     pthread_barrier_init(&begin, NULL, pairs + 1);
     for (long i = 0; i < pairs; i++) pthread_create(&threads[i], NULL, work, (void *)i);
     pthread_barrier_wait(&begin);
     start = now();
     for (long i = 0; i < pairs; i++) pthread_join(threads[i], NULL);
     end = now();
-    for (long i = 0; i < pairs; i++) longest = slowest[i] > longest ? slowest[i] : longest;
-    printf("%ld %.6f %.6f\n", pairs * lifecycles * sessions, end - start, longest);
+    qsort(took, answers, sizeof *took, order);
+    printf("%ld %.6f %.6f %.6f\n", pairs * lifecycles * sessions, end - start, took[answers - 1], took[answers * 99 / 100]);
     return 0;
 }

@@ -1,7 +1,7 @@
 /* A loop that makes the system calls of the service and nothing else: a thread a session, and for each request a write and a sync of a
  * record, a write and a sync of its gate, under one lock, and an answer of the service's length. It reads no request: the clients are
  * those of load.c, which take turns.
- * Arguments: FILE HOOK_PORT RUNNER_PORT SESSIONS */
+ * Arguments: FILE HOOK_PORT RUNNER_PORT SESSIONS [ROUNDS] */
 #define _GNU_SOURCE
 #include <arpa/inet.h>
 #include <fcntl.h>
@@ -17,7 +17,7 @@
 
 static int file, listeners[2];
 static off_t at = 30;
-static long created, leased;
+static long created, leased, rounds = 1;
 static pthread_mutex_t lock = PTHREAD_MUTEX_INITIALIZER;
 
 static int listen_on(int port) {
@@ -61,9 +61,8 @@ static int answer_line(const char *request, char *answer, size_t room) {
     return size;
 }
 
-static void *serve(void *given) {
-    long session = (long)given;
-    int is_hook = session % 2 == 0, on = 1, stream = accept(listeners[session % 2], NULL, NULL);
+static void serve_one(int is_hook, int listener) {
+    int on = 1, stream = accept(listener, NULL, NULL);
     char request[4096], answer[4096];
     if (stream < 0) exit(1);
     setsockopt(stream, IPPROTO_TCP, TCP_NODELAY, &on, sizeof on);
@@ -72,12 +71,18 @@ static void *serve(void *given) {
         if (write(stream, answer, told) != told) exit(1);
     }
     close(stream);
+}
+
+static void *serve(void *given) {
+    long session = (long)given;
+    for (long i = 0; i < rounds; i++) serve_one(session % 2 == 0, listeners[session % 2]);
     return NULL;
 }
 
 int main(int argc, char **argv) {
     pthread_t threads[MOST];
-    if (argc != 5) return 2;
+    if (argc != 5 && argc != 6) return 2;
+    if (argc == 6) rounds = atol(argv[5]);
     file = open(argv[1], O_RDWR | O_CLOEXEC);
     long sessions = 2 * atol(argv[4]);
     if (file < 0 || sessions < 2 || sessions > MOST) return 1;

@@ -1,9 +1,10 @@
 // For LD_PRELOAD: fails the write or sync of a file whose number stands in FAIL_AT, counting from 1, and where FAIL_AFTER is set all behind
 // it too. Where FAIL_HALF is set, half of the bytes of a write that fails are written. Says on descriptor 9 when it first did, in seconds of the
-// clock that only goes forward.
+// clock that only goes forward. Where FAIL_KILLS is set the process is killed there, in place of a call that fails.
 #define _GNU_SOURCE
 #include <dlfcn.h>
 #include <errno.h>
+#include <signal.h>
 #include <stdatomic.h>
 #include <stdio.h>
 #include <stdlib.h>
@@ -15,6 +16,10 @@ static atomic_long count;
 static void tell(void) {
     struct timespec now;
     if (clock_gettime(CLOCK_MONOTONIC, &now) != 0 || dprintf(9, "%lld.%09ld", (long long)now.tv_sec, now.tv_nsec) < 0) _exit(9);
+}
+
+static void die(void) {
+    if (getenv("FAIL_KILLS")) kill(getpid(), SIGKILL);
 }
 
 static int fails(void) {
@@ -30,6 +35,7 @@ ssize_t pwrite(int file, const void *bytes, size_t length, off_t at) {
     if (!real) real = (ssize_t (*)(int, const void *, size_t, off_t))dlsym(RTLD_NEXT, "pwrite");
     if (!fails()) return real(file, bytes, length, at);
     if (getenv("FAIL_HALF") && length > 1 && real(file, bytes, length / 2, at) < 0) _exit(9);
+    die();
     errno = EIO;
     return -1;
 }
@@ -40,6 +46,7 @@ int fdatasync(int file) {
     static int (*real)(int);
     if (!real) real = (int (*)(int))dlsym(RTLD_NEXT, "fdatasync");
     if (!fails()) return real(file);
+    die();
     errno = EIO;
     return -1;
 }

@@ -2,7 +2,7 @@
 # Plays a script over stores in memory, stops it inside each call of the disk, with each fill of what was not synced, and has each call
 # fail, by itself and with all after it. Each image opens to the entries that were covered or to all; a fault is answered 51 and all
 # behind it 52; the disk then opens so too, and the rest of the script, played over that, with the step that failed once more, leads to the
-# table of the whole. The script is the sixteen runs of the rows with a checkpoint among them, where none is named; a name ends in
+# table of the whole. All of this is done over a new store, and again over an empty one of the first layout, which the checkpoint leaves. The script is the sixteen runs of the rows with a checkpoint among them, where none is named; a name ends in
 # `.script`, and the answers stand beside it. It is a trial run of the sweep's own program, so nothing of that is proved, and each opening
 # costs by the bytes of the disk: with areas of 4,096 bytes, which the sixteen runs fit, it takes some minutes, and its output comes at the
 # end. The same over a file is `sweeps/stops/file.sh`, and over a service and its file `sweeps/stops/served`.
@@ -17,5 +17,8 @@ cd "$scratch/crates/stops_sweep"
 rt fmt > /dev/null
 rt try --steps 1 --seconds 7200 -- "$area" < "$script" > "$scratch/said" 2> "$scratch/log" || { tail -n 5 "$scratch/said" "$scratch/log" >&2; exit 1; }
 count=$(wc -l < "${script%.script}.answers")
-head -n "$count" "$scratch/said" | diff - "${script%.script}.answers"
-tail -n +$((count + 1)) "$scratch/said"
+for layout in 'new store' 'first layout'; do
+    head -n "$count" "$scratch/said" | diff - "${script%.script}.answers"
+    sed -n "$((count + 1)),$((count + 2))s/^/$layout: /p" "$scratch/said"
+    sed -i "1,$((count + 2))d" "$scratch/said"
+done
