@@ -1,4 +1,4 @@
-//! How often a step tries settling rules: as often in a table of many finished runs as in an empty one.
+//! How often a step tries settling rules: as often in a table of many finished runs, or of many groups at rest, as in an empty one.
 
 use crate::holds::holds;
 use run_plan::{Command, Reply};
@@ -11,6 +11,12 @@ use workflow_runs::phases::RunPhase;
 /// The body of an event of one job, `build`.
 const BUILD: &str =
     "{\"repo\":\"o/r\",\"path\":\"ci.json\",\"workflow\":{\"jobs\":{\"build\":{\"runs-on\":\"linux\"}}}}";
+
+/// The same in a concurrency group, before and behind the group's name.
+const BEFORE_GROUP: &str =
+    "{\"repo\":\"o/r\",\"path\":\"ci.json\",\"workflow\":{\"concurrency\":\"g";
+
+const BEHIND_GROUP: &str = "\",\"jobs\":{\"build\":{\"runs-on\":\"linux\"}}}}";
 
 /// The most tries that a step may make once a thousand runs have finished.
 const MOST: u64 = 64;
@@ -54,6 +60,45 @@ fn an_admission_tries_few_rules_after_a_thousand_runs(rt: HostRuntime) {
     let (ended, tries) = tries_after(rt.alloc(), 1_000).expect(&rt, "memory");
     holds!(rt; ended == 1_000);
     holds!(rt; 0 < tries && tries <= MOST, tries);
+}
+
+fn admit_in_group(
+    alloc: Global,
+    table: &mut Table,
+    group: u32,
+    which: &str,
+) -> Result<(), Refusal> {
+    let before = BEFORE_GROUP;
+    let behind = BEHIND_GROUP;
+    let delivery = format!(in alloc; "d{group}{which}")?;
+    let body = format!(in alloc; "{before}{group}{behind}")?;
+    step(
+        alloc,
+        table,
+        &Words::Admit(delivery.as_str(), body.as_str()),
+    )?;
+    Ok(())
+}
+
+/// How often a claim, and then an admission into another group, tries a rule where each of so many groups has a run in progress and a
+/// pending one.
+fn tries_beside_groups(alloc: Global, groups: u32) -> Result<(u64, u64), Refusal> {
+    let mut table = Table::new(alloc);
+    for group in 0..groups {
+        admit_in_group(alloc, &mut table, group, "a")?;
+        admit_in_group(alloc, &mut table, group, "b")?;
+    }
+    step(alloc, &mut table, &Words::Claim("r1", "1", "linux"))?;
+    let by_claim = table.looked();
+    admit_in_group(alloc, &mut table, groups, "a")?;
+    Ok((by_claim, table.looked()))
+}
+
+#[test]
+fn neither_a_claim_nor_an_admission_wakes_who_waits_in_other_groups(rt: HostRuntime) {
+    let (by_claim, by_admission) = tries_beside_groups(rt.alloc(), 100).expect(&rt, "memory");
+    holds!(rt; 0 < by_claim && by_claim <= MOST, by_claim);
+    holds!(rt; 0 < by_admission && by_admission <= MOST, by_admission);
 }
 
 #[test]

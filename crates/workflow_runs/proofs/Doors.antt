@@ -89,11 +89,9 @@ legs_stopped phase false xs s is =
     subst P is (ap (λ n. record { state = record { phase = phase; legs = [] }; room = n }) (length-map xs stopped))
 
 -- what a `Vec` of them holds once the slice of its items is `new`
-pub room_stopped : (phase : JobPhase) (has_legs : Bool) (xs old new rest : List LegState) (n : ℕ) (s : JobCells) → old ≡ xs
-    → new ≡ map stopped old → n ≡ length new → cells_of phase has_legs xs ≡ s
-    → cells_of phase has_legs (take n (new ++ rest)) ≡ in_state (with_stopped_legs s.state) s
-room_stopped phase has_legs xs old new rest n s was so len is =
-    ap (cells_of phase has_legs) (take_at new rest n (sym len) ∙ so ∙ ap (map stopped) was) ∙ legs_stopped phase has_legs xs s is
+pub stopped_room : (xs old new rest : List LegState) (n : ℕ) → old ≡ xs → new ≡ map stopped old → n ≡ length new
+    → take n (new ++ rest) ≡ map stopped xs
+stopped_room xs old new rest n was so len = take_at new rest n (sym len) ∙ so ∙ ap (map stopped) was
 
 -- ---- the jobs of a run
 

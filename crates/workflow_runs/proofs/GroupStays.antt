@@ -6,6 +6,7 @@ use Rattle.std.proofs.Common.{arith, ap, sym, ◌∙◌}
 use Rattle.std.proofs.lemmas.Option.{same_Some, slice_get-map}
 use Rattle.run_plan.specs.Admitted.{Admitted}
 use Rattle.workflow_runs.specs.GroupOf.{RunFacts, group_at, leg_group, run_facts_at, run_group}
+use Rattle.workflow_runs.specs.Holders.{run_of}
 use Rattle.workflow_runs.specs.LegContext.{facts_at}
 use Rattle.workflow_runs.specs.Moves.{Holder}
 use Rattle.workflow_runs.specs.Places.{LegPlace, leg_at, run_at}
@@ -13,7 +14,7 @@ use Rattle.workflow_runs.specs.RunNumber.{events, same_workflow}
 use Rattle.workflow_runs.specs.RunState.{LegState, RunState}
 use Rattle.workflow_runs.specs.Words.{needs_have_settled}
 use Rattle.workflow_runs.proofs.JobKeeps.{leg_in, no_leg}
-use Rattle.workflow_runs.proofs.LegFacts.{SameUpTo, attempt_at, facts_stay, taken_same}
+use Rattle.workflow_runs.proofs.LegFacts.{SameUpTo, attempt_at, facts_are, facts_stay, taken_same, told_in}
 use Rattle.workflow_runs.proofs.RunFits.{RunsFit}
 use Rattle.workflow_runs.proofs.Settles.{StayFit, same_events}
 
@@ -94,7 +95,24 @@ leg_group_stays runs next fit stay p z was =
     (facts_stay runs next p (same_events runs next p.run (λ s le. stay.same_admitted s)) (stay.same_attempt p.run) (leg_needs_settled runs fit p z was)
     (stay.keeps_results p.run))
 
+-- what is told of a leg whose run is as it was, and so are the events up to it
+facts_of_same_run : (runs next : List RunState) (p : LegPlace) → SameUpTo p.run (events next) (events runs)
+    → run_at next p.run ≡ run_at runs p.run → facts_at next p ≡ facts_at runs p
+facts_of_same_run runs next p same at =
+    facts_are next p
+    ∙ ap (λ es. option_and_then (told_in p es) (run_at next p.run))
+    (taken_same (p.run + 1) (events next) (events runs) (λ s lt. same s (omega (arith, lt))))
+    ∙ ap (option_and_then (told_in p (take (p.run + 1) (events runs)))) at
+    ∙ sym (facts_are runs p)
+
 -- ---- a run or a leg
+
+-- the group of one whose run is as it was
+pub same_group : (runs next : List RunState) (h : Holder) → SameUpTo (run_of h) (events next) (events runs)
+    → run_at next (run_of h) ≡ run_at runs (run_of h) → group_at next h ≡ group_at runs h
+same_group runs next (Holder.a_run r) same at =
+    run_group_stays runs next r same (ap (option_map (λ (run : RunState). run.attempt)) at)
+same_group runs next (Holder.a_leg p) same at = leg_group_same runs next p (facts_of_same_run runs next p same at)
 
 -- there is a leg at the place of the holder, if it is one
 abbrev pub IsThere : List RunState → Holder → Type 0

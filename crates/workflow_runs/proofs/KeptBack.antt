@@ -9,6 +9,8 @@ use Rattle.group_name.specs.Group.{Group, same_group}
 use Rattle.workflow_runs.specs.FirstOf.{changed_at}
 use Rattle.workflow_runs.specs.GroupOf.{group_at}
 use Rattle.workflow_runs.specs.Groups.{all_holders, holds, is_in, is_running_in, is_taken, leg_holds, may_start}
+use Rattle.workflow_runs.specs.Holders.{run_of}
+use Rattle.workflow_runs.specs.LettingGo.{LetsNobodyGo}
 use Rattle.workflow_runs.specs.Moves.{Holder}
 use Rattle.workflow_runs.specs.Places.{LegPlace, job_at, leg_at, run_at, with_job, with_leg, with_run}
 use Rattle.workflow_runs.specs.StateWords.{is_live}
@@ -28,6 +30,10 @@ StillHold runs next = (h : Holder) (g : Group) → group_at runs h ≡ Some g �
 abbrev pub KeepsBack : List RunState → List RunState → Type 0
 KeepsBack runs next = (h : Holder) → IsOneOf runs h → may_start runs h ≡ false → may_start next h ≡ false
 
+-- the same of one run and its legs
+abbrev pub KeepsBackIn : List RunState → List RunState → ℕ → Type 0
+KeepsBackIn runs next r = (h : Holder) → run_of h ≡ r → IsOneOf runs h → may_start runs h ≡ false → may_start next h ≡ false
+
 record AnyOf {X : Type 0} (test : X → Bool) : Type 0 where
   one : X
   passed : test one ≡ true
@@ -44,20 +50,23 @@ in_group : (g : Group) (o : Option Group) → option_map_or (same_group g) o fal
 in_group g None e = cc
 in_group g (Some k) e = (k, refl)
 
-module _ (runs next : List RunState) (stays : GroupsStay runs next) (still : StillHold runs next) where
-  still_runs : (g : Group) (h : Holder) → is_running_in runs g h ≡ true → is_running_in next g h ≡ true
-  still_runs g h e =
-      let parts = and_parts (is_in runs g h) (holds runs h) e in
-      let group = in_group g (group_at runs h) parts.0 in
-      and_from (is_in next g h) (holds next h)
-      (ap (λ o. option_map_or (same_group g) o false) (stays h (one_that_holds runs h parts.1)) ∙ parts.0) (still h group.0 group.1 parts.1)
+-- whoever holds a group that it has, is in it still and holds it, still runs in it
+pub runs_still : (runs next : List RunState) (g : Group) (h : Holder) → group_at next h ≡ group_at runs h
+    → (holds runs h ≡ true → (k : Group) → group_at runs h ≡ Some k → holds next h ≡ true)
+    → is_running_in runs g h ≡ true → is_running_in next g h ≡ true
+runs_still runs next g h same still e =
+    let parts = and_parts (is_in runs g h) (holds runs h) e in
+    let group = in_group g (group_at runs h) parts.0 in
+    and_from (is_in next g h) (holds next h) (ap (λ o. option_map_or (same_group g) o false) same ∙ parts.0) (still parts.1 group.0 group.1)
 
+-- a group that nobody lets go keeps back whoever is in it still
+module _ (runs next : List RunState) (stay : LetsNobodyGo runs next) where
   still_taken : (g : Group) → is_taken runs g ≡ true → is_taken next g ≡ true
   still_taken g e =
       let any = any_of (is_running_in runs g) (all_holders runs) e in
       elim (is_taken next g) as (λ b. is_taken next g ≡ b → b ≡ true) [
         | true ↦ λ is. refl
-        | false ↦ λ is. absurd (not_taken next g any.one is (still_runs g any.one any.passed))
+        | false ↦ λ is. absurd (not_taken next g any.one is (stay g any.one any.passed))
       ] refl
 
   back_from : (o : Option Group) → option_map_or (λ g. not (is_taken runs g)) o true ≡ false
@@ -65,9 +74,17 @@ module _ (runs next : List RunState) (stays : GroupsStay runs next) (still : Sti
   back_from None e = cc
   back_from (Some g) e = ap not (still_taken g (not-false (is_taken runs g) e))
 
+  pub back_still : (h : Holder) → group_at next h ≡ group_at runs h → may_start runs h ≡ false → may_start next h ≡ false
+  back_still h same e = ap (λ o. option_map_or (λ g. not (is_taken next g)) o true) same ∙ back_from (group_at runs h) e
+
+module _ (runs next : List RunState) (stays : GroupsStay runs next) (still : StillHold runs next) where
+  still_run : LetsNobodyGo runs next
+  still_run g h e =
+      let there = one_that_holds runs h (and_parts (is_in runs g h) (holds runs h) e).1 in
+      runs_still runs next g h (stays h there) (λ held k group. still h k group held) e
+
   pub kept_back : KeepsBack runs next
-  kept_back h there e =
-      ap (λ o. option_map_or (λ g. not (is_taken next g)) o true) (stays h there) ∙ back_from (group_at runs h) e
+  kept_back h there e = back_still runs next still_run h (stays h there) e
 
 -- ---- what passes a test at each place passes after a change at one of them
 

@@ -27,7 +27,7 @@ use Rattle.workflow_runs.specs.Words.{all_have_results, is_set, label_texts, nee
 use Rattle.workflow_runs.proofs.NeedsSettled.{KeepsResults, result_of_job}
 
 -- what is told of a leg: by its run's event and attempt, the events up to it, and the needs of its job
-abbrev told_of : LegPlace → Admitted → ℕ → List Admitted → List (List ℕ × Option JobResult) → PlannedJob → LegFacts
+abbrev pub told_of : LegPlace → Admitted → ℕ → List Admitted → List (List ℕ × Option JobResult) → PlannedJob → LegFacts
 told_of p event attempt all needs job = record {
   event = event;
   run_id = decimal (p.run + 1);
@@ -38,13 +38,13 @@ told_of p event attempt all needs job = record {
   needs = needs;
 }
 
-abbrev told : LegPlace → Admitted → ℕ → List Admitted → List (List ℕ × Option JobResult) → Option LegFacts
+abbrev pub told : LegPlace → Admitted → ℕ → List Admitted → List (List ℕ × Option JobResult) → Option LegFacts
 told p event attempt all needs = option_map (told_of p event attempt all needs) (slice_get (plan_of event.body) p.job)
 
-abbrev told_in : LegPlace → List Admitted → RunState → Option LegFacts
+abbrev pub told_in : LegPlace → List Admitted → RunState → Option LegFacts
 told_in p all run = told p run.admitted run.attempt all (direct_needs run p.job)
 
-facts_are : (runs : List RunState) (p : LegPlace)
+pub facts_are : (runs : List RunState) (p : LegPlace)
     → facts_at runs p ≡ option_and_then (told_in p (take (p.run + 1) (events runs))) (run_at runs p.run)
 unfolding facts_at
 facts_are runs p = refl

@@ -26,8 +26,10 @@ pub mod KeptLabels
 pub mod KnownSays
 pub mod LabelsTold
 pub mod LeaseReads
+pub mod LegCounts
 pub mod LegFacts
 pub mod LegReads
+pub mod LettingGo
 pub mod LivePlaces
 pub mod LookedAgain
 pub mod Lowered

@@ -31,7 +31,7 @@ use Rattle.workflow_runs.specs.declared.place.Place.TheVariants.{Opening, AtLeg,
 use Rattle.workflow_runs.proofs.Changed.{at_another, at_changed}
 use Rattle.workflow_runs.proofs.Firsts.{first_at}
 use Rattle.workflow_runs.proofs.Found.{all_weaken, placed_get}
-use Rattle.workflow_runs.proofs.KeptBack.{KeepsBack}
+use Rattle.workflow_runs.proofs.KeptBack.{KeepsBack, KeepsBackIn}
 use Rattle.workflow_runs.proofs.NeedsSettled.{result_among}
 use Rattle.workflow_runs.proofs.Optional.{from_and_then, if_none, if_some}
 use Rattle.workflow_runs.proofs.QuietRules.{IsAt, quiet_at_job, quiet_in_run, quiet_keeps_back}
@@ -237,19 +237,19 @@ still_none true true has p later after was rests e = cc
 still_none true false true p later after was rests e = let is : false ≡ true = was refl in cc
 still_none true false false p later after was rests e = rests e
 
-module _ (runs next : List RunState) (keeps : KeepsBack runs next) where
-  leg_rests : (phase : LegPhase) (r j l : ℕ) (z : LegState) → leg_at runs (leg_place r j l) ≡ Some z
+module _ (runs next : List RunState) (r : ℕ) (keeps : KeepsBackIn runs next r) where
+  leg_rests : (phase : LegPhase) (j l : ℕ) (z : LegState) → leg_at runs (leg_place r j l) ≡ Some z
       → goes_on_in phase runs (leg_place r j l) ≡ false → goes_on_in phase next (leg_place r j l) ≡ false
-  leg_rests leg.New r j l z at e = cc
-  leg_rests leg.Waiting r j l z at e = keeps (Holder.a_leg (leg_place r j l)) (z, at) e
-  leg_rests leg.Ready r j l z at e = refl
-  leg_rests leg.Running r j l z at e = refl
-  leg_rests leg.Stopping r j l z at e = refl
-  leg_rests (leg.Ended o) r j l z at e = refl
+  leg_rests leg.New j l z at e = cc
+  leg_rests leg.Waiting j l z at e = keeps (Holder.a_leg (leg_place r j l)) refl (z, at) e
+  leg_rests leg.Ready j l z at e = refl
+  leg_rests leg.Running j l z at e = refl
+  leg_rests leg.Stopping j l z at e = refl
+  leg_rests (leg.Ended o) j l z at e = refl
 
-  open_rests : (r j : ℕ) (x : RunState) (y : JobState) → run_at runs r ≡ Some x → slice_get x.jobs j ≡ Some y
+  open_rests : (j : ℕ) (x : RunState) (y : JobState) → run_at runs r ≡ Some x → slice_get x.jobs j ≡ Some y
       → first_of_open runs r j y ≡ None → first_of_open next r j y ≡ None
-  open_rests r j x y at_run at_job e =
+  open_rests j x y at_run at_job e =
       let parts = or_nothing (first_of_legs runs r j y.legs) (if is_done y then Some (Closing r j) else None) e in
       let at = job_in_run runs r j x at_run ∙ at_job in
       or_neither_some (first_of_legs next r j y.legs) (if is_done y then Some (Closing r j) else None)
@@ -257,38 +257,42 @@ module _ (runs next : List RunState) (keeps : KeepsBack runs next) where
       (λ l. if goes_on next (leg_place r j l.0) l.1 then Some (AtLeg (leg_place r j l.0)) else None) y.legs
       (λ l z was none.
       nothing_if (goes_on next (leg_place r j l) z) (AtLeg (leg_place r j l))
-      (leg_rests z.phase r j l z (leg_in_job runs (leg_place r j l) y at ∙ was)
+      (leg_rests z.phase j l z (leg_in_job runs (leg_place r j l) y at ∙ was)
       (if_none (goes_on runs (leg_place r j l) z) (AtLeg (leg_place r j l)) none))) parts.0)
       parts.1
 
   -- a job whose needs have not settled since
-  job_rests : (r j : ℕ) (x now : RunState) (y : JobState) → run_at runs r ≡ Some x → slice_get x.jobs j ≡ Some y
+  job_rests : (j : ℕ) (x now : RunState) (y : JobState) → run_at runs r ≡ Some x → slice_get x.jobs j ≡ Some y
       → (needs_settled_in now j ≡ true → needs_settled_in x j ≡ true)
       → first_in_job runs r x j y ≡ None → first_in_job next r now j y ≡ None
-  job_rests r j x now y at_run at_job had e =
+  job_rests j x now y at_run at_job had e =
       still_none (is_blocked y.phase) (needs_settled_in x j) (needs_settled_in now j) (Opening r j) (first_of_open runs r j y)
-      (first_of_open next r j y) had (open_rests r j x y at_run at_job) e
+      (first_of_open next r j y) had (open_rests j x y at_run at_job) e
 
-  jobs_of_run_rest : (r : ℕ) (x : RunState) (live : Bool) → run_at runs r ≡ Some x
+  jobs_of_run_rest : (x : RunState) (live : Bool) → run_at runs r ≡ Some x
       → (if live then first_in_jobs runs r x x.jobs else None) ≡ None → (if live then first_in_jobs next r x x.jobs else None) ≡ None
-  jobs_of_run_rest r x true at e =
+  jobs_of_run_rest x true at e =
       none_placed (λ j. first_in_job runs r x j.0 j.1) (λ j. first_in_job next r x j.0 j.1) x.jobs
-      (λ j y was none. job_rests r j x x y at was (λ h. h) none) e
-  jobs_of_run_rest r x false at e = refl
+      (λ j y was none. job_rests j x x y at was (λ h. h) none) e
+  jobs_of_run_rest x false at e = refl
 
-  whole_rests : (phase : RunPhase) (r : ℕ) (x : RunState) → run_at runs r ≡ Some x → whole_goes_on_in phase runs r x ≡ false
+  whole_rests : (phase : RunPhase) (x : RunState) → run_at runs r ≡ Some x → whole_goes_on_in phase runs r x ≡ false
       → whole_goes_on_in phase next r x ≡ false
-  whole_rests run.Waiting r x at e = keeps (Holder.a_run r) (x, at) e
-  whole_rests run.Live r x at e = e
-  whole_rests run.Ended r x at e = refl
+  whole_rests run.Waiting x at e = keeps (Holder.a_run r) refl (x, at) e
+  whole_rests run.Live x at e = e
+  whole_rests run.Ended x at e = refl
 
-  run_rests : (r : ℕ) (x : RunState) → run_at runs r ≡ Some x → first_in_run runs r x ≡ None → first_in_run next r x ≡ None
-  run_rests r x at e =
+  pub run_rests : (x : RunState) → run_at runs r ≡ Some x → first_in_run runs r x ≡ None → first_in_run next r x ≡ None
+  run_rests x at e =
       let parts = or_nothing (if is_live x.phase then first_in_jobs runs r x x.jobs else None) (first_of_whole runs r x) e in
       or_neither_some (if is_live x.phase then first_in_jobs next r x x.jobs else None) (first_of_whole next r x)
-      (jobs_of_run_rest r x (is_live x.phase) at parts.0)
+      (jobs_of_run_rest x (is_live x.phase) at parts.0)
       (nothing_if (whole_goes_on_in x.phase next r x) (Whole r)
-      (whole_rests x.phase r x at (if_none (whole_goes_on_in x.phase runs r x) (Whole r) parts.1)))
+      (whole_rests x.phase x at (if_none (whole_goes_on_in x.phase runs r x) (Whole r) parts.1)))
+
+module _ (runs next : List RunState) (keeps : KeepsBack runs next) where
+  keeps_in : (r : ℕ) → KeepsBackIn runs next r
+  keeps_in r h of_run there e = keeps h there e
 
   -- the runs before the place's own are as they were
   pub runs_rest : (r : ℕ) → ((k : ℕ) → k < r → run_at next k ≡ run_at runs k) → NoneBefore (first_in_run runs) runs r
@@ -298,7 +302,7 @@ module _ (runs next : List RunState) (keeps : KeepsBack runs next) where
       ∙ elim (run_at runs k) as
       (λ o. run_at runs k ≡ o → option_and_then (first_in_run runs k) o ≡ None → option_and_then (first_in_run next k) o ≡ None) [
         | None ↦ λ is e. refl
-        | Some x ↦ λ is e. run_rests k x is e
+        | Some x ↦ λ is e. run_rests runs next k (keeps_in k) x is e
       ] refl (before k lt)
 
   jobs_rest : (r : ℕ) (x : RunState) (j : ℕ) (change : JobState → JobState) → run_at runs r ≡ Some x
@@ -313,7 +317,7 @@ module _ (runs next : List RunState) (keeps : KeepsBack runs next) where
       (λ o. slice_get x.jobs k ≡ o → option_and_then (first_in_job runs r x k) o ≡ None
       → option_and_then (first_in_job next r now k) o ≡ None) [
         | None ↦ λ is e. refl
-        | Some y ↦ λ is e. job_rests r k x now y at is had.1 e
+        | Some y ↦ λ is e. job_rests runs next r (keeps_in r) k x now y at is had.1 e
       ] refl (before k had.0)
 
 -- ---- in the table

@@ -1,20 +1,23 @@
 -- The marks of runs stay right, whatever changes.
-use Rattle.std.specs.Prelude.{◌≡◌, ℕ, zero, suc, ◌+◌, ◌≤◌, ◌&&◌, ◌||◌, List, map, [], ◌∷◌, ◌++◌, length, Bool, true, false, Option, Some, None, nat_eq}
-use Rattle.std.specs.Prelude.{IfNone, IfSome, is_some, option_and_then, slice_get, slice_set, if◌then◌else◌, refl}
+use Rattle.std.specs.Prelude.{◌≡◌, ◌⊎◌, ℕ, zero, suc, ◌+◌, ◌<◌, ◌≤◌, ◌&&◌, ◌||◌, List, map, [], ◌∷◌, ◌++◌, length, Bool, true, false, Option, Some, None, nat_eq}
+use Rattle.std.specs.Prelude.{IfNone, IfSome, is_some, option_and_then, option_map, slice_get, slice_set, if◌then◌else◌, refl}
 use Rattle.std.specs.List.{enumerate_from, list_any}
 use Rattle.std.specs.Option.{option_map_or, option_or}
 use Rattle.std.proofs.Common.{arith, ap, sym, subst, ◌∙◌, inl, inr, length-append, length-set}
-use Rattle.std.proofs.lemmas.Bool.{cases_Bool, cases_eq, or_parts, true≢false}
+use Rattle.std.proofs.lemmas.Bool.{and_parts, cases_Bool, cases_eq, or_parts, true≢false}
 use Rattle.std.proofs.lemmas.Bool.Decides.{Decides-eqb, nat_tests}
-use Rattle.std.proofs.lemmas.Option.{slice_get_past, slice_get_within}
+use Rattle.std.proofs.lemmas.Option.{slice_get-map, slice_get_past, slice_get_within}
 use Rattle.run_marks.specs.Bits.{Puts}
 use Rattle.run_marks.specs.Marked.{Covers, SameMarks, is_marked}
 use Rattle.workflow_runs.specs.FirstOf.{first_some}
 use Rattle.workflow_runs.specs.LookAgain.{ask}
 use Rattle.workflow_runs.specs.MarkedRuns.{AreMarked, CoversRuns, OnlyGrows, RunsAreMarked, Stirs, has_waiting_leg, is_active, is_due, is_so_at, offers_legs}
 use Rattle.workflow_runs.specs.MarkedRuns.{someone_waits}
-use Rattle.workflow_runs.specs.Places.{LegPlace, leg_place}
-use Rattle.workflow_runs.specs.Groups.{leg_waits, run_waits}
+use Rattle.workflow_runs.specs.Groups.{holds, is_in, leg_waits, run_waits}
+use Rattle.workflow_runs.specs.Holders.{run_of}
+use Rattle.workflow_runs.specs.LettingGo.{LetsNobodyGo}
+use Rattle.workflow_runs.specs.Places.{LegPlace, leg_place, run_at}
+use Rattle.workflow_runs.specs.RunNumber.{events}
 use Rattle.workflow_runs.specs.RunState.{JobState, LegState, RunState}
 use Rattle.workflow_runs.specs.StateWords.{is_blocked, is_done, is_live}
 use Rattle.workflow_runs.specs.WithinRun.{first_in_job, first_in_jobs, first_in_run, first_of_whole, goes_on, goes_on_in}
@@ -27,6 +30,12 @@ use Rattle.workflow_runs.specs.declared.place.Place.{Place}
 use Rattle.workflow_runs.specs.declared.place.Place.TheVariants.{Opening, AtLeg, Closing, Whole}
 use Rattle.workflow_runs.specs.declared.runs.marks.RunMarks.{RunMarks}
 use Rattle.workflow_runs.proofs.Found.{before_the_end}
+use Rattle.workflow_runs.proofs.GroupStays.{same_group}
+use Rattle.workflow_runs.proofs.KeptBack.{KeepsBackIn, back_still, runs_still}
+use Rattle.workflow_runs.proofs.LegFacts.{SameUpTo}
+use Rattle.workflow_runs.proofs.LettingGo.{holder_within, same_holds}
+use Rattle.workflow_runs.proofs.LookedAgain.{run_rests}
+use Rattle.workflow_runs.proofs.OneEach.{one_that_holds}
 
 pub list_any-map : {X Y : Type 0} (p : Y → Bool) (f : X → Y) (xs : List X) → list_any p (map f xs) ≡ list_any (λ x. p (f x)) xs
 list_any-map p f [] = refl
@@ -208,52 +217,99 @@ module _ (runs next : List RunState) (s : ℕ) where
       ∙ ap (λ b. option_or (if is_live x.phase then first_in_jobs runs s x x.jobs else None) (if b then Some (Whole s) else None))
       (whole_goes_on x.phase x parts.0)
 
--- A run in which a rule applies now, and which stays as it was, is due: one applied before, or someone waits there and was woken.
-module _ (runs next : List RunState) (old new : RunMarks) (r : ℕ) (stirs : Stirs r (length runs) old new) (are : RunsAreMarked runs old) where
-  still_due : (s : ℕ) (x : RunState) → slice_get runs s ≡ Some x → is_due next s x ≡ true → is_marked new.due s ≡ true
-  still_due s x was due =
+-- A run in which a rule applies now, and which stays as it was, is due: one applied before, or someone waits there and was woken, where
+-- somebody may have let a group go.
+module _ (runs next : List RunState) (old new : RunMarks) (r bound : ℕ) (stirs : Stirs r bound old new) (are : RunsAreMarked runs old)
+    (wakes : (bound ≡ length runs) ⊎ LetsNobodyGo runs next) where
+  woken_due : (s : ℕ) (x : RunState) → bound ≡ length runs → slice_get runs s ≡ Some x → is_due next s x ≡ true
+      → is_marked new.due s ≡ true
+  woken_due s x all was due =
       elim (cases_Bool (is_marked old.waiting s)) [
-        | inl waits ↦ stirs.woken s (slice_get_within runs s x was) waits
+        | inl waits ↦ stirs.woken s (omega (arith, all, slice_get_within runs s x was)) waits
         | inr none ↦
             let quiet = none_unmarked (λ _ x. someone_waits x) runs old.waiting are.waiting s x none was in
             stirs.due s (are.due.marked s x was (ap is_some (sym (run_same runs next s x quiet)) ∙ due))
       ]
 
-  due_unless : (s : ℕ) (x : RunState) → ((s ≡ r → ⊥) → slice_get next s ≡ slice_get runs s) → slice_get next s ≡ Some x
+  kept_back_due : (s : ℕ) (x : RunState) → LetsNobodyGo runs next → slice_get runs s ≡ Some x → slice_get next s ≡ slice_get runs s
+      → SameUpTo s (events next) (events runs) → is_due next s x ≡ true → is_marked new.due s ≡ true
+  kept_back_due s x stay was same upto due =
+      let back : KeepsBackIn runs next s =
+      λ h of_run there e. back_still runs next stay h
+      (same_group runs next h (subst (λ k. SameUpTo k (events next) (events runs)) (sym of_run) upto)
+      (subst (λ k. slice_get next k ≡ slice_get runs k) (sym of_run) same)) e in
+      elim (first_in_run runs s x) as (λ o. first_in_run runs s x ≡ o → is_marked new.due s ≡ true) [
+        | None ↦ λ is. absurd (true≢false (sym due ∙ ap is_some (run_rests runs next s back x was is)))
+        | Some p ↦ λ is. stirs.due s (are.due.marked s x was (ap is_some is))
+      ] refl
+
+  still_due : (s : ℕ) (x : RunState) → slice_get runs s ≡ Some x → slice_get next s ≡ slice_get runs s
+      → SameUpTo s (events next) (events runs) → is_due next s x ≡ true → is_marked new.due s ≡ true
+  still_due s x was same upto due =
+      elim (wakes) [
+        | inl all ↦ woken_due s x all was due
+        | inr stay ↦ kept_back_due s x stay was same upto due
+      ]
+
+  due_unless : (s : ℕ) (x : RunState) → ((s ≡ r → ⊥) → slice_get next s ≡ slice_get runs s)
+      → ((s ≡ r → ⊥) → SameUpTo s (events next) (events runs)) → slice_get next s ≡ Some x
       → is_due next s x ≡ true → is_marked new.due s ≡ true
-  due_unless s x same at due =
+  due_unless s x same upto at due =
       elim (cases_eq s r) [
         | inl here ↦ subst (λ i. is_marked new.due i ≡ true) (sym here) stirs.itself
-        | inr other ↦ still_due s x (sym (same other) ∙ at) due
+        | inr other ↦ still_due s x (sym (same other) ∙ at) (same other) (upto other) due
       ]
 
 -- ---- all marks
 
--- a run changes
-pub marks_after : (runs : List RunState) (y : RunState) (old new : RunMarks) (r : ℕ) → Stirs r (length runs) old new → RunsAreMarked runs old
+-- a run changes, of the same event
+pub marks_after : (runs : List RunState) (y : RunState) (old new : RunMarks) (r bound : ℕ) → events (slice_set runs r y) ≡ events runs
+    → (bound ≡ length runs) ⊎ LetsNobodyGo runs (slice_set runs r y) → Stirs r bound old new → RunsAreMarked runs old
     → RunsAreMarked (slice_set runs r y) new
-marks_after runs y old new r stirs are = record {
+marks_after runs y old new r bound same wakes stirs are = record {
   ready = written offers_legs runs old.ready new.ready r y stirs.ready_room stirs.ready are.ready;
   waiting = written someone_waits runs old.waiting new.waiting r y stirs.waiting_room stirs.waiting are.waiting;
   active = written is_active runs old.active new.active r y stirs.active_room stirs.active are.active;
   due = record {
     covers = omega (arith, are.due.covers, stirs.due_room, length-set runs r y);
-    marked = (λ s x at due. due_unless runs (slice_set runs r y) old new r stirs are s x (λ other. set_other runs r s y other) at due);
+    marked = (λ s x at due.
+        due_unless runs (slice_set runs r y) old new r bound stirs are wakes s x (λ other. set_other runs r s y other)
+        (λ other k le. ap (λ es. slice_get es k) same) at due);
   };
 }
 
+events_before : (runs : List RunState) (y : RunState) (s : ℕ) → s < length runs → SameUpTo s (events (runs ++ y ∷ [])) (events runs)
+events_before runs y s lt k le =
+    slice_get-map (λ (run : RunState). run.admitted) (runs ++ y ∷ []) k
+    ∙ ap (option_map (λ (run : RunState). run.admitted)) (before_the_end runs y k (λ e. absurd (omega (arith, lt, le, e))))
+    ∙ sym (slice_get-map (λ (run : RunState). run.admitted) runs k)
+
+-- one run more lets nobody go
+one_more_stays : (runs : List RunState) (y : RunState) → LetsNobodyGo runs (runs ++ y ∷ [])
+one_more_stays runs y g h e =
+    let next = runs ++ y ∷ [] in
+    let there = one_that_holds runs h (and_parts (is_in runs g h) (holds runs h) e).1 in
+    let within = holder_within runs h there in
+    let at : run_at next (run_of h) ≡ run_at runs (run_of h) =
+    before_the_end runs y (run_of h) (λ e. absurd (omega (arith, within, e))) in
+    runs_still runs next g h (same_group runs next h (events_before runs y (run_of h) within) at)
+    (λ held k group. same_holds runs next h at ∙ held) e
+
 -- one run more
-pub marks_more : (runs : List RunState) (y : RunState) (old new : RunMarks) (r : ℕ) → r ≡ length runs → CoversRuns old (r + 1)
-    → Stirs r r old new → RunsAreMarked runs old → RunsAreMarked (runs ++ y ∷ []) new
-marks_more runs y old new r end room stirs are = record {
+pub marks_more : (runs : List RunState) (y : RunState) (old new : RunMarks) (r bound : ℕ) → r ≡ length runs → CoversRuns old (r + 1)
+    → Stirs r bound old new → RunsAreMarked runs old → RunsAreMarked (runs ++ y ∷ []) new
+marks_more runs y old new r bound end room stirs are = record {
   ready = one_more offers_legs runs y old.ready new.ready r end room.ready stirs.ready_room stirs.ready are.ready;
   waiting = one_more someone_waits runs y old.waiting new.waiting r end room.waiting stirs.waiting_room stirs.waiting are.waiting;
   active = one_more is_active runs y old.active new.active r end room.active stirs.active_room stirs.active are.active;
   due = record {
     covers = omega (arith, room.due, stirs.due_room, end, length-append runs (y ∷ []));
     marked = (λ s x at due.
-        due_unless runs (runs ++ y ∷ []) old new r (subst (λ n. Stirs r n old new) end stirs) are s x
-        (λ other. before_the_end runs y s (λ e. other (e ∙ sym end))) at due);
+        due_unless runs (runs ++ y ∷ []) old new r bound stirs are (inr (one_more_stays runs y)) s x
+        (λ other. before_the_end runs y s (λ e. other (e ∙ sym end)))
+        (λ other.
+        let was = sym (before_the_end runs y s (λ e. other (e ∙ sym end))) ∙ at in
+        events_before runs y s (slice_get_within runs s x was)) at due);
   };
 }
 

@@ -42,7 +42,7 @@ none_placed f xs none = first_same_placed f (λ x. None) xs none ∙ nothing (pl
 
 -- ---- each leg of a run that is not active
 
-none_of : {X : Type 0} (p : X → Bool) (xs : List X) (i : ℕ) (x : X) → list_any p xs ≡ false → slice_get xs i ≡ Some x → p x ≡ false
+pub none_of : {X : Type 0} (p : X → Bool) (xs : List X) (i : ℕ) (x : X) → list_any p xs ≡ false → slice_get xs i ≡ Some x → p x ≡ false
 none_of p [] i x none at = cc
 none_of p (y ∷ ys) zero x none at = ap (λ o. option_map_or p o false) (sym at) ∙ (or_parts (p y) (list_any p ys) none).0
 none_of p (y ∷ ys) (suc i) x none at = none_of p ys i x (or_parts (p y) (list_any p ys) none).1 at

@@ -1,5 +1,5 @@
 -- A run that changes is still kept with its number and with what it asks of groups.
-use Rattle.std.specs.Prelude.{◌≡◌, ℕ, zero, suc, ◌+◌, ◌<◌, List, [], ◌∷◌, ◌++◌, length, count_by, Some, option_map, slice_get, slice_set}
+use Rattle.std.specs.Prelude.{◌≡◌, ◌⊎◌, ℕ, zero, suc, ◌+◌, ◌<◌, List, [], ◌∷◌, ◌++◌, length, count_by, Some, option_map, slice_get, slice_set}
 use Rattle.std.specs.Prelude.{refl}
 use Rattle.std.specs.Fmt.{decimal}
 use Rattle.std.proofs.Common.{arith, ap, inl, inr, sym, subst, ◌∙◌, get_or}
@@ -11,6 +11,7 @@ use Rattle.workflow_runs.specs.Asks.{AreBound, RunSays}
 use Rattle.workflow_runs.specs.Counted.{AreCounted}
 use Rattle.workflow_runs.specs.Delivered.{FindsFirst}
 use Rattle.workflow_runs.specs.GroupOf.{RunFacts, run_facts_at}
+use Rattle.workflow_runs.specs.LettingGo.{LetsNobodyGo}
 use Rattle.workflow_runs.specs.MarkedRuns.{Stirs}
 use Rattle.workflow_runs.specs.RunNumber.{AreNumbered, events, number_of_next, numbers_after, run_number, same_workflow}
 use Rattle.workflow_runs.specs.RunState.{RunState}
@@ -47,18 +48,18 @@ still_bound xs kept r x y lt is same attempt are = record {
 }
 
 -- a run is written of the event that stands at its place, in its attempt
-pub still_kept : (xs : List RunState) (numbers : List ℕ) (kept : List RunBindings) (index : Index) (marks marks' : RunMarks) (r : ℕ)
+pub still_kept : (xs : List RunState) (numbers : List ℕ) (kept : List RunBindings) (index : Index) (marks marks' : RunMarks) (r bound : ℕ)
     (x y : RunState) → r < length xs → x ≡ get_or xs r x → y.admitted ≡ x.admitted → y.attempt ≡ x.attempt
-    → Stirs r (length xs) marks marks' → RunsAreKept xs numbers kept index marks
+    → (bound ≡ length xs) ⊎ LetsNobodyGo xs (slice_set xs r y) → Stirs r bound marks marks' → RunsAreKept xs numbers kept index marks
     → RunsAreKept (slice_set xs r y) numbers kept index marks'
-still_kept xs numbers kept index marks marks' r x y lt is same attempt stirs are =
+still_kept xs numbers kept index marks marks' r bound x y lt is same attempt wakes stirs are =
     let stay : events (slice_set xs r y) ≡ events xs = events_kept xs r x y lt is same in
     record {
       numbered = still_numbered xs numbers r x y lt is same are.numbered;
       bound = still_bound xs kept r x y lt is same attempt are.bound;
       found = subst (λ (es : List Admitted). FindsFirst es index.places.places) (sym stay) are.found;
       counted = subst (λ (es : List Admitted). AreCounted es index.counts.counts) (sym stay) are.counted;
-      marked = marks_after xs y marks marks' r stirs are.marked;
+      marked = marks_after xs y marks marks' r bound stay wakes stirs are.marked;
     }
 
 -- the same runs, as the code sees them, in another index
@@ -204,5 +205,5 @@ kept_again xs numbers kept index marks marks' r x y asked lt is same says stirs 
       bound = bound_again xs kept r x y asked lt is same says are.bound;
       found = subst (λ (es : List Admitted). FindsFirst es index.places.places) (sym stay) are.found;
       counted = subst (λ (es : List Admitted). AreCounted es index.counts.counts) (sym stay) are.counted;
-      marked = marks_after xs y marks marks' r stirs are.marked;
+      marked = marks_after xs y marks marks' r (length xs) stay (inl refl) stirs are.marked;
     }

@@ -14,6 +14,8 @@ pub mod Holders
 pub mod JobResults
 pub mod KnownLabels
 pub mod LegContext
+pub mod LegCounts
+pub mod LettingGo
 pub mod LookAgain
 pub mod MarkedRuns
 pub mod Moves

@@ -48,11 +48,22 @@ fn first_of_legs(runs: &Runs, r: usize, j: usize, legs: &[Leg], tries: &mut u64)
     None
 }
 
+/// The first leg of the job with a rule, which is new or waits.
+fn first_leg(runs: &Runs, r: usize, j: usize, job: &Job, tries: &mut u64) -> Option<Place>
+    ensures { result ≡ first_of_legs runs.now r j job.now.state.legs }
+{
+    if job.has_moving_leg() {
+        first_of_legs(runs, r, j, job.legs(), tries)
+    } else {
+        None
+    }
+}
+
 /// Of a job that does not open: its first leg with a rule, else where it settles.
 fn first_of_open(runs: &Runs, r: usize, j: usize, job: &Job, tries: &mut u64) -> Option<Place>
     ensures { result ≡ first_of_open runs.now r j job.now.state }
 {
-    let place = first_of_legs(runs, r, j, job.legs(), tries);
+    let place = first_leg(runs, r, j, job, tries);
     if place.is_some() {
         return place;
     }

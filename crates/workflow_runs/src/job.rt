@@ -1,10 +1,12 @@
-ghost use Rattle.std.specs.Prelude.{◌≡◌, Ok, count_by, map};
+ghost use Rattle.std.specs.Prelude.{◌≡◌, Ok, map};
 ghost use Rattle.std.specs.List.{list_all};
 ghost use Rattle.wf_value.specs.Gives.{Gives};
 ghost use Rattle.workflow_runs.specs.Cells.{in_state};
 ghost use Rattle.workflow_runs.specs.FirstOf.{changed_at};
+ghost use Rattle.workflow_runs.specs.LegCounts.{AreCounted, has_moving_leg};
+ghost use Rattle.workflow_runs.specs.LettingGo.{has_begun, has_holding_leg, has_legs};
 ghost use Rattle.workflow_runs.specs.MarkedRuns.{has_active_leg, has_ready_leg, has_waiting_leg};
-ghost use Rattle.workflow_runs.specs.Parallel.{is_at_work, legs_at_work};
+ghost use Rattle.workflow_runs.specs.Parallel.{legs_at_work};
 ghost use Rattle.workflow_runs.specs.Rules.{leg_has_ended, is_done, is_settled, opened, settled_as};
 ghost use Rattle.workflow_runs.specs.NewRun.{blocked_job};
 ghost use Rattle.workflow_runs.specs.Stops.{stopped, with_stopped_legs};
@@ -12,6 +14,7 @@ ghost use Rattle.workflow_runs.specs.Stops.{stopped, with_stopped_legs};
 mod of;
 
 use crate::leg::Leg;
+use crate::leg_counts::LegCounts;
 use crate::phases::JobPhase;
 use needs_graph::HasResult;
 use std::alloc::Global;
@@ -25,14 +28,19 @@ pub struct Job {
     /// Whether the legs in its room are the job's: it has none until it opens.
     has_legs: bool,
     room: Vec<Leg>,
+    /// How many of its legs are in each phase.
+    counts: LegCounts,
 }
 
 impl Model for Job {
     ghost use Rattle.workflow_runs.specs.Cells.{JobCells, cells_of};
+    ghost use Rattle.workflow_runs.specs.LegCounts.{AreCounted, legs_of_room};
 
     ghost Value = { JobCells };
 
     ghost view = { λ j. cells_of j.phase j.has_legs j.room.items };
+
+    ghost invariant = { λ j. AreCounted (legs_of_room j.has_legs j.room.items) j.counts };
 }
 
 impl Job {
@@ -44,6 +52,7 @@ impl Job {
             phase: JobPhase::Blocked,
             has_legs: false,
             room: vec![in alloc; Leg::new(); room]?,
+            counts: LegCounts::none(),
         })
     }
 
@@ -60,25 +69,58 @@ impl Job {
         &self.room[..count]
     }
 
+    fn counts(&self) -> LegCounts
+        ensures { AreCounted self.now.state.legs result }
+    {
+        self.counts
+    }
+
     /// Whether a leg of it is ready.
     pub(crate) fn has_ready_leg(&self) -> bool
         ensures { result ≡ has_ready_leg self.now.state }
     {
-        self.legs().iter().any(|leg| leg.is_ready())
+        self.counts().ready > 0
     }
 
     /// Whether a leg of it waits for its group.
     pub(crate) fn has_waiting_leg(&self) -> bool
         ensures { result ≡ has_waiting_leg self.now.state }
     {
-        self.legs().iter().any(|leg| leg.phase.waits())
+        self.counts().waiting > 0
     }
 
     /// Whether a leg of it waits for its group, or holds it.
     pub(crate) fn has_active_leg(&self) -> bool
         ensures { result ≡ has_active_leg self.now.state }
     {
-        self.legs().iter().any(|leg| leg.is_active())
+        self.counts().has_active()
+    }
+
+    /// Whether a leg of it holds its group.
+    pub(crate) fn has_holding_leg(&self) -> bool
+        ensures { result ≡ has_holding_leg self.now.state }
+    {
+        self.counts().has_holding()
+    }
+
+    /// Whether a leg of it may have a rule: whether it is new or waits.
+    pub(crate) fn has_moving_leg(&self) -> bool
+        ensures { result ≡ has_moving_leg self.now.state }
+    {
+        self.counts().has_moving()
+    }
+
+    pub(crate) fn has_legs(&self) -> bool
+        ensures { result ≡ has_legs self.now.state }
+    {
+        !self.legs().is_empty()
+    }
+
+    /// Whether it has opened or settled, or has legs.
+    pub(crate) fn has_begun(&self) -> bool
+        ensures { result ≡ has_begun self.now.state }
+    {
+        !self.phase.is_blocked() || self.has_legs()
     }
 
     /// The job opens: all its legs are there, new.
@@ -86,6 +128,7 @@ impl Job {
         ensures { self.new ≡ in_state (opened self.old.room self.old.state) self.old }
     {
         self.room.fill(Leg::new());
+        self.counts = LegCounts::all_new(self.room.len());
         self.has_legs = true;
         self.phase = JobPhase::Open;
     }
@@ -101,6 +144,8 @@ impl Job {
         ensures { self.new ≡ in_state (record self.old.state { legs = changed_at l (λ _. leg) self.old.state.legs }) self.old }
     {
         if self.has_legs && l < self.room.len() {
+            let old = self.room[l];
+            self.counts = self.counts.moved(&old, &leg);
             self.room[l] = leg;
         }
     }
@@ -110,13 +155,14 @@ impl Job {
         ensures { self.new ≡ in_state (with_stopped_legs self.old.state) self.old }
     {
         stop_all(&mut self.room);
+        self.counts = self.counts.stopped();
     }
 
     /// How many legs runners are at work on.
     pub fn legs_at_work(&self) -> usize
         ensures { result ≡ legs_at_work self.now.state }
     {
-        count_at_work(self.legs())
+        self.counts().at_work
     }
 
     pub(crate) fn is_settled(&self) -> bool
@@ -128,7 +174,7 @@ impl Job {
     pub fn have_legs_ended(&self) -> bool
         ensures { result ≡ list_all leg_has_ended self.now.state.legs }
     {
-        self.legs().iter().all(|leg| leg.has_ended())
+        !self.counts().has_unended()
     }
 
     /// Whether the job is open and all its legs have ended.
@@ -155,6 +201,7 @@ impl TryCopy for Job {
             phase: self.phase,
             has_legs: self.has_legs,
             room: Vec::from_slice(alloc, self.room.as_slice())?,
+            counts: self.counts,
         })
     }
 }
@@ -166,10 +213,4 @@ fn stop_all(legs: &mut [Leg])
     for leg in legs.iter_mut() {
         *leg = leg.stopped();
     }
-}
-
-fn count_at_work(legs: &[Leg]) -> usize
-    ensures { result ≡ count_by (λ leg. is_at_work leg.phase) legs.now }
-{
-    legs.iter().filter(|leg| leg.is_at_work()).count()
 }

@@ -2,7 +2,6 @@ ghost use Rattle.std.specs.Prelude.{◌≡◌, None, Some, false};
 ghost use Rattle.std.specs.Option.{option_map_or};
 ghost use Rattle.needs_graph.specs.Results.{is_cancelled, is_failure};
 ghost use Rattle.workflow_runs.specs.Fitting.{has_lease, is_ready, is_stopping_leg};
-ghost use Rattle.workflow_runs.specs.MarkedRuns.{is_active_leg};
 ghost use Rattle.workflow_runs.specs.Parallel.{is_at_work};
 ghost use Rattle.workflow_runs.specs.Rules.{leg_has_ended, leg_in_phase, new_leg, outcome_of};
 ghost use Rattle.workflow_runs.specs.NewRun.{leased_leg};
@@ -108,13 +107,6 @@ impl Leg {
         ensures { result ≡ is_stopping_leg self.now.phase }
     {
         self.phase.is_stopping()
-    }
-
-    /// Whether it waits for its group, or holds it.
-    pub(crate) fn is_active(&self) -> bool
-        ensures { result ≡ is_active_leg self.now }
-    {
-        self.phase.waits() || self.phase.holds()
     }
 
     pub fn has_lease(&self, lease: Number) -> bool

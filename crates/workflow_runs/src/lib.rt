@@ -12,6 +12,7 @@ pub mod holder;
 pub mod job;
 pub mod leg;
 mod leg_context;
+pub mod leg_counts;
 mod leg_needs;
 mod leg_view;
 mod named_group;

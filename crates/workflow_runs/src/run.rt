@@ -5,6 +5,7 @@ ghost use Rattle.run_plan.specs.PlanOf.{plan_of};
 ghost use Rattle.workflow_runs.specs.Cells.{blocked_cells, states};
 ghost use Rattle.workflow_runs.specs.Changes.{changed};
 ghost use Rattle.workflow_runs.specs.FirstOf.{changed_at};
+ghost use Rattle.workflow_runs.specs.LettingGo.{has_holding_leg, has_legs_at, has_legs_behind, holds_by_a_leg};
 ghost use Rattle.workflow_runs.specs.LookAgain.{job_again};
 ghost use Rattle.workflow_runs.specs.MarkedRuns.{has_active_leg, has_ready_leg, has_waiting_leg, is_active, offers_legs, someone_waits};
 ghost use Rattle.workflow_runs.specs.Rules.{opened, settled_as, run_in_phase};
@@ -194,6 +195,37 @@ impl Run {
         ensures { result ≡ is_active self.now }
     {
         self.phase.waits() || self.phase.is_live() || have_active_leg(self.jobs())
+    }
+
+    /// Whether a leg of it holds its group.
+    pub(crate) fn holds_by_a_leg(&self) -> bool
+        ensures { result ≡ holds_by_a_leg self.now }
+    {
+        have_holding_leg(self.jobs())
+    }
+
+    /// Whether a job that needs the one at a place directly has legs, or none is planned there.
+    pub(crate) fn has_legs_behind(&self, j: usize) -> bool
+        ensures { result ≡ has_legs_behind j self.now }
+    {
+        let graph = self.prepared.plan().graph();
+        j >= graph.job_count() || self.have_legs(graph.dependents(j))
+    }
+
+    /// Whether a job at one of these places has legs.
+    fn have_legs(&self, places: &[usize]) -> bool
+        ensures { result ≡ list_any (has_legs_at self.now) places.now }
+    {
+        places.iter().any(|place| self.has_legs_at(*place))
+    }
+
+    fn has_legs_at(&self, j: usize) -> bool
+        ensures { result ≡ has_legs_at self.now j }
+    {
+        match self.job(j) {
+            Some(job) => job.has_legs(),
+            None => false,
+        }
     }
 
     // ---- the changes of a run
@@ -386,6 +418,12 @@ fn have_active_leg(jobs: &[Job]) -> bool
     ensures { result ≡ list_any (λ job. has_active_leg job.state) jobs.now }
 {
     jobs.iter().any(|job| job.has_active_leg())
+}
+
+fn have_holding_leg(jobs: &[Job]) -> bool
+    ensures { result ≡ list_any (λ job. has_holding_leg job.state) jobs.now }
+{
+    jobs.iter().any(|job| job.has_holding_leg())
 }
 
 /// Whether the jobs at these places have all settled.

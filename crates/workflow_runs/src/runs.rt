@@ -19,6 +19,7 @@ mod groups;
 mod index;
 mod label_texts;
 mod labels;
+mod letting_go;
 mod looks;
 mod marks;
 mod of;
@@ -241,12 +242,11 @@ impl Runs {
         self.asks.reserve(1)?;
         let r = self.runs.len();
         self.marks.cover(r + 1)?;
-        self.marks.stir(r, r);
+        self.marks.stir(r, 0);
         self.runs.push_reserved(run);
         self.numbers.push_reserved(number);
         self.asks.push_reserved(asked);
         self.index.counts.add(workflow, number);
-        self.look_again(r);
         Ok(())
     }
 }

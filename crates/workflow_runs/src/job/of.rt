@@ -6,6 +6,7 @@ ghost use Rattle.workflow_runs.specs.AsPlanned.{HasRoom};
 
 use crate::job::Job;
 use crate::leg::Leg;
+use crate::leg_counts::LegCounts;
 use crate::run_parts::JobParts;
 use std::alloc::Global;
 use wf_value::Refusal;
@@ -27,6 +28,7 @@ impl Job {
                 phase: parts.phase,
                 has_legs: true,
                 room: Vec::from_slice(alloc, legs)?,
+                counts: LegCounts::of(legs),
             }));
         }
         if !legs.is_empty() {
@@ -36,6 +38,7 @@ impl Job {
             phase: parts.phase,
             has_legs: false,
             room: vec![in alloc; Leg::new(); room]?,
+            counts: LegCounts::none(),
         }))
     }
 }

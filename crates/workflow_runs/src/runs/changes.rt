@@ -20,12 +20,11 @@ impl Runs {
     fn change(&mut self, r: usize, change: Change)
         ensures { self.new ≡ with_run r (changed change) self.old }
     {
-        let count = self.runs.len();
-        if r < count {
-            self.marks.stir(r, count);
+        if r < self.runs.len() {
+            let woken = self.woken_below(r, &change);
+            self.marks.stir(r, woken);
             let run = &mut self.runs[r];
             run.change(change);
-            self.look_again(r);
         }
     }
 

@@ -76,7 +76,7 @@ impl Runs {
 
     /// Claims pass the run where no leg of it is ready, nobody wakes it where nobody in it waits, and neither a lease nor a holder of a group
     /// is looked for in it where it is not active.
-    pub(crate) fn look_again(&mut self, r: usize)
+    fn look_again(&mut self, r: usize)
         requires { r < length self.old }
         ensures { self.new ≡ self.old }
     {
@@ -112,13 +112,15 @@ impl Runs {
         }
     }
 
-    /// Settling passes the run, in which no rule applies, until it changes or may go on.
+    /// Settling passes the run, in which no rule applies, until it changes or may go on. While it went on it was marked for everything: its
+    /// legs are looked at once, however many of them changed.
     pub(crate) fn rest(&mut self, r: usize)
         requires within { r < length self.old }
         requires rests { ask (first_in_run self.old) self.old r ≡ None }
         ensures { self.new ≡ self.old }
     {
         self.marks.due.unmark(r);
+        self.look_again(r);
     }
 
     /// The first place with a rule in the run at a place, where none applies at a job before the one at `from`.

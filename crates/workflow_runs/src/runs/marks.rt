@@ -55,8 +55,8 @@ impl RunMarks {
         self.due.cover(bound)
     }
 
-    /// Marks the run at a place for everything, since it changes, and has all below the bound looked at in which someone waits: whom they
-    /// wait for may let them go on.
+    /// Marks the run at a place for everything, since it changes, and has all below the bound looked at in which someone waits: where the
+    /// change lets a group go, one of them may go on.
     pub(crate) fn stir(&mut self, r: usize, bound: usize)
         requires itself { CoversRuns self.old (r + 1) }
         requires all { Covers self.old.due bound }

@@ -44,7 +44,6 @@ impl Runs {
         self.marks.stir(r, count);
         put_at(&mut self.runs, r, next);
         put_at(&mut self.asks, r, asked);
-        self.look_again(r);
     }
 
     /// The next attempt of the run at a place, with what it asks.

@@ -1,11 +1,30 @@
-use Rattle.std.proofs.Common.{length, drop, arith}
-use Rattle.workflow_runs.proofs.Doors.{room_stopped}
+use Rattle.std.proofs.Common.{ap, arith, drop, length, subst, sym, ◌∙◌}
+use Rattle.std.specs.Prelude.{List}
+use Rattle.workflow_runs.specs.Cells.{cells_of}
+use Rattle.workflow_runs.specs.LegCounts.{AreCounted, legs_of_room}
+use Rattle.workflow_runs.specs.RunState.{LegState}
+use Rattle.workflow_runs.proofs.Doors.{legs_stopped, stopped_room}
+use Rattle.workflow_runs.proofs.LegCounts.{stopped_counted}
 use Rattle.workflow_runs.proofs.job.Job.stop_legs.Goals as goal
+
+pub invariant_of-self : goal.invariant_of-self
+invariant_of-self c =
+    let new = c.stop_all.new.legs in
+    let room = c.self.inside.room.items in
+    let now =
+    stopped_room room c.deref_mut.result.now new (drop (length new) room) c.self.inside.room.len c.deref_mut.ensures.value
+    c.stop_all.ensures (omega arith) in
+    let counted = c.stopped-self-inside.ensures in
+    subst (λ (legs : List LegState). AreCounted (legs_of_room c.self.inside.has_legs legs) c.stopped-self-inside.result) (sym now)
+    (stopped_counted c.self.inside.has_legs room c.self.inside.counts c.stopped-self-inside.result counted.newcomers counted.waiting
+    counted.ready counted.at_work c.self.invariant)
 
 pub returns : goal.returns
 returns c =
-    let old = c.deref_mut.result.now in
     let new = c.stop_all.new.legs in
-    room_stopped c.self.inside.phase c.self.inside.has_legs c.self.inside.room.items old new
-    (drop (length new) c.self.inside.room.items) c.self.inside.room.len c.args.self.now c.deref_mut.ensures.value c.stop_all.ensures
-    (omega arith) c.self.view_is
+    let room = c.self.inside.room.items in
+    let now =
+    stopped_room room c.deref_mut.result.now new (drop (length new) room) c.self.inside.room.len c.deref_mut.ensures.value
+    c.stop_all.ensures (omega arith) in
+    ap (cells_of c.self.inside.phase c.self.inside.has_legs) now
+    ∙ legs_stopped c.self.inside.phase c.self.inside.has_legs room c.args.self.now c.self.view_is

@@ -88,6 +88,6 @@ invariant_of-self-2 c =
       found = found;
       counted = counted_more items c.args.run counts c.add.new.self.counts counted
           (λ other. c.add.ensures.counted event other c.requires.workflow number);
-      marked = marks_more items c.args.run c.cover.new.self c.stir.new.self r end c.in_ok-cover.ensures.covers c.stir.ensures
+      marked = marks_more items c.args.run c.cover.new.self c.stir.new.self r 0 end c.in_ok-cover.ensures.covers c.stir.ensures
           (marks_grown items c.self.inside.marks c.cover.new.self c.cover.ensures.grows c.self.invariant.marked);
     })

@@ -1,14 +1,29 @@
-use Rattle.std.proofs.Common.{ap, subst, ◌≡◌, ◌∙◌, length, rules}
-use Rattle.workflow_runs.specs.MarkedRuns.{Stirs}
+use Rattle.std.specs.Prelude.{List}
+use Rattle.std.proofs.Common.{ap, subst, sym, ◌≡◌, ◌⊎◌, ◌∙◌, ◌<◌, length, rules}
+use Rattle.workflow_runs.specs.Changes.{changed}
+use Rattle.workflow_runs.specs.LettingGo.{LetsNobodyGo}
+use Rattle.workflow_runs.specs.Places.{with_run}
+use Rattle.workflow_runs.specs.RunState.{RunState}
+use Rattle.workflow_runs.proofs.Doors.{changed_within}
 use Rattle.workflow_runs.proofs.StillBound.{still_kept}
 use Rattle.workflow_runs.proofs.Stays.{changed_admitted, changed_attempt}
 use Rattle.workflow_runs.proofs.runs.Runs.change.Goals as goal
 
 pub invariant_of-self : goal.invariant_of-self
 invariant_of-self c =
-    let many : c.len-count.result ≡ length c.self.inside.runs.items = search rules in
-    still_kept c.self.inside.runs.items _ _ _ c.self.inside.marks c.stir.new.self c.args.r c.index_mut-run.result.now c.change.new.self
-    (search rules) c.index_mut-run.ensures.value
-    (ap (λ x. x.admitted) c.change.ensures ∙ changed_admitted c.args.change c.index_mut-run.result.now)
-    (ap (λ x. x.attempt) c.change.ensures ∙ changed_attempt c.args.change c.index_mut-run.result.now)
-    (subst (λ n. Stirs c.args.r n c.self.inside.marks c.stir.new.self) many c.stir.ensures) c.self.invariant
+    let items = c.self.inside.runs.items in
+    let r = c.args.r in
+    let change = c.args.change in
+    let woken = c.woken_below-woken.result in
+    let old = c.index_mut-run.result.now in
+    let new = c.change.new.self in
+    let within : r < length items = search rules in
+    let wakes : (woken ≡ length items) ⊎ LetsNobodyGo items (with_run r (changed change) items) =
+    subst (λ (rs : List RunState). (woken ≡ length rs) ⊎ LetsNobodyGo rs (with_run r (changed change) rs)) (sym c.self.view_is)
+    c.woken_below-woken.ensures.wakes in
+    still_kept items _ _ _ c.self.inside.marks c.stir.new.self r woken old new within c.index_mut-run.ensures.value
+    (ap (λ x. x.admitted) c.change.ensures ∙ changed_admitted change old)
+    (ap (λ x. x.attempt) c.change.ensures ∙ changed_attempt change old)
+    (subst (λ (next : List RunState). (woken ≡ length items) ⊎ LetsNobodyGo items next)
+    (sym (changed_within (changed change) items r old new within c.index_mut-run.ensures.value c.change.ensures)) wakes)
+    c.stir.ensures c.self.invariant

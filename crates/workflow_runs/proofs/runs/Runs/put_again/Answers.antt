@@ -1,4 +1,4 @@
-use Rattle.std.proofs.Common.{◌≡◌, ◌<◌, ◌∙◌, List, ap, length, subst, sym, rules}
+use Rattle.std.proofs.Common.{◌≡◌, ◌∙◌, List, ap, length, subst, sym, rules}
 use Rattle.std.specs.Prelude.{option_map}
 use Rattle.workflow_runs.specs.Asks.{RunSays}
 use Rattle.workflow_runs.specs.FirstOf.{changed_at}
@@ -7,7 +7,7 @@ use Rattle.workflow_runs.specs.NewRun.{again}
 use Rattle.workflow_runs.specs.Places.{run_at}
 use Rattle.workflow_runs.specs.RunState.{RunState}
 use Rattle.workflow_runs.proofs.BoundSays.{facts_of_run}
-use Rattle.workflow_runs.proofs.NextAttempt.{next_of, put, still_within}
+use Rattle.workflow_runs.proofs.NextAttempt.{next_of, put}
 use Rattle.workflow_runs.proofs.StillBound.{kept_again}
 use Rattle.workflow_runs.proofs.runs.Runs.put_again.Goals as goal
 
@@ -25,18 +25,10 @@ invariant_of-self c =
     next c.args.asked from.within from.read (ap (λ (x : RunState). x.admitted) from.is) says
     (subst (λ n. Stirs r n c.self.inside.marks c.stir.new.self) many c.stir.ensures) c.self.invariant)
 
-pub look_again-requires : goal.look_again-requires
-look_again-requires c =
-    let items = c.self.inside.runs.items in
-    let r = c.args.r in
-    let next = c.args.next in
-    let from = next_of items r next (c.requires.next ∙ ap (λ (rs : List RunState). option_map again (run_at rs r)) (sym c.self.view_is)) in
-    subst (λ (rs : List RunState). r < length rs) (sym c.put_at.ensures.items) (still_within items r next from)
-
 pub returns : goal.returns
 returns c =
     let items = c.self.inside.runs.items in
     let r = c.args.r in
     let next = c.args.next in
     let from = next_of items r next (c.requires.next ∙ ap (λ (rs : List RunState). option_map again (run_at rs r)) (sym c.self.view_is)) in
-    c.look_again.ensures ∙ c.put_at.ensures.items ∙ put items r next from ∙ ap (changed_at r again) c.self.view_is
+    c.put_at.ensures.items ∙ put items r next from ∙ ap (changed_at r again) c.self.view_is
