@@ -12,6 +12,7 @@ pub mod Entered
 pub mod EnteredAgain
 pub mod EnteredRests
 pub mod HeldAtWork
+pub mod LegHeld
 pub mod JobsText
 pub mod JoinedLegs
 pub mod KeepsSound

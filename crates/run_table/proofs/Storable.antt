@@ -54,7 +54,7 @@ few_fit planned gathered job.Open legs few fits = omega (arith, fits, few)
 few_fit planned gathered (job.Settled r) legs few (inl none) = let empty : length legs ≡ 0 = ap length none.0 in omega (arith, empty)
 few_fit planned gathered (job.Settled r) legs few (inr all) = let same = all.0 in omega (arith, same, few)
 
-legs_few : (t : TableState) → IsSound t → LegsAreFew t.runs
+pub legs_few : (t : TableState) → IsSound t → LegsAreFew t.runs
 legs_few t s r j x at = few_fit (planned_legs t.runs r j) (result_at t.runs r j x) x.phase x.legs (planned_few t.runs r j)
     (s.jobs_fit r j x at)
 

@@ -3,6 +3,7 @@ pub mod ByNumber
 pub mod Claims
 pub mod GroupSets
 pub mod Histories
+pub mod KeptPlace
 pub mod OneByOne
 pub mod PlaceNamed
 pub mod Sound

@@ -20,6 +20,7 @@ ghost use Rattle.workflow_runs.specs.Stops.{outcome_of_loss};
 ghost use Rattle.run_table.specs.PlaceNamed.{place_named};
 ghost use Rattle.run_table.specs.Turns.{names_rise};
 
+mod held;
 mod of;
 mod rerun;
 
@@ -34,7 +35,7 @@ use run_plan::{
 use std::alloc::Global;
 use std::marker::Model;
 use wf_value::{Code, Refusal, TryCopy};
-use workflow_runs::fit::{first_fit, is_lease_stopping, outcome_of_loss};
+use workflow_runs::fit::{first_fit, is_stopping};
 use workflow_runs::holder::Holder;
 use workflow_runs::leg::Leg;
 use workflow_runs::phases::RunPhase;
@@ -299,9 +300,10 @@ impl Content {
         ensures step { Gives (λ reply. (self.new, reply)) result (Ok (outcome (reporting self.old report.now))) }
         ensures err { OnErr result (self.new ≡ self.old) }
     {
+        let leg = self.leg_held(place, report.lease);
         let runner = Runner::reporting(alloc, report)?;
         self.runners.put(place, runner)?;
-        self.runs.end(report.lease, report.result);
+        self.runs.end(leg, report.result);
         self.runs.settle();
         Ok(Reply::Ok)
     }
@@ -313,12 +315,13 @@ impl Content {
         requires { IsSound self.now }
         ensures { result ≡ beat_answer self.now beat.now }
     {
-        let runner = self.runners.named(&beat.runner);
+        let place = self.runners.place_named(&beat.runner);
+        let runner = self.runners.at(place, &beat.runner);
         if runner.is_none() {
             refused(Code::NoRunner)
         } else if !holds_this(runner, beat.lease) {
             refused(Code::LeaseNotHeld)
-        } else if is_lease_stopping(beat.lease, &self.runs) {
+        } else if is_stopping(self.leg_held(place, beat.lease), &self.runs) {
             Reply::Stop
         } else {
             Reply::GoOn
@@ -372,6 +375,7 @@ impl Content {
 
     /// The leg of the lease ends. The runner had it, and is released.
     fn end_lost(&mut self, place: usize, runner: Runner, lease: Number) -> Result<Reply, Refusal>
+        requires sound { IsSound self.old }
         requires place { place ≡ place_named self.old.runners runner.name }
         requires work { OnlyAtWork self.old.runs lease }
         requires ends { RunsAreSound (with_ended lease (outcome_of_loss self.old.runs lease) self.old.runs) }
@@ -379,9 +383,10 @@ impl Content {
         ensures step { Gives (λ reply. (self.new, reply)) result (Ok (outcome (losing self.old runner lease))) }
         ensures err { OnErr result (self.new ≡ self.old) }
     {
+        let outcome = self.outcome_of_loss(place, lease);
+        let leg = self.leg_held(place, lease);
         self.runners.put(place, runner)?;
-        let outcome = outcome_of_loss(lease, &self.runs);
-        self.runs.end(lease, outcome);
+        self.runs.end(leg, outcome);
         self.runs.settle();
         Ok(Reply::Ok)
     }

@@ -62,13 +62,6 @@ impl Runners {
         named_at(self.as_slice(), place, name)
     }
 
-    /// The runner of a name.
-    pub(crate) fn named(&self, name: &RunnerName) -> Option<&Runner>
-        ensures { option_map (λ r. r.now) result ≡ runner_named self.now name.now }
-    {
-        self.at(self.place_named(name), name)
-    }
-
     /// Puts the runner where its name belongs, in the place of the one of its name. At an error the runners are as they were.
     pub(crate) fn put(&mut self, place: usize, runner: Runner) -> Result<(), Refusal>
         requires { place ≡ place_named self.old runner.name }

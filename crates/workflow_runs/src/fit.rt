@@ -1,14 +1,13 @@
 //! Which leg a claim gets, and which leg has a lease: each the first one in the order of run, job and leg.
 
-ghost use Rattle.std.specs.Prelude.{◌≡◌, ◌<◌, ◌^◌, ◌&&◌, IfSome, false};
+ghost use Rattle.std.specs.Prelude.{◌≡◌, ◌<◌, ◌^◌, ◌&&◌, IfSome, false, if◌then◌else◌};
 ghost use Rattle.std.specs.List.{position};
 ghost use Rattle.std.specs.Option.{option_map_or};
+ghost use Rattle.wf_value.specs.declared.outcome.Outcome.TheVariants.{Cancelled, Failure};
 ghost use Rattle.workflow_runs.specs.Cells.{states};
-ghost use Rattle.workflow_runs.specs.Fitting.{OnlyAtWork, first_fit, has_lease, is_ready, is_served, is_stopping_leg, is_lease_stopping};
-ghost use Rattle.workflow_runs.specs.Fitting.{place_of_lease};
+ghost use Rattle.workflow_runs.specs.Fitting.{OnlyAtWork, first_fit, has_lease, is_ready, is_served, is_stopping_leg, place_of_lease};
 ghost use Rattle.workflow_runs.specs.Parallel.{has_room};
 ghost use Rattle.workflow_runs.specs.Places.{leg_at};
-ghost use Rattle.workflow_runs.specs.Stops.{outcome_of_loss};
 ghost use Rattle.workflow_runs.specs.WithinRun.{fit_in_job, fit_in_jobs, lease_in_job, lease_in_jobs, lease_in_run, served_in_job};
 
 use crate::job::Job;
@@ -158,23 +157,22 @@ pub fn place_of_lease(lease: Number, runs: &Runs) -> Option<LegPlace>
     None
 }
 
-/// Whether the leg of a lease is told to stop.
-pub fn is_lease_stopping(lease: Number, runs: &Runs) -> bool
-    requires { OnlyAtWork runs.now lease }
-    ensures { result ≡ is_lease_stopping runs.now lease }
+/// Whether the leg, if there is one, is told to stop.
+pub fn is_stopping(leg: Option<LegPlace>, runs: &Runs) -> bool
+    ensures { result ≡ option_map_or (λ p. option_map_or (λ l. is_stopping_leg l.phase) (leg_at runs.now p) false) leg false }
 {
-    match place_of_lease(lease, runs) {
+    match leg {
         Some(place) => is_stopping_at(runs, place),
         None => false,
     }
 }
 
-/// How the leg of a lease ends whose runner is lost.
-pub fn outcome_of_loss(lease: Number, runs: &Runs) -> Outcome
-    requires { OnlyAtWork runs.now lease }
-    ensures { result ≡ outcome_of_loss runs.now lease }
+/// How the leg, if there is one, ends whose runner is lost.
+pub fn outcome_of_loss(leg: Option<LegPlace>, runs: &Runs) -> Outcome
+    ensures { let stopping = option_map_or (λ p. option_map_or (λ l. is_stopping_leg l.phase) (leg_at runs.now p) false) leg false in
+        result ≡ (if stopping then Cancelled else Failure) }
 {
-    if is_lease_stopping(lease, runs) {
+    if is_stopping(leg, runs) {
         Outcome::Cancelled
     } else {
         Outcome::Failure

@@ -133,7 +133,7 @@ fn attempt_of(runs: &Runs, place: LegPlace) -> Option<Number>
     Some(run.attempt())
 }
 
-fn leg_has_lease(runs: &Runs, place: LegPlace, lease: Number) -> bool
+pub(crate) fn leg_has_lease(runs: &Runs, place: LegPlace, lease: Number) -> bool
     ensures { result ≡ option_map_or (has_lease lease) (leg_at runs.now place) false }
 {
     match runs.leg(place) {

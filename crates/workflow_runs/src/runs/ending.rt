@@ -1,24 +1,21 @@
 //! The end of a leg.
 
-ghost use Rattle.std.specs.Prelude.{◌≡◌, ◌<◌, ◌^◌};
-ghost use Rattle.workflow_runs.specs.Fitting.{OnlyAtWork};
-ghost use Rattle.workflow_runs.specs.StopMoves.{with_ended};
+ghost use Rattle.std.specs.Prelude.{◌≡◌, ◌<◌, ◌^◌, IfSome};
+ghost use Rattle.std.specs.Option.{option_map_or};
 ghost use Rattle.workflow_runs.specs.Stops.{after_end, fails_fast, stops_others};
 
-use crate::fit::place_of_lease;
 use crate::phases::LegPhase;
 use crate::place::LegPlace;
 use crate::runs::Runs;
-use run_plan::Number;
 use wf_value::Outcome;
 
 impl Runs {
-    /// The leg of a lease ends, on which a runner is at work.
-    pub fn end(&mut self, lease: Number, outcome: Outcome)
-        requires { OnlyAtWork self.old lease }
-        ensures { self.new ≡ with_ended lease outcome self.old }
+    /// The leg ends, if there is one.
+    pub fn end(&mut self, leg: Option<LegPlace>, outcome: Outcome)
+        requires leg { IfSome leg (λ p. p.leg < 2 ^ 63) }
+        ensures { self.new ≡ option_map_or (λ p. after_end p outcome self.old) leg self.old }
     {
-        if let Some(place) = place_of_lease(lease, self) {
+        if let Some(place) = leg {
             self.end_at(place, outcome);
         }
     }

@@ -21,6 +21,7 @@ end_lost-requires c =
     let same = sym (has_the_name c.args.self.now.runners name c.in-Some.runner.now named)
     ∙ ap (λ (r : RunnerState). r.name) (same_Ok _ _ c.in_ok-runner-in-Some-holds.ensures) in
     record {
+      sound = c.requires;
       place = c.place_named-place.ensures ∙ ap (λ (t : TableState). place_named t.runners name) c.self.view_is
           ∙ ap (λ (n : List ℕ). place_named c.args.self.now.runners n) same;
       work = held_at_work c.args.self.now name c.in-Some.runner.now c.in-Some-holds.lease c.requires named holds;

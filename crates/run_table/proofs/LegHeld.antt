@@ -1,0 +1,61 @@
+-- The leg of a lease in a sound table: where a leg has the lease it is the one, and its number is small.
+use Rattle.std.specs.Prelude.{◌≡◌, ℕ, ◌<◌, ◌^◌, List, Bool, true, false, Option, Some, None, refl}
+use Rattle.std.specs.Option.{option_map_or}
+use Rattle.std.proofs.Common.{arith, ap, sym, ◌∙◌}
+use Rattle.std.proofs.lemmas.Bool.{true≢false}
+use Rattle.std.proofs.lemmas.Option.{slice_get_within}
+use Rattle.wf_value.specs.declared.outcome.Outcome.{Outcome}
+use Rattle.workflow_runs.specs.Fitting.{has_lease, place_of_lease}
+use Rattle.workflow_runs.specs.Places.{LegPlace, leg_at, leg_places}
+use Rattle.workflow_runs.specs.RunState.{LegState, RunState}
+use Rattle.workflow_runs.specs.StopMoves.{with_ended}
+use Rattle.workflow_runs.specs.Stops.{after_end}
+use Rattle.workflow_runs.proofs.Found.{find_passes, none_found}
+use Rattle.workflow_runs.proofs.HolderPlaces.{each_leg_place}
+use Rattle.workflow_runs.proofs.JobKeeps.{leg_in}
+use Rattle.workflow_runs.proofs.Optional.{From, from_and_then}
+use Rattle.workflow_runs.proofs.RunFits.{job_in_run}
+use Rattle.run_table.specs.Sound.{IsSound}
+use Rattle.run_table.specs.TableState.{TableState}
+use Rattle.run_table.proofs.ReportKeeps.{has_it}
+use Rattle.run_table.proofs.Storable.{legs_few}
+
+abbrev pub has_lease_at : List RunState → ℕ → LegPlace → Bool
+has_lease_at runs lease p = option_map_or (has_lease lease) (leg_at runs p) false
+
+-- a leg that has the lease
+with_it : (runs : List RunState) (lease : ℕ) (p : LegPlace) → has_lease_at runs lease p ≡ true → From (λ (y : LegState). y.lease) (leg_at runs p) lease
+with_it runs lease p has = from_and_then (λ (y : LegState). y.lease) (leg_at runs p) lease (has_it lease (leg_at runs p) has)
+
+-- it is the first one, since there is no other
+pub leg_found : (t : TableState) (lease : ℕ) (p : LegPlace) → IsSound t → has_lease_at t.runs lease p ≡ true
+    → Some p ≡ place_of_lease t.runs lease
+leg_found t lease p s has =
+    let test = has_lease_at t.runs lease in
+    let this = with_it t.runs lease p has in
+    elim (place_of_lease t.runs lease) as (λ o. place_of_lease t.runs lease ≡ o → Some p ≡ o) [
+      | None ↦ λ none.
+          let fails = each_leg_place (λ q. test q ≡ false) t.runs p this.value (none_found test (leg_places t.runs) none) this.is in
+          absurd (true≢false (sym has ∙ fails))
+      | Some q ↦ λ found.
+          let first = with_it t.runs lease q (find_passes test (leg_places t.runs) q found) in
+          ap Some (s.leases_differ p q this.value first.value lease this.is first.is this.gives first.gives)
+    ] refl
+
+pub leg_below : (t : TableState) (lease : ℕ) (p : LegPlace) → IsSound t → has_lease_at t.runs lease p ≡ true → p.leg < 2 ^ 63
+leg_below t lease p s has =
+    let this = with_it t.runs lease p has in
+    let at = leg_in t.runs p this.value this.is in
+    let few = legs_few t s p.run p.job at.job (job_in_run t.runs p.run p.job at.place.run at.place.run_is ∙ at.place.job_is) in
+    let within = slice_get_within at.job.legs p.leg this.value at.leg_is in
+    omega (arith, few, within)
+
+-- ---- the leg ends
+
+-- the end of the leg that is found is the end of the lease's leg
+pub ended_at : (lease : ℕ) (outcome : Outcome) (t : TableState) (runs ended : List RunState) (leg : Option LegPlace) → runs ≡ t.runs
+    → leg ≡ place_of_lease t.runs lease → ended ≡ option_map_or (λ p. after_end p outcome runs) leg runs
+    → ended ≡ with_ended lease outcome t.runs
+ended_at lease outcome t runs ended leg runs_are leg_is ended_is =
+    ended_is ∙ ap (λ (xs : List RunState). option_map_or (λ p. after_end p outcome xs) leg xs) runs_are
+    ∙ ap (λ (o : Option LegPlace). option_map_or (λ p. after_end p outcome t.runs) o t.runs) leg_is
