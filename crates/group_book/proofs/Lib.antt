@@ -1,5 +1,3 @@
-pub mod Arriving
-pub mod Filtered
-pub mod HoldersDecided
-pub mod Keeping
-pub mod Lines
+pub mod Entering
+pub mod Listing
+pub mod Numbers

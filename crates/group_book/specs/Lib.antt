@@ -1,2 +1,2 @@
-pub mod Changes
-pub mod Holders
+pub mod Books
+pub mod Slots

@@ -1,10 +1,10 @@
-//! Who holds which concurrency group. GitHub Docs, "Control the concurrency of workflows and jobs".
+//! The holders of concurrency groups by the names of the groups. A group has a number, and a slot for those who may hold it. A book says no
+//! less than is so: whoever may hold a group is listed, and who is listed in vain goes when somebody looks.
 #![tactic(auto)]
 
 mod book;
-mod holder;
-mod holding;
 pub mod laws;
+mod slot;
 
-pub use book::{Arrival, Book};
-pub use holder::{Holder, HolderPhase};
+pub use book::Book;
+pub use slot::Slot;
