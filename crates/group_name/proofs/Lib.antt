@@ -1,4 +1,5 @@
 mod BoundFolding
+mod FixedNames
 mod Folding
 pub mod OnLiterals
 pub mod SameGroups

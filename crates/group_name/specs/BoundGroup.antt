@@ -1,7 +1,7 @@
 -- The group of a bound name in a repository. GitHub Docs, "Control the concurrency of workflows and jobs".
-use Rattle.std.specs.Prelude.{ℕ, List, [], ◌∷◌, Option, None, Some, chars, map, encode_utf8_all, refl}
+use Rattle.std.specs.Prelude.{ℕ, List, [], ◌∷◌, length, nat_eq, Bool, Option, None, Some, chars, map, encode_utf8_all, if◌then◌else◌, refl}
 use Rattle.std.specs.Coded.{Coded, code_by, coded_ℕ, coded_list, coded×}
-use Rattle.std.specs.List.{AllByRecursion}
+use Rattle.std.specs.List.{AllByRecursion, flat_map, list_all}
 use Rattle.std.specs.Str.{IsUtf8}
 use Rattle.wf_expr.specs.Bound.{Results, bound_text}
 use Rattle.wf_expr.specs.declared.bound.BoundPiece.{BoundPiece}
@@ -44,3 +44,15 @@ group_of_folded repository (b ∷ bs) = Some (record { repository = repository; 
 -- the group of a bound name by the results
 abbrev pub group_at : Results → BoundName → Option Group
 group_at results name = group_of_folded name.repository (bound_text results name.pieces)
+
+-- ---- names that ask for no result
+
+abbrev pub asks_no_result : BoundPiece → Bool
+asks_no_result piece = nat_eq (length piece.needs) 0
+
+abbrev pub own_text : List BoundPiece → List ℕ
+own_text = flat_map (λ piece. piece.otherwise)
+
+-- the group of a name whose pieces ask for no result: their own texts name it
+abbrev pub fixed_group : BoundName → Option Group
+fixed_group name = if list_all asks_no_result name.pieces then group_of_folded name.repository (own_text name.pieces) else None

@@ -1,10 +1,11 @@
-ghost use Rattle.std.specs.Prelude.{◌≡◌, ◌↔◌, IsTrue, IsSome, IsUtf8, map, Ok, IfOk};
-ghost use Rattle.group_name.specs.BoundGroup.{AreTexts, bound_group, folded_piece, group_at};
+ghost use Rattle.std.specs.Prelude.{◌≡◌, ◌↔◌, IsTrue, IsSome, IsUtf8, map, Ok, IfOk, IfSome, Some};
+ghost use Rattle.std.specs.List.{list_all};
+ghost use Rattle.group_name.specs.BoundGroup.{AreTexts, asks_no_result, bound_group, fixed_group, folded_piece, group_at, own_text};
 ghost use Rattle.group_name.specs.Group.{group_of};
 ghost use Rattle.wf_expr.specs.Bound.{Results, bound_text};
 ghost use Rattle.wf_value.specs.Gives.{Gives};
 
-use crate::group_key::folded;
+use crate::group_key::{GroupKey, folded};
 use std::alloc::Global;
 use std::marker::Model;
 use wf_expr::{BoundPiece, BoundTemplate, NeedResults};
@@ -53,6 +54,24 @@ fn folded_pieces(alloc: Global, pieces: &[BoundPiece]) -> Result<Vec<BoundPiece>
     Ok(folded)
 }
 
+fn ask_no_result(pieces: &[BoundPiece]) -> bool
+    ensures { result ≡ list_all asks_no_result pieces.now }
+{
+    pieces.iter().all(|piece| piece.needs.len() == 0)
+}
+
+/// The pieces' own texts, one after another.
+fn own_text(alloc: Global, pieces: &[BoundPiece]) -> Result<Chars, Refusal>
+    ensures gives { Gives (λ t. t) result (Ok (own_text pieces.now)) }
+    ensures utf8 { IfOk result IsUtf8 }
+{
+    let mut text = String::new(alloc);
+    for piece in pieces {
+        text.push_str(piece.otherwise.as_str())?;
+    }
+    Ok(Chars::new(text))
+}
+
 impl BoundGroup {
     /// The group that a bound name means in a repository, whatever the results will be. Its `Err` is 50
     /// alone. GitHub Docs, "Control the concurrency of workflows and jobs".
@@ -66,6 +85,20 @@ impl BoundGroup {
             repository: Chars::from_str(alloc, repository)?,
             name: BoundTemplate::new(pieces),
         })
+    }
+
+    /// The group of a name that asks for no result, which it names whatever the results will be. Its `Err`
+    /// is 50 alone.
+    pub fn fixed(&self, alloc: Global) -> Result<Option<GroupKey>, Refusal>
+        ensures gives { Gives (λ k. k) result (Ok (fixed_group self.now)) }
+        ensures always { IfOk result (λ k. IfSome k (λ g. (results : Results) → group_at results self.now ≡ Some g)) }
+    {
+        if !ask_no_result(self.name.pieces()) {
+            return Ok(None);
+        }
+        let repository = self.repository.copy(alloc)?;
+        let text = own_text(alloc, self.name.pieces())?;
+        Ok(GroupKey::of_folded(repository, text))
     }
 
     /// Whether there is a group by the results: whether the name is not empty. It takes no memory.

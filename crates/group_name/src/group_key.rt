@@ -1,4 +1,5 @@
 ghost use Rattle.std.specs.Prelude.{◌≡◌, ◌↔◌, [], IsTrue, IsUtf8, chars, Ok, IfOk, None};
+ghost use Rattle.group_name.specs.BoundGroup.{group_of_folded};
 ghost use Rattle.group_name.specs.Group.{folded_name, group_of};
 ghost use Rattle.group_name.specs.Order.{name_bytes, repository_bytes};
 ghost use Rattle.wf_value.specs.Gives.{Gives};
@@ -45,6 +46,18 @@ impl GroupKey {
             repository: Chars::from_str(alloc, repository)?,
             folded: folded(alloc, name)?,
         }))
+    }
+
+    /// The group of a text without its case, and none of the empty text.
+    pub(crate) fn of_folded(repository: Chars, folded: Chars) -> Option<Self>
+        requires { IsUtf8 folded }
+        ensures { result ≡ group_of_folded repository folded }
+    {
+        if folded.as_str().is_empty() {
+            None
+        } else {
+            Some(GroupKey { repository, folded })
+        }
     }
 
     /// The text of the repository.
