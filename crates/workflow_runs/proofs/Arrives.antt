@@ -101,7 +101,7 @@ module _ (change : Holder → List RunState → Transition)
 
 -- ---- the newcomer's group
 
-no_other : (h newcomer : Holder) → not (same_holder h newcomer) ≡ true → h ≡ newcomer → ⊥
+pub no_other : (h newcomer : Holder) → not (same_holder h newcomer) ≡ true → h ≡ newcomer → ⊥
 no_other h newcomer other same =
     true≢false (sym other ∙ ap not (ap (λ k. same_holder k newcomer) same ∙ itself newcomer))
 

@@ -54,39 +54,40 @@ read_again (x ∷ xs) (suc i) d = read_again xs i d
 
 -- ---- the legs of a job
 
-pub leg_written : (phase : JobPhase) (has_legs : Bool) (xs : List LegState) (l : ℕ) (leg : LegState) (s : JobCells) → has_legs ≡ true
-    → l < length xs → cells_of phase has_legs xs ≡ s
-    → cells_of phase has_legs (slice_set xs l leg) ≡ in_state (record s.state { legs = changed_at l (λ _. leg) s.state.legs }) s
-leg_written phase true xs l leg s has lt is =
+pub leg_written : (phase : JobPhase) (has_legs : Bool) (xs : List LegState) (left l : ℕ) (leg : LegState) (s : JobCells) → has_legs ≡ true
+    → l < length xs → cells_of phase has_legs xs left ≡ s
+    → cells_of phase has_legs (slice_set xs l leg) left ≡ in_state (record s.state { legs = changed_at l (λ _. leg) s.state.legs }) s
+leg_written phase true xs left l leg s has lt is =
     let P : JobCells → Type 0 =
-    λ t. cells_of phase true (slice_set xs l leg) ≡ in_state (record t.state { legs = changed_at l (λ _. leg) t.state.legs }) t in
+    λ t. cells_of phase true (slice_set xs l leg) left ≡ in_state (record t.state { legs = changed_at l (λ _. leg) t.state.legs }) t in
     subst P is
-    (ap (λ n. record { state = record { phase = phase; legs = slice_set xs l leg }; room = n }) (length-set xs l leg)
-    ∙ ap (λ legs. record { state = record { phase = phase; legs = legs }; room = length xs })
+    (ap (λ n. record { state = record { phase = phase; legs = slice_set xs l leg }; room = n; needs_left = left }) (length-set xs l leg)
+    ∙ ap (λ legs. record { state = record { phase = phase; legs = legs }; room = length xs; needs_left = left })
     (changed_within (λ _. leg) xs l (get_or xs l leg) leg lt (read_again xs l leg) refl))
-leg_written phase false xs l leg s has lt is = cc
+leg_written phase false xs left l leg s has lt is = cc
 
 -- without legs, or past them, nothing is written
-pub no_leg_written : (phase : JobPhase) (has_legs : Bool) (xs : List LegState) (l : ℕ) (leg : LegState) (s : JobCells)
-    → (has_legs ≡ true → length xs ≤ l) → cells_of phase has_legs xs ≡ s
+pub no_leg_written : (phase : JobPhase) (has_legs : Bool) (xs : List LegState) (left l : ℕ) (leg : LegState) (s : JobCells)
+    → (has_legs ≡ true → length xs ≤ l) → cells_of phase has_legs xs left ≡ s
     → s ≡ in_state (record s.state { legs = changed_at l (λ _. leg) s.state.legs }) s
-no_leg_written phase true xs l leg s past is =
+no_leg_written phase true xs left l leg s past is =
     let P : JobCells → Type 0 = λ t. t ≡ in_state (record t.state { legs = changed_at l (λ _. leg) t.state.legs }) t in
-    subst P is (ap (λ legs. record { state = record { phase = phase; legs = legs }; room = length xs })
+    subst P is (ap (λ legs. record { state = record { phase = phase; legs = legs }; room = length xs; needs_left = left })
     (changed_past (λ _. leg) xs l (past refl)))
-no_leg_written phase false xs l leg s past is =
+no_leg_written phase false xs left l leg s past is =
     let P : JobCells → Type 0 = λ t. t ≡ in_state (record t.state { legs = changed_at l (λ _. leg) t.state.legs }) t in
     subst P is refl
 
 -- all of them are stopped; those in the room of a job without legs are none of its own
-pub legs_stopped : (phase : JobPhase) (has_legs : Bool) (xs : List LegState) (s : JobCells) → cells_of phase has_legs xs ≡ s
-    → cells_of phase has_legs (map stopped xs) ≡ in_state (with_stopped_legs s.state) s
-legs_stopped phase true xs s is =
-    let P : JobCells → Type 0 = λ t. cells_of phase true (map stopped xs) ≡ in_state (with_stopped_legs t.state) t in
-    subst P is (ap (λ n. record { state = record { phase = phase; legs = map stopped xs }; room = n }) (length-map xs stopped))
-legs_stopped phase false xs s is =
-    let P : JobCells → Type 0 = λ t. cells_of phase false (map stopped xs) ≡ in_state (with_stopped_legs t.state) t in
-    subst P is (ap (λ n. record { state = record { phase = phase; legs = [] }; room = n }) (length-map xs stopped))
+pub legs_stopped : (phase : JobPhase) (has_legs : Bool) (xs : List LegState) (left : ℕ) (s : JobCells) → cells_of phase has_legs xs left ≡ s
+    → cells_of phase has_legs (map stopped xs) left ≡ in_state (with_stopped_legs s.state) s
+legs_stopped phase true xs left s is =
+    let P : JobCells → Type 0 = λ t. cells_of phase true (map stopped xs) left ≡ in_state (with_stopped_legs t.state) t in
+    subst P is
+    (ap (λ n. record { state = record { phase = phase; legs = map stopped xs }; room = n; needs_left = left }) (length-map xs stopped))
+legs_stopped phase false xs left s is =
+    let P : JobCells → Type 0 = λ t. cells_of phase false (map stopped xs) left ≡ in_state (with_stopped_legs t.state) t in
+    subst P is (ap (λ n. record { state = record { phase = phase; legs = [] }; room = n; needs_left = left }) (length-map xs stopped))
 
 -- what a `Vec` of them holds once the slice of its items is `new`
 pub stopped_room : (xs old new rest : List LegState) (n : ℕ) → old ≡ xs → new ≡ map stopped old → n ≡ length new

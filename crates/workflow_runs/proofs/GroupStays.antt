@@ -1,11 +1,12 @@
 -- The group of a run, and of a leg once the jobs that its job needs have settled, stays what it is.
-use Rattle.std.specs.Prelude.{◌≡◌, ℕ, ◌+◌, List, take, count_by, true, Option, Some, None, option_map, option_and_then}
+use Rattle.std.specs.Prelude.{◌≡◌, ℕ, ◌+◌, List, take, count_by, false, true, Option, Some, None, option_map, option_and_then}
 use Rattle.std.specs.Prelude.{refl}
 use Rattle.std.specs.Fmt.{decimal}
+use Rattle.std.specs.Option.{option_map_or}
 use Rattle.std.proofs.Common.{arith, ap, sym, ◌∙◌}
 use Rattle.std.proofs.lemmas.Option.{same_Some, slice_get-map}
 use Rattle.run_plan.specs.Admitted.{Admitted}
-use Rattle.workflow_runs.specs.GroupOf.{RunFacts, group_at, leg_group, run_facts_at, run_group}
+use Rattle.workflow_runs.specs.GroupOf.{RunFacts, cancels_in_progress, group_at, leg_cancels, leg_group, run_facts_at, run_group}
 use Rattle.workflow_runs.specs.Holders.{run_of}
 use Rattle.workflow_runs.specs.LegContext.{facts_at}
 use Rattle.workflow_runs.specs.Moves.{Holder}
@@ -88,12 +89,21 @@ pub leg_group_same : (runs next : List RunState) (p : LegPlace) → facts_at nex
 unfolding group_at
 leg_group_same runs next p same = ap (option_and_then leg_group) same
 
+leg_facts_stay : (runs next : List RunState) → RunsFit runs → StayFit runs next → (p : LegPlace) (z : LegState)
+    → leg_at runs p ≡ Some z → facts_at next p ≡ facts_at runs p
+leg_facts_stay runs next fit stay p z was =
+    facts_stay runs next p (same_events runs next p.run (λ s le. stay.same_admitted s)) (stay.same_attempt p.run) (leg_needs_settled runs fit p z was)
+    (stay.keeps_results p.run)
+
 pub leg_group_stays : (runs next : List RunState) → RunsFit runs → StayFit runs next → (p : LegPlace) (z : LegState)
     → leg_at runs p ≡ Some z → group_at next (Holder.a_leg p) ≡ group_at runs (Holder.a_leg p)
-leg_group_stays runs next fit stay p z was =
-    leg_group_same runs next p
-    (facts_stay runs next p (same_events runs next p.run (λ s le. stay.same_admitted s)) (stay.same_attempt p.run) (leg_needs_settled runs fit p z was)
-    (stay.keeps_results p.run))
+leg_group_stays runs next fit stay p z was = leg_group_same runs next p (leg_facts_stay runs next fit stay p z was)
+
+-- whether its coming cancels what is in progress
+pub leg_cancels_stays : (runs next : List RunState) → RunsFit runs → StayFit runs next → (p : LegPlace) (z : LegState)
+    → leg_at runs p ≡ Some z → cancels_in_progress next (Holder.a_leg p) ≡ cancels_in_progress runs (Holder.a_leg p)
+unfolding cancels_in_progress
+leg_cancels_stays runs next fit stay p z was = ap (λ o. option_map_or leg_cancels o false) (leg_facts_stay runs next fit stay p z was)
 
 -- what is told of a leg whose run is as it was, and so are the events up to it
 facts_of_same_run : (runs next : List RunState) (p : LegPlace) → SameUpTo p.run (events next) (events runs)

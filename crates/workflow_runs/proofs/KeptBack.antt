@@ -8,7 +8,7 @@ use Rattle.std.proofs.lemmas.Option.{same_Some}
 use Rattle.group_name.specs.Group.{Group, same_group}
 use Rattle.workflow_runs.specs.FirstOf.{changed_at}
 use Rattle.workflow_runs.specs.GroupOf.{group_at}
-use Rattle.workflow_runs.specs.Groups.{all_holders, holds, is_in, is_running_in, is_taken, leg_holds, may_start}
+use Rattle.workflow_runs.specs.Groups.{all_holders, holds, is_in, is_running_in, is_taken, leg_holds, may_start, waits}
 use Rattle.workflow_runs.specs.Holders.{run_of}
 use Rattle.workflow_runs.specs.LettingGo.{LetsNobodyGo}
 use Rattle.workflow_runs.specs.Moves.{Holder}
@@ -30,9 +30,18 @@ StillHold runs next = (h : Holder) (g : Group) → group_at runs h ≡ Some g �
 abbrev pub KeepsBack : List RunState → List RunState → Type 0
 KeepsBack runs next = (h : Holder) → IsOneOf runs h → may_start runs h ≡ false → may_start next h ≡ false
 
--- the same of one run and its legs
+-- the same of those that wait of one run and its legs
 abbrev pub KeepsBackIn : List RunState → List RunState → ℕ → Type 0
-KeepsBackIn runs next r = (h : Holder) → run_of h ≡ r → IsOneOf runs h → may_start runs h ≡ false → may_start next h ≡ false
+KeepsBackIn runs next r = (h : Holder) → run_of h ≡ r → waits runs h ≡ true → may_start runs h ≡ false → may_start next h ≡ false
+
+-- whoever runs in the group still runs in it
+abbrev pub RunsStill : List RunState → List RunState → Group → Type 0
+RunsStill runs next g = (h : Holder) → is_running_in runs g h ≡ true → is_running_in next g h ≡ true
+
+-- and so it is with the group of each that waits of one run and its legs
+abbrev pub RunsStillFor : List RunState → List RunState → ℕ → Type 0
+RunsStillFor runs next r =
+    (h : Holder) → run_of h ≡ r → waits runs h ≡ true → (g : Group) → group_at runs h ≡ Some g → RunsStill runs next g
 
 record AnyOf {X : Type 0} (test : X → Bool) : Type 0 where
   one : X
@@ -60,22 +69,23 @@ runs_still runs next g h same still e =
     and_from (is_in next g h) (holds next h) (ap (λ o. option_map_or (same_group g) o false) same ∙ parts.0) (still parts.1 group.0 group.1)
 
 -- a group that nobody lets go keeps back whoever is in it still
-module _ (runs next : List RunState) (stay : LetsNobodyGo runs next) where
-  still_taken : (g : Group) → is_taken runs g ≡ true → is_taken next g ≡ true
-  still_taken g e =
+module _ (runs next : List RunState) where
+  still_taken : (g : Group) → RunsStill runs next g → is_taken runs g ≡ true → is_taken next g ≡ true
+  still_taken g stay e =
       let any = any_of (is_running_in runs g) (all_holders runs) e in
       elim (is_taken next g) as (λ b. is_taken next g ≡ b → b ≡ true) [
         | true ↦ λ is. refl
-        | false ↦ λ is. absurd (not_taken next g any.one is (stay g any.one any.passed))
+        | false ↦ λ is. absurd (not_taken next g any.one is (stay any.one any.passed))
       ] refl
 
-  back_from : (o : Option Group) → option_map_or (λ g. not (is_taken runs g)) o true ≡ false
-      → option_map_or (λ g. not (is_taken next g)) o true ≡ false
-  back_from None e = cc
-  back_from (Some g) e = ap not (still_taken g (not-false (is_taken runs g) e))
+  back_from : (o : Option Group) → ((g : Group) → o ≡ Some g → RunsStill runs next g)
+      → option_map_or (λ g. not (is_taken runs g)) o true ≡ false → option_map_or (λ g. not (is_taken next g)) o true ≡ false
+  back_from None stay e = cc
+  back_from (Some g) stay e = ap not (still_taken g (stay g refl) (not-false (is_taken runs g) e))
 
-  pub back_still : (h : Holder) → group_at next h ≡ group_at runs h → may_start runs h ≡ false → may_start next h ≡ false
-  back_still h same e = ap (λ o. option_map_or (λ g. not (is_taken next g)) o true) same ∙ back_from (group_at runs h) e
+  pub back_still : (h : Holder) → ((g : Group) → group_at runs h ≡ Some g → RunsStill runs next g) → group_at next h ≡ group_at runs h
+      → may_start runs h ≡ false → may_start next h ≡ false
+  back_still h stay same e = ap (λ o. option_map_or (λ g. not (is_taken next g)) o true) same ∙ back_from (group_at runs h) stay e
 
 module _ (runs next : List RunState) (stays : GroupsStay runs next) (still : StillHold runs next) where
   still_run : LetsNobodyGo runs next
@@ -84,7 +94,7 @@ module _ (runs next : List RunState) (stays : GroupsStay runs next) (still : Sti
       runs_still runs next g h (stays h there) (λ held k group. still h k group held) e
 
   pub kept_back : KeepsBack runs next
-  kept_back h there e = back_still runs next still_run h (stays h there) e
+  kept_back h there e = back_still runs next h (λ g group. still_run g) (stays h there) e
 
 -- ---- what passes a test at each place passes after a change at one of them
 

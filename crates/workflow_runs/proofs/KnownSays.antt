@@ -22,7 +22,7 @@ use Rattle.workflow_runs.proofs.Optional.{from_and_then}
 
 -- ---- the labels of a leg of a table
 
-context_told : (runs : List RunState) (p : LegPlace) (x : RunState) (job : PlannedJob) → run_at runs p.run ≡ Some x
+pub context_told : (runs : List RunState) (p : LegPlace) (x : RunState) (job : PlannedJob) → run_at runs p.run ≡ Some x
     → slice_get (plan_of x.admitted.body) p.job ≡ Some job → context_at runs p ≡ context_of (leg_facts_of runs p x job)
 unfolding context_at
 context_told runs p x job at planned = ap (λ o. option_map_or context_of o nothing) (leg_told runs p x job at planned)

@@ -1,10 +1,10 @@
--- A change that may let no group go lets nobody go.
-use Rattle.std.specs.Prelude.{◌≡◌, ℕ, zero, suc, ◌+◌, ◌<◌, ◌≤◌, ◌&&◌, List, [], ◌∷◌, filter, filter_map, length, map, Bool, true, false}
+-- A change lets nobody go but whom it may free.
+use Rattle.std.specs.Prelude.{◌≡◌, ◌⊎◌, ℕ, zero, suc, ◌+◌, ◌<◌, ◌≤◌, ◌&&◌, ◌||◌, List, [], ◌∷◌, filter, filter_map, length, map, Bool, true, false}
 use Rattle.std.specs.Prelude.{nat_eq, nat_lt, not, is_some, take, Option, Some, None, option_map, option_and_then, slice_get, if◌then◌else◌, refl}
 use Rattle.std.specs.List.{cons_option, list_any, range_with_len, slice_index_or}
 use Rattle.std.specs.Option.{option_map_or}
 use Rattle.std.proofs.Common.{arith, ap, sym, subst, ◌∙◌, inl, inr}
-use Rattle.std.proofs.lemmas.Bool.{and_cases, and_parts, cases_eq, cases_lt, eqb-false, or_parts, true≢false, false≢true}
+use Rattle.std.proofs.lemmas.Bool.{and_cases, and_parts, cases_Bool, cases_eq, cases_lt, eqb-false, or_parts, or_right, true≢false, false≢true}
 use Rattle.std.proofs.lemmas.Bool.Decides.{nat_tests}
 use Rattle.std.proofs.lemmas.List.{get_or_past}
 use Rattle.std.proofs.lemmas.Option.{slice_get-map, slice_get_within}
@@ -19,11 +19,12 @@ use Rattle.workflow_runs.specs.Changes.{changed}
 use Rattle.workflow_runs.specs.FirstOf.{changed_at}
 use Rattle.workflow_runs.specs.GroupOf.{asked_of_leg, group_at, leg_group, named_group}
 use Rattle.workflow_runs.specs.Groups.{holds, is_in, is_running_in, leg_holds}
-use Rattle.workflow_runs.specs.Holders.{run_of}
+use Rattle.workflow_runs.specs.Holders.{holder_in_words, run_of}
 use Rattle.workflow_runs.specs.JobResults.{direct_needs, needs_in, results_so_far, settled_result, with_result}
 use Rattle.workflow_runs.specs.LegContext.{LegFacts, context_of, facts_at}
-use Rattle.workflow_runs.specs.LettingGo.{LetsNobodyGo, asks_for_groups, has_begun, has_holding_leg, has_legs, has_legs_at, has_legs_behind}
-use Rattle.workflow_runs.specs.LettingGo.{holds_by_a_leg, leg_lets_go, may_let_go, offers_a_leg, run_lets_go}
+use Rattle.workflow_runs.specs.LettingGo.{IsFreed, LetsGoOnly, asks_for_groups, freed, has_begun, has_holding_leg, has_legs, has_legs_at}
+use Rattle.workflow_runs.specs.LettingGo.{has_legs_behind, holds_by_a_leg, holds_by_a_leg_of, job_asks, leg_lets_go}
+use Rattle.workflow_runs.specs.LettingGo.{offers_a_leg, run_lets_go}
 use Rattle.workflow_runs.specs.MarkedRuns.{has_ready_leg, is_so_at}
 use Rattle.workflow_runs.specs.Moves.{Holder}
 use Rattle.workflow_runs.specs.Places.{job_at, leg_place, run_at, with_run}
@@ -35,6 +36,10 @@ use Rattle.workflow_runs.specs.Stops.{stopped, stopped_in, stopped_phase, stoppe
 use Rattle.workflow_runs.specs.Fitting.{is_ready}
 use Rattle.workflow_runs.specs.declared.change.Change.{Change}
 use Rattle.workflow_runs.specs.declared.change.Change.TheVariants as change
+use Rattle.workflow_runs.specs.declared.frees.Frees.{Frees}
+use Rattle.workflow_runs.specs.declared.frees.Frees.TheVariants.{Nobody, One, Any}
+use Rattle.workflow_runs.specs.declared.holder.Holder.{Holder as HolderInCode}
+use Rattle.workflow_runs.specs.declared.holder.Holder.TheVariants.{Run, Leg}
 use Rattle.workflow_runs.specs.declared.phases.JobPhase.{JobPhase}
 use Rattle.workflow_runs.specs.declared.phases.JobPhase.TheVariants as job
 use Rattle.workflow_runs.specs.declared.phases.LegPhase.{LegPhase}
@@ -60,14 +65,70 @@ none_if_not : {X : Type 0} (o : Option X) → is_some o ≡ false → o ≡ None
 none_if_not None e = refl
 none_if_not (Some x) e = cc
 
+-- ---- whom a change frees
+
+or_else : {P Q R : Type 0} → P ⊎ Q → (Q → R) → P ⊎ R
+or_else either next =
+    elim (either) [
+      | inl it ↦ inl it
+      | inr other ↦ inr (next other)
+    ]
+
+of_run : {r : ℕ} (b : Bool) (here one : HolderInCode) → run_of (holder_in_words here) ≡ r
+    → (if b then One here else Nobody) ≡ One one → run_of (holder_in_words one) ≡ r
+of_run true here one at e = let same : here ≡ one = cc in sym (ap (λ h. run_of (holder_in_words h)) same) ∙ at
+of_run false here one at e = cc
+
+not_one : (b : Bool) (one : HolderInCode) → (if b then Any else Nobody) ≡ One one → ⊥
+not_one true one e = cc
+not_one false one e = cc
+
+record PassedAt {X : Type 0} (test : X → Bool) (o : Option X) : Type 0 where
+  value : X
+  is : o ≡ Some value
+  passed : test value ≡ true
+
+passed_at : {X : Type 0} (test : X → Bool) (o : Option X) → passes test o ≡ true → PassedAt test o
+passed_at test None e = cc
+passed_at test (Some x) e = record { value = x; is = refl; passed = e }
+
+-- ---- a test of the places below a bound
+
+pub one_in_range : (test : ℕ → Bool) (n a i : ℕ) → a ≤ i → i < a + n → test i ≡ true → list_any test (range_with_len a n) ≡ true
+one_in_range test zero a i low high is = absurd (omega arith)
+one_in_range test (suc n) a i low high is =
+    elim (cases_eq i a) [
+      | inl here ↦ ap (λ b. b || list_any test (range_with_len (a + 1) n)) (ap test (sym here) ∙ is)
+      | inr other ↦
+          or_right (test a) (list_any test (range_with_len (a + 1) n))
+          (one_in_range test n (a + 1) i (omega (arith, other, low)) (omega arith) is)
+    ]
+
+not_in_range : (test : ℕ → Bool) (n a i : ℕ) → a ≤ i → i < a + n → list_any test (range_with_len a n) ≡ false → test i ≡ false
+not_in_range test n a i low high none =
+    elim (cases_Bool (test i)) [
+      | inl is ↦ absurd (true≢false (sym (one_in_range test n a i low high is) ∙ none))
+      | inr not_so ↦ not_so
+    ]
+
+pub none_in_range : (test : ℕ → Bool) (n a : ℕ) → ((i : ℕ) → i < a + n → test i ≡ false) → list_any test (range_with_len a n) ≡ false
+none_in_range test zero a none = refl
+none_in_range test (suc n) a none =
+    ap (λ b. b || list_any test (range_with_len (a + 1) n)) (none a (omega arith))
+    ∙ none_in_range test n (a + 1) (λ i lt. none i (omega (arith, lt)))
+
 -- ---- who is there, and holds a group
 
-pub holder_within : (runs : List RunState) (h : Holder) → IsOneOf runs h → run_of h < length runs
-holder_within runs (Holder.a_run r) there = slice_get_within runs r there.0 there.1
-holder_within runs (Holder.a_leg p) there =
+-- its run
+pub run_of_one : (runs : List RunState) (h : Holder) → IsOneOf runs h → (x : RunState) × (run_at runs (run_of h) ≡ Some x)
+run_of_one runs (Holder.a_run r) there = there
+run_of_one runs (Holder.a_leg p) there =
     let job = from_and_then (λ (y : JobState). slice_get y.legs p.leg) (job_at runs p.run p.job) there.0 there.1 in
     let run = from_and_then (λ (x : RunState). slice_get x.jobs p.job) (run_at runs p.run) job.value job.is in
-    slice_get_within runs p.run run.value run.is
+    (run.value, run.is)
+
+pub holder_within : (runs : List RunState) (h : Holder) → IsOneOf runs h → run_of h < length runs
+holder_within runs h there = let run = run_of_one runs h there in slice_get_within runs (run_of h) run.0 run.1
 
 -- by its run alone
 pub same_holds : (runs next : List RunState) (h : Holder) → run_at next (run_of h) ≡ run_at runs (run_of h) → holds next h ≡ holds runs h
@@ -83,14 +144,16 @@ record LegStays (x y : RunState) (j l : ℕ) : Type 0 where
   needs : direct_needs y j ≡ direct_needs x j
   held : run_passes leg_holds j l y ≡ true
 
--- each that has a group stays
-record HoldersStay (runs : List RunState) (r : ℕ) (x y : RunState) : Type 0 where
-  own : (g : Group) → group_at runs (Holder.a_run r) ≡ Some g → is_live x.phase ≡ true → is_live y.phase ≡ true
+-- each that has a group stays, but for those that are freed
+record HoldersStay (goes : Frees) (runs : List RunState) (r : ℕ) (x y : RunState) : Type 0 where
+  own : (g : Group) → group_at runs (Holder.a_run r) ≡ Some g → is_live x.phase ≡ true
+      → IsFreed goes (Holder.a_run r) ⊎ (is_live y.phase ≡ true)
   legs : (j l : ℕ) (g : Group) → group_at runs (Holder.a_leg (leg_place r j l)) ≡ Some g → run_passes leg_holds j l x ≡ true
-      → LegStays x y j l
+      → IsFreed goes (Holder.a_leg (leg_place r j l)) ⊎ LegStays x y j l
 
 module _ (runs : List RunState) (r : ℕ) (f : RunState → RunState) (x : RunState) (was : run_at runs r ≡ Some x)
-    (admitted : (f x).admitted ≡ x.admitted) (attempt : (f x).attempt ≡ x.attempt) (stay : HoldersStay runs r x (f x)) where
+    (admitted : (f x).admitted ≡ x.admitted) (attempt : (f x).attempt ≡ x.attempt) (goes : Frees)
+    (stay : HoldersStay goes runs r x (f x)) where
   abbrev next : List RunState
   next = changed_at r f runs
 
@@ -127,41 +190,49 @@ module _ (runs : List RunState) (r : ℕ) (f : RunState → RunState) (x : RunSt
       ∙ sym (facts_are runs p)
 
   leg_stays : (g : Group) (j l : ℕ) → is_running_in runs g (Holder.a_leg (leg_place r j l)) ≡ true
-      → is_running_in next g (Holder.a_leg (leg_place r j l)) ≡ true
+      → IsFreed goes (Holder.a_leg (leg_place r j l)) ⊎ (is_running_in next g (Holder.a_leg (leg_place r j l)) ≡ true)
   leg_stays g j l e =
       let p = leg_place r j l in
       let parts = and_parts (is_in runs g (Holder.a_leg p)) (holds runs (Holder.a_leg p)) e in
       let held : run_passes leg_holds j l x ≡ true =
       sym (by_run leg_holds runs p ∙ ap (passes (run_passes leg_holds j l)) was) ∙ parts.1 in
-      let stays = stay.legs j l g (group_is runs g (Holder.a_leg p) parts.0) held in
-      runs_still runs next g (Holder.a_leg p) (leg_group_same runs next p (facts_here j l stays.needs))
-      (λ old k group. by_run leg_holds next p ∙ ap (passes (run_passes leg_holds j l)) now ∙ stays.held) e
+      elim (stay.legs j l g (group_is runs g (Holder.a_leg p) parts.0) held) [
+        | inl freed ↦ inl freed
+        | inr stays ↦ inr (runs_still runs next g (Holder.a_leg p) (leg_group_same runs next p (facts_here j l stays.needs))
+            (λ old k group. by_run leg_holds next p ∙ ap (passes (run_passes leg_holds j l)) now ∙ stays.held) e)
+      ]
 
-  own_stays : (g : Group) → is_running_in runs g (Holder.a_run r) ≡ true → is_running_in next g (Holder.a_run r) ≡ true
+  own_stays : (g : Group) → is_running_in runs g (Holder.a_run r) ≡ true
+      → IsFreed goes (Holder.a_run r) ⊎ (is_running_in next g (Holder.a_run r) ≡ true)
   own_stays g e =
       let live : RunState → Bool = λ z. is_live z.phase in
-      runs_still runs next g (Holder.a_run r) (run_group_stays runs next r (same_upto r) (read_same (λ z. z.attempt) attempt r))
-      (λ held k group. ap (λ o. option_map_or live o false) now ∙ stay.own k group (sym (ap (λ o. option_map_or live o false) was) ∙ held)) e
+      let parts = and_parts (is_in runs g (Holder.a_run r)) (holds runs (Holder.a_run r)) e in
+      let held = sym (ap (λ o. option_map_or live o false) was) ∙ parts.1 in
+      elim (stay.own g (group_is runs g (Holder.a_run r) parts.0) held) [
+        | inl freed ↦ inl freed
+        | inr stays ↦ inr
+            (runs_still runs next g (Holder.a_run r) (run_group_stays runs next r (same_upto r) (read_same (λ z. z.attempt) attempt r))
+            (λ old k group. ap (λ o. option_map_or live o false) now ∙ stays) e)
+      ]
 
   other_stays : (g : Group) (h : Holder) → (run_of h ≡ r → ⊥) → is_running_in runs g h ≡ true → is_running_in next g h ≡ true
   other_stays g h other e =
       let at = at_another r f runs (run_of h) other in
       runs_still runs next g h (same_group runs next h (same_upto (run_of h)) at) (λ held k group. same_holds runs next h at ∙ held) e
 
-  nobody_goes : LetsNobodyGo runs next
-  nobody_goes g (Holder.a_run s) e =
+  abbrev Stays : Group → Holder → Type 0
+  Stays g h = is_running_in runs g h ≡ true → IsFreed goes h ⊎ (is_running_in next g h ≡ true)
+
+  others_stay : LetsGoOnly goes runs next
+  others_stay g (Holder.a_run s) e =
       elim (cases_eq s r) [
-        | inl here ↦
-            subst (λ k. is_running_in runs g (Holder.a_run k) ≡ true → is_running_in next g (Holder.a_run k) ≡ true) (sym here)
-            (own_stays g) e
-        | inr other ↦ other_stays g (Holder.a_run s) other e
+        | inl here ↦ subst (λ k. Stays g (Holder.a_run k)) (sym here) (own_stays g) e
+        | inr other ↦ inr (other_stays g (Holder.a_run s) other e)
       ]
-  nobody_goes g (Holder.a_leg p) e =
+  others_stay g (Holder.a_leg p) e =
       elim (cases_eq p.run r) [
-        | inl here ↦
-            subst (λ k. is_running_in runs g (Holder.a_leg (leg_place k p.job p.leg)) ≡ true
-            → is_running_in next g (Holder.a_leg (leg_place k p.job p.leg)) ≡ true) (sym here) (leg_stays g p.job p.leg) e
-        | inr other ↦ other_stays g (Holder.a_leg p) other e
+        | inl here ↦ subst (λ k. Stays g (Holder.a_leg (leg_place k p.job p.leg))) (sym here) (leg_stays g p.job p.leg) e
+        | inr other ↦ inr (other_stays g (Holder.a_leg p) other e)
       ]
 
 -- ---- the needs of a job
@@ -248,23 +319,40 @@ legs_there x i l e = by (slice_get x.jobs i) e
 
 module _ (runs : List RunState) (r : ℕ) (x : RunState) (was : run_at runs r ≡ Some x) where
   -- a change of one job that keeps its result
-  job_stays : (j : ℕ) (f : JobState → JobState)
+  job_stays : (goes : Frees) (j : ℕ) (f : JobState → JobState)
       → ((y : JobState) → slice_get x.jobs j ≡ Some y → settled_result (f y).phase ≡ settled_result y.phase)
       → ((y : JobState) → slice_get x.jobs j ≡ Some y → (l : ℕ) (g : Group) → group_at runs (Holder.a_leg (leg_place r j l)) ≡ Some g
-      → job_passes leg_holds l y ≡ true → job_passes leg_holds l (f y) ≡ true)
-      → HoldersStay runs r x (record x { jobs = changed_at j f x.jobs })
-  job_stays j f same still = record {
-    own = (λ g group live. live);
-    legs = (λ i l g group held. record {
-      needs = needs_same x x.phase (changed_at j f x.jobs) (same_results f j x.jobs same) i;
-      held = elim (cases_eq i j) [
-        | inl here ↦
-            passed_on (job_passes leg_holds l) f j x.jobs
-            (λ y at now. still y at l g (subst (λ k. group_at runs (Holder.a_leg (leg_place r k l)) ≡ Some g) here group) now) i held
-        | inr other ↦ ap (passes (job_passes leg_holds l)) (at_another j f x.jobs i other) ∙ held
-      ];
-    });
+      → job_passes leg_holds l y ≡ true → IsFreed goes (Holder.a_leg (leg_place r j l)) ⊎ (job_passes leg_holds l (f y) ≡ true))
+      → HoldersStay goes runs r x (record x { jobs = changed_at j f x.jobs })
+  job_stays goes j f same still = record {
+    own = (λ g group live. inr live);
+    legs = (λ i l g group held. elim (cases_eq i j) [
+      | inl here ↦ here_stays i here l g group held
+      | inr other ↦ inr (record {
+        needs = needs_kept i;
+        held = ap (passes (job_passes leg_holds l)) (at_another j f x.jobs i other) ∙ held;
+      })
+    ]);
   }
+    where
+      needs_kept : (i : ℕ) → direct_needs (record x { jobs = changed_at j f x.jobs }) i ≡ direct_needs x i
+      needs_kept i = needs_same x x.phase (changed_at j f x.jobs) (same_results f j x.jobs same) i
+
+      here_stays : (i : ℕ) → i ≡ j → (l : ℕ) (g : Group) → group_at runs (Holder.a_leg (leg_place r i l)) ≡ Some g
+          → run_passes leg_holds i l x ≡ true
+          → IsFreed goes (Holder.a_leg (leg_place r i l)) ⊎ LegStays x (record x { jobs = changed_at j f x.jobs }) i l
+      here_stays i here l g group held =
+          let there : passes (job_passes leg_holds l) (slice_get x.jobs j) ≡ true =
+          subst (λ k. passes (job_passes leg_holds l) (slice_get x.jobs k) ≡ true) here held in
+          let job = passed_at (job_passes leg_holds l) (slice_get x.jobs j) there in
+          elim (still job.value job.is l g (subst (λ k. group_at runs (Holder.a_leg (leg_place r k l)) ≡ Some g) here group) job.passed) [
+            | inl freed ↦ inl (subst (λ k. IsFreed goes (Holder.a_leg (leg_place r k l))) (sym here) freed)
+            | inr stays ↦ inr (record {
+              needs = needs_kept i;
+              held = ap (λ k. passes (job_passes leg_holds l) (slice_get (changed_at j f x.jobs) k)) here
+                  ∙ ap (passes (job_passes leg_holds l)) (at_changed j f x.jobs ∙ ap (option_map f) job.is) ∙ stays;
+            })
+          ]
 
   unless : (held goes : Bool) (o : Option Group) (g : Group) → ((held && not goes) && is_some o) ≡ false → o ≡ Some g → held ≡ true
       → goes ≡ true
@@ -272,12 +360,14 @@ module _ (runs : List RunState) (r : ℕ) (x : RunState) (was : run_at runs r �
   unless true false o g never group is = absurd (true≢false (sym (ap is_some group) ∙ never))
   unless false false o g never group is = absurd (false≢true is)
 
-  phase_stays : (phase : RunPhase) → run_lets_go runs r phase ≡ false → HoldersStay runs r x (run_in_phase phase x)
-  phase_stays phase never = record {
+  phase_stays : (goes : Frees) (phase : RunPhase) → IsFreed goes (Holder.a_run r) ⊎ (run_lets_go runs r phase ≡ false)
+      → HoldersStay goes runs r x (run_in_phase phase x)
+  phase_stays goes phase never = record {
     own = (λ g group live.
-        unless (holds runs (Holder.a_run r)) (is_live phase) (group_at runs (Holder.a_run r)) g never group
-        (ap (λ o. option_map_or (λ (z : RunState). is_live z.phase) o false) was ∙ live));
-    legs = (λ i l g group held. record { needs = needs_same x phase x.jobs refl i; held = held });
+        or_else never (λ is.
+        unless (holds runs (Holder.a_run r)) (is_live phase) (group_at runs (Holder.a_run r)) g is group
+        (ap (λ o. option_map_or (λ (z : RunState). is_live z.phase) o false) was ∙ live)));
+    legs = (λ i l g group held. inr (record { needs = needs_same x phase x.jobs refl i; held = held }));
   }
 
   in_job : (j : ℕ) (test : JobState → Bool) → option_map_or test (job_at runs r j) false ≡ false → (y : JobState)
@@ -294,24 +384,24 @@ module _ (runs : List RunState) (r : ℕ) (x : RunState) (was : run_at runs r �
   none_held legs l none e = true≢false (sym (some_legs legs l e) ∙ none)
 
   opening_stays : (j n : ℕ) → option_map_or has_begun (job_at runs r j) false ≡ false
-      → HoldersStay runs r x (record x { jobs = changed_at j (opened n) x.jobs })
+      → HoldersStay Nobody runs r x (record x { jobs = changed_at j (opened n) x.jobs })
   opening_stays j n never =
       let idle : (y : JobState) → slice_get x.jobs j ≡ Some y → (not (is_blocked y.phase) ≡ false) × (has_legs y ≡ false) =
       λ y at. or_parts (not (is_blocked y.phase)) (has_legs y) (in_job j has_begun never y at) in
-      job_stays j (opened n) (λ y at. blocked_result y.phase (idle y at).0)
+      job_stays Nobody j (opened n) (λ y at. blocked_result y.phase (idle y at).0)
       (λ y at l g group held. absurd (none_held y.legs l (idle y at).1 held))
 
   settling_stays : (j : ℕ) (settled : JobResult) → has_legs_behind j x ≡ false
-      → HoldersStay runs r x (record x { jobs = changed_at j (settled_as settled) x.jobs })
+      → HoldersStay Nobody runs r x (record x { jobs = changed_at j (settled_as settled) x.jobs })
   settling_stays j settled never = record {
-    own = (λ g group live. live);
-    legs = (λ i l g group held. record {
+    own = (λ g group live. inr live);
+    legs = (λ i l g group held. inr (record {
       needs = needs_beside x j (settled_as settled) i
           (no_dependent (has_legs_at x) (needs_in x) j i
           (or_parts (not (nat_lt j (length (needs_in x)))) (list_any (has_legs_at x) (dependents_of (needs_in x) j)) never).1
           (legs_there x i l held));
       held = passed_on (job_passes leg_holds l) (settled_as settled) j x.jobs (λ y at now. now) i held;
-    });
+    }));
   }
 
   live_still : (phase : RunPhase) → x.phase ≡ phase → is_live phase ≡ true → is_live (stopped_in phase x).phase ≡ true
@@ -322,40 +412,6 @@ module _ (runs : List RunState) (r : ℕ) (x : RunState) (was : run_at runs r �
         | false ↦ ap is_live is
       ]
   live_still run.Ended is live = cc
-
-  no_leg_held : holds_by_a_leg x ≡ false → (i l : ℕ) → run_passes leg_holds i l x ≡ true → ⊥
-  no_leg_held none i l e = by (slice_get x.jobs i) refl e
-    where
-      in_legs : (y : JobState) → has_holding_leg y ≡ false → (o : Option LegState) → slice_get y.legs l ≡ o
-          → passes (leg_passes leg_holds) o ≡ true → ⊥
-      in_legs y none None at e = cc
-      in_legs y none (Some z) at e = true≢false (sym e ∙ none_of (λ v. leg_holds v.phase) y.legs l z none at)
-
-      by : (o : Option JobState) → slice_get x.jobs i ≡ o → passes (job_passes leg_holds l) o ≡ true → ⊥
-      by None at e = cc
-      by (Some y) at e = in_legs y (none_of has_holding_leg x.jobs i y none at) (slice_get y.legs l) refl e
-
-  stop_stays : holds_by_a_leg x ≡ false → HoldersStay runs r x (stopped_run x)
-  stop_stays none = record {
-    own = (λ g group live. live_still x.phase refl live);
-    legs = (λ i l g group held. absurd (no_leg_held none i l held));
-  }
-
-  stopped_holds : (phase : LegPhase) → is_ready phase ≡ false → leg_holds phase ≡ true → leg_holds (stopped_phase phase) ≡ true
-  stopped_holds leg.New not_ready e = cc
-  stopped_holds leg.Waiting not_ready e = cc
-  stopped_holds leg.Ready not_ready e = cc
-  stopped_holds leg.Running not_ready e = refl
-  stopped_holds leg.Stopping not_ready e = refl
-  stopped_holds (leg.Ended a) not_ready e = cc
-
-  stopped_legs_hold : (legs : List LegState) (l : ℕ) → list_any (λ z. is_ready z.phase) legs ≡ false
-      → passes (leg_passes leg_holds) (slice_get legs l) ≡ true → passes (leg_passes leg_holds) (slice_get (map stopped legs) l) ≡ true
-  stopped_legs_hold [] l none e = cc
-  stopped_legs_hold (z ∷ zs) zero none e =
-      stopped_holds z.phase (or_parts (is_ready z.phase) (list_any (λ v. is_ready v.phase) zs) none).0 e
-  stopped_legs_hold (z ∷ zs) (suc l) none e =
-      stopped_legs_hold zs l (or_parts (is_ready z.phase) (list_any (λ v. is_ready v.phase) zs) none).1 e
 
   no_group : (j l : ℕ) → asks_for_groups runs r j ≡ false → (g : Group) → group_at runs (Holder.a_leg (leg_place r j l)) ≡ Some g → ⊥
   unfolding group_at
@@ -379,60 +435,147 @@ module _ (runs : List RunState) (r : ℕ) (x : RunState) (was : run_at runs r �
           let named : Concurrency → Option Group = named_group (event_of f.event.body).repo (context_of f) in
           some_not_none g (sym e ∙ ap (option_and_then named) (asked_not f none))
 
+  no_leg_held : holds_by_a_leg x ≡ false → (i l : ℕ) (g : Group) → group_at runs (Holder.a_leg (leg_place r i l)) ≡ Some g
+      → run_passes leg_holds i l x ≡ true → ⊥
+  no_leg_held none i l g group e = by (slice_get x.jobs i) refl e
+    where
+      asks : job_asks x i ≡ true
+      asks =
+          elim (cases_Bool (job_asks x i)) [
+            | inl is ↦ is
+            | inr not_so ↦
+                absurd (no_group i l
+                (ap (λ o. option_map_or (λ (planned : PlannedJob). is_some planned.concurrency) o false)
+                (ap (option_and_then (λ (z : RunState). slice_get (plan_of z.admitted.body) i)) was) ∙ not_so) g group)
+          ]
+
+      none_of_job : (y : JobState) → slice_get x.jobs i ≡ Some y → has_holding_leg y ≡ false
+      none_of_job y at =
+          sym (ap (λ b. b && has_holding_leg y) asks)
+          ∙ sym (ap (λ o. option_map_or (λ (job : JobState). job_asks x i && has_holding_leg job) o false) at)
+          ∙ not_in_range (holds_by_a_leg_of x) (length x.jobs) 0 i (omega arith) (omega (arith, slice_get_within x.jobs i y at)) none
+
+      in_legs : (y : JobState) → has_holding_leg y ≡ false → (o : Option LegState) → slice_get y.legs l ≡ o
+          → passes (leg_passes leg_holds) o ≡ true → ⊥
+      in_legs y none None at e = cc
+      in_legs y none (Some z) at e = true≢false (sym e ∙ none_of (λ v. leg_holds v.phase) y.legs l z none at)
+
+      by : (o : Option JobState) → slice_get x.jobs i ≡ o → passes (job_passes leg_holds l) o ≡ true → ⊥
+      by None at e = cc
+      by (Some y) at e = in_legs y (none_of_job y at) (slice_get y.legs l) refl e
+
+  stop_stays : holds_by_a_leg x ≡ false → HoldersStay Nobody runs r x (stopped_run x)
+  stop_stays none = record {
+    own = (λ g group live. inr (live_still x.phase refl live));
+    legs = (λ i l g group held. absurd (no_leg_held none i l g group held));
+  }
+
+  stopped_holds : (phase : LegPhase) → is_ready phase ≡ false → leg_holds phase ≡ true → leg_holds (stopped_phase phase) ≡ true
+  stopped_holds leg.New not_ready e = cc
+  stopped_holds leg.Waiting not_ready e = cc
+  stopped_holds leg.Ready not_ready e = cc
+  stopped_holds leg.Running not_ready e = refl
+  stopped_holds leg.Stopping not_ready e = refl
+  stopped_holds (leg.Ended a) not_ready e = cc
+
+  stopped_legs_hold : (legs : List LegState) (l : ℕ) → list_any (λ z. is_ready z.phase) legs ≡ false
+      → passes (leg_passes leg_holds) (slice_get legs l) ≡ true → passes (leg_passes leg_holds) (slice_get (map stopped legs) l) ≡ true
+  stopped_legs_hold [] l none e = cc
+  stopped_legs_hold (z ∷ zs) zero none e =
+      stopped_holds z.phase (or_parts (is_ready z.phase) (list_any (λ v. is_ready v.phase) zs) none).0 e
+  stopped_legs_hold (z ∷ zs) (suc l) none e =
+      stopped_legs_hold zs l (or_parts (is_ready z.phase) (list_any (λ v. is_ready v.phase) zs) none).1 e
+
   stop_legs_stay : (j : ℕ) → (offers_a_leg runs r j && asks_for_groups runs r j) ≡ false
-      → HoldersStay runs r x (record x { jobs = changed_at j with_stopped_legs x.jobs })
+      → HoldersStay Nobody runs r x (record x { jobs = changed_at j with_stopped_legs x.jobs })
   stop_legs_stay j never =
-      job_stays j with_stopped_legs (λ y at. refl)
+      job_stays Nobody j with_stopped_legs (λ y at. refl)
       (λ y at l g group held.
       elim (and_cases (offers_a_leg runs r j) (asks_for_groups runs r j) never) [
-        | inl none ↦ stopped_legs_hold y.legs l (in_job j has_ready_leg none y at) held
+        | inl none ↦ inr (stopped_legs_hold y.legs l (in_job j has_ready_leg none y at) held)
         | inr none ↦ absurd (no_group j l none g group)
       ])
 
-  put_stays : (j l : ℕ) (put : LegState) → leg_lets_go runs (leg_place r j l) put ≡ false
-      → HoldersStay runs r x (record x { jobs = changed_at j (λ y. record y { legs = changed_at l (λ _. put) y.legs }) x.jobs })
-  put_stays j l put never =
-      job_stays j (λ y. record y { legs = changed_at l (λ _. put) y.legs }) (λ y at. refl)
+  put_stays : (goes : Frees) (j l : ℕ) (put : LegState)
+      → IsFreed goes (Holder.a_leg (leg_place r j l)) ⊎ (leg_lets_go runs (leg_place r j l) put ≡ false)
+      → HoldersStay goes runs r x (record x { jobs = changed_at j (λ y. record y { legs = changed_at l (λ _. put) y.legs }) x.jobs })
+  put_stays goes j l put unless_freed =
+      job_stays goes j (λ y. record y { legs = changed_at l (λ _. put) y.legs }) (λ y at. refl)
       (λ y at k g group held.
       elim (cases_eq k l) [
         | inl here ↦
+            or_else (subst
+            (λ n. IsFreed goes (Holder.a_leg (leg_place r j n)) ⊎ (leg_lets_go runs (leg_place r j l) put ≡ false)) (sym here) unless_freed)
+            (λ never.
             let there : holds runs (Holder.a_leg (leg_place r j l)) ≡ true =
             by_run leg_holds runs (leg_place r j l) ∙ ap (passes (run_passes leg_holds j l)) was ∙ ap (passes (job_passes leg_holds l)) at
             ∙ subst (λ n. job_passes leg_holds n y ≡ true) here held in
             let holds_still = unless (holds runs (Holder.a_leg (leg_place r j l))) (leg_holds put.phase)
             (group_at runs (Holder.a_leg (leg_place r j l))) g never
             (subst (λ n. group_at runs (Holder.a_leg (leg_place r j n)) ≡ Some g) here group) there in
-            passed_on (leg_passes leg_holds) (λ _. put) l y.legs (λ z is now. holds_still) k held
-        | inr other ↦ ap (passes (leg_passes leg_holds)) (at_another l (λ _. put) y.legs k other) ∙ held
+            passed_on (leg_passes leg_holds) (λ _. put) l y.legs (λ z is now. holds_still) k held)
+        | inr other ↦ inr (ap (passes (leg_passes leg_holds)) (at_another l (λ _. put) y.legs k other) ∙ held)
       ])
 
   there_is : (test : RunState → Bool) → is_so_at test runs r ≡ false → test x ≡ false
   there_is test never = sym (ap (λ o. option_map_or test o false) was) ∙ never
 
-  holders_stay : (c : Change) → may_let_go runs r c ≡ false → HoldersStay runs r x (changed c x)
-  holders_stay (change.Phase phase) never = phase_stays phase never
-  holders_stay (change.Open j) never = opening_stays j (legs_in_plan (plan_of x.admitted.body) j) never
-  holders_stay (change.Settle j settled) never = settling_stays j settled (there_is (has_legs_behind j) never)
-  holders_stay change.Stop never = stop_stays (there_is holds_by_a_leg never)
-  holders_stay (change.StopLegs j) never = stop_legs_stay j never
-  holders_stay (change.PutLeg j l put) never = put_stays j l put never
+  -- where anybody may go
+  any_goes : (y : RunState) → HoldersStay Any runs r x y
+  any_goes y = record { own = (λ g group live. inl tt); legs = (λ i l g group held. inl tt) }
 
-  -- a change that may let no group go lets nobody go
-  lets_nobody_go : (c : Change) → may_let_go runs r c ≡ false → LetsNobodyGo runs (with_run r (changed c) runs)
-  lets_nobody_go c never =
-      nobody_goes runs r (changed c) x was (changed_admitted c x) (changed_attempt c x) (holders_stay c never)
+  by_test : (b : Bool) (y : RunState) → (b ≡ false → HoldersStay Nobody runs r x y) → HoldersStay (if b then Any else Nobody) runs r x y
+  by_test true y stays = any_goes y
+  by_test false y stays = stays refl
+
+  by_one : (b : Bool) (one : HolderInCode) (y : RunState)
+      → ((goes : Frees) → IsFreed goes (holder_in_words one) ⊎ (b ≡ false) → HoldersStay goes runs r x y)
+      → HoldersStay (if b then One one else Nobody) runs r x y
+  by_one true one y stays = stays (One one) (inl refl)
+  by_one false one y stays = stays Nobody (inr refl)
+
+  holders_stay : (c : Change) → HoldersStay (freed runs r c) runs r x (changed c x)
+  holders_stay (change.Phase phase) =
+      by_one (run_lets_go runs r phase) (Run r) (run_in_phase phase x) (λ goes never. phase_stays goes phase never)
+  holders_stay (change.Open j) =
+      by_test (option_map_or has_begun (job_at runs r j) false) (changed (change.Open j) x)
+      (opening_stays j (legs_in_plan (plan_of x.admitted.body) j))
+  holders_stay (change.Settle j settled) =
+      by_test (is_so_at (has_legs_behind j) runs r) (changed (change.Settle j settled) x)
+      (λ never. settling_stays j settled (there_is (has_legs_behind j) never))
+  holders_stay change.Stop =
+      by_test (is_so_at holds_by_a_leg runs r) (stopped_run x) (λ never. stop_stays (there_is holds_by_a_leg never))
+  holders_stay (change.StopLegs j) =
+      by_test (offers_a_leg runs r j && asks_for_groups runs r j) (changed (change.StopLegs j) x) (stop_legs_stay j)
+  holders_stay (change.PutLeg j l put) =
+      by_one (leg_lets_go runs (leg_place r j l) put) (Leg (leg_place r j l)) (changed (change.PutLeg j l put) x)
+      (λ goes never. put_stays goes j l put never)
+
+  -- a change lets nobody else go
+  freed_go : (c : Change) → LetsGoOnly (freed runs r c) runs (with_run r (changed c) runs)
+  freed_go c = others_stay runs r (changed c) x was (changed_admitted c x) (changed_attempt c x) (freed runs r c) (holders_stay c)
 
 not_there : {X : Type 0} (x : X) (o : Option X) → o ≡ None → o ≡ Some x → ⊥
 not_there x None none e = cc
 not_there x (Some y) none e = cc
 
 -- nor where there is no run
-pub nobody_is_let_go : (runs : List RunState) (r : ℕ) (c : Change) → may_let_go runs r c ≡ false
-    → LetsNobodyGo runs (with_run r (changed c) runs)
-nobody_is_let_go runs r c never = by (run_at runs r) refl
+pub only_freed_go : (runs : List RunState) (r : ℕ) (c : Change) → LetsGoOnly (freed runs r c) runs (with_run r (changed c) runs)
+only_freed_go runs r c = by (run_at runs r) refl
   where
-    by : (o : Option RunState) → run_at runs r ≡ o → LetsNobodyGo runs (with_run r (changed c) runs)
+    by : (o : Option RunState) → run_at runs r ≡ o → LetsGoOnly (freed runs r c) runs (with_run r (changed c) runs)
     by None at =
-        subst (λ (next : List RunState). LetsNobodyGo runs next)
-        (changed_none runs r (changed c) (λ x is. absurd (not_there x (run_at runs r) at is))) (λ g h e. e)
-    by (Some x) at = lets_nobody_go runs r x at c never
+        subst (λ (next : List RunState). LetsGoOnly (freed runs r c) runs next)
+        (changed_none runs r (changed c) (λ x is. absurd (not_there x (run_at runs r) at is))) (λ g h e. inr e)
+    by (Some x) at = freed_go runs r x at c
+
+-- who is freed is of the run that changes
+pub freed_of_run : (runs : List RunState) (r : ℕ) (c : Change) (one : HolderInCode) → freed runs r c ≡ One one
+    → run_of (holder_in_words one) ≡ r
+freed_of_run runs r (change.Phase phase) one is = of_run (run_lets_go runs r phase) (Run r) one refl is
+freed_of_run runs r (change.Open j) one is = absurd (not_one (option_map_or has_begun (job_at runs r j) false) one is)
+freed_of_run runs r (change.Settle j settled) one is = absurd (not_one (is_so_at (has_legs_behind j) runs r) one is)
+freed_of_run runs r change.Stop one is = absurd (not_one (is_so_at holds_by_a_leg runs r) one is)
+freed_of_run runs r (change.StopLegs j) one is = absurd (not_one (offers_a_leg runs r j && asks_for_groups runs r j) one is)
+freed_of_run runs r (change.PutLeg j l put) one is =
+    of_run (leg_lets_go runs (leg_place r j l) put) (Leg (leg_place r j l)) one refl is

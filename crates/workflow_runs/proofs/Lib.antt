@@ -11,8 +11,15 @@ pub mod Doors
 pub mod DueRuns
 pub mod EachRule
 pub mod Firsts
+pub mod FlagsSaid
 pub mod Found
 pub mod GroupKeys
+mod FoundHolders
+mod GroupNumbers
+mod MarkedWalk
+mod SlotHolders
+mod SlotsPut
+mod StoodBefore
 pub mod GroupStays
 pub mod HolderPlaces
 pub mod HoldersFade
@@ -30,15 +37,19 @@ pub mod LegCounts
 pub mod LegFacts
 pub mod LegReads
 pub mod LettingGo
+mod ListedRuns
 pub mod LivePlaces
 pub mod LookedAgain
 pub mod Lowered
 pub mod MarkedRuns
 pub mod Meant
+mod NamedOnce
+mod NeedsLeft
 pub mod NeedsSettled
 pub mod NextAttempt
 pub mod NoneActive
 pub mod NoneReady
+pub mod NoRoomMade
 pub mod OneAfterAnother
 pub mod OneEach
 pub mod OneEachRules
@@ -62,3 +73,4 @@ pub mod StopsLower
 pub mod Transitions
 pub mod Under
 pub mod Walks
+mod Woken

@@ -12,6 +12,7 @@ use Rattle.wf_value.proofs.OptionOr.{or_nothing}
 use Rattle.needs_graph.specs.Ancestors.{dependents_of, needs_at}
 use Rattle.workflow_runs.specs.FirstOf.{changed_at, first_some, placed}
 use Rattle.workflow_runs.specs.JobResults.{needs_in, results_so_far, settled_result}
+use Rattle.workflow_runs.specs.Groups.{leg_waits, run_waits}
 use Rattle.workflow_runs.specs.LookAgain.{NoneBefore, RestBefore, may_wake_others, has_settled, job_again, resume_point, look_near}
 use Rattle.workflow_runs.specs.Moves.{Holder, Transition}
 use Rattle.workflow_runs.specs.Places.{leg_at, run_at}
@@ -33,6 +34,7 @@ use Rattle.workflow_runs.proofs.Firsts.{first_at}
 use Rattle.workflow_runs.proofs.Found.{all_weaken, placed_get}
 use Rattle.workflow_runs.proofs.KeptBack.{KeepsBack, KeepsBackIn}
 use Rattle.workflow_runs.proofs.NeedsSettled.{result_among}
+use Rattle.workflow_runs.proofs.OneEach.{one_that_waits}
 use Rattle.workflow_runs.proofs.Optional.{from_and_then, if_none, if_some}
 use Rattle.workflow_runs.proofs.QuietRules.{IsAt, quiet_at_job, quiet_in_run, quiet_keeps_back}
 use Rattle.workflow_runs.proofs.RunFits.{RunsFit, job_in_run, leg_in_job}
@@ -238,14 +240,16 @@ still_none true false true p later after was rests e = let is : false ≡ true =
 still_none true false false p later after was rests e = rests e
 
 module _ (runs next : List RunState) (r : ℕ) (keeps : KeepsBackIn runs next r) where
-  leg_rests : (phase : LegPhase) (j l : ℕ) (z : LegState) → leg_at runs (leg_place r j l) ≡ Some z
+  leg_rests : (phase : LegPhase) (j l : ℕ) (z : LegState) → z.phase ≡ phase → leg_at runs (leg_place r j l) ≡ Some z
       → goes_on_in phase runs (leg_place r j l) ≡ false → goes_on_in phase next (leg_place r j l) ≡ false
-  leg_rests leg.New j l z at e = cc
-  leg_rests leg.Waiting j l z at e = keeps (Holder.a_leg (leg_place r j l)) refl (z, at) e
-  leg_rests leg.Ready j l z at e = refl
-  leg_rests leg.Running j l z at e = refl
-  leg_rests leg.Stopping j l z at e = refl
-  leg_rests (leg.Ended o) j l z at e = refl
+  leg_rests leg.New j l z is at e = cc
+  leg_rests leg.Waiting j l z is at e =
+      keeps (Holder.a_leg (leg_place r j l)) refl
+      (ap (λ o. option_map_or (λ (x : LegState). leg_waits x.phase) o false) at ∙ ap leg_waits is) e
+  leg_rests leg.Ready j l z is at e = refl
+  leg_rests leg.Running j l z is at e = refl
+  leg_rests leg.Stopping j l z is at e = refl
+  leg_rests (leg.Ended o) j l z is at e = refl
 
   open_rests : (j : ℕ) (x : RunState) (y : JobState) → run_at runs r ≡ Some x → slice_get x.jobs j ≡ Some y
       → first_of_open runs r j y ≡ None → first_of_open next r j y ≡ None
@@ -257,7 +261,7 @@ module _ (runs next : List RunState) (r : ℕ) (keeps : KeepsBackIn runs next r)
       (λ l. if goes_on next (leg_place r j l.0) l.1 then Some (AtLeg (leg_place r j l.0)) else None) y.legs
       (λ l z was none.
       nothing_if (goes_on next (leg_place r j l) z) (AtLeg (leg_place r j l))
-      (leg_rests z.phase j l z (leg_in_job runs (leg_place r j l) y at ∙ was)
+      (leg_rests z.phase j l z refl (leg_in_job runs (leg_place r j l) y at ∙ was)
       (if_none (goes_on runs (leg_place r j l) z) (AtLeg (leg_place r j l)) none))) parts.0)
       parts.1
 
@@ -276,11 +280,12 @@ module _ (runs next : List RunState) (r : ℕ) (keeps : KeepsBackIn runs next r)
       (λ j y was none. job_rests j x x y at was (λ h. h) none) e
   jobs_of_run_rest x false at e = refl
 
-  whole_rests : (phase : RunPhase) (x : RunState) → run_at runs r ≡ Some x → whole_goes_on_in phase runs r x ≡ false
+  whole_rests : (phase : RunPhase) (x : RunState) → x.phase ≡ phase → run_at runs r ≡ Some x → whole_goes_on_in phase runs r x ≡ false
       → whole_goes_on_in phase next r x ≡ false
-  whole_rests run.Waiting x at e = keeps (Holder.a_run r) refl (x, at) e
-  whole_rests run.Live x at e = e
-  whole_rests run.Ended x at e = refl
+  whole_rests run.Waiting x is at e =
+      keeps (Holder.a_run r) refl (ap (λ o. option_map_or (λ (z : RunState). run_waits z.phase) o false) at ∙ ap run_waits is) e
+  whole_rests run.Live x is at e = e
+  whole_rests run.Ended x is at e = refl
 
   pub run_rests : (x : RunState) → run_at runs r ≡ Some x → first_in_run runs r x ≡ None → first_in_run next r x ≡ None
   run_rests x at e =
@@ -288,11 +293,11 @@ module _ (runs next : List RunState) (r : ℕ) (keeps : KeepsBackIn runs next r)
       or_neither_some (if is_live x.phase then first_in_jobs next r x x.jobs else None) (first_of_whole next r x)
       (jobs_of_run_rest x (is_live x.phase) at parts.0)
       (nothing_if (whole_goes_on_in x.phase next r x) (Whole r)
-      (whole_rests x.phase x at (if_none (whole_goes_on_in x.phase runs r x) (Whole r) parts.1)))
+      (whole_rests x.phase x refl at (if_none (whole_goes_on_in x.phase runs r x) (Whole r) parts.1)))
 
 module _ (runs next : List RunState) (keeps : KeepsBack runs next) where
   keeps_in : (r : ℕ) → KeepsBackIn runs next r
-  keeps_in r h of_run there e = keeps h there e
+  keeps_in r h of_run waiting e = keeps h (one_that_waits runs h waiting) e
 
   -- the runs before the place's own are as they were
   pub runs_rest : (r : ℕ) → ((k : ℕ) → k < r → run_at next k ≡ run_at runs k) → NoneBefore (first_in_run runs) runs r

@@ -1,41 +1,35 @@
 -- The marks of runs stay right, whatever changes.
-use Rattle.std.specs.Prelude.{◌≡◌, ◌⊎◌, ℕ, zero, suc, ◌+◌, ◌<◌, ◌≤◌, ◌&&◌, ◌||◌, List, map, [], ◌∷◌, ◌++◌, length, Bool, true, false, Option, Some, None, nat_eq}
+use Rattle.std.specs.Prelude.{◌≡◌, ℕ, zero, suc, ◌+◌, ◌<◌, ◌≤◌, ◌||◌, List, map, [], ◌∷◌, ◌++◌, length, Bool, true, false, Option, Some, None, nat_eq}
 use Rattle.std.specs.Prelude.{IfNone, IfSome, is_some, option_and_then, option_map, slice_get, slice_set, if◌then◌else◌, refl}
-use Rattle.std.specs.List.{enumerate_from, list_any}
-use Rattle.std.specs.Option.{option_map_or, option_or}
+use Rattle.std.specs.List.{list_any}
+use Rattle.std.specs.Option.{option_map_or}
 use Rattle.std.proofs.Common.{arith, ap, sym, subst, ◌∙◌, inl, inr, length-append, length-set}
-use Rattle.std.proofs.lemmas.Bool.{and_parts, cases_Bool, cases_eq, or_parts, true≢false}
+use Rattle.std.proofs.lemmas.Bool.{and_parts, cases_Bool, cases_eq, or_right, true≢false}
 use Rattle.std.proofs.lemmas.Bool.Decides.{Decides-eqb, nat_tests}
 use Rattle.std.proofs.lemmas.Option.{slice_get-map, slice_get_past, slice_get_within}
 use Rattle.run_marks.specs.Bits.{Puts}
 use Rattle.run_marks.specs.Marked.{Covers, SameMarks, is_marked}
-use Rattle.workflow_runs.specs.FirstOf.{first_some}
 use Rattle.workflow_runs.specs.LookAgain.{ask}
 use Rattle.workflow_runs.specs.MarkedRuns.{AreMarked, CoversRuns, OnlyGrows, RunsAreMarked, Stirs, has_waiting_leg, is_active, is_due, is_so_at, offers_legs}
 use Rattle.workflow_runs.specs.MarkedRuns.{someone_waits}
-use Rattle.workflow_runs.specs.Groups.{holds, is_in, leg_waits, run_waits}
+use Rattle.workflow_runs.specs.Groups.{holds, is_in, leg_waits, run_waits, waits}
 use Rattle.workflow_runs.specs.Holders.{run_of}
 use Rattle.workflow_runs.specs.LettingGo.{LetsNobodyGo}
-use Rattle.workflow_runs.specs.Places.{LegPlace, leg_place, run_at}
+use Rattle.workflow_runs.specs.Moves.{Holder}
+use Rattle.workflow_runs.specs.Places.{run_at}
 use Rattle.workflow_runs.specs.RunNumber.{events}
-use Rattle.workflow_runs.specs.RunState.{JobState, LegState, RunState}
-use Rattle.workflow_runs.specs.StateWords.{is_blocked, is_done, is_live}
-use Rattle.workflow_runs.specs.WithinRun.{first_in_job, first_in_jobs, first_in_run, first_of_whole, goes_on, goes_on_in}
-use Rattle.workflow_runs.specs.WithinRun.{needs_settled_in, whole_goes_on_in}
-use Rattle.workflow_runs.specs.declared.phases.LegPhase.{LegPhase}
-use Rattle.workflow_runs.specs.declared.phases.LegPhase.TheVariants as leg
-use Rattle.workflow_runs.specs.declared.phases.RunPhase.{RunPhase}
-use Rattle.workflow_runs.specs.declared.phases.RunPhase.TheVariants as run
+use Rattle.workflow_runs.specs.RunState.{JobState, RunState}
+use Rattle.workflow_runs.specs.WithinRun.{first_in_run}
 use Rattle.workflow_runs.specs.declared.place.Place.{Place}
-use Rattle.workflow_runs.specs.declared.place.Place.TheVariants.{Opening, AtLeg, Closing, Whole}
 use Rattle.workflow_runs.specs.declared.runs.marks.RunMarks.{RunMarks}
 use Rattle.workflow_runs.proofs.Found.{before_the_end}
 use Rattle.workflow_runs.proofs.GroupStays.{same_group}
-use Rattle.workflow_runs.proofs.KeptBack.{KeepsBackIn, back_still, runs_still}
+use Rattle.workflow_runs.proofs.HoldersFade.{by_run, job_passes, passes, run_passes}
+use Rattle.workflow_runs.proofs.KeptBack.{KeepsBackIn, RunsStillFor, back_still, runs_still}
 use Rattle.workflow_runs.proofs.LegFacts.{SameUpTo}
-use Rattle.workflow_runs.proofs.LettingGo.{holder_within, same_holds}
+use Rattle.workflow_runs.proofs.LettingGo.{holder_within, run_of_one, same_holds}
 use Rattle.workflow_runs.proofs.LookedAgain.{run_rests}
-use Rattle.workflow_runs.proofs.OneEach.{one_that_holds}
+use Rattle.workflow_runs.proofs.OneEach.{one_that_holds, one_that_waits}
 
 pub list_any-map : {X Y : Type 0} (p : Y → Bool) (f : X → Y) (xs : List X) → list_any p (map f xs) ≡ list_any (λ x. p (f x)) xs
 list_any-map p f [] = refl
@@ -72,7 +66,7 @@ if_none (Some r) P Q follows is = is
 
 -- ---- what an unmarked run says
 
-not_so : (b m : Bool) → (b ≡ true → m ≡ true) → m ≡ false → b ≡ false
+pub not_so : (b m : Bool) → (b ≡ true → m ≡ true) → m ≡ false → b ≡ false
 not_so true m says none = absurd (true≢false (sym (says refl) ∙ none))
 not_so false m says none = refl
 
@@ -166,76 +160,45 @@ roomier fact xs marks marks' same longer are = record {
   marked = (λ s x at has. same s ∙ are.marked s x at has);
 }
 
--- ---- where nobody waits, other runs change nothing
+-- ---- a run in which somebody waits is marked
 
-module _ (runs next : List RunState) (s : ℕ) where
-  leg_goes_on : (phase : LegPhase) (p : LegPlace) → leg_waits phase ≡ false → goes_on_in phase next p ≡ goes_on_in phase runs p
-  leg_goes_on leg.New p none = refl
-  leg_goes_on leg.Waiting p none = absurd (true≢false none)
-  leg_goes_on leg.Ready p none = refl
-  leg_goes_on leg.Running p none = refl
-  leg_goes_on leg.Stopping p none = refl
-  leg_goes_on (leg.Ended o) p none = refl
+any_at : {X : Type 0} (test : X → Bool) (xs : List X) (i : ℕ) → passes test (slice_get xs i) ≡ true → list_any test xs ≡ true
+any_at test [] i e = cc
+any_at test (x ∷ xs) zero e = ap (λ b. b || list_any test xs) e
+any_at test (x ∷ xs) (suc i) e = or_right (test x) (list_any test xs) (any_at test xs i e)
 
-  whole_goes_on : (phase : RunPhase) (x : RunState) → run_waits phase ≡ false
-      → whole_goes_on_in phase next s x ≡ whole_goes_on_in phase runs s x
-  whole_goes_on run.Waiting x none = absurd (true≢false none)
-  whole_goes_on run.Live x none = refl
-  whole_goes_on run.Ended x none = refl
+leg_waits_there : (l : ℕ) (jobs : List JobState) (j : ℕ) → passes (job_passes leg_waits l) (slice_get jobs j) ≡ true
+    → list_any has_waiting_leg jobs ≡ true
+leg_waits_there l [] j e = cc
+leg_waits_there l (y ∷ ys) zero e = ap (λ b. b || list_any has_waiting_leg ys) (any_at (λ z. leg_waits z.phase) y.legs l e)
+leg_waits_there l (y ∷ ys) (suc j) e = or_right (has_waiting_leg y) (list_any has_waiting_leg ys) (leg_waits_there l ys j e)
 
-  abbrev of_leg : List RunState → ℕ → ℕ → LegState → Option Place
-  of_leg all j l it = if goes_on all (leg_place s j l) it then Some (AtLeg (leg_place s j l)) else None
+waits_there : (runs : List RunState) (h : Holder) (x : RunState) → run_at runs (run_of h) ≡ Some x → waits runs h ≡ true
+    → someone_waits x ≡ true
+waits_there runs (Holder.a_run r) x at e =
+    ap (λ b. b || list_any has_waiting_leg x.jobs) (sym (ap (passes (λ (z : RunState). run_waits z.phase)) at) ∙ e)
+waits_there runs (Holder.a_leg p) x at e =
+    or_right (run_waits x.phase) (list_any has_waiting_leg x.jobs)
+    (leg_waits_there p.leg x.jobs p.job
+    (sym (ap (passes (run_passes leg_waits p.job p.leg)) at) ∙ sym (by_run leg_waits runs p) ∙ e))
 
-  legs_same : (j n : ℕ) (legs : List LegState) → list_any (λ l. leg_waits l.phase) legs ≡ false
-      → first_some (λ l. of_leg next j l.0 l.1) (enumerate_from n legs) ≡ first_some (λ l. of_leg runs j l.0 l.1) (enumerate_from n legs)
-  legs_same j n [] none = refl
-  legs_same j n (l ∷ legs) none =
-      let parts = or_parts (leg_waits l.phase) (list_any (λ l. leg_waits l.phase) legs) none in
-      ap (λ b. option_or (if b then Some (AtLeg (leg_place s j n)) else None)
-      (first_some (λ l. of_leg next j l.0 l.1) (enumerate_from (n + 1) legs))) (leg_goes_on l.phase (leg_place s j n) parts.0)
-      ∙ ap (option_or (of_leg runs j n l)) (legs_same j (n + 1) legs parts.1)
+pub waits_marked : (runs : List RunState) (marks : List ℕ) → AreMarked (λ _ x. someone_waits x) runs marks → (h : Holder)
+    → waits runs h ≡ true → is_marked marks (run_of h) ≡ true
+waits_marked runs marks are h e =
+    let there = run_of_one runs h (one_that_waits runs h e) in
+    are.marked (run_of h) there.0 there.1 (waits_there runs h there.0 there.1 e)
 
-  job_same : (x : RunState) (j : ℕ) (job : JobState) → has_waiting_leg job ≡ false
-      → first_in_job next s x j job ≡ first_in_job runs s x j job
-  job_same x j job none =
-      ap (λ o. if is_blocked job.phase && needs_settled_in x j then Some (Opening s j)
-      else option_or o (if is_done job then Some (Closing s j) else None)) (legs_same j 0 job.legs none)
+-- ---- which runs are due
 
-  jobs_same : (x : RunState) (n : ℕ) (jobs : List JobState) → list_any has_waiting_leg jobs ≡ false
-      → first_some (λ j. first_in_job next s x j.0 j.1) (enumerate_from n jobs)
-      ≡ first_some (λ j. first_in_job runs s x j.0 j.1) (enumerate_from n jobs)
-  jobs_same x n [] none = refl
-  jobs_same x n (job ∷ jobs) none =
-      let parts = or_parts (has_waiting_leg job) (list_any has_waiting_leg jobs) none in
-      ap (λ o. option_or o (first_some (λ j. first_in_job next s x j.0 j.1) (enumerate_from (n + 1) jobs))) (job_same x n job parts.0)
-      ∙ ap (option_or (first_in_job runs s x n job)) (jobs_same x (n + 1) jobs parts.1)
-
-  run_same : (x : RunState) → someone_waits x ≡ false → first_in_run next s x ≡ first_in_run runs s x
-  run_same x none =
-      let parts = or_parts (run_waits x.phase) (list_any has_waiting_leg x.jobs) none in
-      ap (λ o. option_or (if is_live x.phase then o else None) (first_of_whole next s x)) (jobs_same x 0 x.jobs parts.1)
-      ∙ ap (λ b. option_or (if is_live x.phase then first_in_jobs runs s x x.jobs else None) (if b then Some (Whole s) else None))
-      (whole_goes_on x.phase x parts.0)
-
--- A run in which a rule applies now, and which stays as it was, is due: one applied before, or someone waits there and was woken, where
--- somebody may have let a group go.
+-- A run in which a rule applies now, and which stays as it was, is due: one applied before, or it was woken, since one of those may have
+-- been let go who keep back whoever waits in it.
 module _ (runs next : List RunState) (old new : RunMarks) (r bound : ℕ) (stirs : Stirs r bound old new) (are : RunsAreMarked runs old)
-    (wakes : (bound ≡ length runs) ⊎ LetsNobodyGo runs next) where
-  woken_due : (s : ℕ) (x : RunState) → bound ≡ length runs → slice_get runs s ≡ Some x → is_due next s x ≡ true
-      → is_marked new.due s ≡ true
-  woken_due s x all was due =
-      elim (cases_Bool (is_marked old.waiting s)) [
-        | inl waits ↦ stirs.woken s (omega (arith, all, slice_get_within runs s x was)) waits
-        | inr none ↦
-            let quiet = none_unmarked (λ _ x. someone_waits x) runs old.waiting are.waiting s x none was in
-            stirs.due s (are.due.marked s x was (ap is_some (sym (run_same runs next s x quiet)) ∙ due))
-      ]
-
-  kept_back_due : (s : ℕ) (x : RunState) → LetsNobodyGo runs next → slice_get runs s ≡ Some x → slice_get next s ≡ slice_get runs s
+    (stay : (s : ℕ) → (s ≡ r → ⊥) → is_marked new.due s ≡ false → RunsStillFor runs next s) where
+  kept_back_due : (s : ℕ) (x : RunState) → RunsStillFor runs next s → slice_get runs s ≡ Some x → slice_get next s ≡ slice_get runs s
       → SameUpTo s (events next) (events runs) → is_due next s x ≡ true → is_marked new.due s ≡ true
-  kept_back_due s x stay was same upto due =
+  kept_back_due s x still was same upto due =
       let back : KeepsBackIn runs next s =
-      λ h of_run there e. back_still runs next stay h
+      λ h of_run waiting e. back_still runs next h (still h of_run waiting)
       (same_group runs next h (subst (λ k. SameUpTo k (events next) (events runs)) (sym of_run) upto)
       (subst (λ k. slice_get next k ≡ slice_get runs k) (sym of_run) same)) e in
       elim (first_in_run runs s x) as (λ o. first_in_run runs s x ≡ o → is_marked new.due s ≡ true) [
@@ -243,12 +206,12 @@ module _ (runs next : List RunState) (old new : RunMarks) (r bound : ℕ) (stirs
         | Some p ↦ λ is. stirs.due s (are.due.marked s x was (ap is_some is))
       ] refl
 
-  still_due : (s : ℕ) (x : RunState) → slice_get runs s ≡ Some x → slice_get next s ≡ slice_get runs s
+  still_due : (s : ℕ) (x : RunState) → (s ≡ r → ⊥) → slice_get runs s ≡ Some x → slice_get next s ≡ slice_get runs s
       → SameUpTo s (events next) (events runs) → is_due next s x ≡ true → is_marked new.due s ≡ true
-  still_due s x was same upto due =
-      elim (wakes) [
-        | inl all ↦ woken_due s x all was due
-        | inr stay ↦ kept_back_due s x stay was same upto due
+  still_due s x other was same upto due =
+      elim (cases_Bool (is_marked new.due s)) [
+        | inl marked ↦ marked
+        | inr none ↦ kept_back_due s x (stay s other none) was same upto due
       ]
 
   due_unless : (s : ℕ) (x : RunState) → ((s ≡ r → ⊥) → slice_get next s ≡ slice_get runs s)
@@ -257,26 +220,38 @@ module _ (runs next : List RunState) (old new : RunMarks) (r bound : ℕ) (stirs
   due_unless s x same upto at due =
       elim (cases_eq s r) [
         | inl here ↦ subst (λ i. is_marked new.due i ≡ true) (sym here) stirs.itself
-        | inr other ↦ still_due s x (sym (same other) ∙ at) (same other) (upto other) due
+        | inr other ↦ still_due s x other (sym (same other) ∙ at) (same other) (upto other) due
       ]
 
 -- ---- all marks
 
 -- a run changes, of the same event
-pub marks_after : (runs : List RunState) (y : RunState) (old new : RunMarks) (r bound : ℕ) → events (slice_set runs r y) ≡ events runs
-    → (bound ≡ length runs) ⊎ LetsNobodyGo runs (slice_set runs r y) → Stirs r bound old new → RunsAreMarked runs old
-    → RunsAreMarked (slice_set runs r y) new
-marks_after runs y old new r bound same wakes stirs are = record {
+pub marks_after_change : (runs : List RunState) (y : RunState) (old new : RunMarks) (r bound : ℕ)
+    → events (slice_set runs r y) ≡ events runs
+    → ((s : ℕ) → (s ≡ r → ⊥) → is_marked new.due s ≡ false → RunsStillFor runs (slice_set runs r y) s) → Stirs r bound old new
+    → RunsAreMarked runs old → RunsAreMarked (slice_set runs r y) new
+marks_after_change runs y old new r bound same stay stirs are = record {
   ready = written offers_legs runs old.ready new.ready r y stirs.ready_room stirs.ready are.ready;
   waiting = written someone_waits runs old.waiting new.waiting r y stirs.waiting_room stirs.waiting are.waiting;
   active = written is_active runs old.active new.active r y stirs.active_room stirs.active are.active;
   due = record {
     covers = omega (arith, are.due.covers, stirs.due_room, length-set runs r y);
     marked = (λ s x at due.
-        due_unless runs (slice_set runs r y) old new r bound stirs are wakes s x (λ other. set_other runs r s y other)
+        due_unless runs (slice_set runs r y) old new r bound stirs are stay s x (λ other. set_other runs r s y other)
         (λ other k le. ap (λ es. slice_get es k) same) at due);
   };
 }
+
+-- and all are woken in which someone waits
+pub marks_after : (runs : List RunState) (y : RunState) (old new : RunMarks) (r : ℕ) → events (slice_set runs r y) ≡ events runs
+    → Stirs r (length runs) old new → RunsAreMarked runs old → RunsAreMarked (slice_set runs r y) new
+marks_after runs y old new r same stirs are =
+    marks_after_change runs y old new r (length runs) same
+    (λ s other none h of_run waiting. absurd (true≢false
+    (sym (stirs.woken s
+    (subst (λ k. k < length runs) of_run (holder_within runs h (one_that_waits runs h waiting)))
+    (subst (λ k. is_marked old.waiting k ≡ true) of_run (waits_marked runs old.waiting are.waiting h waiting)))
+    ∙ none))) stirs are
 
 events_before : (runs : List RunState) (y : RunState) (s : ℕ) → s < length runs → SameUpTo s (events (runs ++ y ∷ [])) (events runs)
 events_before runs y s lt k le =
@@ -305,7 +280,7 @@ marks_more runs y old new r bound end room stirs are = record {
   due = record {
     covers = omega (arith, room.due, stirs.due_room, end, length-append runs (y ∷ []));
     marked = (λ s x at due.
-        due_unless runs (runs ++ y ∷ []) old new r bound stirs are (inr (one_more_stays runs y)) s x
+        due_unless runs (runs ++ y ∷ []) old new r bound stirs are (λ k other none h of_run waiting g group. one_more_stays runs y g) s x
         (λ other. before_the_end runs y s (λ e. other (e ∙ sym end)))
         (λ other.
         let was = sym (before_the_end runs y s (λ e. other (e ∙ sym end))) ∙ at in

@@ -1,5 +1,5 @@
 -- A run that is not active has no leg on which a runner is at work, and neither it nor a leg of it is pending or running in a group.
-use Rattle.std.specs.Prelude.{◌≡◌, ℕ, zero, suc, ◌<◌, ◌≤◌, ◌&&◌, ◌||◌, List, find, [], ◌∷◌, Bool, true, false, Option, Some, None, not}
+use Rattle.std.specs.Prelude.{◌≡◌, ℕ, zero, suc, ◌<◌, ◌≤◌, ◌&&◌, ◌||◌, List, [], ◌∷◌, Bool, true, false, Option, Some, None, not}
 use Rattle.std.specs.Prelude.{nat_eq, option_and_then, slice_get, if◌then◌else◌, refl}
 use Rattle.std.specs.List.{list_any}
 use Rattle.std.specs.Option.{option_map_or}
@@ -12,12 +12,12 @@ use Rattle.workflow_runs.specs.Fitting.{OnlyAtWork, has_lease}
 use Rattle.workflow_runs.specs.GroupOf.{group_at}
 use Rattle.workflow_runs.specs.GroupWords.{same_holder}
 use Rattle.workflow_runs.specs.Groups.{holds, is_in, is_pending_in, is_running_in, leg_holds, leg_waits, run_waits, waits}
-use Rattle.workflow_runs.specs.Holders.{is_conflicting}
+use Rattle.workflow_runs.specs.Holders.{is_conflicting, run_of}
 use Rattle.workflow_runs.specs.LookAgain.{ask}
 use Rattle.workflow_runs.specs.MarkedRuns.{has_active_leg, is_active, is_active_leg, is_so_at}
 use Rattle.workflow_runs.specs.Moves.{Holder}
 use Rattle.workflow_runs.specs.Parallel.{is_at_work}
-use Rattle.workflow_runs.specs.Places.{LegPlace, leg_at, leg_place, leg_places_of_job, leg_places_of_run}
+use Rattle.workflow_runs.specs.Places.{LegPlace, leg_at, leg_place}
 use Rattle.workflow_runs.specs.RunState.{JobState, LegState, RunState}
 use Rattle.workflow_runs.specs.StateWords.{is_live}
 use Rattle.workflow_runs.specs.WithinRun.{lease_in_job, lease_in_run}
@@ -25,8 +25,8 @@ use Rattle.workflow_runs.specs.declared.holder.HolderFilter.{HolderFilter}
 use Rattle.workflow_runs.specs.declared.holder.HolderFilter.TheVariants.{OthersPending, Running}
 use Rattle.workflow_runs.specs.declared.phases.LegPhase.{LegPhase}
 use Rattle.workflow_runs.specs.declared.phases.LegPhase.TheVariants as a_leg
-use Rattle.workflow_runs.proofs.Firsts.{find-flat_map, find-map, first_same_placed}
-use Rattle.workflow_runs.proofs.Meant.{first_of_run}
+use Rattle.workflow_runs.proofs.Firsts.{first_same_placed}
+use Rattle.workflow_runs.proofs.JobKeeps.{leg_in}
 use Rattle.workflow_runs.proofs.Sought.{leg_there}
 use Rattle.workflow_runs.proofs.Walks.{first_passing}
 
@@ -130,7 +130,7 @@ module _ (runs : List RunState) (h : Holder) where
   not_meant OthersPending other waits_not holds_not = not_pending other (group_at runs h) waits_not
   not_meant Running other waits_not holds_not = not_running other (group_at runs h) holds_not
 
-  pub run_not_meant : (whom : HolderFilter) (r : ℕ) → is_so_at is_active runs r ≡ false
+  run_not_meant : (whom : HolderFilter) (r : ℕ) → is_so_at is_active runs r ≡ false
       → is_conflicting runs h whom (Holder.a_run r) ≡ false
   run_not_meant whom r none =
       not_meant whom (Holder.a_run r)
@@ -144,31 +144,26 @@ module _ (runs : List RunState) (h : Holder) where
       not_meant whom (Holder.a_leg p) (ap (λ o. option_map_or (λ x. leg_waits x.phase) o false) at ∙ parts.0)
       (ap (λ o. option_map_or (λ x. leg_holds x.phase) o false) at ∙ parts.1)
 
-  module _ (whom : HolderFilter) where
-    abbrev test : LegPlace → Bool
-    test p = is_conflicting runs h whom (Holder.a_leg p)
+  pub not_meant_there : (whom : HolderFilter) (other : Holder) → is_so_at is_active runs (run_of other) ≡ false
+      → is_conflicting runs h whom other ≡ false
+  not_meant_there whom (Holder.a_run r) none = run_not_meant whom r none
+  not_meant_there whom (Holder.a_leg p) none = by (leg_at runs p) refl
+    where
+      by : (o : Option LegState) → leg_at runs p ≡ o → is_conflicting runs h whom (Holder.a_leg p) ≡ false
+      by None at =
+          not_meant whom (Holder.a_leg p) (ap (λ o. option_map_or (λ (x : LegState). leg_waits x.phase) o false) at)
+          (ap (λ o. option_map_or (λ (x : LegState). leg_holds x.phase) o false) at)
+      by (Some leg) at =
+          let there = leg_in runs p leg at in
+          let rests : is_active there.place.run ≡ false = sym (ap (λ o. option_map_or is_active o false) there.place.run_is) ∙ none in
+          leg_not_meant whom p leg at (leg_rests there.place.run p.job p.leg there.job leg rests there.place.job_is there.leg_is)
 
-    legs_not_meant : (r : ℕ) (o : Option RunState) → slice_get runs r ≡ o → option_map_or is_active o false ≡ false
-        → option_and_then (λ run. find test (leg_places_of_run (r, run))) o ≡ None
-    legs_not_meant r None at_run none = refl
-    legs_not_meant r (Some run) at_run none =
-        find-flat_map test (leg_places_of_job r) (placed run.jobs)
-        ∙ none_placed (λ j. find test (leg_places_of_job r j)) run.jobs
-        (λ j job at_job. find-map test (λ (l : ℕ × LegState). leg_place r j l.0) (placed job.legs)
-        ∙ none_placed (λ l. if test (leg_place r j l.0) then Some (leg_place r j l.0) else None) job.legs
-        (λ l leg at_leg. ap (λ b. if b then Some (leg_place r j l) else None)
-        (leg_not_meant whom (leg_place r j l) leg (leg_there runs r j run job at_run at_job l leg at_leg)
-        (leg_rests run j l job leg none at_job at_leg))))
+-- ---- what no run has before one, where none has it that is passed
 
-    pub no_leg_meant : (r : ℕ) → is_so_at is_active runs r ≡ false → first_of_run test runs r ≡ None
-    no_leg_meant r none = legs_not_meant r (slice_get runs r) refl none
-
--- ---- what no run has before one, where none is active from a place on, and only those that are active can have it
-
-pub none_before : (none_at : ℕ → Type 0) (runs : List RunState) (from r : ℕ) → ((i : ℕ) → is_so_at is_active runs i ≡ false → none_at i)
-    → ((k : ℕ) → k < from → none_at k) → ((i : ℕ) → from ≤ i → i < r → is_so_at is_active runs i ≡ false) → (k : ℕ) → k < r → none_at k
-none_before none_at runs from r where_idle before between k lt =
+pub none_before : (none_at passed : ℕ → Type 0) (from r : ℕ) → ((i : ℕ) → passed i → none_at i) → ((k : ℕ) → k < from → none_at k)
+    → ((i : ℕ) → from ≤ i → i < r → passed i) → (k : ℕ) → k < r → none_at k
+none_before none_at passed from r where_passed before between k lt =
     elim (cases_lt k from) [
       | inl early ↦ before k early
-      | inr late ↦ where_idle k (between k late lt)
+      | inr late ↦ where_passed k (between k late lt)
     ]

@@ -30,7 +30,7 @@ module _ (labels : List (List ℕ)) (runs : List RunState) (r : ℕ) where
   none_taken true o e = e
   none_taken false o e = refl
 
-  none_in_job : (j : ℕ) (job : JobState) → has_ready_leg job ≡ false → fit_in_job labels runs r j job ≡ None
+  pub none_in_job : (j : ℕ) (job : JobState) → has_ready_leg job ≡ false → fit_in_job labels runs r j job ≡ None
   none_in_job j job none = none_taken (has_room runs r j job) (served_in_job labels runs r j job) (none_served j 0 job.legs none)
 
   none_in_jobs : (n : ℕ) (jobs : List JobState) → list_any has_ready_leg jobs ≡ false

@@ -190,7 +190,7 @@ pub record Comes (runs next : List RunState) (one : Holder) : Type 0 where
   pub held : (h : Holder) → holds next h ≡ true → holds runs h ≡ true
 
 module _ (runs next : List RunState) (one : Holder) (stays : GroupsStay runs next) (comes : Comes runs next one) where
-  was_another : (g : Group) (h : Holder) → (h ≡ one → ⊥) → is_pending_in next g h ≡ true → is_pending_in runs g h ≡ true
+  pub was_another : (g : Group) (h : Holder) → (h ≡ one → ⊥) → is_pending_in next g h ≡ true → is_pending_in runs g h ≡ true
   was_another g h other e =
       let parts = and_parts (is_in next g h) (waits next h) e in
       elim (comes.waited h parts.1) [
@@ -198,7 +198,7 @@ module _ (runs next : List RunState) (one : Holder) (stays : GroupsStay runs nex
         | inr waited ↦ pended runs next stays g h waited parts.0
       ]
 
-  ran_too : (g : Group) (h : Holder) → is_running_in next g h ≡ true → is_running_in runs g h ≡ true
+  pub ran_too : (g : Group) (h : Holder) → is_running_in next g h ≡ true → is_running_in runs g h ≡ true
   ran_too g h e =
       let parts = and_parts (is_in next g h) (holds next h) e in ran runs next stays g h (comes.held h parts.1) parts.0
 

@@ -44,7 +44,7 @@ replicate_fails test fails (suc n) (suc l) = replicate_fails test fails n l
 never : (b c : Bool) → b ≡ false → b ≡ true → c ≡ true
 never b c fails e = let both : false ≡ true = sym fails ∙ e in cc
 
-made_fades : (may stopping : Bool) (planned : ℕ)
+pub made_fades : (may stopping : Bool) (planned : ℕ)
     → JobFades (if may then opened planned else settled_as (if stopping then result.Cancelled else result.Skipped))
 made_fades true stopping planned = record {
   waited = (λ l y e. never (passes (leg_passes leg_waits) (slice_get (replicate planned new_leg) l)) (job_passes leg_waits l y)
@@ -69,7 +69,7 @@ module _ (runs : List RunState) (p : LegPlace) (z : LegState) (was : leg_at runs
         | inr other ↦ inr (ap (passes (leg_passes test)) (sym (leg_elsewhere runs p z f (leg_in runs p z was) q other)) ∙ e)
       ]
 
-  set_waits : (h : Holder) → waits (with_leg p f runs) h ≡ true → (h ≡ Holder.a_leg p) ⊎ (waits runs h ≡ true)
+  pub set_waits : (h : Holder) → waits (with_leg p f runs) h ≡ true → (h ≡ Holder.a_leg p) ⊎ (waits runs h ≡ true)
   set_waits (Holder.a_run s) e = inr (run_waited_still f p runs s e)
   set_waits (Holder.a_leg q) e = set_passes leg_waits q e
 

@@ -5,11 +5,11 @@ use Rattle.std.proofs.Common.{ap, sym, ◌∙◌, subst, inl, inr}
 use Rattle.std.proofs.lemmas.Bool.{cases_eq}
 use Rattle.wf_value.specs.declared.outcome.Outcome.TheVariants as outcome
 use Rattle.group_name.specs.Group.{Group}
-use Rattle.workflow_runs.specs.Arrivals.{arrived, room_made}
-use Rattle.workflow_runs.specs.GroupOf.{cancels_in_progress, group_at}
+use Rattle.workflow_runs.specs.Arrivals.{arrived}
+use Rattle.workflow_runs.specs.GroupOf.{group_at}
 use Rattle.workflow_runs.specs.Groups.{holds, leg_holds}
-use Rattle.workflow_runs.specs.LookAgain.{may_wake_others, is_new_at}
-use Rattle.workflow_runs.specs.Moves.{Holder, Transition, without_moves}
+use Rattle.workflow_runs.specs.LookAgain.{is_new_at, makes_room, may_wake_others}
+use Rattle.workflow_runs.specs.Moves.{Holder, Transition}
 use Rattle.workflow_runs.specs.Places.{LegPlace, job_at, leg_at, with_job, with_run}
 use Rattle.workflow_runs.specs.Rules.{decided, result_at, rule_at, with_leg_in}
 use Rattle.workflow_runs.specs.Settling.{first_place}
@@ -23,13 +23,15 @@ use Rattle.workflow_runs.specs.declared.place.Place.{Place}
 use Rattle.workflow_runs.specs.declared.place.Place.TheVariants.{Opening, AtLeg, Closing, Whole}
 use Rattle.workflow_runs.proofs.Changed.{at_another}
 use Rattle.workflow_runs.proofs.EachRule.{EachRule, by_rule}
-use Rattle.workflow_runs.proofs.GroupStays.{leg_group_stays}
+use Rattle.workflow_runs.proofs.GroupStays.{leg_cancels_stays, leg_group_stays}
 use Rattle.workflow_runs.proofs.HoldersFade.{leg_passes, passes}
 use Rattle.workflow_runs.proofs.JobKeeps.{job_in, with_leg_of}
 use Rattle.workflow_runs.proofs.JobPhases.{is_blocked_blocked, no_legs}
 use Rattle.workflow_runs.proofs.KeptBack.{KeepsBack, StillHold, job_still_holds, kept_back, leg_still_holds, legs_still_hold, passed_on}
 use Rattle.workflow_runs.proofs.LivePlaces.{first_place_is_live}
+use Rattle.workflow_runs.proofs.NoRoomMade.{no_room_made}
 use Rattle.workflow_runs.proofs.OneEach.{groups_stay}
+use Rattle.workflow_runs.proofs.OneEachRules.{newcomer_comes}
 use Rattle.workflow_runs.proofs.RuleKeeps.{newcomer_waits, rule_settles}
 use Rattle.workflow_runs.proofs.RunFits.{RunsFit}
 
@@ -40,28 +42,22 @@ IsAt r j (AtLeg p) = (p.run ≡ r) × (p.job ≡ j)
 IsAt r j (Closing s k) = (s ≡ r) × (k ≡ j)
 IsAt r j (Whole s) = ⊥
 
--- ---- a leg without a group arrives
+-- ---- a leg arrives alone
 
-no_group : (new : Bool) (o : Option Group) → new ≡ true → (new && is_some o) ≡ false → o ≡ None
-no_group true None e f = refl
-no_group true (Some g) e f = cc
-no_group false o e f = cc
+no_room : (new makes : Bool) → new ≡ true → (new && makes) ≡ false → makes ≡ false
+no_room true makes e quiet = quiet
+no_room false makes e quiet = cc
 
--- without a group nobody makes room
-room_for_none : (newcomer : Holder) (next : List RunState) (o : Option Group) → o ≡ None
-    → (option_map_or (room_made (cancels_in_progress next newcomer) newcomer next) o (without_moves next)).runs ≡ next
-room_for_none newcomer next o e =
-    ap (λ v. (option_map_or (room_made (cancels_in_progress next newcomer) newcomer next) v (without_moves next)).runs) e
-
--- who waits in no group leaves all others as they are
+-- for whom nobody makes room leaves all others as they are
 arrives_alone : (runs : List RunState) (p : LegPlace) (z : LegState) → RunsFit runs → leg_at runs p ≡ Some z → z.phase ≡ leg.New
     → may_wake_others runs (AtLeg p) ≡ false → with_leg_in leg.Waiting p runs ≡ (arrived (Holder.a_leg p) (with_leg_in leg.Waiting p runs)).runs
 arrives_alone runs p z fit was is quiet =
     let next = with_leg_in leg.Waiting p runs in
     let new : is_new_at runs p ≡ true = ap (λ o. option_map_or (λ (l : LegState). is_new l.phase) o false) was ∙ ap is_new is in
-    let none = no_group (is_new_at runs p) (group_at runs (Holder.a_leg p)) new quiet in
-    let stays = leg_group_stays runs next fit (newcomer_waits runs p z fit was is).stay p z was in
-    sym (room_for_none (Holder.a_leg p) next (group_at next (Holder.a_leg p)) (stays ∙ none))
+    let none = no_room (is_new_at runs p) (makes_room runs (Holder.a_leg p)) new quiet in
+    let stay = (newcomer_waits runs p z fit was is).stay in
+    sym (no_room_made runs next (Holder.a_leg p) (groups_stay runs next fit stay) (newcomer_comes runs p z was)
+    (leg_group_stays runs next fit stay p z was) (leg_cancels_stays runs next fit stay p z was) none)
 
 -- ---- a rule at a job changes that job alone, one of a run itself that run
 
@@ -136,6 +132,11 @@ live_still_holds : (runs : List RunState) (r : ℕ) (h : Holder) → holds runs 
 live_still_holds runs r (Holder.a_run s) e =
     passed_on (λ (x : RunState). is_live x.phase) (run_in_phase run.Live) r runs (λ x at now. refl) s e
 live_still_holds runs r (Holder.a_leg p) e = legs_still_hold (run_in_phase run.Live) r runs p (λ x at now. now) e
+
+no_group : (live : Bool) (o : Option Group) → live ≡ true → (live && is_some o) ≡ false → o ≡ None
+no_group true None e f = refl
+no_group true (Some g) e f = cc
+no_group false o e f = cc
 
 not_both : (o : Option Group) (g : Group) → o ≡ None → o ≡ Some g → ⊥
 not_both o g e f = let bad : None ≡ Some g = sym e ∙ f in cc

@@ -1,5 +1,5 @@
 -- A run that changes is still kept with its number and with what it asks of groups.
-use Rattle.std.specs.Prelude.{◌≡◌, ◌⊎◌, ℕ, zero, suc, ◌+◌, ◌<◌, List, [], ◌∷◌, ◌++◌, length, count_by, Some, option_map, slice_get, slice_set}
+use Rattle.std.specs.Prelude.{◌≡◌, ℕ, zero, suc, ◌+◌, ◌<◌, ◌≤◌, List, [], ◌∷◌, ◌++◌, length, count_by, Some, option_map, slice_get, slice_set}
 use Rattle.std.specs.Prelude.{refl}
 use Rattle.std.specs.Fmt.{decimal}
 use Rattle.std.proofs.Common.{arith, ap, inl, inr, sym, subst, ◌∙◌, get_or}
@@ -10,17 +10,23 @@ use Rattle.run_plan.specs.Admitted.{Admitted}
 use Rattle.workflow_runs.specs.Asks.{AreBound, RunSays}
 use Rattle.workflow_runs.specs.Counted.{AreCounted}
 use Rattle.workflow_runs.specs.Delivered.{FindsFirst}
+use Rattle.group_book.specs.Books.{group_at}
+use Rattle.run_marks.specs.Marked.{Covers, SameMarks}
+use Rattle.workflow_runs.specs.FoundHolders.{AllAreFound, HoldersAreFound, OnlyLists}
+use Rattle.workflow_runs.specs.GroupNumbers.{EachSaysNumbers, OnlyEnters, SaysNumbers}
 use Rattle.workflow_runs.specs.GroupOf.{RunFacts, run_facts_at}
-use Rattle.workflow_runs.specs.LettingGo.{LetsNobodyGo}
-use Rattle.workflow_runs.specs.MarkedRuns.{Stirs}
+use Rattle.workflow_runs.specs.MarkedRuns.{RunsAreMarked, Stirs}
 use Rattle.workflow_runs.specs.RunNumber.{AreNumbered, events, number_of_next, numbers_after, run_number, same_workflow}
 use Rattle.workflow_runs.specs.RunState.{RunState}
 use Rattle.workflow_runs.specs.RunsKept.{RunsAreKept}
 use Rattle.workflow_runs.specs.declared.asks.RunBindings.{RunBindings}
+use Rattle.workflow_runs.specs.declared.runs.group_holders.GroupHolders.{GroupHolders}
 use Rattle.workflow_runs.specs.declared.runs.index.Index.{Index}
 use Rattle.workflow_runs.specs.declared.runs.marks.RunMarks.{RunMarks}
 use Rattle.workflow_runs.proofs.Binding.{one_more as one_more_bound}
 use Rattle.workflow_runs.proofs.BoundSays.{facts_of_run, run_told}
+use Rattle.workflow_runs.proofs.FoundHolders.{all_entered, all_roomier, found_with}
+use Rattle.workflow_runs.proofs.GroupNumbers.{each_again, each_stays, each_still}
 use Rattle.workflow_runs.proofs.GroupStays.{run_facts_stay}
 use Rattle.workflow_runs.proofs.LegFacts.{attempt_at}
 use Rattle.workflow_runs.proofs.MarkedRuns.{marks_after, set_other}
@@ -48,30 +54,53 @@ still_bound xs kept r x y lt is same attempt are = record {
 }
 
 -- a run is written of the event that stands at its place, in its attempt
-pub still_kept : (xs : List RunState) (numbers : List ℕ) (kept : List RunBindings) (index : Index) (marks marks' : RunMarks) (r bound : ℕ)
-    (x y : RunState) → r < length xs → x ≡ get_or xs r x → y.admitted ≡ x.admitted → y.attempt ≡ x.attempt
-    → (bound ≡ length xs) ⊎ LetsNobodyGo xs (slice_set xs r y) → Stirs r bound marks marks' → RunsAreKept xs numbers kept index marks
-    → RunsAreKept (slice_set xs r y) numbers kept index marks'
-still_kept xs numbers kept index marks marks' r bound x y lt is same attempt wakes stirs are =
+pub still_kept : (xs : List RunState) (numbers : List ℕ) (kept : List RunBindings) (index : Index) (groups : GroupHolders)
+    (marks marks' : RunMarks) (r : ℕ) (x y : RunState)
+    → ((n : ℕ) → group_at groups.book.entries n ≡ group_at index.groups.book.entries n)
+    → HoldersAreFound (slice_set xs r y) kept groups.book.entries groups.unlisted → r < length xs → x ≡ get_or xs r x
+    → y.admitted ≡ x.admitted → y.attempt ≡ x.attempt
+    → (events (slice_set xs r y) ≡ events xs → RunsAreMarked (slice_set xs r y) marks') → RunsAreKept xs numbers kept index marks
+    → RunsAreKept (slice_set xs r y) numbers kept (record index { groups = groups }) marks'
+still_kept xs numbers kept index groups marks marks' r x y stay_groups found lt is same attempt marked are =
     let stay : events (slice_set xs r y) ≡ events xs = events_kept xs r x y lt is same in
     record {
       numbered = still_numbered xs numbers r x y lt is same are.numbered;
       bound = still_bound xs kept r x y lt is same attempt are.bound;
       found = subst (λ (es : List Admitted). FindsFirst es index.places.places) (sym stay) are.found;
       counted = subst (λ (es : List Admitted). AreCounted es index.counts.counts) (sym stay) are.counted;
-      marked = marks_after xs y marks marks' r bound stay wakes stirs are.marked;
+      marked = marked stay;
+      grouped = each_stays index.groups.book.entries groups.book.entries kept stay_groups are.grouped;
+      listed = found;
     }
 
 -- the same runs, as the code sees them, in another index
 pub kept_in : (xs seen : List RunState) (numbers : List ℕ) (kept : List RunBindings) (old new : Index) (marks : RunMarks) → seen ≡ xs
     → RunsAreKept xs numbers kept old marks → FindsFirst (events seen) new.places.places → AreCounted (events seen) new.counts.counts
-    → RunsAreKept xs numbers kept new marks
-kept_in xs seen numbers kept old new marks same are found counted = record {
+    → new.groups ≡ old.groups → RunsAreKept xs numbers kept new marks
+kept_in xs seen numbers kept old new marks same are found counted groups = record {
   numbered = are.numbered;
   bound = are.bound;
   found = subst (λ (rs : List RunState). FindsFirst (events rs) new.places.places) same found;
   counted = subst (λ (rs : List RunState). AreCounted (events rs) new.counts.counts) same counted;
   marked = are.marked;
+  grouped = subst (λ (held : GroupHolders). EachSaysNumbers held.book.entries kept) (sym groups) are.grouped;
+  listed = subst (λ (held : GroupHolders). HoldersAreFound xs kept held.book.entries held.unlisted) (sym groups) are.listed;
+}
+
+-- the same runs, once groups are entered in the book
+pub kept_entered : (xs : List RunState) (numbers : List ℕ) (kept : List RunBindings) (index : Index) (marks : RunMarks)
+    (groups : GroupHolders) → OnlyEnters index.groups.book.entries groups.book.entries → SameMarks index.groups.unlisted groups.unlisted
+    → length index.groups.unlisted ≤ length groups.unlisted → RunsAreKept xs numbers kept index marks
+    → RunsAreKept xs numbers kept (record index { groups = groups }) marks
+kept_entered xs numbers kept index marks groups enters same room are = record {
+  numbered = are.numbered;
+  bound = are.bound;
+  found = are.found;
+  counted = are.counted;
+  marked = are.marked;
+  grouped = each_still index.groups.book.entries groups.book.entries enters kept are.grouped;
+  listed = all_roomier xs kept groups.book.entries index.groups.unlisted groups.unlisted same room
+      (all_entered xs kept index.groups.book.entries groups.book.entries index.groups.unlisted enters are.listed);
 }
 
 -- ---- one run more
@@ -145,6 +174,23 @@ module _ (runs : List RunState) (run : RunState) (numbers : List ℕ) (n : ℕ) 
             subst (λ (v : RunFacts). RunSays v asked) same says) r groups is facts of_run);
       }
 
+beside_end : {X : Type 0} (xs : List X) (x : X) (s : ℕ) → (s ≡ length xs → ⊥) → slice_get (xs ++ x ∷ []) s ≡ slice_get xs s
+beside_end [] x zero other = absurd (other refl)
+beside_end [] x (suc s) other = refl
+beside_end (y ∷ xs) x zero other = refl
+beside_end (y ∷ xs) x (suc s) other = beside_end xs x s (λ e. other (ap (λ n. suc n) e))
+
+-- everyone in it is found, and everyone who was
+pub found_added : (runs : List RunState) (run : RunState) (kept : List RunBindings) (asked : RunBindings) (old new : GroupHolders) (r : ℕ)
+    → r ≡ length runs → length kept ≡ length runs → OnlyLists (runs ++ run ∷ []) old new
+    → AllAreFound (runs ++ run ∷ []) new.book.entries new.unlisted asked r → Covers old.unlisted (r + 1)
+    → HoldersAreFound runs kept old.book.entries old.unlisted
+    → HoldersAreFound (runs ++ run ∷ []) (kept ++ asked ∷ []) new.book.entries new.unlisted
+found_added runs run kept asked old new r end many lists all covers are =
+    found_with runs (runs ++ run ∷ []) kept (kept ++ asked ∷ []) old new r asked (at_end kept asked r (end ∙ sym many))
+    (λ s other. beside_end runs run s (λ e. other (e ∙ sym end))) (λ s other. beside_end kept asked s (λ e. other (e ∙ many ∙ sym end)))
+    lists all are (omega (arith, covers, lists.room, end, length-append runs (run ∷ [])))
+
 -- a run that is added with its number and with what it asks
 pub all_added : (runs : List RunState) (run : RunState) (numbers : List ℕ) (kept : List RunBindings) (number : ℕ) (asked : RunBindings)
     → length runs < 100000 → AreNumbered runs numbers × AreBound runs kept → number ≡ number_of_next runs run.admitted
@@ -194,16 +240,24 @@ bound_again xs kept r x y asked lt is same says are =
           ]);
     }
 
-pub kept_again : (xs : List RunState) (numbers : List ℕ) (kept : List RunBindings) (index : Index) (marks marks' : RunMarks) (r : ℕ)
-    (x y : RunState) (asked : RunBindings) → r < length xs → x ≡ get_or xs r x → y.admitted ≡ x.admitted
-    → RunSays (facts_of_run xs r y) asked → Stirs r (length xs) marks marks' → RunsAreKept xs numbers kept index marks
-    → RunsAreKept (slice_set xs r y) numbers (slice_set kept r asked) index marks'
-kept_again xs numbers kept index marks marks' r x y asked lt is same says stirs are =
+pub kept_again : (xs : List RunState) (numbers : List ℕ) (kept : List RunBindings) (index : Index) (groups : GroupHolders)
+    (marks marks' : RunMarks) (r : ℕ) (x y : RunState) (asked : RunBindings) → OnlyLists (slice_set xs r y) index.groups groups
+    → AllAreFound (slice_set xs r y) groups.book.entries groups.unlisted asked r → r < length xs → x ≡ get_or xs r x
+    → y.admitted ≡ x.admitted → RunSays (facts_of_run xs r y) asked → SaysNumbers index.groups.book.entries asked
+    → Stirs r (length xs) marks marks' → RunsAreKept xs numbers kept index marks
+    → RunsAreKept (slice_set xs r y) numbers (slice_set kept r asked) (record index { groups = groups }) marks'
+kept_again xs numbers kept index groups marks marks' r x y asked lists all lt is same says grouped stirs are =
     let stay : events (slice_set xs r y) ≡ events xs = events_kept xs r x y lt is same in
     record {
       numbered = still_numbered xs numbers r x y lt is same are.numbered;
       bound = bound_again xs kept r x y asked lt is same says are.bound;
       found = subst (λ (es : List Admitted). FindsFirst es index.places.places) (sym stay) are.found;
       counted = subst (λ (es : List Admitted). AreCounted es index.counts.counts) (sym stay) are.counted;
-      marked = marks_after xs y marks marks' r (length xs) stay (inl refl) stirs are.marked;
+      marked = marks_after xs y marks marks' r stay stirs are.marked;
+      grouped = each_stays index.groups.book.entries groups.book.entries (slice_set kept r asked) lists.numbers
+          (each_again index.groups.book.entries kept r asked grouped are.grouped);
+      listed = found_with xs (slice_set xs r y) kept (slice_set kept r asked) index.groups groups r asked
+          (set_here kept r asked (omega (arith, lt, are.bound.as_many)))
+          (λ s other. set_other xs r s y other) (λ s other. set_other kept r s asked other) lists all are.listed
+          (omega (arith, are.listed.covers, lists.room, length-set xs r y));
     }

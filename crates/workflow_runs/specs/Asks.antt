@@ -3,6 +3,7 @@ use Rattle.std.specs.Prelude.{◌≡◌, ℕ, List, length, Option, Some, option
 use Rattle.wf_reader.specs.Event.{event_of}
 use Rattle.run_plan.specs.PlanOf.{plan_of}
 use Rattle.run_plan.specs.declared.planned.PlannedJob.{PlannedJob}
+use Rattle.workflow_runs.specs.BoundFlags.{FlagsSay}
 use Rattle.workflow_runs.specs.BoundGroups.{SaysSo, facts_by}
 use Rattle.workflow_runs.specs.GroupOf.{RunFacts, asked_of_leg, run_context, run_facts_at}
 use Rattle.workflow_runs.specs.KnownLabels.{AreKept}
@@ -12,6 +13,7 @@ use Rattle.workflow_runs.specs.RunState.{RunState}
 use Rattle.workflow_runs.specs.declared.asks.JobBindings.{JobBindings}
 use Rattle.workflow_runs.specs.declared.asks.RunBindings.{RunBindings}
 use Rattle.workflow_runs.specs.declared.groups.Asked.{Asked}
+use Rattle.workflow_runs.specs.declared.groups.BoundFlag.{BoundFlag}
 use Rattle.workflow_runs.specs.declared.resolved_labels.ResolvedLabels.{ResolvedLabels}
 
 -- ---- what is kept
@@ -25,14 +27,19 @@ asked_of kept (Holder.a_leg p) = option_and_then (λ job. slice_get job.groups p
 abbrev pub wanted_for : RunBindings → ℕ → ℕ → Option ResolvedLabels
 wanted_for kept j l = option_and_then (λ job. slice_get job.labels l) (slice_get kept.jobs j)
 
+-- what was bound of whether a failure of a leg is passed over
+abbrev pub flag_for : RunBindings → ℕ → ℕ → Option BoundFlag
+flag_for kept j l = option_and_then (λ job. slice_get job.flags l) (slice_get kept.jobs j)
+
 -- ---- what it says
 
--- by any results of the run's jobs, what the legs of a job ask
+-- by any results of the run's jobs, what the legs of a job ask, and whose failures are passed over
 pub record JobSays (run : RunFacts) (j : ℕ) (job : PlannedJob) (kept : JobBindings) : Type 0 where
   pub groups : (l : ℕ)
       → SaysSo (event_of run.event.body).repo (λ results. context_of (facts_by run j job l results)) (asked_of_leg job l)
       (slice_get kept.groups l)
   pub labels : AreKept run j job kept.labels
+  pub flags : FlagsSay run j job kept.flags
 
 -- and what the run and its legs ask
 pub record RunSays (run : RunFacts) (kept : RunBindings) : Type 0 where

@@ -7,14 +7,16 @@ use Rattle.workflow_runs.specs.RunState.{LegState, JobState}
 use Rattle.workflow_runs.specs.declared.phases.JobPhase.{JobPhase}
 use Rattle.workflow_runs.specs.declared.phases.JobPhase.TheVariants as job
 
--- the job as its run has it, and how many legs it has room for
+-- the job as its run has it, how many legs it has room for, and how many of the jobs that it needs have not settled, by its run's count
 pub record JobCells : Type 0 where
   pub state : JobState
   pub room : ℕ
+  pub needs_left : ℕ
 
 -- a job that has not opened has no legs, whatever stands in its room
-abbrev pub cells_of : JobPhase → Bool → List LegState → JobCells
-cells_of phase has_legs legs = record { state = record { phase = phase; legs = if has_legs then legs else [] }; room = length legs }
+abbrev pub cells_of : JobPhase → Bool → List LegState → ℕ → JobCells
+cells_of phase has_legs legs needs_left =
+    record { state = record { phase = phase; legs = if has_legs then legs else [] }; room = length legs; needs_left = needs_left }
 
 -- the same job in another state
 abbrev pub in_state : JobState → JobCells → JobCells
@@ -31,9 +33,9 @@ rooms jobs = map (λ j. j.room) jobs
 abbrev pub legs_planned : List PlannedJob → List ℕ
 legs_planned plan = map (λ planned. length planned.legs) plan
 
--- a blocked job, with room for the legs of its plan
+-- a blocked job, with room for the legs of its plan, before its needs are counted
 abbrev pub blocked_cells : PlannedJob → JobCells
-blocked_cells planned = record { state = record { phase = job.Blocked; legs = [] }; room = length planned.legs }
+blocked_cells planned = record { state = record { phase = job.Blocked; legs = [] }; room = length planned.legs; needs_left = 0 }
 
 abbrev pub result_of : JobCells → Option JobResult
 result_of j = settled_result j.state.phase

@@ -1,17 +1,19 @@
 -- Where settling looks for its next rule, once it has taken one: no rule applies before.
-use Rattle.std.specs.Prelude.{◌≡◌, ℕ, ◌<◌, min, List, ◌&&◌, Bool, true, false, is_some, Option, Some, None, option_and_then, slice_get}
+use Rattle.std.specs.Prelude.{◌≡◌, ℕ, ◌<◌, min, List, ◌&&◌, ◌||◌, Bool, true, false, is_some, Option, Some, None, option_and_then, slice_get}
 use Rattle.std.specs.Prelude.{if◌then◌else◌}
 use Rattle.std.specs.List.{slice_index_or}
 use Rattle.std.specs.Option.{option_map_or}
 use Rattle.needs_graph.specs.Ancestors.{dependents_of}
 use Rattle.workflow_runs.specs.JobResults.{needs_in, results_so_far}
 use Rattle.workflow_runs.specs.Places.{LegPlace, leg_at, run_at}
-use Rattle.workflow_runs.specs.GroupOf.{group_at}
+use Rattle.workflow_runs.specs.GroupOf.{cancels_in_progress, group_at}
 use Rattle.workflow_runs.specs.Groups.{holds}
+use Rattle.workflow_runs.specs.Holders.{first_conflicting}
 use Rattle.workflow_runs.specs.Moves.{Holder}
 use Rattle.workflow_runs.specs.StateWords.{is_live, is_new}
 use Rattle.workflow_runs.specs.RunState.{RunState}
 use Rattle.workflow_runs.specs.WithinRun.{first_in_job, first_in_run}
+use Rattle.workflow_runs.specs.declared.holder.HolderFilter.TheVariants.{OthersPending, Running}
 use Rattle.workflow_runs.specs.declared.place.JobPlace.{JobPlace}
 use Rattle.workflow_runs.specs.declared.place.Place.{Place}
 use Rattle.workflow_runs.specs.declared.place.Place.TheVariants.{Opening, AtLeg, Closing, Whole}
@@ -52,11 +54,20 @@ job_again run j = if has_settled run j then option_map_or (min j) (slice_get (de
 abbrev pub at_job_again : List RunState → ℕ → ℕ → JobPlace
 at_job_again runs r j = record { run = r; job = option_map_or (λ run. job_again run j) (run_at runs r) j }
 
--- Whether the rule there may set a holder of another run on its way: a leg arrives there in a group, and so may end or stop others, or a
--- live run of a group ends.
+-- whether somebody in the group of a newcomer makes room for it: another that is pending there ends, or the one in progress is stopped
+abbrev pub finds_others : List RunState → Holder → Bool
+finds_others runs newcomer =
+    is_some (first_conflicting runs newcomer OthersPending)
+    || (cancels_in_progress runs newcomer && is_some (first_conflicting runs newcomer Running))
+
+abbrev pub makes_room : List RunState → Holder → Bool
+makes_room runs newcomer = is_some (group_at runs newcomer) && finds_others runs newcomer
+
+-- Whether the rule there may set a holder of another run on its way: a leg arrives there, and another ends or is stopped, or a live run of a
+-- group ends.
 abbrev pub may_wake_others : List RunState → Place → Bool
 may_wake_others runs (Opening r j) = false
-may_wake_others runs (AtLeg p) = is_new_at runs p && is_some (group_at runs (Holder.a_leg p))
+may_wake_others runs (AtLeg p) = is_new_at runs p && makes_room runs (Holder.a_leg p)
 may_wake_others runs (Closing r j) = false
 may_wake_others runs (Whole r) = holds runs (Holder.a_run r) && is_some (group_at runs (Holder.a_run r))
 

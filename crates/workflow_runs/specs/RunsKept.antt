@@ -1,8 +1,11 @@
--- What a table keeps of its runs: their numbers, what they ask, where they are found and counted, and their marks (own).
+-- What a table keeps of its runs: their numbers, what they ask, where they are found and counted, their marks, and the numbers of their
+-- groups (own).
 use Rattle.std.specs.Prelude.{ℕ, List}
 use Rattle.workflow_runs.specs.Asks.{AreBound}
 use Rattle.workflow_runs.specs.Counted.{AreCounted}
 use Rattle.workflow_runs.specs.Delivered.{FindsFirst}
+use Rattle.workflow_runs.specs.FoundHolders.{HoldersAreFound}
+use Rattle.workflow_runs.specs.GroupNumbers.{EachSaysNumbers}
 use Rattle.workflow_runs.specs.MarkedRuns.{RunsAreMarked}
 use Rattle.workflow_runs.specs.RunNumber.{AreNumbered, events}
 use Rattle.workflow_runs.specs.RunState.{RunState}
@@ -17,3 +20,5 @@ pub record RunsAreKept (runs : List RunState) (numbers : List ℕ) (asks : List 
   pub found : FindsFirst (events runs) index.places.places
   pub counted : AreCounted (events runs) index.counts.counts
   pub marked : RunsAreMarked runs marks
+  pub grouped : EachSaysNumbers index.groups.book.entries asks
+  pub listed : HoldersAreFound runs asks index.groups.book.entries index.groups.unlisted

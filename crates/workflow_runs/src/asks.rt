@@ -8,15 +8,20 @@ ghost use Rattle.std.specs.Option.{option_copied};
 ghost use Rattle.wf_value.specs.Gives.{ErrsOnlyByMemory};
 ghost use Rattle.run_plan.specs.PlanOf.{plan_of};
 ghost use Rattle.run_plan.specs.declared.planned.PlannedJob.{PlannedJob as Planned};
-ghost use Rattle.workflow_runs.specs.Asks.{JobSays, RunSays, asked_of, wanted_for};
+ghost use Rattle.workflow_runs.specs.Asks.{JobSays, RunSays, asked_of, flag_for, wanted_for};
+ghost use Rattle.workflow_runs.specs.GroupNumbers.{OnlyEnters, SaysNumbers};
+ghost use Rattle.workflow_runs.specs.GroupOf.{RunFacts};
 ghost use Rattle.workflow_runs.specs.Holders.{holder_in_words};
 ghost use Rattle.workflow_runs.specs.declared.asks.JobBindings.{JobBindings as AsksOfJob};
 
-use crate::groups::{Asked, bind_groups, bind_own};
+use crate::flags::bind_flags;
+use crate::group_numbers::GroupNumbers;
+use crate::groups::{Asked, BoundFlag, bind_groups, bind_own};
 use crate::holder::Holder;
 use crate::resolved_labels::{ResolvedLabels, bind_labels};
 use crate::run::Run;
 use crate::run_identity::RunIdentity;
+use group_book::Book;
 use itoa::Buffer;
 use run_plan::PlannedJob;
 use std::alloc::Global;
@@ -29,6 +34,8 @@ pub struct JobBindings {
     pub groups: Sequence<Asked>,
     /// The labels that each asks for, where they are worth keeping.
     pub labels: Sequence<ResolvedLabels>,
+    /// Whether a failure of each is passed over, where that asks for its context.
+    pub flags: Sequence<BoundFlag>,
 }
 
 /// What a run asks, and what its legs ask, job by job.
@@ -37,6 +44,8 @@ pub struct RunBindings {
     /// What the run itself asks of a concurrency group.
     pub own: Option<Asked>,
     pub jobs: Sequence<JobBindings>,
+    /// The numbers of the groups that are asked for, once they are entered in the book.
+    pub numbers: GroupNumbers,
 }
 
 impl RunBindings {
@@ -61,6 +70,14 @@ impl RunBindings {
         job.labels.as_slice().get(l)
     }
 
+    /// What was bound for a leg of whether its failure is passed over.
+    pub(crate) fn flag(&self, j: usize, l: usize) -> Option<&BoundFlag>
+        ensures { option_map (λ flag. flag.now) result ≡ flag_for self.now j l }
+    {
+        let job = self.jobs.as_slice().get(j)?;
+        job.flags.as_slice().get(l)
+    }
+
     /// What the run asks, and its legs, where it has this id and this number.
     pub(crate) fn bind(alloc: Global, run: &Run, id: usize, number: usize) -> Result<Self, Refusal>
         ensures err { ErrsOnlyByMemory result }
@@ -83,6 +100,19 @@ impl RunBindings {
         };
         bind_told(alloc, &told)
     }
+
+    /// The same, with the numbers of the groups that are asked for, which are entered in the book. On an `Err`, which is 50, some may have
+    /// been entered.
+    pub(crate) fn numbered(self, alloc: Global, book: &mut Book<Holder>) -> Result<Self, Refusal>
+        ensures err { ErrsOnlyByMemory result }
+        ensures enters { OnlyEnters book.old.entries book.new.entries }
+        ensures says { IfOk result (λ asks. (run : RunFacts) → RunSays run self → RunSays run asks) }
+        ensures numbers { IfOk result (SaysNumbers book.new.entries) }
+    {
+        let numbers = GroupNumbers::enter(alloc, &self.own, self.jobs.as_slice(), book)?;
+        let RunBindings { own, jobs, .. } = self;
+        Ok(RunBindings { own, jobs, numbers })
+    }
 }
 
 fn bind_told(alloc: Global, told: &RunIdentity<'_>) -> Result<RunBindings, Refusal>
@@ -94,6 +124,7 @@ fn bind_told(alloc: Global, told: &RunIdentity<'_>) -> Result<RunBindings, Refus
     Ok(RunBindings {
         own,
         jobs: Sequence::new(jobs),
+        numbers: GroupNumbers::none(alloc),
     })
 }
 
@@ -123,7 +154,12 @@ fn bind_job<'x>(
 {
     let groups = bind_groups(alloc, told, j, job)?;
     let labels = bind_labels(alloc, told, j, job)?;
-    Ok(JobBindings { groups, labels })
+    let flags = bind_flags(alloc, told, j, job)?;
+    Ok(JobBindings {
+        groups,
+        labels,
+        flags,
+    })
 }
 
 impl TryCopy for JobBindings {
@@ -131,6 +167,7 @@ impl TryCopy for JobBindings {
         Ok(JobBindings {
             groups: self.groups.copy(alloc)?,
             labels: self.labels.copy(alloc)?,
+            flags: self.flags.copy(alloc)?,
         })
     }
 }
@@ -144,6 +181,7 @@ impl TryCopy for RunBindings {
         Ok(RunBindings {
             own,
             jobs: self.jobs.copy(alloc)?,
+            numbers: self.numbers.copy(alloc)?,
         })
     }
 }

@@ -1,7 +1,12 @@
 //! What changes in a run.
 
+ghost use Rattle.std.specs.Prelude.{◌≡◌};
+ghost use Rattle.workflow_runs.specs.FoundHolders.{newcomer};
+
+use crate::holder::Holder;
 use crate::leg::Leg;
 use crate::phases::RunPhase;
+use crate::place::LegPlace;
 use wf_value::JobResult;
 
 /// A change of a run: each one that a table makes of its runs.
@@ -19,4 +24,29 @@ pub enum Change {
     StopLegs(usize),
     /// A leg of a job is put in the place of the one that is there.
     PutLeg(usize, usize, Leg),
+}
+
+impl Change {
+    /// Who waits or holds a group after the change of the run at a place, and may not have before.
+    pub(crate) fn newcomer(&self, r: usize) -> Option<Holder>
+        ensures { result ≡ newcomer r self.now }
+    {
+        match self {
+            Change::Phase(phase) => {
+                if phase.waits() || phase.is_live() {
+                    Some(Holder::Run(r))
+                } else {
+                    None
+                }
+            }
+            Change::PutLeg(j, l, leg) => {
+                if leg.phase.waits() || leg.phase.holds() {
+                    Some(Holder::Leg(LegPlace::new(r, *j, *l)))
+                } else {
+                    None
+                }
+            }
+            Change::Open(_) | Change::Settle(_, _) | Change::Stop | Change::StopLegs(_) => None,
+        }
+    }
 }

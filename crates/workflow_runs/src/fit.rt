@@ -52,11 +52,12 @@ fn has_room(runs: &Runs, r: usize, j: usize, job: &Job) -> bool
     }
 }
 
+/// The same, where one more leg of the job may run. It goes over the legs where one is ready.
 fn fit_in_job(labels: &[Label], runs: &Runs, r: usize, j: usize, job: &Job) -> Option<LegPlace>
     ensures found { result ≡ fit_in_job labels.now runs.now r j job.now.state }
     ensures run { IfSome result (λ p. p.run ≡ r) }
 {
-    if has_room(runs, r, j, job) {
+    if job.has_ready_leg() && has_room(runs, r, j, job) {
         served_in_job(labels, runs, r, j, job)
     } else {
         None

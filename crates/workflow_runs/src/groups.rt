@@ -37,7 +37,7 @@ pub struct Asked {
 }
 
 impl BoundFlag {
-    fn bind<C: Context, N: Needs>(
+    pub(crate) fn bind<C: Context, N: Needs>(
         alloc: Global,
         flag: &Flag,
         known: &C,

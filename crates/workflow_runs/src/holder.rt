@@ -5,6 +5,7 @@ ghost use Rattle.workflow_runs.specs.GroupWords.{same_holder};
 ghost use Rattle.workflow_runs.specs.Holders.{holder_in_words, run_of};
 
 use crate::place::LegPlace;
+use wf_value::Same;
 
 /// A run, by its place in the table, or a leg.
 #[derive(Clone, Copy)]
@@ -41,5 +42,11 @@ impl Holder {
             (Holder::Leg(p), Holder::Leg(q)) => p.run == q.run && p.job == q.job && p.leg == q.leg,
             _ => false,
         }
+    }
+}
+
+impl Same for Holder {
+    fn same(&self, other: &Self) -> bool {
+        self.is(other)
     }
 }

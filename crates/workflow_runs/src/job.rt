@@ -30,6 +30,8 @@ pub struct Job {
     room: Vec<Leg>,
     /// How many of its legs are in each phase.
     counts: LegCounts,
+    /// How many of the jobs that it needs have not settled: its run keeps the count.
+    needs_left: usize,
 }
 
 impl Model for Job {
@@ -38,21 +40,22 @@ impl Model for Job {
 
     ghost Value = { JobCells };
 
-    ghost view = { λ j. cells_of j.phase j.has_legs j.room.items };
+    ghost view = { λ j. cells_of j.phase j.has_legs j.room.items j.needs_left };
 
     ghost invariant = { λ j. AreCounted (legs_of_room j.has_legs j.room.items) j.counts };
 }
 
 impl Job {
-    /// A blocked job, with room for so many legs.
+    /// A blocked job, with room for so many legs, before its needs are counted.
     pub(crate) fn blocked(alloc: Global, room: usize) -> Result<Self, Refusal>
-        ensures { Gives (λ j. j) result (Ok (record { state = blocked_job; room = room })) }
+        ensures { Gives (λ j. j) result (Ok (record { state = blocked_job; room = room; needs_left = 0 })) }
     {
         Ok(Job {
             phase: JobPhase::Blocked,
             has_legs: false,
             room: vec![in alloc; Leg::new(); room]?,
             counts: LegCounts::none(),
+            needs_left: 0,
         })
     }
 
@@ -73,6 +76,19 @@ impl Job {
         ensures { AreCounted self.now.state.legs result }
     {
         self.counts
+    }
+
+    /// How many of the jobs that it needs have not settled.
+    pub(crate) fn needs_left(&self) -> usize
+        ensures { result ≡ self.now.needs_left }
+    {
+        self.needs_left
+    }
+
+    pub(crate) fn set_needs_left(&mut self, needs_left: usize)
+        ensures { self.new ≡ record self.old { needs_left = needs_left } }
+    {
+        self.needs_left = needs_left;
     }
 
     /// Whether a leg of it is ready.
@@ -202,6 +218,7 @@ impl TryCopy for Job {
             has_legs: self.has_legs,
             room: Vec::from_slice(alloc, self.room.as_slice())?,
             counts: self.counts,
+            needs_left: self.needs_left,
         })
     }
 }

@@ -6,7 +6,10 @@ mod change;
 mod direct_needs;
 pub mod first_place;
 pub mod fit;
+mod flags;
+mod frees;
 mod github_context;
+mod group_numbers;
 mod groups;
 pub mod holder;
 pub mod job;
@@ -24,6 +27,7 @@ mod run_context;
 mod run_identity;
 pub mod run_parts;
 pub mod runs;
+mod standing;
 
 pub use job::Job;
 pub use leg::Leg;

@@ -5,7 +5,7 @@ ghost use Rattle.run_plan.specs.PlanOf.{plan_of};
 ghost use Rattle.workflow_runs.specs.Cells.{blocked_cells, states};
 ghost use Rattle.workflow_runs.specs.Changes.{changed};
 ghost use Rattle.workflow_runs.specs.FirstOf.{changed_at};
-ghost use Rattle.workflow_runs.specs.LettingGo.{has_holding_leg, has_legs_at, has_legs_behind, holds_by_a_leg};
+ghost use Rattle.workflow_runs.specs.LettingGo.{has_legs_at, has_legs_behind, holds_by_a_leg, holds_by_a_leg_of, job_asks};
 ghost use Rattle.workflow_runs.specs.LookAgain.{job_again};
 ghost use Rattle.workflow_runs.specs.MarkedRuns.{has_active_leg, has_ready_leg, has_waiting_leg, is_active, offers_legs, someone_waits};
 ghost use Rattle.workflow_runs.specs.Rules.{opened, settled_as, run_in_phase};
@@ -15,14 +15,15 @@ ghost use Rattle.workflow_runs.specs.JobResults.{results_so_far};
 ghost use Rattle.workflow_runs.specs.Stops.{cancelled, is_open_at, stopped_run, told_to_stop, with_job_stopped};
 ghost use Rattle.workflow_runs.specs.Stops.{with_jobs_stopped, with_stopped_legs};
 ghost use Rattle.workflow_runs.specs.WithinRun.{condition_in, may_run_in, needs_settled_in};
-ghost use Rattle.workflow_runs.specs.Words.{all_have_results};
 
+mod needs;
 mod of;
 
 use crate::change::Change;
 use crate::job::Job;
 use crate::leg::Leg;
 use crate::phases::RunPhase;
+use crate::run::needs::{count_needs, settle_among};
 use run_plan::{DeliveryId, Number, PlannedJob, Prepared};
 use std::alloc::Global;
 use std::marker::Model;
@@ -40,16 +41,16 @@ pub struct Run {
 }
 
 impl Model for Run {
-    ghost use Rattle.std.specs.Prelude.{◌≡◌, map};
     ghost use Rattle.run_plan.specs.PlanOf.{plan_of};
     ghost use Rattle.workflow_runs.specs.RunState.{RunState};
-    ghost use Rattle.workflow_runs.specs.Cells.{rooms, legs_planned, states};
+    ghost use Rattle.workflow_runs.specs.Cells.{states};
+    ghost use Rattle.workflow_runs.specs.NeedsLeft.{ArePlanned};
 
     ghost Value = { RunState };
 
     ghost view = { λ r. record { admitted = r.prepared; attempt = r.attempt; phase = r.phase; stopping = r.stopping; jobs = states r.jobs.items } };
 
-    ghost invariant = { λ r. rooms r.jobs.items ≡ legs_planned (plan_of r.prepared.body) };
+    ghost invariant = { λ r. ArePlanned (plan_of r.prepared.body) r.jobs.items };
 }
 
 impl Run {
@@ -73,7 +74,9 @@ impl Run {
     fn in_attempt(alloc: Global, prepared: &Prepared, attempt: Number) -> Result<Self, Refusal>
         ensures { Gives (λ r. r) result (Ok (run_in_attempt attempt prepared.now)) }
     {
-        let jobs = blocked_jobs(alloc, prepared.plan().as_slice())?;
+        let plan = prepared.plan();
+        let mut jobs = blocked_jobs(alloc, plan.as_slice())?;
+        count_needs(&mut jobs, plan.graph());
         Ok(Run {
             prepared: prepared.share()?,
             attempt,
@@ -135,8 +138,10 @@ impl Run {
     pub fn needs_have_settled(&self, j: usize) -> bool
         ensures { result ≡ needs_settled_in self.now j }
     {
-        let graph = self.prepared.plan().graph();
-        j >= graph.job_count() || have_settled(self.jobs(), graph.needs(j))
+        match self.jobs.get(j) {
+            Some(job) => job.needs_left() == 0,
+            None => true,
+        }
     }
 
     /// Where settling looks again after a rule at the job: at the job itself, or once it has settled at the first that needs it.
@@ -197,11 +202,35 @@ impl Run {
         self.phase.waits() || self.phase.is_live() || have_active_leg(self.jobs())
     }
 
-    /// Whether a leg of it holds its group.
+    /// Whether a leg of it holds the group that its job asks for.
     pub(crate) fn holds_by_a_leg(&self) -> bool
         ensures { result ≡ holds_by_a_leg self.now }
     {
-        have_holding_leg(self.jobs())
+        for j in 0..self.job_count() {
+            if self.holds_by_a_leg_of(j) {
+                return true;
+            }
+        }
+        false
+    }
+
+    fn holds_by_a_leg_of(&self, j: usize) -> bool
+        ensures { result ≡ holds_by_a_leg_of self.now j }
+    {
+        match self.job(j) {
+            Some(job) => self.job_asks(j) && job.has_holding_leg(),
+            None => false,
+        }
+    }
+
+    /// Whether the job at a place asks for a group.
+    fn job_asks(&self, j: usize) -> bool
+        ensures { result ≡ job_asks self.now j }
+    {
+        match self.planned(j) {
+            Some(planned) => planned.concurrency.is_some(),
+            None => false,
+        }
     }
 
     /// Whether a job that needs the one at a place directly has legs, or none is planned there.
@@ -259,19 +288,19 @@ impl Run {
     {
         if j < self.jobs.len() {
             let job = &mut self.jobs[j];
+            let had_settled = job.is_settled();
             job.open();
+            if had_settled {
+                count_needs(&mut self.jobs, self.prepared.plan().graph());
+            }
         }
     }
 
     /// The job at a place settles.
-    #[tactic(auto, using(crate::proofs::Doors::job_written))]
     pub(crate) fn settle_job(&mut self, j: usize, settled: JobResult)
         ensures { self.new ≡ record self.old { jobs = changed_at j (settled_as settled) self.old.jobs } }
     {
-        if j < self.jobs.len() {
-            let job = &mut self.jobs[j];
-            job.settle(settled);
-        }
+        settle_among(&mut self.jobs, self.prepared.plan().graph(), j, settled);
     }
 
     /// All legs of the job at a place are stopped.
@@ -418,19 +447,6 @@ fn have_active_leg(jobs: &[Job]) -> bool
     ensures { result ≡ list_any (λ job. has_active_leg job.state) jobs.now }
 {
     jobs.iter().any(|job| job.has_active_leg())
-}
-
-fn have_holding_leg(jobs: &[Job]) -> bool
-    ensures { result ≡ list_any (λ job. has_holding_leg job.state) jobs.now }
-{
-    jobs.iter().any(|job| job.has_holding_leg())
-}
-
-/// Whether the jobs at these places have all settled.
-fn have_settled(jobs: &[Job], places: &[usize]) -> bool
-    ensures { result ≡ all_have_results (results_so_far (states jobs.now)) places.now }
-{
-    places.iter().all(|place| is_settled_at(jobs, *place))
 }
 
 /// Whether the job at a place has settled.

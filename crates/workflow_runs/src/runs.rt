@@ -9,11 +9,14 @@ ghost use Rattle.workflow_runs.specs.Counted.{IsOf};
 ghost use Rattle.workflow_runs.specs.RunNumber.{events, run_number};
 ghost use Rattle.workflow_runs.specs.Parallel.{most_at_work};
 ghost use Rattle.workflow_runs.specs.NewRun.{is_delivered_as};
-ghost use Rattle.workflow_runs.specs.Words.{combo_at, job_id, continues_on_error};
+ghost use Rattle.workflow_runs.specs.Words.{combo_at, job_id};
 
 mod changes;
+mod conflicts;
 mod counts;
 mod ending;
+mod flags;
+mod group_holders;
 mod group_keys;
 mod groups;
 mod index;
@@ -26,6 +29,7 @@ mod of;
 mod places;
 mod rerun;
 mod settling;
+mod waking;
 
 use crate::asks::RunBindings;
 use crate::job::Job;
@@ -139,7 +143,7 @@ impl Runs {
 
     /// The leg at a place, as it is planned.
     #[tactic(auto, unfolding(crate::specs::LegContext::facts_at))]
-    fn leg_view(&self, place: LegPlace) -> Option<LegView<'_>>
+    pub(super) fn leg_view(&self, place: LegPlace) -> Option<LegView<'_>>
         requires leg { place.leg < 2 ^ 63 }
         ensures { result ≡ facts_at self.now place }
     {
@@ -154,17 +158,6 @@ impl Runs {
             place: place.job,
             leg: place.leg,
         })
-    }
-
-    /// Whether a failure of the leg is passed over. It takes no memory.
-    fn continues_on_error(&self, place: LegPlace) -> bool
-        requires leg { place.leg < 2 ^ 63 }
-        ensures { result ≡ continues_on_error self.now place }
-    {
-        match self.leg_view(place) {
-            Some(leg) => leg.continues_on_error(),
-            None => false,
-        }
     }
 
     /// The place of the run of a delivery.
@@ -242,10 +235,13 @@ impl Runs {
         self.asks.reserve(1)?;
         let r = self.runs.len();
         self.marks.cover(r + 1)?;
+        let asks = self.index.groups.enter(alloc, asked, r + 1)?;
         self.marks.stir(r, 0);
         self.runs.push_reserved(run);
+        let runs = self.runs.as_slice();
+        self.index.groups.list_run(r, runs, &asks);
         self.numbers.push_reserved(number);
-        self.asks.push_reserved(asked);
+        self.asks.push_reserved(asks);
         self.index.counts.add(workflow, number);
         Ok(())
     }
@@ -271,7 +267,7 @@ impl TryCopy for Runs {
             runs: copy_items(alloc, &self.runs)?,
             numbers: Vec::from_slice(alloc, self.numbers.as_slice())?,
             asks: copy_items(alloc, &self.asks)?,
-            index: self.index.copy()?,
+            index: self.index.copy(alloc)?,
             marks: self.marks.copy()?,
             tries: self.tries,
         })

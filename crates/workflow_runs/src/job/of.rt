@@ -12,7 +12,7 @@ use std::alloc::Global;
 use wf_value::Refusal;
 
 impl Job {
-    /// The job of these parts, with room for so many legs, where it has none of them or all.
+    /// The job of these parts, with room for so many legs, where it has none of them or all. Its needs are not counted yet.
     pub(crate) fn of_parts(
         alloc: Global,
         parts: &JobParts,
@@ -20,7 +20,7 @@ impl Job {
     ) -> Result<Option<Self>, Refusal>
         ensures err { ErrsOnlyByMemory result }
         ensures of { IfOk result (λ found. MatchOption found (HasRoom room parts.now.legs → ⊥)
-            (λ job. (job ≡ record { state = parts.now; room = room }) × HasRoom room parts.now.legs)) }
+            (λ job. (job ≡ record { state = parts.now; room = room; needs_left = 0 }) × HasRoom room parts.now.legs)) }
     {
         let legs = parts.legs.as_slice();
         if legs.len() == room {
@@ -29,6 +29,7 @@ impl Job {
                 has_legs: true,
                 room: Vec::from_slice(alloc, legs)?,
                 counts: LegCounts::of(legs),
+                needs_left: 0,
             }));
         }
         if !legs.is_empty() {
@@ -39,6 +40,7 @@ impl Job {
             has_legs: false,
             room: vec![in alloc; Leg::new(); room]?,
             counts: LegCounts::none(),
+            needs_left: 0,
         }))
     }
 }

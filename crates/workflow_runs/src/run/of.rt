@@ -8,6 +8,7 @@ ghost use Rattle.workflow_runs.specs.AsPlanned.{HaveRoom, IsAsPlanned};
 
 use crate::job::Job;
 use crate::run::Run;
+use crate::run::needs::count_needs;
 use crate::run_parts::{JobParts, RunParts};
 use run_plan::PlannedJob;
 use std::alloc::Global;
@@ -20,14 +21,15 @@ impl Run {
         ensures of { IfOk result (λ found. MatchOption found (IsAsPlanned (plan_of parts.now.admitted.body) parts.now.jobs → ⊥)
             (λ run. (run ≡ parts.now) × IsAsPlanned (plan_of parts.now.admitted.body) parts.now.jobs)) }
     {
-        let plan = parts.prepared.plan().as_slice();
+        let plan = parts.prepared.plan();
         let of_jobs = parts.jobs.as_slice();
-        if of_jobs.len() != plan.len() {
+        if of_jobs.len() != plan.as_slice().len() {
             return Ok(None);
         }
-        let Some(jobs) = jobs_of_parts(alloc, of_jobs, plan)? else {
+        let Some(mut jobs) = jobs_of_parts(alloc, of_jobs, plan.as_slice())? else {
             return Ok(None);
         };
+        count_needs(&mut jobs, plan.graph());
         Ok(Some(Run {
             prepared: parts.prepared.share()?,
             attempt: parts.attempt,

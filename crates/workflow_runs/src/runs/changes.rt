@@ -21,8 +21,14 @@ impl Runs {
         ensures { self.new ≡ with_run r (changed change) self.old }
     {
         if r < self.runs.len() {
-            let woken = self.woken_below(r, &change);
-            self.marks.stir(r, woken);
+            let freed = self.freed(r, &change);
+            let newcomer = change.newcomer(r);
+            let runs = self.runs.as_slice();
+            let asks = &self.asks[r];
+            self.marks
+                .wake_freed(&freed, &self.index.groups, asks, runs.len());
+            self.index.groups.list_newcomer(newcomer, runs, asks);
+            self.marks.stir(r, 0);
             let run = &mut self.runs[r];
             run.change(change);
         }

@@ -1,17 +1,16 @@
-//! Who holds a concurrency group: found by going over all active runs and their legs. It takes no memory.
+//! Which group a run or a leg is in, whether it waits for it or holds it, and what its coming there does. It takes no memory.
 
-ghost use Rattle.std.specs.Prelude.{◌≡◌, IfSome, Some, false, true, find, is_some, length, map, option_and_then, option_map};
+ghost use Rattle.std.specs.Prelude.{◌≡◌, IfSome, Some, false, true, is_some, length, option_and_then, option_map};
 ghost use Rattle.std.specs.Option.{option_map_or};
 ghost use Rattle.group_name.specs.BoundGroup.{group_at as bound_group_at};
 ghost use Rattle.workflow_runs.specs.Arrivals.{arrived, is_in_group_of_run};
 ghost use Rattle.workflow_runs.specs.Asks.{RunSays};
 ghost use Rattle.workflow_runs.specs.BoundGroups.{is_set_by, results_by_place};
-ghost use Rattle.workflow_runs.specs.FirstOf.{placed};
 ghost use Rattle.workflow_runs.specs.GroupOf.{RunFacts, cancels_in_progress, group_at, run_facts_at};
 ghost use Rattle.workflow_runs.specs.Groups.{HasOneBeside, holds, is_in, may_start, waits};
 ghost use Rattle.workflow_runs.specs.Holders.{first_conflicting, holder_in_words, is_conflicting};
-ghost use Rattle.workflow_runs.specs.Moves.{Holder as HolderOfGroup};
-ghost use Rattle.workflow_runs.specs.Places.{job_at, leg_places, leg_places_of_job, leg_places_of_run, run_at, with_leg};
+ghost use Rattle.workflow_runs.specs.LookAgain.{finds_others, makes_room};
+ghost use Rattle.workflow_runs.specs.Places.{job_at, run_at, with_leg};
 ghost use Rattle.workflow_runs.specs.SoundRuns.{RunsAreSound};
 ghost use Rattle.workflow_runs.specs.StopMoves.{stop_holder};
 ghost use Rattle.workflow_runs.specs.Stops.{stopped};
@@ -22,10 +21,11 @@ use crate::holder::{Holder, HolderFilter};
 use crate::place::LegPlace;
 use crate::run::Run;
 use crate::runs::Runs;
+use crate::standing::{is_holding, is_waiting};
 
 impl Runs {
     /// The run at a place, with what it and its legs ask.
-    fn with_asks(&self, r: usize) -> Option<(&Run, &RunBindings)>
+    pub(super) fn with_asks(&self, r: usize) -> Option<(&Run, &RunBindings)>
         ensures run { option_map (λ it. it.0.now) result ≡ run_at self.now r }
         ensures says { IfSome result
             (λ it. (facts : RunFacts) → run_facts_at self.now r ≡ Some facts → RunSays facts it.1.now) }
@@ -82,31 +82,13 @@ impl Runs {
     pub fn waits(&self, holder: &Holder) -> bool
         ensures { result ≡ waits self.now (holder_in_words holder.now) }
     {
-        match holder {
-            Holder::Run(r) => match self.runs.get(*r) {
-                Some(run) => run.phase().waits(),
-                None => false,
-            },
-            Holder::Leg(place) => match self.leg(*place) {
-                Some(leg) => leg.phase.waits(),
-                None => false,
-            },
-        }
+        is_waiting(&self.runs, holder)
     }
 
     pub fn holds(&self, holder: &Holder) -> bool
         ensures { result ≡ holds self.now (holder_in_words holder.now) }
     {
-        match holder {
-            Holder::Run(r) => match self.runs.get(*r) {
-                Some(run) => run.phase().is_live(),
-                None => false,
-            },
-            Holder::Leg(place) => match self.leg(*place) {
-                Some(leg) => leg.phase.holds(),
-                None => false,
-            },
-        }
+        is_holding(&self.runs, holder)
     }
 
     /// Whether the leg's group is the one that its own run has.
@@ -126,10 +108,8 @@ impl Runs {
                 .is_none()
     }
 
-    // ---- over all active runs and their legs
-
     /// Whether the other one is in the group of `holder`, and pending or running there, as `whom` asks.
-    fn is_conflicting(&self, holder: &Holder, whom: HolderFilter, other: &Holder) -> bool
+    pub(crate) fn is_conflicting(&self, holder: &Holder, whom: HolderFilter, other: &Holder) -> bool
         ensures { result ≡ is_conflicting self.now (holder_in_words holder.now) whom (holder_in_words other.now) }
     {
         match whom {
@@ -138,83 +118,6 @@ impl Runs {
             }
             HolderFilter::Running => self.holds(other) && self.is_in_group_of(holder, other),
         }
-    }
-
-    /// The first run, else the first leg, that is in the group of `holder` and pending or running there, as `whom` asks.
-    pub(crate) fn first_conflicting(&self, holder: &Holder, whom: HolderFilter) -> Option<Holder>
-        ensures { option_map holder_in_words result ≡ first_conflicting self.now (holder_in_words holder.now) whom }
-    {
-        match self.first_conflicting_run(holder, whom) {
-            Some(r) => Some(Holder::Run(r)),
-            None => Some(Holder::Leg(self.first_conflicting_leg(holder, whom)?)),
-        }
-    }
-
-    fn first_conflicting_run(&self, holder: &Holder, whom: HolderFilter) -> Option<usize>
-        ensures { result ≡ find (λ r. is_conflicting self.now (holder_in_words holder.now) whom (HolderOfGroup.a_run r))
-            (map (λ r. r.0) (placed self.now)) }
-    {
-        let mut from = 0;
-        while let Some(r) = self.next_active(from) {
-            if self.is_conflicting(holder, whom, &Holder::Run(r)) {
-                return Some(r);
-            }
-            from = r + 1;
-        }
-        None
-    }
-
-    fn first_conflicting_leg(&self, holder: &Holder, whom: HolderFilter) -> Option<LegPlace>
-        ensures { result ≡ find (λ p. is_conflicting self.now (holder_in_words holder.now) whom (HolderOfGroup.a_leg p)) (leg_places self.now) }
-    {
-        let mut from = 0;
-        while let Some(r) = self.next_active(from) {
-            let leg = self.first_conflicting_leg_of_run(holder, whom, r);
-            if leg.is_some() {
-                return leg;
-            }
-            from = r + 1;
-        }
-        None
-    }
-
-    fn first_conflicting_leg_of_run(
-        &self,
-        holder: &Holder,
-        whom: HolderFilter,
-        r: usize,
-    ) -> Option<LegPlace>
-        ensures { result ≡ option_and_then
-            (λ run. find (λ p. is_conflicting self.now (holder_in_words holder.now) whom (HolderOfGroup.a_leg p)) (leg_places_of_run (r, run)))
-            (run_at self.now r) }
-    {
-        for j in 0..self.job_count(r) {
-            let leg = self.first_conflicting_leg_of_job(holder, whom, r, j);
-            if leg.is_some() {
-                return leg;
-            }
-        }
-        None
-    }
-
-    fn first_conflicting_leg_of_job(
-        &self,
-        holder: &Holder,
-        whom: HolderFilter,
-        r: usize,
-        j: usize,
-    ) -> Option<LegPlace>
-        ensures { result ≡ option_and_then
-            (λ job. find (λ p. is_conflicting self.now (holder_in_words holder.now) whom (HolderOfGroup.a_leg p)) (leg_places_of_job r (j, job)))
-            (job_at self.now r j) }
-    {
-        for l in 0..self.leg_count(r, j) {
-            let leg = LegPlace::new(r, j, l);
-            if self.is_conflicting(holder, whom, &Holder::Leg(leg)) {
-                return Some(leg);
-            }
-        }
-        None
     }
 
     pub fn job_count(&self, r: usize) -> usize
@@ -236,6 +139,27 @@ impl Runs {
     }
 
     // ---- an arrival
+
+    /// Whether somebody in the group of the newcomer makes room for it: another that is pending there ends, or the one in progress is
+    /// stopped.
+    pub(crate) fn makes_room(&self, newcomer: &Holder) -> bool
+        ensures { result ≡ makes_room self.now (holder_in_words newcomer.now) }
+    {
+        self.has_group(newcomer) && self.finds_others(newcomer)
+    }
+
+    fn finds_others(&self, newcomer: &Holder) -> bool
+        ensures { result ≡ finds_others self.now (holder_in_words newcomer.now) }
+    {
+        self.finds(newcomer, HolderFilter::OthersPending)
+            || (self.cancels_in_progress(newcomer) && self.finds(newcomer, HolderFilter::Running))
+    }
+
+    fn finds(&self, newcomer: &Holder, whom: HolderFilter) -> bool
+        ensures { result ≡ is_some (first_conflicting self.now (holder_in_words newcomer.now) whom) }
+    {
+        self.first_conflicting(newcomer, whom).is_some()
+    }
 
     /// The run or the leg, which waits by now, arrives in its group: the other one that is pending there, if one is, ends as cancelled,
     /// and with cancel-in-progress the running one is stopped. It takes no memory.

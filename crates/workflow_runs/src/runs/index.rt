@@ -1,4 +1,4 @@
-//! The index of a table's runs: where the run of each delivery stands, and how many runs each workflow has.
+//! The index of a table's runs: where the run of each delivery stands, how many runs each workflow has, and who may hold each group.
 
 ghost use Rattle.std.specs.List.{position};
 ghost use Rattle.std.specs.Prelude.{◌≡◌, ◌+◌, ◌<◌, ◌&&◌, ◌∷◌, ◌++◌, ℕ, [], IfOk, List, OnErr, OnOk, Some, if◌then◌else◌, is_none};
@@ -9,31 +9,36 @@ ghost use Rattle.wf_value.specs.Gives.{ErrsOnlyByMemory};
 ghost use Rattle.run_plan.specs.Admitted.{Admitted};
 ghost use Rattle.workflow_runs.specs.Counted.{AreCounted, IsOf, count_of, is_counted};
 ghost use Rattle.workflow_runs.specs.Delivered.{FindsFirst};
+ghost use Rattle.workflow_runs.specs.FoundHolders.{HoldersAreFound};
 ghost use Rattle.workflow_runs.specs.NewRun.{is_delivered_as};
 ghost use Rattle.workflow_runs.specs.RunNumber.{events, number_of_next};
 
 use crate::run::Run;
 use crate::runs::counts::{Counts, Workflow};
+use crate::runs::group_holders::GroupHolders;
 use crate::runs::places::DeliveryPlaces;
 use run_plan::Prepared;
 use std::alloc::Global;
 use wf_value::Refusal;
 
-/// Where the run of each delivery stands, and how many runs there are of each workflow.
+/// Where the run of each delivery stands, how many runs there are of each workflow, and who may hold each concurrency group.
 #[derive(Drop)]
 pub(crate) struct Index {
     pub places: DeliveryPlaces,
     pub counts: Counts,
+    pub groups: GroupHolders,
 }
 
 impl Index {
     pub(crate) fn new(alloc: Global) -> Self
         ensures places { FindsFirst [] result.places.places }
         ensures counts { AreCounted [] result.counts.counts }
+        ensures groups { HoldersAreFound [] [] result.groups.book.entries result.groups.unlisted }
     {
         Index {
             places: DeliveryPlaces::new(alloc),
             counts: Counts::new(alloc),
+            groups: GroupHolders::new(alloc),
         }
     }
 
@@ -58,6 +63,7 @@ impl Index {
         ensures counted { AreCounted (events runs.now) self.new.counts.counts }
         ensures one_more { OnOk result (FindsFirst (events runs.now ++ event.now ∷ []) self.new.places.places) }
         ensures room { OnOk result (is_counted self.new.counts.counts event.now ≡ true) }
+        ensures groups { self.new.groups ≡ self.old.groups }
     {
         self.take_memory(alloc, event, workflow, runs.len(), found)
     }
@@ -81,6 +87,7 @@ impl Index {
             → get_by_text self.new.places.places other ≡ get_by_text self.old.places.places other) }
         ensures uncounted { (other : Admitted) → count_of self.new.counts.counts other ≡ count_of self.old.counts.counts other }
         ensures room { OnOk result (is_counted self.new.counts.counts event.now ≡ true) }
+        ensures groups { self.new.groups ≡ self.old.groups }
     {
         let number = self.counts.count(workflow) + 1;
         self.counts.make_room(alloc, workflow)?;
@@ -89,16 +96,19 @@ impl Index {
     }
 
     /// A copy of the index.
-    pub(crate) fn copy(&self) -> Result<Self, Refusal>
+    pub(crate) fn copy(&self, alloc: Global) -> Result<Self, Refusal>
         ensures err { ErrsOnlyByMemory result }
         ensures places { IfOk result (λ index. (delivery : List ℕ)
             → get_by_text index.places.places delivery ≡ get_by_text self.now.places.places delivery) }
         ensures counts { IfOk result (λ index. (event : Admitted)
             → count_of index.counts.counts event ≡ count_of self.now.counts.counts event) }
+        ensures book { IfOk result (λ index. index.groups.book.entries ≡ self.now.groups.book.entries) }
+        ensures unlisted { IfOk result (λ index. index.groups.unlisted ≡ self.now.groups.unlisted) }
     {
         Ok(Index {
             places: self.places.copy()?,
             counts: self.counts.copy()?,
+            groups: self.groups.copy(alloc)?,
         })
     }
 }

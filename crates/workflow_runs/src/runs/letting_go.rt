@@ -1,15 +1,15 @@
-//! Which changes of a run let a concurrency group go: after any other nobody may start who waits in another run, so nobody is woken. They
-//! are told apart without memory.
+//! Which changes of a run let a concurrency group go, and who holds it: nobody else may start who waits in another run. They are told apart
+//! without memory.
 
-ghost use Rattle.std.specs.Prelude.{◌≡◌, ◌⊎◌, ◌≤◌, false, length};
+ghost use Rattle.std.specs.Prelude.{◌≡◌, false};
 ghost use Rattle.std.specs.Option.{option_map_or};
-ghost use Rattle.workflow_runs.specs.Changes.{changed};
-ghost use Rattle.workflow_runs.specs.LettingGo.{LetsNobodyGo, asks_for_groups, has_begun, has_legs_behind, holds_by_a_leg, leg_lets_go, may_let_go, offers_a_leg};
+ghost use Rattle.workflow_runs.specs.LettingGo.{asks_for_groups, freed, has_begun, has_legs_behind, holds_by_a_leg, leg_lets_go, offers_a_leg};
 ghost use Rattle.workflow_runs.specs.LettingGo.{run_lets_go};
 ghost use Rattle.workflow_runs.specs.MarkedRuns.{is_so_at};
-ghost use Rattle.workflow_runs.specs.Places.{job_at, with_run};
+ghost use Rattle.workflow_runs.specs.Places.{job_at};
 
 use crate::change::Change;
+use crate::frees::Frees;
 use crate::holder::Holder;
 use crate::leg::Leg;
 use crate::phases::RunPhase;
@@ -17,29 +17,22 @@ use crate::place::LegPlace;
 use crate::runs::Runs;
 
 impl Runs {
-    /// Below which place runs are woken by the change of the one at a place: all, where it may let a group go, and else none.
-    pub(super) fn woken_below(&self, r: usize, change: &Change) -> usize
-        ensures most { result ≤ length self.now }
-        ensures wakes { (result ≡ length self.now) ⊎ LetsNobodyGo self.now (with_run r (changed change.now) self.now) }
-    {
-        if self.may_let_go(r, change) {
-            self.len()
-        } else {
-            0
-        }
-    }
-
-    /// Whether the change of the run at a place may let a group go.
-    fn may_let_go(&self, r: usize, change: &Change) -> bool
-        ensures { result ≡ may_let_go self.now r change.now }
+    /// Whom the change of the run at a place may free.
+    pub(super) fn freed(&self, r: usize, change: &Change) -> Frees
+        ensures { result ≡ freed self.now r change.now }
     {
         match change {
-            Change::Phase(phase) => self.run_lets_go(r, *phase),
-            Change::Open(j) => self.has_begun(r, *j),
-            Change::Settle(j, _) => self.has_legs_behind(r, *j),
-            Change::Stop => self.holds_by_a_leg(r),
-            Change::StopLegs(j) => self.offers_a_leg(r, *j) && self.asks_for_groups(r, *j),
-            Change::PutLeg(j, l, leg) => self.leg_lets_go(LegPlace::new(r, *j, *l), *leg),
+            Change::Phase(phase) => Frees::one_if(self.run_lets_go(r, *phase), Holder::Run(r)),
+            Change::Open(j) => Frees::any_if(self.has_begun(r, *j)),
+            Change::Settle(j, _) => Frees::any_if(self.has_legs_behind(r, *j)),
+            Change::Stop => Frees::any_if(self.holds_by_a_leg(r)),
+            Change::StopLegs(j) => {
+                Frees::any_if(self.offers_a_leg(r, *j) && self.asks_for_groups(r, *j))
+            }
+            Change::PutLeg(j, l, leg) => {
+                let place = LegPlace::new(r, *j, *l);
+                Frees::one_if(self.leg_lets_go(place, *leg), Holder::Leg(place))
+            }
         }
     }
 

@@ -75,7 +75,7 @@ impl Runs {
     }
 
     /// Claims pass the run where no leg of it is ready, nobody wakes it where nobody in it waits, and neither a lease nor a holder of a group
-    /// is looked for in it where it is not active.
+    /// is looked for in it where it is not active: nobody in it stands then who would have to be listed.
     fn look_again(&mut self, r: usize)
         requires { r < length self.old }
         ensures { self.new ≡ self.old }
@@ -109,6 +109,7 @@ impl Runs {
     {
         if !self.is_active(r) {
             self.marks.active.unmark(r);
+            self.index.groups.unlisted.unmark(r);
         }
     }
 

@@ -71,7 +71,7 @@ impl RunMarks {
 }
 
 /// Marks as due all below the bound in which someone waits.
-fn wake(due: &mut Marks, waiting: &Marks, bound: usize)
+pub(super) fn wake(due: &mut Marks, waiting: &Marks, bound: usize)
     requires { Covers due.old bound }
     ensures due { (i : ℕ) → is_marked due.old i ≡ true → is_marked due.new i ≡ true }
     ensures woken { (i : ℕ) → i < bound → is_marked waiting.now i ≡ true → is_marked due.new i ≡ true }
@@ -88,6 +88,7 @@ fn wake(due: &mut Marks, waiting: &Marks, bound: usize)
 pub(crate) fn next_below(marks: &Marks, from: usize, bound: usize) -> Option<usize>
     ensures within { IfSome result (λ r. r < bound) }
     ensures from { IfSome result (λ r. from ≤ r) }
+    ensures itself { IfSome result (λ r. is_marked marks.now r ≡ true) }
     ensures between { IfSome result (λ r. (i : ℕ) → from ≤ i → i < r → is_marked marks.now i ≡ false) }
     ensures none { IfNone result ((i : ℕ) → from ≤ i → i < bound → is_marked marks.now i ≡ false) }
 {

@@ -23,14 +23,19 @@ impl Runs {
         ensures err { OnErr result (self.new ≡ self.old) }
     {
         match self.next_attempt(alloc, r)? {
-            Some((next, asked)) => self.put_again(r, next, asked),
-            None => {}
+            Some((next, asked)) => self.put_again(alloc, r, next, asked),
+            None => Ok(()),
         }
-        Ok(())
     }
 
     /// Puts the next attempt of the run at a place there, with what it asks.
-    fn put_again(&mut self, r: usize, next: Run, asked: RunBindings)
+    fn put_again(
+        &mut self,
+        alloc: Global,
+        r: usize,
+        next: Run,
+        asked: RunBindings,
+    ) -> Result<(), Refusal>
         requires next { Some next ≡ option_map again (run_at self.old r) }
         requires says { RunSays (record {
           event = next.admitted;
@@ -38,12 +43,17 @@ impl Runs {
           run_number = decimal (run_number (events self.old) r next.admitted);
           run_attempt = decimal next.attempt;
         }) asked }
-        ensures { self.new ≡ with_run r again self.old }
+        ensures again { Gives (λ _. self.new) result (Ok (with_run r again self.old)) }
+        ensures err { OnErr result (self.new ≡ self.old) }
     {
+        let asks = self.index.groups.enter(alloc, asked, r + 1)?;
         let count = self.runs.len();
         self.marks.stir(r, count);
         put_at(&mut self.runs, r, next);
-        put_at(&mut self.asks, r, asked);
+        let runs = self.runs.as_slice();
+        self.index.groups.list_run(r, runs, &asks);
+        put_at(&mut self.asks, r, asks);
+        Ok(())
     }
 
     /// The next attempt of the run at a place, with what it asks.

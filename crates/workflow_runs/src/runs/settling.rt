@@ -101,13 +101,13 @@ impl Runs {
         JobPlace { run, job: 0 }
     }
 
-    /// Whether the rule there may set a run or a leg of another run on its way: a leg arrives there in a group, and so may end or stop
-    /// others, or a live run of a group ends.
+    /// Whether the rule there may set a run or a leg of another run on its way: a leg arrives there, and another ends or is stopped, or a
+    /// live run of a group ends.
     fn may_wake_others(&self, place: &Place) -> bool
         ensures { result ≡ may_wake_others self.now place.now }
     {
         match place {
-            Place::AtLeg(leg) => self.is_new(*leg) && self.has_group(&Holder::Leg(*leg)),
+            Place::AtLeg(leg) => self.is_new(*leg) && self.makes_room(&Holder::Leg(*leg)),
             Place::Whole(r) => self.holds(&Holder::Run(*r)) && self.has_group(&Holder::Run(*r)),
             Place::Opening(_, _) | Place::Closing(_, _) => false,
         }

@@ -5,8 +5,8 @@ use Rattle.workflow_runs.proofs.job.Job.set_leg.Goals as goal
 
 pub returns-then-l-len : goal.returns-then-l-len
 returns-then-l-len c =
-    leg_written c.self.inside.phase c.self.inside.has_legs c.self.inside.room.items c.args.l c.args.leg c.args.self.now c.if-self.true
-    (search rules) c.self.view_is
+    leg_written c.self.inside.phase c.self.inside.has_legs c.self.inside.room.items c.self.inside.needs_left c.args.l
+    c.args.leg c.args.self.now c.if-self.true (search rules) c.self.view_is
 
 pub returns-else-self : goal.returns-else-self
 returns-else-self c =
@@ -15,5 +15,5 @@ returns-else-self c =
       | else-self-via-then-self+else-l-len w ↦ λ _. search rules
       | else-self-via-else-self w ↦ λ yes. cc
     ] in
-    no_leg_written c.self.inside.phase c.self.inside.has_legs c.self.inside.room.items c.args.l c.args.leg c.args.self.now past
-    c.self.view_is
+    no_leg_written c.self.inside.phase c.self.inside.has_legs c.self.inside.room.items c.self.inside.needs_left c.args.l
+    c.args.leg c.args.self.now past c.self.view_is

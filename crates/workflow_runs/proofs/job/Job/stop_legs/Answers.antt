@@ -26,5 +26,5 @@ returns c =
     let now =
     stopped_room room c.deref_mut.result.now new (drop (length new) room) c.self.inside.room.len c.deref_mut.ensures.value
     c.stop_all.ensures (omega arith) in
-    ap (cells_of c.self.inside.phase c.self.inside.has_legs) now
-    ∙ legs_stopped c.self.inside.phase c.self.inside.has_legs room c.args.self.now c.self.view_is
+    ap (λ legs. cells_of c.self.inside.phase c.self.inside.has_legs legs c.self.inside.needs_left) now
+    ∙ legs_stopped c.self.inside.phase c.self.inside.has_legs room c.self.inside.needs_left c.args.self.now c.self.view_is

@@ -28,8 +28,8 @@ loop-j-preserved c =
     let old = c.loop-j.jobs.items in
     let n : length c.as_slice.result.now ≡ length planned.legs = ap length c.as_slice.ensures in
     let now : c.push.new.self.items ≡ old ++ x ∷ [] = search rules in
-    let is : (x ≡ record { state = part; room = length c.as_slice.result.now }) × HasRoom (length c.as_slice.result.now) part.legs =
-    search rules in
+    let room = length c.as_slice.result.now in
+    let is : (x ≡ record { state = part; room = room; needs_left = 0 }) × HasRoom room part.legs = search rules in
     let at = read_at parts j part (omega arith) c.index-parts-j.is in
     let at_plan = read_at plan j planned (omega arith) c.index-plan-j.is in (
       subst (λ (items : List JobCells). states items ≡ take (j + 1) parts) (sym now)

@@ -1,16 +1,24 @@
-use Rattle.std.proofs.Common.{◌≡◌, ◌+◌, ◌++◌, ◌∷◌, ◌<◌, [], ℕ, List, length, ap, sym, subst, ◌∙◌, rules}
+use Rattle.std.proofs.Common.{◌≡◌, ◌≤◌, ◌+◌, ◌++◌, ◌∷◌, ◌<◌, [], ℕ, List, length, ap, sym, subst, ◌∙◌, rules}
 use Rattle.std.specs.Fmt.{decimal}
 use Rattle.run_plan.specs.Admitted.{Admitted}
+use Rattle.run_marks.specs.Marked.{SameMarks}
 use Rattle.workflow_runs.specs.Asks.{RunSays}
 use Rattle.workflow_runs.specs.Counted.{count_of}
 use Rattle.workflow_runs.specs.Delivered.{FindsFirst}
+use Rattle.workflow_runs.specs.FoundHolders.{AllAreFound, OnlyLists}
+use Rattle.workflow_runs.specs.GroupNumbers.{OnlyEnters}
+use Rattle.workflow_runs.specs.GroupOf.{RunFacts}
+use Rattle.workflow_runs.specs.MarkedRuns.{OnlyGrows}
 use Rattle.workflow_runs.specs.RunNumber.{events, number_of_next, same_workflow}
 use Rattle.workflow_runs.specs.RunState.{RunState}
 use Rattle.workflow_runs.specs.RunsKept.{RunsAreKept}
+use Rattle.workflow_runs.specs.declared.runs.group_holders.GroupHolders.{GroupHolders}
+use Rattle.workflow_runs.specs.declared.runs.marks.RunMarks.{RunMarks}
+use Rattle.workflow_runs.proofs.GroupNumbers.{each_more, each_stays}
 use Rattle.workflow_runs.proofs.Indexed.{counted_more, events_more}
 use Rattle.workflow_runs.proofs.MarkedRuns.{marks_grown, marks_more}
 use Rattle.workflow_runs.proofs.RunNumbers.{count_of_map}
-use Rattle.workflow_runs.proofs.StillBound.{all_added, kept_in}
+use Rattle.workflow_runs.proofs.StillBound.{all_added, found_added, kept_entered, kept_in}
 use Rattle.workflow_runs.proofs.runs.Runs.add_counted.Goals as goal
 use Rattle.workflow_runs.proofs.runs.Runs.add_counted.Goals.{In_ok-reserve}
 
@@ -21,6 +29,7 @@ still_kept : (c : In_ok-reserve)
 still_kept c =
     kept_in c.self.inside.runs.items c.as_slice-runs.result.now c.self.inside.numbers.items c.self.inside.asks.items c.self.inside.index
     c.make_room.new.self c.self.inside.marks c.as_slice-runs.ensures.value c.self.invariant c.make_room.ensures.finds c.make_room.ensures.counted
+    c.make_room.ensures.groups
 
 pub invariant_of-self-in_err-reserve-2 : goal.invariant_of-self-in_err-reserve-2
 invariant_of-self-in_err-reserve-2 c =
@@ -32,16 +41,41 @@ invariant_of-self-in_err-reserve-3 c =
     (still_kept (goal.at.invariant_of-self-in_err-reserve-3 c).In_ok-reserve)
 
 -- room for marks alone is no change
-pub invariant_of-self-in_err-cover : goal.invariant_of-self-in_err-cover
-invariant_of-self-in_err-cover c =
-    let were = still_kept (goal.at-invariant_of-self-in_err-cover c).In_ok-reserve in
-    rw (c.reserve.ensures.items, c.reserve-2.ensures.items, c.reserve-3.ensures.items) (record {
+roomier : (c : In_ok-reserve) (marks : RunMarks) → OnlyGrows c.self.inside.marks marks
+    → RunsAreKept c.self.inside.runs.items c.self.inside.numbers.items c.self.inside.asks.items c.make_room.new.self marks
+roomier c marks grows =
+    let were = still_kept c in
+    record {
       numbered = were.numbered;
       bound = were.bound;
       found = were.found;
       counted = were.counted;
-      marked = marks_grown c.self.inside.runs.items c.self.inside.marks c.cover.new.self c.cover.ensures.grows were.marked;
-    })
+      marked = marks_grown c.self.inside.runs.items c.self.inside.marks marks grows were.marked;
+      grouped = were.grouped;
+      listed = were.listed;
+    }
+
+pub invariant_of-self-in_err-cover : goal.invariant_of-self-in_err-cover
+invariant_of-self-in_err-cover c =
+    rw (c.reserve.ensures.items, c.reserve-2.ensures.items, c.reserve-3.ensures.items)
+    (roomier (goal.at-invariant_of-self-in_err-cover c).In_ok-reserve c.cover.new.self c.cover.ensures.grows)
+
+-- nor are groups that are entered
+entered : (c : In_ok-reserve) (marks : RunMarks) (groups : GroupHolders) → OnlyGrows c.self.inside.marks marks
+    → OnlyEnters c.make_room.new.self.groups.book.entries groups.book.entries
+    → SameMarks c.make_room.new.self.groups.unlisted groups.unlisted
+    → length c.make_room.new.self.groups.unlisted ≤ length groups.unlisted
+    → RunsAreKept c.self.inside.runs.items c.self.inside.numbers.items c.self.inside.asks.items
+    (record c.make_room.new.self { groups = groups }) marks
+entered c marks groups grows enters same room =
+    kept_entered c.self.inside.runs.items c.self.inside.numbers.items c.self.inside.asks.items c.make_room.new.self marks groups enters
+    same room (roomier c marks grows)
+
+pub invariant_of-self-in_err-asks : goal.invariant_of-self-in_err-asks
+invariant_of-self-in_err-asks c =
+    rw (c.reserve.ensures.items, c.reserve-2.ensures.items, c.reserve-3.ensures.items)
+    (entered (goal.at.invariant_of-self-in_err-asks c).In_ok-reserve c.cover.new.self c.enter.new.self c.cover.ensures.grows
+    c.enter.ensures.enters c.enter.ensures.marks c.enter.ensures.room)
 
 -- the run is kept with its number and with what it asks; it is found by its delivery, counted, and marked
 pub invariant_of-self-2 : goal.invariant_of-self-2
@@ -56,7 +90,11 @@ invariant_of-self-2 c =
     subst (λ (es : List Admitted). FindsFirst es places)
     (ap (λ (runs : List RunState). events runs ++ c.prepared.result.now ∷ []) all ∙ ap (λ (e : Admitted). events items ++ e ∷ []) same
     ∙ sym (events_more items c.args.run)) c.in_ok-number.ensures.one_more in
-    let counted = (still_kept (goal.at.invariant_of-self-2 c).In_ok-reserve).counted in
+    let held = c.enter.new.self in
+    let groups = c.list_run.new.self in
+    let were = entered (goal.at.invariant_of-self-2 c).In_ok-reserve c.cover.new.self held c.cover.ensures.grows c.enter.ensures.enters
+    c.enter.ensures.marks c.enter.ensures.room in
+    let counted = were.counted in
     let next : c.in_ok-number.number ≡ number_of_next items event =
     c.in_ok-number.ensures.number
     ∙ ap (λ (runs : List RunState). number_of_next runs c.prepared.result.now) all
@@ -64,17 +102,25 @@ invariant_of-self-2 c =
     let number : c.in_ok-number.number ≡ count_of counts event + 1 =
     next ∙ ap (λ (n : ℕ). n + 1) (count_of_map (same_workflow event) (λ (run : RunState). run.admitted) items ∙ sym (counted event)) in
     let room : length items < 100000 = subst (λ (runs : List RunState). length runs < 100000) (sym c.self.view_is) c.requires.room in
-    let says : RunSays (record {
+    let facts : RunFacts = record {
       event = event;
       run_id = decimal (length items + 1);
       run_number = decimal c.in_ok-number.number;
       run_attempt = decimal c.args.run.attempt;
-    }) c.in_ok-asked.asked = search rules in
+    } in
+    let asked : RunSays facts c.in_ok-asked.asked = search rules in
+    let says : RunSays facts c.in_ok-asks.asks = c.in_ok-asks.ensures.says facts asked in
     let r = c.len-r.result in
     let end : r ≡ length items = search rules in
     let kept =
-    all_added items c.args.run c.self.inside.numbers.items c.self.inside.asks.items c.in_ok-number.number c.in_ok-asked.asked room
+    all_added items c.args.run c.self.inside.numbers.items c.self.inside.asks.items c.in_ok-number.number c.in_ok-asks.asks room
     (c.self.invariant.numbered, c.self.invariant.bound) next says in
+    let seen : c.as_slice-runs-2.result.now ≡ items ++ c.args.run ∷ [] = search rules in
+    let lists : OnlyLists (items ++ c.args.run ∷ []) held groups =
+    subst (λ (runs : List RunState). OnlyLists runs held groups) seen c.list_run.ensures.others in
+    let all : AllAreFound (items ++ c.args.run ∷ []) groups.book.entries groups.unlisted c.in_ok-asks.asks r =
+    subst (λ (runs : List RunState). AllAreFound runs groups.book.entries groups.unlisted c.in_ok-asks.asks r) seen
+    c.list_run.ensures.all in
     rw (
       c.push_reserved.ensures.items,
       c.push_reserved-2.ensures.items,
@@ -88,6 +134,10 @@ invariant_of-self-2 c =
       found = found;
       counted = counted_more items c.args.run counts c.add.new.self.counts counted
           (λ other. c.add.ensures.counted event other c.requires.workflow number);
-      marked = marks_more items c.args.run c.cover.new.self c.stir.new.self r 0 end c.in_ok-cover.ensures.covers c.stir.ensures
-          (marks_grown items c.self.inside.marks c.cover.new.self c.cover.ensures.grows c.self.invariant.marked);
+      marked = marks_more items c.args.run c.cover.new.self c.stir.new.self r 0 end c.in_ok-cover.ensures.covers c.stir.ensures were.marked;
+      grouped = each_stays held.book.entries groups.book.entries (c.self.inside.asks.items ++ c.in_ok-asks.asks ∷ [])
+          lists.numbers
+          (each_more held.book.entries c.self.inside.asks.items c.in_ok-asks.asks c.in_ok-asks.ensures.numbers were.grouped);
+      listed = found_added items c.args.run c.self.inside.asks.items c.in_ok-asks.asks held groups r end were.bound.as_many lists all
+          c.in_ok-asks.ensures.covers were.listed;
     })

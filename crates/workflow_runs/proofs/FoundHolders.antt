@@ -1,0 +1,270 @@
+-- Whoever waits or holds a group stays found, whatever changes.
+use Rattle.std.specs.Prelude.{◌≡◌, ◌⊎◌, ℕ, ◌≤◌, ◌||◌, List, [], length, nat_eq, Bool, true, false, Option, Some, None}
+use Rattle.std.specs.Prelude.{IfSome, slice_get, if◌then◌else◌, refl}
+use Rattle.std.specs.List.{list_any}
+use Rattle.std.specs.Option.{option_map_or}
+use Rattle.std.proofs.Common.{arith, ap, subst, sym, ◌∙◌, inl, inr}
+use Rattle.std.proofs.lemmas.Bool.{cases_eq, eqb-true, or_parts, true≢false}
+use Rattle.std.proofs.lemmas.Option.{same_Some}
+use Rattle.run_marks.specs.Bits.{Puts}
+use Rattle.run_marks.specs.Marked.{Covers, SameMarks, is_marked}
+use Rattle.workflow_runs.specs.Asks.{asked_of}
+use Rattle.workflow_runs.specs.FoundHolders.{AllAreFound, HoldersAreFound, IsFound, IsListed, IsListedAt, OnlyLists, Stands, StillFound}
+use Rattle.workflow_runs.specs.FoundHolders.{newcomer}
+use Rattle.workflow_runs.specs.GroupNumbers.{Entries, OnlyEnters}
+use Rattle.workflow_runs.specs.Groups.{leg_holds, leg_waits, run_waits}
+use Rattle.workflow_runs.specs.Holders.{holder_in_words, run_of}
+use Rattle.workflow_runs.specs.MarkedRuns.{has_active_leg, is_active, is_active_leg, is_so_at}
+use Rattle.workflow_runs.specs.Places.{LegPlace, leg_place, run_at}
+use Rattle.workflow_runs.specs.RunState.{JobState, LegState, RunState}
+use Rattle.workflow_runs.specs.StateWords.{is_live}
+use Rattle.workflow_runs.specs.declared.asks.RunBindings.{RunBindings}
+use Rattle.workflow_runs.specs.declared.change.Change.{Change}
+use Rattle.workflow_runs.specs.declared.change.Change.TheVariants as change
+use Rattle.workflow_runs.specs.declared.holder.Holder.{Holder}
+use Rattle.workflow_runs.specs.declared.holder.Holder.TheVariants.{Run, Leg}
+use Rattle.workflow_runs.specs.declared.phases.LegPhase.{LegPhase}
+use Rattle.workflow_runs.specs.declared.runs.group_holders.GroupHolders.{GroupHolders}
+use Rattle.workflow_runs.proofs.HoldersFade.{by_run, job_passes, leg_passes, passes, run_passes}
+use Rattle.workflow_runs.proofs.MarkedRuns.{put_adds}
+use Rattle.workflow_runs.proofs.NoneActive.{none_of}
+use Rattle.workflow_runs.proofs.StoodBefore.{Stood}
+
+abbrev place_of : Holder → ℕ
+place_of h = run_of (holder_in_words h)
+
+not_same : (i r : ℕ) → (i ≡ r → ⊥) → nat_eq i r ≡ false
+not_same i r other = by (nat_eq i r) refl
+  where
+    by : (b : Bool) → nat_eq i r ≡ b → b ≡ false
+    by true is = absurd (other (eqb-true i r is))
+    by false is = refl
+
+-- ---- one that is found
+
+found_by : (P : Type 0) (entries : Entries) (unlisted : List ℕ) (kept : RunBindings) (h : Holder) → IsFound entries unlisted kept h
+    → ((asked_of kept (holder_in_words h) ≡ None) → P) → ((is_marked unlisted (place_of h) ≡ true) → P)
+    → (IsListed entries kept h → P) → P
+found_by P entries unlisted kept h found asks marked listed =
+    elim (found) [
+      | inl nothing ↦ asks nothing
+      | inr there ↦ elim (there) [
+        | inl mark ↦ marked mark
+        | inr slot ↦ listed slot
+      ]
+    ]
+
+-- it is found where more groups are entered
+pub found_entered : (old new : Entries) (unlisted : List ℕ) (kept : RunBindings) (h : Holder) → OnlyEnters old new
+    → IsFound old unlisted kept h → IsFound new unlisted kept h
+found_entered old new unlisted kept h enters found =
+    found_by (IsFound new unlisted kept h) old unlisted kept h found (λ nothing. inl nothing) (λ mark. inr (inl mark))
+    (λ slot. inr (inr (record {
+      number = slot.number;
+      numbered = slot.numbered;
+      at = record {
+        slot = slot.at.slot;
+        there = enters.slots slot.number slot.at.slot slot.at.there;
+        listed = slot.at.listed;
+      };
+    })))
+
+-- and where its run stays marked
+pub found_marked : (entries : Entries) (old new : List ℕ) (kept : RunBindings) (h : Holder)
+    → (is_marked old (place_of h) ≡ true → is_marked new (place_of h) ≡ true) → IsFound entries old kept h → IsFound entries new kept h
+found_marked entries old new kept h stays found =
+    found_by (IsFound entries new kept h) entries old kept h found (λ nothing. inl nothing) (λ mark. inr (inl (stays mark)))
+    (λ slot. inr (inr slot))
+
+pub all_entered : (runs : List RunState) (asks : List RunBindings) (old new : Entries) (unlisted : List ℕ) → OnlyEnters old new
+    → HoldersAreFound runs asks old unlisted → HoldersAreFound runs asks new unlisted
+all_entered runs asks old new unlisted enters are = record {
+  covers = are.covers;
+  found = (λ h kept stands at. found_entered old new unlisted kept h enters (are.found h kept stands at));
+}
+
+-- more room
+pub all_roomier : (runs : List RunState) (asks : List RunBindings) (entries : Entries) (old new : List ℕ) → SameMarks old new
+    → length old ≤ length new → HoldersAreFound runs asks entries old → HoldersAreFound runs asks entries new
+all_roomier runs asks entries old new same room are = record {
+  covers = omega (arith, are.covers, room);
+  found = (λ h kept stands at.
+      found_marked entries old new kept h (λ mark. same (place_of h) ∙ mark) (are.found h kept stands at));
+}
+
+-- no runs
+pub none_found : (entries : Entries) (unlisted : List ℕ) → HoldersAreFound [] [] entries unlisted
+none_found entries unlisted = record {
+  covers = omega arith;
+  found = (λ h kept stands at. cc);
+}
+
+-- ---- after a change of one run
+
+newcomer_there : (r : ℕ) (c : Change) (h : Holder) → newcomer r c ≡ Some h → place_of h ≡ r
+newcomer_there r (change.Phase phase) h is = by (run_waits phase || is_live phase) is
+  where
+    by : (b : Bool) → (if b then Some (Run r) else None) ≡ Some h → place_of h ≡ r
+    by true e = sym (ap place_of (same_Some (Run r) h e))
+    by false e = cc
+newcomer_there r (change.Open j) h is = cc
+newcomer_there r (change.Settle j settled) h is = cc
+newcomer_there r change.Stop h is = cc
+newcomer_there r (change.StopLegs j) h is = cc
+newcomer_there r (change.PutLeg j l leg) h is = by (leg_waits leg.phase || leg_holds leg.phase) is
+  where
+    by : (b : Bool) → (if b then Some (Leg (leg_place r j l)) else None) ≡ Some h → place_of h ≡ r
+    by true e = sym (ap place_of (same_Some (Leg (leg_place r j l)) h e))
+    by false e = cc
+
+if_it : (one : Option Holder) (P : Holder → Type 0) → IfSome one P → (h : Holder) → one ≡ Some h → P h
+if_it None P says h is = cc
+if_it (Some k) P says h is = subst P (same_Some k h is) says
+
+pub found_after : (runs next : List RunState) (asks : List RunBindings) (old new : Entries) (marks marks' : List ℕ) (r : ℕ) (c : Change)
+    (asked : RunBindings) → length next ≡ length runs → length marks' ≡ length marks → slice_get asks r ≡ Some asked
+    → ((h : Holder) → Stands next h → Stood runs (newcomer r c) h) → IfSome (newcomer r c) (IsFound new marks' asked)
+    → StillFound runs old marks new marks' → HoldersAreFound runs asks old marks → HoldersAreFound next asks new marks'
+found_after runs next asks old new marks marks' r c asked many room kept_at stood itself still are = record {
+  covers = omega (arith, are.covers, many, room);
+  found = (λ h kept stands at.
+      elim (stood h stands) [
+        | inl it ↦
+            let here : slice_get asks r ≡ Some kept = ap (slice_get asks) (sym (newcomer_there r c h it)) ∙ at in
+            subst (λ (k : RunBindings). IsFound new marks' k h) (same_Some asked kept (sym kept_at ∙ here))
+            (if_it (newcomer r c) (IsFound new marks' asked) itself h it)
+        | inr before ↦ still h kept before (are.found h kept before at)
+      ]);
+}
+
+-- ---- where no leg of a run is active, none stands
+
+idle : (phase : LegPhase) → (leg_waits phase || leg_holds phase) ≡ false → (leg_waits phase ≡ false) × (leg_holds phase ≡ false)
+idle phase none = or_parts (leg_waits phase) (leg_holds phase) none
+
+no_leg_passes : (test : LegPhase → Bool) → ((leg : LegState) → is_active_leg leg ≡ false → test leg.phase ≡ false) → (x : RunState)
+    (j l : ℕ) → list_any has_active_leg x.jobs ≡ false → run_passes test j l x ≡ true → ⊥
+no_leg_passes test weaker x j l none e = by_job (slice_get x.jobs j) refl e
+  where
+    by_leg : (y : JobState) → has_active_leg y ≡ false → (o : Option LegState) → slice_get y.legs l ≡ o
+        → passes (leg_passes test) o ≡ true → ⊥
+    by_leg y rests None at e = true≢false (sym e)
+    by_leg y rests (Some z) at e = true≢false (sym e ∙ weaker z (none_of is_active_leg y.legs l z rests at))
+
+    by_job : (o : Option JobState) → slice_get x.jobs j ≡ o → passes (job_passes test l) o ≡ true → ⊥
+    by_job None at e = true≢false (sym e)
+    by_job (Some y) at e = by_leg y (none_of has_active_leg x.jobs j y none at) (slice_get y.legs l) refl e
+
+no_leg_stands : (runs : List RunState) (p : LegPlace) (x : RunState) → run_at runs p.run ≡ Some x
+    → list_any has_active_leg x.jobs ≡ false → Stands runs (Leg p) → ⊥
+no_leg_stands runs p x at none stands =
+    elim (stands) [
+      | inl e ↦ no_leg_passes leg_waits (λ leg rests. (idle leg.phase rests).0) x p.job p.leg none
+          (ap (passes (run_passes leg_waits p.job p.leg)) (sym at) ∙ sym (by_run leg_waits runs p) ∙ e)
+      | inr e ↦ no_leg_passes leg_holds (λ leg rests. (idle leg.phase rests).1) x p.job p.leg none
+          (ap (passes (run_passes leg_holds p.job p.leg)) (sym at) ∙ sym (by_run leg_holds runs p) ∙ e)
+    ]
+
+-- ---- one run stands in the place of another, or behind the others
+
+by_its_run : (runs next : List RunState) (h : Holder) → run_at next (place_of h) ≡ run_at runs (place_of h) → Stands next h → Stands runs h
+by_its_run runs next (Run s) same stands =
+    subst (λ (o : Option RunState). (passes (λ x. run_waits x.phase) o ≡ true) ⊎ (passes (λ x. is_live x.phase) o ≡ true)) same stands
+by_its_run runs next (Leg p) same stands =
+    elim (stands) [
+      | inl e ↦ inl (by_run leg_waits runs p ∙ ap (passes (run_passes leg_waits p.job p.leg)) (sym same)
+          ∙ sym (by_run leg_waits next p) ∙ e)
+      | inr e ↦ inr (by_run leg_holds runs p ∙ ap (passes (run_passes leg_holds p.job p.leg)) (sym same)
+          ∙ sym (by_run leg_holds next p) ∙ e)
+    ]
+
+module _ (runs next : List RunState) (asks asks' : List RunBindings) (old new : GroupHolders) (r : ℕ) (asked : RunBindings)
+    (asked_there : slice_get asks' r ≡ Some asked) (other_runs : (s : ℕ) → (s ≡ r → ⊥) → run_at next s ≡ run_at runs s)
+    (other_asks : (s : ℕ) → (s ≡ r → ⊥) → slice_get asks' s ≡ slice_get asks s) (lists : OnlyLists next old new)
+    (all : AllAreFound next new.book.entries new.unlisted asked r)
+    (are : HoldersAreFound runs asks old.book.entries old.unlisted) where
+  pub found_with : Covers new.unlisted (length next) → HoldersAreFound next asks' new.book.entries new.unlisted
+  found_with room = record {
+    covers = room;
+    found = (λ h kept stands at.
+        elim (cases_eq (place_of h) r) [
+          | inl here ↦
+              subst (λ (k : RunBindings). IsFound new.book.entries new.unlisted k h)
+              (same_Some asked kept (sym asked_there ∙ ap (slice_get asks') (sym here) ∙ at)) (all h here stands)
+          | inr other ↦
+              let before = by_its_run runs next h (other_runs (place_of h) other) stands in
+              lists.found h kept stands (are.found h kept before (sym (other_asks (place_of h) other) ∙ at))
+        ]);
+  }
+
+-- ---- a run in which nobody is active is unmarked
+
+active_there : (runs : List RunState) (r : ℕ) (h : Holder) → is_so_at is_active runs r ≡ false → place_of h ≡ r → Stands runs h → ⊥
+active_there runs r h rests here stands = by (run_at runs r) refl rests
+  where
+    by_phase : (x : RunState) → is_active x ≡ false → (run_waits x.phase ≡ false) × (is_live x.phase ≡ false)
+    by_phase x none =
+        or_parts (run_waits x.phase) (is_live x.phase)
+        (or_parts (run_waits x.phase || is_live x.phase) (list_any has_active_leg x.jobs) none).0
+
+    run_stands : (s : ℕ) (o : Option RunState) → run_at runs s ≡ o → option_map_or is_active o false ≡ false → Stands runs (Run s) → ⊥
+    run_stands s None at none e =
+        elim (e) [
+          | inl w ↦ true≢false (sym w ∙ ap (passes (λ x. run_waits x.phase)) at)
+          | inr w ↦ true≢false (sym w ∙ ap (passes (λ x. is_live x.phase)) at)
+        ]
+    run_stands s (Some x) at none e =
+        elim (e) [
+          | inl w ↦ true≢false (sym w ∙ ap (passes (λ x. run_waits x.phase)) at ∙ (by_phase x none).0)
+          | inr w ↦ true≢false (sym w ∙ ap (passes (λ x. is_live x.phase)) at ∙ (by_phase x none).1)
+        ]
+
+    leg_stands : (p : LegPlace) (o : Option RunState) → run_at runs p.run ≡ o → option_map_or is_active o false ≡ false
+        → Stands runs (Leg p) → ⊥
+    leg_stands p None at none e =
+        elim (e) [
+          | inl w ↦ true≢false (sym w ∙ by_run leg_waits runs p ∙ ap (passes (run_passes leg_waits p.job p.leg)) at)
+          | inr w ↦ true≢false (sym w ∙ by_run leg_holds runs p ∙ ap (passes (run_passes leg_holds p.job p.leg)) at)
+        ]
+    leg_stands p (Some x) at none e =
+        no_leg_stands runs p x at (or_parts (run_waits x.phase || is_live x.phase) (list_any has_active_leg x.jobs) none).1 e
+
+    by_kind : (k : Holder) (o : Option RunState) → run_at runs (place_of k) ≡ o → option_map_or is_active o false ≡ false
+        → Stands runs k → ⊥
+    by_kind (Run s) o at none e = run_stands s o at none e
+    by_kind (Leg p) o at none e = leg_stands p o at none e
+
+    by : (o : Option RunState) → run_at runs r ≡ o → option_map_or is_active o false ≡ false → ⊥
+    by o at none = by_kind h o (ap (run_at runs) here ∙ at) none stands
+
+pub found_unmarked : (runs : List RunState) (asks : List RunBindings) (entries : Entries) (old new : List ℕ) (r : ℕ)
+    → is_so_at is_active runs r ≡ false → Puts false r old new → length new ≡ length old → HoldersAreFound runs asks entries old
+    → HoldersAreFound runs asks entries new
+found_unmarked runs asks entries old new r rests puts room are = record {
+  covers = omega (arith, are.covers, room);
+  found = (λ h kept stands at.
+      elim (cases_eq (place_of h) r) [
+        | inl here ↦ absurd (active_there runs r h rests here stands)
+        | inr other ↦
+            found_marked entries old new kept h
+            (λ mark. puts (place_of h) ∙ ap (λ b. if b then false else is_marked old (place_of h)) (not_same (place_of h) r other) ∙ mark)
+            (are.found h kept stands at)
+      ]);
+}
+
+-- ---- what a listing leaves
+
+pub still_if_listed : (runs : List RunState) (old new : Entries) (unlisted : List ℕ)
+    → ((n : ℕ) (h : Holder) → Stands runs h → IsListedAt old n h → IsListedAt new n h) → StillFound runs old unlisted new unlisted
+still_if_listed runs old new unlisted stays h kept stands found =
+    found_by (IsFound new unlisted kept h) old unlisted kept h found (λ nothing. inl nothing) (λ mark. inr (inl mark))
+    (λ slot. inr (inr (record {
+      number = slot.number;
+      numbered = slot.numbered;
+      at = stays slot.number h stands slot.at;
+    })))
+
+pub still_if_marked : (runs : List RunState) (entries : Entries) (old new : List ℕ) (r : ℕ) → Puts true r old new
+    → StillFound runs entries old entries new
+still_if_marked runs entries old new r puts h kept stands found =
+    found_marked entries old new kept h (put_adds r (place_of h) old new puts) found

@@ -1,0 +1,98 @@
+-- A newcomer for which nobody makes room leaves all others as they are.
+use Rattle.std.specs.Prelude.{◌≡◌, List, [], ◌∷◌, ◌&&◌, Bool, true, false, filter, is_some, not, Option, Some, None, if◌then◌else◌, refl}
+use Rattle.std.specs.Option.{option_map_or}
+use Rattle.std.proofs.Common.{ap, sym, ◌∙◌}
+use Rattle.std.proofs.lemmas.Bool.{and_from, and_parts, or_parts, true≢false}
+use Rattle.group_name.specs.Group.{Group}
+use Rattle.workflow_runs.specs.Arrivals.{displaced, room_made, room_made_for, stopped_where_asked}
+use Rattle.workflow_runs.specs.GroupOf.{cancels_in_progress, group_at}
+use Rattle.workflow_runs.specs.GroupWords.{same_holder}
+use Rattle.workflow_runs.specs.Groups.{all_holders, holds, is_in, is_pending_in, is_running_in, waits}
+use Rattle.workflow_runs.specs.Holders.{first_conflicting, is_conflicting}
+use Rattle.workflow_runs.specs.LookAgain.{finds_others, makes_room}
+use Rattle.workflow_runs.specs.Moves.{Holder, at_each, without_moves}
+use Rattle.workflow_runs.specs.StopMoves.{displace, stop_holder}
+use Rattle.workflow_runs.specs.RunState.{RunState}
+use Rattle.workflow_runs.specs.declared.holder.HolderFilter.{HolderFilter}
+use Rattle.workflow_runs.specs.declared.holder.HolderFilter.TheVariants.{OthersPending, Running}
+use Rattle.workflow_runs.proofs.Arrives.{no_other}
+use Rattle.workflow_runs.proofs.Found.{none_found}
+use Rattle.workflow_runs.proofs.Meant.{nothing_yet}
+use Rattle.workflow_runs.proofs.OneEach.{Comes, GroupsStay, IsOneOf, each_holder, one_that_holds, one_that_waits, ran_too, was_another}
+
+filtered_none : {X : Type 0} (test : X → Bool) (xs : List X) → ((x : X) → test x ≡ false) → filter test xs ≡ []
+filtered_none test [] none = refl
+filtered_none test (x ∷ xs) none =
+    ap (λ b. if b then x ∷ filter test xs else filter test xs) (none x) ∙ filtered_none test xs none
+
+-- ---- in its group, where it has one
+
+module _ (runs next : List RunState) (newcomer : Holder) (stays : GroupsStay runs next) (comes : Comes runs next newcomer) (g : Group)
+    (its : group_at runs newcomer ≡ Some g) where
+  -- of whom none is found nobody is meant
+  nobody_meant : (whom : HolderFilter) → is_some (first_conflicting runs newcomer whom) ≡ false → (h : Holder) → IsOneOf runs h
+      → is_conflicting runs newcomer whom h ≡ false
+  nobody_meant whom none h there =
+      each_holder (λ k. is_conflicting runs newcomer whom k ≡ false) runs h
+      (none_found (is_conflicting runs newcomer whom) (all_holders runs) (nothing_yet (first_conflicting runs newcomer whom) none)) there
+
+  no_other_pends : is_some (first_conflicting runs newcomer OthersPending) ≡ false → (h : Holder)
+      → (is_pending_in next g h && not (same_holder h newcomer)) ≡ false
+  no_other_pends none h =
+      elim (is_pending_in next g h && not (same_holder h newcomer)) as
+      (λ b. (is_pending_in next g h && not (same_holder h newcomer)) ≡ b → b ≡ false) [
+        | true ↦ λ is.
+            let parts = and_parts (is_pending_in next g h) (not (same_holder h newcomer)) is in
+            let was = was_another runs next newcomer stays comes g h (no_other h newcomer parts.1) parts.0 in
+            let there = one_that_waits runs h (and_parts (is_in runs g h) (waits runs h) was).1 in
+            let meant : is_conflicting runs newcomer OthersPending h ≡ true =
+            ap (λ o. option_map_or (λ v. is_pending_in runs v h && not (same_holder h newcomer)) o false) its
+            ∙ and_from (is_pending_in runs g h) (not (same_holder h newcomer)) was parts.1 in
+            absurd (true≢false (sym meant ∙ nobody_meant OthersPending none h there))
+        | false ↦ λ is. refl
+      ] refl
+
+  nobody_runs : is_some (first_conflicting runs newcomer Running) ≡ false → (h : Holder) → is_running_in next g h ≡ false
+  nobody_runs none h =
+      elim (is_running_in next g h) as (λ b. is_running_in next g h ≡ b → b ≡ false) [
+        | true ↦ λ is.
+            let was = ran_too runs next newcomer stays comes g h is in
+            let there = one_that_holds runs h (and_parts (is_in runs g h) (holds runs h) was).1 in
+            let meant : is_conflicting runs newcomer Running h ≡ true =
+            ap (λ o. option_map_or (λ v. is_running_in runs v h) o false) its ∙ was in
+            absurd (true≢false (sym meant ∙ nobody_meant Running none h there))
+        | false ↦ λ is. refl
+      ] refl
+
+  nobody_displaced : is_some (first_conflicting runs newcomer OthersPending) ≡ false → (displaced g newcomer next).runs ≡ next
+  nobody_displaced none =
+      ap (λ hs. (at_each displace hs next).runs)
+      (filtered_none (λ h. is_pending_in next g h && not (same_holder h newcomer)) (all_holders next) (no_other_pends none))
+
+  nobody_stopped : (cancels : Bool) → (cancels && is_some (first_conflicting runs newcomer Running)) ≡ false
+      → (stopped_where_asked cancels g next).runs ≡ next
+  nobody_stopped true none =
+      ap (λ hs. (at_each stop_holder hs next).runs) (filtered_none (is_running_in next g) (all_holders next) (nobody_runs none))
+  nobody_stopped false none = refl
+
+  no_room_in : finds_others runs newcomer ≡ false → (room_made (cancels_in_progress runs newcomer) newcomer next g).runs ≡ next
+  no_room_in none =
+      let cancels = cancels_in_progress runs newcomer in
+      let parts = or_parts (is_some (first_conflicting runs newcomer OthersPending))
+      (cancels && is_some (first_conflicting runs newcomer Running)) none in
+      ap (λ rs. (stopped_where_asked cancels g rs).runs) (nobody_displaced parts.0) ∙ nobody_stopped cancels parts.1
+
+-- ---- whether it has one or not
+
+pub no_room_made : (runs next : List RunState) (newcomer : Holder) → GroupsStay runs next → Comes runs next newcomer
+    → group_at next newcomer ≡ group_at runs newcomer → cancels_in_progress next newcomer ≡ cancels_in_progress runs newcomer
+    → makes_room runs newcomer ≡ false → (room_made_for newcomer next).runs ≡ next
+no_room_made runs next newcomer stays comes group cancels none =
+    ap (λ o. (option_map_or (room_made (cancels_in_progress next newcomer) newcomer next) o (without_moves next)).runs) group
+    ∙ ap (λ b. (option_map_or (room_made b newcomer next) (group_at runs newcomer) (without_moves next)).runs) cancels
+    ∙ by (group_at runs newcomer) refl none
+  where
+    by : (o : Option Group) → group_at runs newcomer ≡ o → (is_some o && finds_others runs newcomer) ≡ false
+        → (option_map_or (room_made (cancels_in_progress runs newcomer) newcomer next) o (without_moves next)).runs ≡ next
+    by None its none = refl
+    by (Some g) its none = no_room_in runs next newcomer stays comes g its none

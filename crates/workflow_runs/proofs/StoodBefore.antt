@@ -1,0 +1,149 @@
+-- Whoever waits or holds a group after a change of a run did before, but for the newcomer that the change sets on its way.
+use Rattle.std.specs.Prelude.{◌≡◌, ◌⊎◌, ℕ, ◌||◌, List, Bool, true, false, Option, Some, None, if◌then◌else◌, refl}
+use Rattle.std.proofs.Common.{ap, subst, sym, ◌∙◌, inl, inr}
+use Rattle.std.proofs.lemmas.Bool.{cases_eq, false≢true, or_parts}
+use Rattle.run_plan.specs.PlanOf.{plan_of}
+use Rattle.workflow_runs.specs.Changes.{changed}
+use Rattle.workflow_runs.specs.FoundHolders.{Stands, newcomer}
+use Rattle.workflow_runs.specs.Groups.{leg_holds, leg_waits, run_waits}
+use Rattle.workflow_runs.specs.Holders.{holder_in_words}
+use Rattle.workflow_runs.specs.Moves.{Holder as HolderOfGroup}
+use Rattle.workflow_runs.specs.Places.{LegPlace, leg_at, leg_place, with_leg, with_run}
+use Rattle.workflow_runs.specs.RunState.{LegState, RunState}
+use Rattle.workflow_runs.specs.Settling.{legs_in_plan}
+use Rattle.workflow_runs.specs.StateWords.{is_live, opened, run_in_phase, settled_as}
+use Rattle.workflow_runs.specs.declared.change.Change.{Change}
+use Rattle.workflow_runs.specs.declared.change.Change.TheVariants as change
+use Rattle.workflow_runs.specs.declared.holder.Holder.{Holder}
+use Rattle.workflow_runs.specs.declared.holder.Holder.TheVariants.{Run, Leg}
+use Rattle.workflow_runs.specs.declared.phases.RunPhase.{RunPhase}
+use Rattle.workflow_runs.proofs.Changed.{at_another}
+use Rattle.workflow_runs.proofs.HoldersFade.{JobFades, job_fades, job_passes, leg_before, leg_fades, legs_stop_fades}
+use Rattle.workflow_runs.proofs.HoldersFade.{passed_changed, passes, run_fades, run_stop_fades}
+use Rattle.workflow_runs.proofs.OneEach.{Fades}
+use Rattle.workflow_runs.proofs.OneEachRules.{made_fades, set_holds, set_waits}
+use Rattle.workflow_runs.proofs.Transitions.{with_leg_none}
+
+-- the newcomer, or one that stood before
+abbrev pub Stood : List RunState → Option Holder → Holder → Type 0
+Stood runs one h = (one ≡ Some h) ⊎ Stands runs h
+
+faded : (runs next : List RunState) (one : Option Holder) (h : Holder) → Fades runs next → Stands next h → Stood runs one h
+faded runs next one h fades stands =
+    elim (stands) [
+      | inl e ↦ inr (inl (fades.waited (holder_in_words h) e))
+      | inr e ↦ inr (inr (fades.held (holder_in_words h) e))
+    ]
+
+-- ---- a run changes its phase
+
+module _ (runs : List RunState) (r : ℕ) (phase : RunPhase) where
+  abbrev next : List RunState
+  next = with_run r (run_in_phase phase) runs
+
+  by_run : (one : Option Holder) (s : ℕ) → (s ≡ r → one ≡ Some (Run s)) → Stands next (Run s) → Stood runs one (Run s)
+  by_run one s here stands =
+      elim (cases_eq s r) [
+        | inl same ↦ inl (here same)
+        | inr other ↦ inr (subst
+            (λ (o : Option RunState). (passes (λ x. run_waits x.phase) o ≡ true) ⊎ (passes (λ x. is_live x.phase) o ≡ true))
+            (at_another r (run_in_phase phase) runs s other) stands)
+      ]
+
+  by_leg : (one : Option Holder) (p : LegPlace) → Stands next (Leg p) → Stood runs one (Leg p)
+  by_leg one p stands =
+      elim (stands) [
+        | inl e ↦ inr (inl (leg_before leg_waits (run_in_phase phase) r runs p (λ x now. now) e))
+        | inr e ↦ inr (inr (leg_before leg_holds (run_in_phase phase) r runs p (λ x now. now) e))
+      ]
+
+  phase_stood : (h : Holder) → (run_waits phase || is_live phase) ≡ true → Stands next h → Stood runs (Some (Run r)) h
+  phase_stood (Run s) comes stands = by_run (Some (Run r)) s (λ same. ap (λ (k : ℕ). Some (Run k)) (sym same)) stands
+  phase_stood (Leg p) comes stands = by_leg (Some (Run r)) p stands
+
+  phase_fades : (run_waits phase || is_live phase) ≡ false → Fades runs next
+  phase_fades goes =
+      let parts = or_parts (run_waits phase) (is_live phase) goes in
+      run_fades (run_in_phase phase) r runs
+      (record {
+        run_waited = (λ x e. absurd (false≢true (sym parts.0 ∙ e)));
+        run_held = (λ x e. absurd (false≢true (sym parts.1 ∙ e)));
+        leg_waited = (λ j l x e. e);
+        leg_held = (λ j l x e. e);
+      })
+
+-- ---- a leg is put in the place of another
+
+module _ (runs : List RunState) (p : LegPlace) (z : LegState) where
+  abbrev put : List RunState
+  put = with_leg p (λ _. z) runs
+
+  in_words : (h : Holder) → holder_in_words h ≡ HolderOfGroup.a_leg p → Some (Leg p) ≡ Some h
+  in_words (Run s) e = cc
+  in_words (Leg q) e = cc
+
+  put_stood : (h : Holder) → Stands put h → Stood runs (Some (Leg p)) h
+  put_stood h stands = by (leg_at runs p) refl
+    where
+      by : (o : Option LegState) → leg_at runs p ≡ o → Stood runs (Some (Leg p)) h
+      by None none = inr (subst (λ (rs : List RunState). Stands rs h) (sym (with_leg_none runs p (λ _. z) none)) stands)
+      by (Some was) at =
+          elim (stands) [
+            | inl e ↦ elim (set_waits runs p was at (λ _. z) (holder_in_words h) e) [
+              | inl it ↦ inl (in_words h it)
+              | inr before ↦ inr (inl before)
+            ]
+            | inr e ↦ elim (set_holds runs p was at (λ _. z) (holder_in_words h) e) [
+              | inl it ↦ inl (in_words h it)
+              | inr before ↦ inr (inr before)
+            ]
+          ]
+
+  put_fades : (leg_waits z.phase || leg_holds z.phase) ≡ false → Fades runs put
+  put_fades goes =
+      let parts = or_parts (leg_waits z.phase) (leg_holds z.phase) goes in
+      leg_fades (λ _. z) p runs (λ x e. absurd (false≢true (sym parts.0 ∙ e))) (λ x e. absurd (false≢true (sym parts.1 ∙ e)))
+
+-- ---- a job opens, with new legs
+
+opened_fades : (planned : ℕ) → JobFades (opened planned)
+opened_fades planned = made_fades true true planned
+
+opens_fade : (runs : List RunState) (r j : ℕ) → Fades runs (with_run r (changed (change.Open j)) runs)
+opens_fade runs r j =
+    run_fades (changed (change.Open j)) r runs
+    (record {
+      run_waited = (λ x e. e);
+      run_held = (λ x e. e);
+      leg_waited = (λ i l x e.
+          let planned = legs_in_plan (plan_of x.admitted.body) j in
+          passed_changed (job_passes leg_waits l) (opened planned) ((opened_fades planned).waited l) j x.jobs i e);
+      leg_held = (λ i l x e.
+          let planned = legs_in_plan (plan_of x.admitted.body) j in
+          passed_changed (job_passes leg_holds l) (opened planned) ((opened_fades planned).held l) j x.jobs i e);
+    })
+
+-- ---- each change
+
+by_test : (b : Bool) (runs after : List RunState) (one h : Holder) → (b ≡ true → Stood runs (Some one) h) → (b ≡ false → Fades runs after)
+    → Stands after h → Stood runs (if b then Some one else None) h
+by_test true runs after one h comes goes stands = comes refl
+by_test false runs after one h comes goes stands = faded runs after None h (goes refl) stands
+
+pub stood_before : (runs : List RunState) (r : ℕ) (c : Change) (h : Holder) → Stands (with_run r (changed c) runs) h
+    → Stood runs (newcomer r c) h
+stood_before runs r (change.Phase phase) h stands =
+    by_test (run_waits phase || is_live phase) runs (with_run r (run_in_phase phase) runs) (Run r) h
+    (λ comes. phase_stood runs r phase h comes stands) (phase_fades runs r phase) stands
+stood_before runs r (change.Open j) h stands =
+    faded runs (with_run r (changed (change.Open j)) runs) None h (opens_fade runs r j) stands
+stood_before runs r (change.Settle j settled) h stands =
+    faded runs (with_run r (changed (change.Settle j settled)) runs) None h
+    (job_fades (settled_as settled) r j runs (record { waited = (λ l y e. e); held = (λ l y e. e) })) stands
+stood_before runs r change.Stop h stands =
+    faded runs (with_run r (changed change.Stop) runs) None h (run_stop_fades r runs) stands
+stood_before runs r (change.StopLegs j) h stands =
+    faded runs (with_run r (changed (change.StopLegs j)) runs) None h (legs_stop_fades r j runs) stands
+stood_before runs r (change.PutLeg j l leg) h stands =
+    by_test (leg_waits leg.phase || leg_holds leg.phase) runs (with_leg (leg_place r j l) (λ _. leg) runs) (Leg (leg_place r j l)) h
+    (λ comes. put_stood runs (leg_place r j l) leg h stands) (put_fades runs (leg_place r j l) leg) stands

@@ -1,0 +1,212 @@
+//! Who is pending or running in the group of a holder. The slot of the group has a place for each who may be, but for those in runs that are
+//! marked as having somebody who is not listed. Where that does not decide it, all active runs and their legs are gone over. It takes no memory.
+
+ghost use Rattle.std.specs.Prelude.{◌≡◌, ◌<◌, ◌≤◌, ℕ, IfNone, IfSome, Some, false, find, length, map, option_and_then, option_map, true};
+ghost use Rattle.run_marks.specs.Marked.{is_marked};
+ghost use Rattle.workflow_runs.specs.FirstOf.{placed};
+ghost use Rattle.workflow_runs.specs.Holders.{first_conflicting, holder_in_words, is_conflicting};
+ghost use Rattle.workflow_runs.specs.Moves.{Holder as HolderOfGroup};
+ghost use Rattle.workflow_runs.specs.Places.{job_at, leg_places, leg_places_of_job, leg_places_of_run, run_at};
+ghost use Rattle.workflow_runs.specs.SlotHolders.{HaveAll, TellsOf, first_marked, is_marked_conflicting};
+ghost use Rattle.workflow_runs.specs.declared.holder.Holder.{Holder as HolderInCode};
+ghost use Rattle.workflow_runs.specs.declared.holder.HolderFilter.{HolderFilter as FilterInCode};
+
+use crate::holder::{Holder, HolderFilter};
+use crate::place::LegPlace;
+use crate::runs::Runs;
+use crate::runs::marks::next_below;
+use group_book::Slot;
+use run_marks::Marks;
+
+/// How many in the places of a slot are meant.
+#[derive(Clone, Copy)]
+enum InSlot {
+    Nobody,
+    One(Holder),
+    Several,
+}
+
+impl Runs {
+    /// The first run, else the first leg, that is in the group of `holder` and pending or running there, as `whom` asks.
+    pub(crate) fn first_conflicting(&self, holder: &Holder, whom: HolderFilter) -> Option<Holder>
+        ensures { option_map holder_in_words result ≡ first_conflicting self.now (holder_in_words holder.now) whom }
+    {
+        match self.slot_of(holder) {
+            Some((slot, unlisted)) => self.first_by_slot(&slot, unlisted, holder, whom),
+            None => self.first_in_active(holder, whom),
+        }
+    }
+
+    // ---- by the slot of the group
+
+    /// The slot of the holder's group, and the runs in which somebody may be who is not listed. None where the group has no number, or where
+    /// not all who are listed have a place.
+    fn slot_of(&self, holder: &Holder) -> Option<(Slot<Holder>, &Marks)>
+        ensures { (whom : FilterInCode) → IfSome result (λ it. HaveAll self.now (holder_in_words holder.now) whom it.0 it.1.now) }
+    {
+        let asks = self.asks.get(holder.run())?;
+        let slot = self.index.groups.slot_of(holder, asks)?;
+        Some((slot, &self.index.groups.unlisted))
+    }
+
+    /// The one in the slot who is meant, where no other may be. Where nobody in the slot is, or that one's run is marked itself, all who are
+    /// meant are in marked runs.
+    fn first_by_slot(
+        &self,
+        slot: &Slot<Holder>,
+        unlisted: &Marks,
+        holder: &Holder,
+        whom: HolderFilter,
+    ) -> Option<Holder>
+        requires { HaveAll self.now (holder_in_words holder.now) whom slot.now unlisted.now }
+        ensures { option_map holder_in_words result ≡ first_conflicting self.now (holder_in_words holder.now) whom }
+    {
+        match self.conflicting_in(slot, holder, whom) {
+            InSlot::Nobody => self.first_marked(unlisted, holder, whom),
+            InSlot::One(one) => match self.first_marked(unlisted, holder, whom) {
+                None => Some(one),
+                Some(other) if other.run() == one.run() => Some(other),
+                Some(_) => self.first_in_active(holder, whom),
+            },
+            InSlot::Several => self.first_in_active(holder, whom),
+        }
+    }
+
+    /// How many in the places of the slot are meant.
+    fn conflicting_in(&self, slot: &Slot<Holder>, holder: &Holder, whom: HolderFilter) -> InSlot
+        ensures { TellsOf (λ other. is_conflicting self.now (holder_in_words holder.now) whom (holder_in_words other)) slot.now result }
+    {
+        let [first, second, third] = slot.places();
+        let first = self.if_conflicting(first, holder, whom);
+        let second = self.if_conflicting(second, holder, whom);
+        let third = self.if_conflicting(third, holder, whom);
+        match (first, second, third) {
+            (None, None, None) => InSlot::Nobody,
+            (Some(one), None, None) | (None, Some(one), None) | (None, None, Some(one)) => {
+                InSlot::One(one)
+            }
+            _ => InSlot::Several,
+        }
+    }
+
+    /// Who is in the place, if that one is meant.
+    fn if_conflicting(
+        &self,
+        place: Option<Holder>,
+        holder: &Holder,
+        whom: HolderFilter,
+    ) -> Option<Holder>
+        ensures meant { IfSome result (λ h. is_conflicting self.now (holder_in_words holder.now) whom (holder_in_words h) ≡ true) }
+        ensures only { (h : HolderInCode) → place ≡ Some h
+            → is_conflicting self.now (holder_in_words holder.now) whom (holder_in_words h) ≡ true → result ≡ Some h }
+    {
+        match place {
+            Some(other) if self.is_conflicting(holder, whom, &other) => Some(other),
+            _ => None,
+        }
+    }
+
+    // ---- over the runs that are marked and their legs
+
+    /// The first of all: in a run that is not active nobody is meant.
+    fn first_in_active(&self, holder: &Holder, whom: HolderFilter) -> Option<Holder>
+        ensures { option_map holder_in_words result ≡ first_conflicting self.now (holder_in_words holder.now) whom }
+    {
+        self.first_marked(&self.marks.active, holder, whom)
+    }
+
+    /// The first who is meant in a run that is marked.
+    fn first_marked(&self, marks: &Marks, holder: &Holder, whom: HolderFilter) -> Option<Holder>
+        ensures { option_map holder_in_words result ≡ first_marked marks.now self.now (holder_in_words holder.now) whom }
+    {
+        match self.first_marked_run(marks, holder, whom) {
+            Some(r) => Some(Holder::Run(r)),
+            None => Some(Holder::Leg(self.first_marked_leg(marks, holder, whom)?)),
+        }
+    }
+
+    fn first_marked_run(&self, marks: &Marks, holder: &Holder, whom: HolderFilter) -> Option<usize>
+        ensures { result ≡ find (λ r. is_marked_conflicting marks.now self.now (holder_in_words holder.now) whom (HolderOfGroup.a_run r))
+            (map (λ r. r.0) (placed self.now)) }
+    {
+        let mut from = 0;
+        while let Some(r) = self.next_marked(marks, from) {
+            if self.is_conflicting(holder, whom, &Holder::Run(r)) {
+                return Some(r);
+            }
+            from = r + 1;
+        }
+        None
+    }
+
+    fn first_marked_leg(
+        &self,
+        marks: &Marks,
+        holder: &Holder,
+        whom: HolderFilter,
+    ) -> Option<LegPlace>
+        ensures { result ≡ find (λ p. is_marked_conflicting marks.now self.now (holder_in_words holder.now) whom (HolderOfGroup.a_leg p))
+            (leg_places self.now) }
+    {
+        let mut from = 0;
+        while let Some(r) = self.next_marked(marks, from) {
+            let leg = self.first_conflicting_leg_of_run(holder, whom, r);
+            if leg.is_some() {
+                return leg;
+            }
+            from = r + 1;
+        }
+        None
+    }
+
+    fn first_conflicting_leg_of_run(
+        &self,
+        holder: &Holder,
+        whom: HolderFilter,
+        r: usize,
+    ) -> Option<LegPlace>
+        ensures { result ≡ option_and_then
+            (λ run. find (λ p. is_conflicting self.now (holder_in_words holder.now) whom (HolderOfGroup.a_leg p)) (leg_places_of_run (r, run)))
+            (run_at self.now r) }
+    {
+        for j in 0..self.job_count(r) {
+            let leg = self.first_conflicting_leg_of_job(holder, whom, r, j);
+            if leg.is_some() {
+                return leg;
+            }
+        }
+        None
+    }
+
+    fn first_conflicting_leg_of_job(
+        &self,
+        holder: &Holder,
+        whom: HolderFilter,
+        r: usize,
+        j: usize,
+    ) -> Option<LegPlace>
+        ensures { result ≡ option_and_then
+            (λ job. find (λ p. is_conflicting self.now (holder_in_words holder.now) whom (HolderOfGroup.a_leg p)) (leg_places_of_job r (j, job)))
+            (job_at self.now r j) }
+    {
+        for l in 0..self.leg_count(r, j) {
+            let leg = LegPlace::new(r, j, l);
+            if self.is_conflicting(holder, whom, &Holder::Leg(leg)) {
+                return Some(leg);
+            }
+        }
+        None
+    }
+
+    /// The next run that is marked.
+    fn next_marked(&self, marks: &Marks, from: usize) -> Option<usize>
+        ensures within { IfSome result (λ r. r < length self.now) }
+        ensures few { IfSome result (λ r. r < 100000) }
+        ensures from { IfSome result (λ r. from ≤ r) }
+        ensures itself { IfSome result (λ r. is_marked marks.now r ≡ true) }
+        ensures between { IfSome result (λ r. (i : ℕ) → from ≤ i → i < r → is_marked marks.now i ≡ false) }
+        ensures none { IfNone result ((i : ℕ) → from ≤ i → i < length self.now → is_marked marks.now i ≡ false) }
+    {
+        next_below(marks, from, self.len())
+    }
+}
