@@ -152,6 +152,7 @@ impl<D: Disk, E: Named, T: Ledger> Desked<D, E, T> {
             → EachSince D.moment D.images_since self.old.store.disk self.new.store.disk (StandsForEither self.old.store) }
         ensures stands { OnOk result (D.honest self.new.store.disk → (c : List ℕ) → D.images self.new.store.disk c → StandsFor (table_of self.old.store) c) }
         ensures finished { OnOk result (IsFinished self.old.store self.new.store) }
+        ensures count { IfOk result (λ count. count ≡ length self.old.store.history) }
         ensures covered { OnOk result (self.new.store.covered ≡ length self.old.store.history) }
         ensures faults { TellsFault result (D.fault_count self.old.store.disk) (D.fault_count self.new.store.disk) }
         ensures refused { IfSome (refusal_of_finish self.old.store) (λ refusal. result ≡ Err refusal) }

@@ -1,5 +1,5 @@
 -- What a session asks, and what it is answered.
-use Rattle.std.specs.Prelude.{◌≡◌, ◌⊎◌, ℕ, Bool, false, ◌==◌, List, [], ◌∷◌, ◌++◌, map, Result, Ok, Err, ⊤}
+use Rattle.std.specs.Prelude.{◌≡◌, ◌⊎◌, ℕ, Bool, false, ◌==◌, List, [], ◌∷◌, ◌++◌, map, Result, Ok, Err, ⊤, true}
 use Rattle.std.specs.List.{list_any}
 use Rattle.wf_value.specs.Gives.{no_memory}
 use Rattle.wf_value.specs.RefusalText.{refusal_number}
@@ -49,6 +49,10 @@ OnlyLastOpen (t ∷ u ∷ told) = (leaves_open t.1 ≡ false) × OnlyLastOpen (u
 -- The last answer, if there is one, says whether its command was entered.
 abbrev pub IsShut : List Asked → Type 0
 IsShut asked = (asked ≡ []) ⊎ ((front : List Asked) × (last : Asked) × (asked ≡ front ++ last ∷ []) × (leaves_open last.answer ≡ false))
+
+-- There is a last answer, and it leaves open that its command was entered.
+abbrev pub IsLeftOpen : List Asked → Type 0
+IsLeftOpen asked = (front : List Asked) × (last : Asked) × (asked ≡ front ++ last ∷ []) × (leaves_open last.answer ≡ true)
 
 abbrev pub told_in : List Asked → List Told
 told_in asked = map (λ a. (a.command, a.answer)) asked

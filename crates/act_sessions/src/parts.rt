@@ -1,7 +1,7 @@
 //! Parts of many sessions, one after the other, whose commands one transcript notes.
 
-ghost use Rattle.std.specs.Prelude.{◌≡◌, ◌++◌, List, false};
-ghost use Rattle.act_sessions.specs.Told.{AreAsked, IsShut, OnlyLastOpen, Told, leaves_open, told_by};
+ghost use Rattle.std.specs.Prelude.{◌≡◌, ◌++◌, List, false, true};
+ghost use Rattle.act_sessions.specs.Told.{AreAsked, IsLeftOpen, IsShut, OnlyLastOpen, Told, leaves_open, told_by};
 
 use crate::answer::Answer;
 use crate::transcript::{Asked, Ending, Transcript};
@@ -36,7 +36,8 @@ pub fn leaves_open(answer: &Result<Reply, Refusal>) -> bool
 /// Whether the last answer leaves open that its command was entered. Then nothing may be asked behind it, since a history shows no more of
 /// one who asks than that his last command may stand or not.
 pub fn is_open(asked: &[Asked]) -> bool
-    ensures { result ≡ false → IsShut asked.now }
+    ensures shut { result ≡ false → IsShut asked.now }
+    ensures open { result ≡ true → IsLeftOpen asked.now }
 {
     match asked.last() {
         Some(last) => leaves_open(&last.answer),
