@@ -247,11 +247,11 @@ fn turned_over(rt: &impl Abort, store: Store<MemoryDisk>) -> Store<MemoryDisk>
 #[test]
 fn a_settled_store_is_served_again(rt: HostRuntime) {
     let alloc = rt.alloc();
-    let store = serve(&rt, alloc, made_in_memory(&rt, alloc), 2, 100);
-    holds!(rt; store.entries() == 200);
+    let store = serve(&rt, alloc, made_in_memory(&rt, alloc), 2, 70);
+    holds!(rt; store.entries() == 140);
     let store = turned_over(&rt, store);
     holds!(rt; store.entries() == 0 && store.covered() == 0);
-    let store = serve(&rt, alloc, store, 2, 100);
-    holds!(rt; store.entries() == 200 && store.covered() == 200);
+    let store = serve(&rt, alloc, store, 2, 70);
+    holds!(rt; store.entries() == 140 && store.covered() == 140);
     expect_second(&rt, store, true);
 }

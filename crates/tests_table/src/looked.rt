@@ -80,14 +80,22 @@ fn admit_in_group(
     Ok(())
 }
 
-/// How often a claim, and then an admission into another group, tries a rule where each of so many groups has a run in progress and a
-/// pending one.
-fn tries_beside_groups(alloc: Global, groups: u32) -> Result<(u64, u64), Refusal> {
+/// A table in which each of so many groups has a run in progress and a pending one.
+fn with_groups(alloc: Global, groups: u32) -> Result<Table, Refusal> {
     let mut table = Table::new(alloc);
     for group in 0..groups {
         admit_in_group(alloc, &mut table, group, "a")?;
         admit_in_group(alloc, &mut table, group, "b")?;
     }
+    Ok(table)
+}
+
+/// How many groups are at rest in a table beside which a step is tried.
+const GROUPS: u32 = 800;
+
+/// How often a claim, and then an admission into another group, tries a rule beside so many groups.
+fn tries_beside_groups(alloc: Global, groups: u32) -> Result<(u64, u64), Refusal> {
+    let mut table = with_groups(alloc, groups)?;
     step(alloc, &mut table, &Words::Claim("r1", "1", "linux"))?;
     let by_claim = table.looked();
     admit_in_group(alloc, &mut table, groups, "a")?;
@@ -96,9 +104,29 @@ fn tries_beside_groups(alloc: Global, groups: u32) -> Result<(u64, u64), Refusal
 
 #[test]
 fn neither_a_claim_nor_an_admission_wakes_who_waits_in_other_groups(rt: HostRuntime) {
-    let (by_claim, by_admission) = tries_beside_groups(rt.alloc(), 100).expect(&rt, "memory");
+    let (by_claim, by_admission) = tries_beside_groups(rt.alloc(), GROUPS).expect(&rt, "memory");
     holds!(rt; 0 < by_claim && by_claim <= MOST, by_claim);
     holds!(rt; 0 < by_admission && by_admission <= MOST, by_admission);
+}
+
+/// How often the report that ends the run in progress of one group of so many tries a rule, and whether the one that was pending there is in
+/// progress then.
+fn tries_of_a_report_beside_groups(alloc: Global, groups: u32) -> Result<(u64, bool), Refusal> {
+    let mut table = with_groups(alloc, groups)?;
+    step(alloc, &mut table, &Words::Claim("r1", "1", "linux"))?;
+    let done = Words::Done("r1", "2", "1", Outcome::Success);
+    step(alloc, &mut table, &done)?;
+    let pending = table.runs().get(1);
+    let is_next = pending.is_some_and(|run| matches!(run.phase(), RunPhase::Live));
+    Ok((table.looked(), is_next))
+}
+
+#[test]
+fn a_report_that_frees_a_group_wakes_nobody_who_waits_in_other_groups(rt: HostRuntime) {
+    let alloc = rt.alloc();
+    let (tries, is_next) = tries_of_a_report_beside_groups(alloc, GROUPS).expect(&rt, "memory");
+    holds!(rt; is_next);
+    holds!(rt; 0 < tries && tries <= MOST, tries);
 }
 
 #[test]
