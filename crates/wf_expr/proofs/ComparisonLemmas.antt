@@ -45,8 +45,8 @@ same-front case front text head rest is h s more = (
 )
 
 -- the texts of pieces, one after another
-abbrev pub IsLeft : Case → Values → List Piece → List ℕ → Type 0 → Type 0
-IsLeft case values pieces text W = (folded case (flat_map (piece_text values) pieces) ≡ folded case text) ↔ W
+abbrev pub IsLeft : {X : Type 0} → Case → (X → List ℕ) → List X → List ℕ → Type 0 → Type 0
+IsLeft case text_of pieces text W = (folded case (flat_map text_of pieces) ≡ folded case text) ↔ W
 
 -- the text of the value is that of the pieces, of a sole one too
 pub value-text : (values : Values) (pieces : List Piece) → scalar_text (template_value values pieces) ≡ flat_map (piece_text values) pieces

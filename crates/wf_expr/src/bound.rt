@@ -1,6 +1,9 @@
 ghost use Rattle.std.specs.Prelude.{◌≡◌, ◌≢◌, ◌↔◌, [], IsTrue, codes};
 ghost use Rattle.wf_expr.specs.Bound.{bound_piece_text, bound_text, first_result};
+ghost use Rattle.wf_expr.specs.Comparison.{lowered};
 
+use crate::case::Case;
+use crate::comparison::are_bound_text;
 use crate::results::NeedResults;
 use crate::unread::{Unread, are_same};
 use std::alloc::Global;
@@ -99,6 +102,13 @@ impl BoundTemplate {
     {
         let text = Unread::new(b"", self.pieces(), results);
         are_same(text, Unread::new(b"", other.pieces(), other_results))
+    }
+
+    /// Whether the text by the results is this text, whatever the case of ASCII letters, as labels are compared. It takes no memory.
+    pub fn is_text_ignoring_ascii_case<R: NeedResults>(&self, results: &R, text: &[u8]) -> bool
+        ensures { IsTrue result ↔ (lowered (bound_text (R.result_of results.now) self.now) ≡ lowered text.now) }
+    {
+        are_bound_text(self.pieces(), results, text, Case::Insensitive)
     }
 
     /// Whether the text by the results sets a flag: whether it is `true`.

@@ -2,13 +2,16 @@ ghost use Rattle.std.specs.Prelude.{◌≡◌, ◌↔◌, IsTrue};
 ghost use Rattle.std.specs.List.{flat_map};
 ghost use Rattle.std.specs.Option.{option_copied};
 ghost use Rattle.wf_value.specs.ScalarValue.{scalar_text};
+ghost use Rattle.wf_expr.specs.Bound.{bound_text};
 ghost use Rattle.wf_expr.specs.Comparison.{folded, IsBehind};
 ghost use Rattle.wf_expr.specs.ScalarView.{shown};
 ghost use Rattle.wf_expr.specs.TemplateValue.{piece_text};
 
+use crate::bound::BoundPiece;
 use crate::case::Case;
 use crate::context::Context;
 use crate::piece::Piece;
+use crate::results::NeedResults;
 use crate::scalar_view::ScalarView;
 use crate::value::expression_value;
 use itoa::Buffer;
@@ -77,4 +80,23 @@ pub(crate) fn are_text<C: Context>(pieces: &[Piece], context: &C, text: &[u8], c
         }
     }
     rest.is_empty()
+}
+
+/// Whether the texts of bound pieces by the results, one after another, are the text.
+pub(crate) fn are_bound_text<R: NeedResults>(
+    pieces: &[BoundPiece],
+    results: &R,
+    text: &[u8],
+    case: Case,
+) -> bool
+    ensures { IsTrue result ↔ (folded case (bound_text (R.result_of results.now) pieces.now) ≡ folded case text.now) }
+{
+    let mut left = text;
+    for piece in pieces {
+        match behind(left, piece.text(results).as_bytes(), case) {
+            Some(behind) => left = behind,
+            None => return false,
+        }
+    }
+    left.is_empty()
 }

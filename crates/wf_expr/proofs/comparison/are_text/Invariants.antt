@@ -8,5 +8,5 @@ use Rattle.wf_expr.proofs.comparison.are_text.Given as goal
 -- the pieces that are left are what is left of the text where all are the whole
 abbrev pub invariant-loop-piece : goal.invariant-loop-piece
 invariant-loop-piece g l =
-    IsLeft l.case (g.C.Context.values l.context) (drop l.piece-index l.pieces) l.rest
+    IsLeft l.case (piece_text (g.C.Context.values l.context)) (drop l.piece-index l.pieces) l.rest
     (folded l.case (flat_map (piece_text (g.C.Context.values l.context)) l.pieces) ≡ folded l.case l.text)
