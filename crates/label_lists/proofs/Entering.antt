@@ -1,0 +1,61 @@
+-- What the entering of a list adds, and what it leaves.
+use Rattle.std.proofs.Common.{◌≡◌, ℕ, zero, suc, ◌∷◌, ◌++◌, ◌||◌, [], length, refl, List, Bool, true, false, if◌then◌else◌, Some, is_some, slice_get, sym, ap, subst, ◌∙◌, append_assoc}
+use Rattle.std.specs.List.{IsDistinct, list_any}
+use Rattle.std.specs.Option.{option_map_or}
+use Rattle.std.proofs.lemmas.Cmp.{lists_equiv, nat_list_eq_equiv}
+use Rattle.std.proofs.lemmas.Map.Keys.{IsDistinct-head, IsDistinct-tail}
+use Rattle.indexmap.specs.IndexSet.{insert_key}
+use Rattle.run_marks.specs.Marked.{is_marked}
+use Rattle.label_lists.specs.Asking.{AskingState, asks_in, may_offer_in, place_of}
+use Rattle.label_lists.specs.Known.{KnownState, OnlyEnters, asks_at, offers_at}
+use Rattle.label_lists.specs.Labels.{labels_eq}
+use Rattle.label_lists.proofs.SameLabels.{each_passes}
+use Rattle.label_lists.proofs.Writes.{appended}
+
+still_seen : {X : Type 0} (more xs : List X) (n : ℕ) (x : X) → slice_get xs n ≡ Some x → slice_get (xs ++ more) n ≡ Some x
+still_seen more [] n x at = cc
+still_seen more (y ∷ ys) zero x at = at
+still_seen more (y ∷ ys) (suc n) x at = still_seen more ys n x at
+
+pub list_stays : (lists : List (List (List ℕ))) (labels other : List (List ℕ)) (n : ℕ) → slice_get lists n ≡ Some other
+    → slice_get (insert_key labels_eq lists labels) n ≡ Some other
+list_stays lists labels other n at = by (list_any (labels_eq labels) lists)
+  where
+    by : (b : Bool) → slice_get (if b then lists else lists ++ labels ∷ []) n ≡ Some other
+    by true = at
+    by false = still_seen (labels ∷ []) lists n other at
+
+-- a list that comes later is not among those before it
+own_place : (lists rest : List (List (List ℕ))) (labels : List (List ℕ)) → slice_get (lists ++ labels ∷ rest) (length lists) ≡ Some labels
+own_place [] rest labels = refl
+own_place (l ∷ ls) rest labels = own_place ls rest labels
+
+absent : (lists rest : List (List (List ℕ))) (labels : List (List ℕ)) → IsDistinct labels_eq (lists ++ labels ∷ rest) → list_any (labels_eq labels) lists ≡ false
+absent [] rest labels distinct = refl
+absent (l ∷ ls) rest labels distinct =
+    let not = each_passes (λ y. labels_eq l y ≡ false) (ls ++ labels ∷ rest) (length ls) labels (IsDistinct-head labels_eq l (ls ++ labels ∷ rest) distinct) (own_place ls rest labels) in
+    ap (λ b. b || list_any (labels_eq labels) ls) ((lists_equiv nat_list_eq_equiv).symm labels l ∙ not)
+    ∙ absent ls rest labels (IsDistinct-tail labels_eq l (ls ++ labels ∷ rest) distinct)
+
+pub one_more_copied : (old : List (List (List ℕ))) (labels : List (List ℕ)) (rest whole : List (List (List ℕ))) → IsDistinct labels_eq whole
+    → old ++ labels ∷ rest ≡ whole → insert_key labels_eq old labels ++ rest ≡ whole
+one_more_copied old labels rest whole distinct is =
+    let apart : list_any (labels_eq labels) old ≡ false = absent old rest labels (subst (IsDistinct labels_eq) (sym is) distinct) in
+    ap (λ b. (if b then old else old ++ labels ∷ []) ++ rest) apart ∙ append_assoc old (labels ∷ []) rest ∙ is
+
+-- ---- runs of a new list, of which none asks
+
+pub offers_appended : (asking : List AskingState) (new : AskingState) → new.runs ≡ [] → (n r : ℕ) → offers_at (asking ++ new ∷ []) n r ≡ offers_at asking n r
+offers_appended asking new none n r = appended (λ a. may_offer_in a r) new asking n (ap (λ runs. option_map_or (is_marked new.marks) (place_of runs r) false) none)
+
+pub asked_appended : (asking : List AskingState) (new : AskingState) → new.runs ≡ [] → (n r : ℕ) → asks_at (asking ++ new ∷ []) n r ≡ asks_at asking n r
+asked_appended asking new none n r = appended (λ a. asks_in a r) new asking n (ap (λ runs. is_some (place_of runs r)) none)
+
+-- ---- one entering behind another
+
+pub enters_twice : (old between new : KnownState) → OnlyEnters old between → OnlyEnters between new → OnlyEnters old new
+enters_twice old between new first second = record {
+  lists = (λ n labels at. second.lists n labels (first.lists n labels at));
+  asks = (λ n r is. second.asks n r (first.asks n r is));
+  offers = (λ n r. second.offers n r ∙ first.offers n r);
+}

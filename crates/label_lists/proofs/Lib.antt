@@ -1,0 +1,6 @@
+pub mod Entering
+pub mod Marked
+pub mod Offers
+pub mod Places
+pub mod SameLabels
+pub mod Writes

@@ -1,0 +1,32 @@
+use Rattle.std.proofs.Common.{◌≡◌, length, is_some, Ok, Err, sym, subst, ap, ◌∙◌}
+use Rattle.std.specs.List.Sorted.{IsBinarySearchResult}
+use Rattle.std.specs.Ordering.{nat_cmp}
+use Rattle.label_lists.specs.Asking.{Begins, IsOrdered, place_of}
+use Rattle.label_lists.proofs.Offers.{ordered_pushed}
+use Rattle.label_lists.proofs.Places.{asks_already, asks_pushed, begins_behind, found}
+use Rattle.label_lists.proofs.asking_runs.AskingRuns.enter.Goals as goal
+
+pub invariant_of-self-then-place-len : goal.invariant_of-self-then-place-len
+invariant_of-self-then-place-len c =
+    let runs = c.self.inside.runs.items in
+    let run = c.args.run in
+    let place = c.in-Err.place in
+    let is = subst (λ xs. IsBinarySearchResult (λ y. nat_cmp y run) xs (Err place)) c.deref.ensures.value c.in-Err.ensures.position in
+    let end : place ≡ length runs = c.if-place-len.true ∙ c.len.ensures ∙ sym c.deref.ensures.len ∙ ap length c.deref.ensures.value in
+    let begins = subst (Begins runs run) end (begins_behind runs c.self.invariant.rises run place is) in
+    subst (λ xs. IsOrdered xs c.cover.new.self) (sym c.in_ok-push-in-Err.ensures.items)
+    (ordered_pushed runs c.self.inside.marks c.cover.new.self run c.self.invariant c.in_ok-cover-in-Err.ensures.marks begins place end
+    c.in_ok-cover-in-Err.ensures.covers)
+
+pub returns-in-Ok-clause-entered : goal.returns-in-Ok-clause-entered
+returns-in-Ok-clause-entered c = λ r.
+    let runs = c.self.inside.runs.items in
+    let is = subst (λ xs. IsBinarySearchResult (λ y. nat_cmp y c.args.run) xs (Ok c.in-Ok.field-0)) c.deref.ensures.value c.in-Ok.ensures.position in
+    let there = found runs c.self.invariant.rises c.args.run c.in-Ok.field-0 is in
+    rw (← c.self.view_is) (asks_already runs c.args.run c.in-Ok.field-0 r there)
+
+pub returns-in_ok-push-in-Err-clause-entered : goal.returns-in_ok-push-in-Err-clause-entered
+returns-in_ok-push-in-Err-clause-entered c = λ r.
+    let runs = c.self.inside.runs.items in
+    rw (← c.self.view_is)
+    (ap (λ xs. is_some (place_of xs r)) c.in_ok-push-in-Err.ensures.items ∙ asks_pushed runs c.args.run r)

@@ -1,0 +1,11 @@
+use Rattle.std.proofs.Common.{false, sym, subst, ap, ◌∙◌}
+use Rattle.label_lists.specs.Asking.{AskingState, PutsRun, place_of}
+use Rattle.label_lists.proofs.Offers.{puts_run}
+use Rattle.label_lists.proofs.asking_runs.AskingRuns.unmark.Goals as goal
+
+pub returns-in-Some-clause-puts : goal.returns-in-Some-clause-puts
+returns-in-Some-clause-puts c =
+    let runs = c.self.inside.runs.items in
+    let there = ap (λ (a : AskingState). place_of a.runs c.args.run) c.self.view_is ∙ sym c.in-Some.ensures in
+    subst (λ (a : AskingState). PutsRun false c.args.run a (record { runs = runs; marks = c.unmark.new.self })) c.self.view_is
+    (puts_run false runs c.self.inside.marks c.unmark.new.self c.args.run c.in-Some.place there c.unmark.ensures.puts)

@@ -1,0 +1,43 @@
+use Rattle.std.proofs.Common.{◌≡◌, ◌∷◌, ◌++◌, ◌+◌, [], Some, length, length-append, if◌then◌else◌, slice_get, sym, subst, ap, ◌∙◌}
+use Rattle.run_marks.specs.Marked.{Covers}
+use Rattle.label_lists.specs.Known.{AreMarked, KnownState, OnlyEnters, asks_at, offers_at}
+use Rattle.label_lists.proofs.Entering.{asked_appended, list_stays, offers_appended}
+use Rattle.label_lists.proofs.Marked.{marked_appended}
+use Rattle.label_lists.proofs.SameLabels.{one_list}
+use Rattle.label_lists.proofs.known_lists.KnownLists.number_of.Goals as goal
+
+pub returns-then-not-is_new-clause-number : goal.returns-then-not-is_new-clause-number
+returns-then-not-is_new-clause-number c =
+    let stored = c.in_ok-number.ensures.stored in
+    stored.1 ∙ ap Some (sym ((one_list c.new.result stored.0).0 stored.2) ∙ c.new.ensures)
+
+pub returns-clause-number : goal.returns-clause-number
+returns-clause-number c =
+    let stored = c.in_ok-number.ensures.stored in
+    stored.1 ∙ ap Some (sym ((one_list c.new.result stored.0).0 stored.2) ∙ c.new.ensures)
+
+pub returns-clause-enters : goal.returns-clause-enters
+returns-clause-enters c =
+    let asking = c.self.inside.asking.items in
+    let new = c.new-2.result in
+    let items = c.push_reserved.ensures.items ∙ ap (λ xs. xs ++ new ∷ []) c.in_ok-reserve.ensures.items in
+    subst (λ (s : KnownState). OnlyEnters s (record { lists = c.insert_full.new.self.keys; asking = c.push_reserved.new.self.items })) c.self.view_is
+    record {
+      lists = (λ n other at.
+          subst (λ ks. slice_get ks n ≡ Some other) (sym c.in_ok-number.ensures.keys) (list_stays c.self.inside.lists.keys c.new.result other n at));
+      asks = (λ n r is. ap (λ xs. asks_at xs n r) items ∙ asked_appended asking new c.new-2.ensures n r ∙ is);
+      offers = (λ n r. ap (λ xs. offers_at xs n r) items ∙ offers_appended asking new c.new-2.ensures n r);
+    }
+
+pub invariant_of-self-2 : goal.invariant_of-self-2
+invariant_of-self-2 c =
+    let asking = c.self.inside.asking.items in
+    let new = c.new-2.result in
+    let items = c.push_reserved.ensures.items ∙ ap (λ xs. xs ++ new ∷ []) c.in_ok-reserve.ensures.items in
+    let more = c.in_ok-number.ensures.len ∙ ap (λ b. length c.self.inside.lists.keys + (if b then 1 else 0)) c.if-not-is_new.false in
+    let covers = subst (λ n. Covers c.cover.new.self (n + 1)) (c.len.ensures ∙ c.self.inside.asking.ok.0) c.in_ok-cover.ensures.covers in (
+      c.in_ok-number.ensures.unique,
+      ap length items ∙ length-append asking (new ∷ []) ∙ ap (λ n. n + 1) c.self.invariant.1 ∙ sym more,
+      subst (λ xs. AreMarked xs c.cover.new.self) (sym items)
+          (marked_appended asking new c.self.inside.offering c.cover.new.self c.self.invariant.2 c.new-2.ensures c.in_ok-cover.ensures.marks covers),
+    )

@@ -1,0 +1,47 @@
+-- The runs that ask for one list of labels, in rising order, with marks by their places in that order: a run that may have a ready leg that
+-- asks for the list is marked (own).
+use Rattle.std.specs.Prelude.{◌≡◌, ◌<◌, ◌≤◌, ℕ, List, length, Bool, false, nat_eq, is_some, Option, slice_index, if◌then◌else◌}
+use Rattle.std.specs.List.{position}
+use Rattle.std.specs.Option.{option_map_or}
+use Rattle.run_marks.specs.Marked.{Covers, is_marked}
+
+pub record AskingState : Type 0 where
+  pub runs : List ℕ
+  pub marks : List ℕ
+
+-- the place of a run
+abbrev pub place_of : List ℕ → ℕ → Option ℕ
+place_of runs run = position (nat_eq run) runs
+
+-- whether the run asks
+abbrev pub asks_in : AskingState → ℕ → Bool
+asks_in asking run = is_some (place_of asking.runs run)
+
+-- whether the run may have a ready leg that asks
+abbrev pub may_offer_in : AskingState → ℕ → Bool
+may_offer_in asking run = option_map_or (is_marked asking.marks) (place_of asking.runs run) false
+
+-- the runs rise, each can be marked, and nothing else is
+pub record IsOrdered (runs marks : List ℕ) : Type 0 where
+  pub rises : (i j : ℕ) → i < j → j < length runs → slice_index runs i < slice_index runs j
+  pub covers : Covers marks (length runs)
+  pub none_behind : (i : ℕ) → length runs ≤ i → is_marked marks i ≡ false
+
+-- at a place the runs begin that are no less than this one
+pub record Begins (runs : List ℕ) (run from : ℕ) : Type 0 where
+  pub before : (k : ℕ) → k < from → k < length runs → slice_index runs k < run
+  pub behind : (k : ℕ) → from ≤ k → k < length runs → run ≤ slice_index runs k
+
+-- ---- what changes
+
+-- the same runs ask
+abbrev pub SameAsking : AskingState → AskingState → Type 0
+SameAsking old new = (run : ℕ) → asks_in new run ≡ asks_in old run
+
+-- the same runs may have such a leg
+abbrev pub SameOffers : AskingState → AskingState → Type 0
+SameOffers old new = (run : ℕ) → may_offer_in new run ≡ may_offer_in old run
+
+-- one run may have such a leg, or has none; all others are as they were
+abbrev pub PutsRun : Bool → ℕ → AskingState → AskingState → Type 0
+PutsRun to run old new = (r : ℕ) → may_offer_in new r ≡ (if nat_eq r run then to else may_offer_in old r)

@@ -1,0 +1,4 @@
+pub mod Asking
+pub mod Known
+pub mod Labels
+pub mod Lists

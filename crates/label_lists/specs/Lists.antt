@@ -1,0 +1,45 @@
+-- Lists of labels that legs ask for, by number, and which runs may have a ready leg that asks for each. Number 0 stands for lists that are
+-- not known (own).
+use Rattle.std.specs.Prelude.{◌≡◌, ◌&&◌, ◌+◌, ℕ, zero, suc, List, Bool, true, nat_eq, Option, None, Some, slice_get, if◌then◌else◌}
+use Rattle.run_marks.specs.Marked.{Covers, is_marked}
+use Rattle.label_lists.specs.Asking.{AskingState}
+use Rattle.label_lists.specs.Known.{asks_at, offers_at}
+
+-- the lists from number 1 on, with the runs that ask for each, and the marks of number 0 by run
+pub record ListsState : Type 0 where
+  pub lists : List (List (List ℕ))
+  pub asking : List AskingState
+  pub unknown : List ℕ
+
+-- the labels of a number
+abbrev pub labels_of : ListsState → ℕ → Option (List (List ℕ))
+labels_of l zero = None
+labels_of l (suc k) = slice_get l.lists k
+
+-- the run can be marked under a number
+abbrev pub HasPlace : ListsState → ℕ → ℕ → Type 0
+HasPlace l zero run = Covers l.unknown (run + 1)
+HasPlace l (suc k) run = asks_at l.asking k run ≡ true
+
+-- whether the run may have a ready leg of the number
+abbrev pub may_offer : ListsState → ℕ → ℕ → Bool
+may_offer l zero run = is_marked l.unknown run
+may_offer l (suc k) run = offers_at l.asking k run
+
+-- no list has two numbers
+abbrev pub IsOnceEach : ListsState → Type 0
+IsOnceEach l = (m n : ℕ) (labels : List (List ℕ)) → labels_of l m ≡ Some labels → labels_of l n ≡ Some labels → m ≡ n
+
+-- ---- what changes
+
+-- all numbers keep their labels, all runs their places, and the same ones may offer a leg
+pub record OnlyGrows (old new : ListsState) : Type 0 where
+  pub labels : (number : ℕ) (labels : List (List ℕ)) → labels_of old number ≡ Some labels → labels_of new number ≡ Some labels
+  pub places : (number run : ℕ) → HasPlace old number run → HasPlace new number run
+  pub offers : (number run : ℕ) → may_offer new number run ≡ may_offer old number run
+
+-- one run may offer a leg of one number, or offers none; all else is as it was
+pub record PutsOffer (to : Bool) (number run : ℕ) (old new : ListsState) : Type 0 where
+  pub labels : (n : ℕ) → labels_of new n ≡ labels_of old n
+  pub places : (n r : ℕ) → HasPlace old n r → HasPlace new n r
+  pub offers : (n r : ℕ) → may_offer new n r ≡ (if nat_eq n number && nat_eq r run then to else may_offer old n r)

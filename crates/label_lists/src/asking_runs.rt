@@ -1,0 +1,117 @@
+//! The runs that ask for one list of labels.
+
+ghost use Rattle.std.specs.Prelude.{◌≡◌, ◌||◌, ◌&&◌, ℕ, [], true, false, nat_eq, IfErr, IfOk, OnErr};
+ghost use Rattle.wf_value.specs.Gives.{Gives, no_memory};
+ghost use Rattle.run_marks.specs.First.{IsFirstFrom};
+ghost use Rattle.label_lists.specs.Asking.{Begins, PutsRun, SameAsking, SameOffers, asks_in, may_offer_in, place_of};
+
+use run_marks::Marks;
+use std::alloc::Global;
+use std::marker::Model;
+use wf_value::Refusal;
+
+/// Runs in rising order, with marks by their places in that order. A contract sees both.
+#[derive(Drop)]
+pub(crate) struct AskingRuns {
+    runs: Vec<usize>,
+    marks: Marks,
+}
+
+impl Model for AskingRuns {
+    ghost use Rattle.label_lists.specs.Asking.{AskingState, IsOrdered};
+
+    ghost Value = { AskingState };
+
+    ghost view = { λ a. record { runs = a.runs.items; marks = a.marks } };
+
+    ghost invariant = { λ a. IsOrdered a.runs.items a.marks };
+}
+
+impl AskingRuns {
+    /// No run asks.
+    pub fn new(alloc: Global) -> Self
+        ensures { result.runs ≡ [] }
+    {
+        AskingRuns {
+            runs: Vec::new(alloc),
+            marks: Marks::new(alloc),
+        }
+    }
+
+    /// The place of a run.
+    fn place(&self, run: usize) -> Option<usize>
+        ensures { result ≡ place_of self.now.runs run }
+    {
+        match self.runs.binary_search(&run) {
+            Ok(place) => Some(place),
+            Err(_) => None,
+        }
+    }
+
+    /// The place at which the runs begin that are no less than this one.
+    fn first_place(&self, run: usize) -> usize
+        ensures { Begins self.now.runs run result }
+    {
+        match self.runs.binary_search(&run) {
+            Ok(place) => place,
+            Err(place) => place,
+        }
+    }
+
+    /// Gives a run a place, and answers whether it has one: none is made behind a later run.
+    pub fn enter(&mut self, run: usize) -> Result<bool, Refusal>
+        ensures offers { SameOffers self.old self.new }
+        ensures entered { IfOk result (λ has. (r : ℕ) → asks_in self.new r ≡ (has && nat_eq r run || asks_in self.old r)) }
+        ensures err { IfErr result (λ e. e ≡ no_memory) }
+        ensures unchanged { OnErr result (SameAsking self.old self.new) }
+    {
+        match self.runs.binary_search(&run) {
+            Ok(_) => Ok(true),
+            Err(place) if place == self.runs.len() => {
+                self.marks.cover(place + 1)?;
+                self.runs.push(run)?;
+                Ok(true)
+            }
+            Err(_) => Ok(false),
+        }
+    }
+
+    /// Notes that the run may have a ready leg that asks.
+    pub fn mark(&mut self, run: usize)
+        requires { asks_in self.old run ≡ true }
+        ensures puts { PutsRun true run self.old self.new }
+        ensures asks { SameAsking self.old self.new }
+    {
+        if let Some(place) = self.place(run) {
+            self.marks.mark(place);
+        }
+    }
+
+    /// Notes that the run has no such leg.
+    pub fn unmark(&mut self, run: usize)
+        ensures puts { PutsRun false run self.old self.new }
+        ensures asks { SameAsking self.old self.new }
+    {
+        if let Some(place) = self.place(run) {
+            self.marks.unmark(place);
+        }
+    }
+
+    /// The first run at or after one that may have a ready leg that asks.
+    pub fn first_from(&self, run: usize) -> Option<usize>
+        ensures { IsFirstFrom (may_offer_in self.now) run result }
+    {
+        let from = self.first_place(run);
+        let place = self.marks.first_from(from)?;
+        Some(self.runs[place])
+    }
+
+    pub fn copy(&self) -> Result<Self, Refusal>
+        ensures { Gives (λ a. a) result (Ok self.now) }
+    {
+        Ok(AskingRuns {
+            runs: self.runs.clone()?,
+            marks: self.marks.copy()?,
+        })
+    }
+}

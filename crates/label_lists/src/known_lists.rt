@@ -1,0 +1,201 @@
+//! Lists of labels by number, each with the runs that ask for it.
+
+ghost use Rattle.std.specs.Prelude.{◌≡◌, ◌≤◌, ◌<◌, ◌^◌, ℕ, [], true, false, length, None, Some, IfErr, IfNone, IfOk, IfSome, Ok, slice_get};
+ghost use Rattle.wf_value.specs.Gives.{Gives, no_memory};
+ghost use Rattle.run_marks.specs.First.{IsFirstFrom};
+ghost use Rattle.label_lists.specs.Known.{HasEachOnce, IsBefore, OnlyEnters, PutsAt, SameAsked, asks_at, offers_at};
+
+use crate::asking_runs::AskingRuns;
+use crate::label_list::LabelList;
+use indexmap::IndexSet;
+use run_marks::Marks;
+use std::alloc::Global;
+use std::marker::Model;
+use wf_value::{Chars, Refusal, Sequence, TryCopy};
+
+/// Lists of labels with numbers that never change. A contract sees the lists in the order of their numbers, from 0, and of each the runs
+/// that ask for it.
+#[derive(Drop)]
+pub(crate) struct KnownLists {
+    lists: IndexSet<LabelList>,
+    asking: Vec<AskingRuns>,
+    /// The lists that some run may offer a leg for.
+    offering: Marks,
+}
+
+impl Model for KnownLists {
+    ghost use Rattle.std.specs.Prelude.{◌≡◌, length};
+    ghost use Rattle.indexmap.specs.IndexSet.{IsUnique};
+    ghost use Rattle.label_lists.specs.Known.{AreMarked, KnownState};
+    ghost use Rattle.label_lists.specs.Labels.{labels_eq};
+
+    ghost Value = { KnownState };
+
+    ghost view = { λ k. record { lists = k.lists.keys; asking = k.asking.items } };
+
+    ghost invariant = { λ k. IsUnique labels_eq k.lists × (length k.asking.items ≡ length k.lists.keys) × AreMarked k.asking.items k.offering };
+}
+
+impl KnownLists {
+    pub fn new(alloc: Global) -> Self
+        ensures lists { result.lists ≡ [] }
+        ensures asking { result.asking ≡ [] }
+    {
+        KnownLists {
+            lists: IndexSet::new(alloc),
+            asking: Vec::new(alloc),
+            offering: Marks::new(alloc),
+        }
+    }
+
+    /// How many lists there are. They are numbered from 0.
+    pub fn len(&self) -> usize
+        ensures len { result ≡ length self.now.lists }
+        ensures small { result < 2 ^ 63 }
+        ensures asking { result ≡ length self.now.asking }
+        ensures once { HasEachOnce self.now.lists }
+    {
+        self.lists.len()
+    }
+
+    /// The labels of a number.
+    pub fn labels(&self, number: usize) -> Option<&[Chars]>
+        ensures some { IfSome result (λ labels. slice_get self.now.lists number ≡ Some labels.now) }
+        ensures none { IfNone result (slice_get self.now.lists number ≡ None) }
+    {
+        match self.lists.get_index(number) {
+            Some(list) => Some(list.as_slice()),
+            None => None,
+        }
+    }
+
+    /// Notes that a run may have a ready leg that asks for the list of a number.
+    pub fn mark(&mut self, number: usize, run: usize)
+        requires { asks_at self.old.asking number run ≡ true }
+        ensures puts { PutsAt true number run self.old.asking self.new.asking }
+        ensures asks { SameAsked self.old.asking self.new.asking }
+        ensures lists { self.new.lists ≡ self.old.lists }
+    {
+        self.asking[number].mark(run);
+        self.offering.mark(number);
+    }
+
+    /// The first run at or after one that may have a ready leg that asks for the list of a number.
+    pub fn first_from(&self, number: usize, run: usize) -> Option<usize>
+        ensures { IsFirstFrom (offers_at self.now.asking number) run result }
+    {
+        let asking = self.asking.get(number)?;
+        asking.first_from(run)
+    }
+
+    /// Notes that the run has no such leg.
+    pub fn unmark(&mut self, number: usize, run: usize)
+        requires { number < length self.old.asking }
+        ensures puts { PutsAt false number run self.old.asking self.new.asking }
+        ensures asks { SameAsked self.old.asking self.new.asking }
+        ensures lists { self.new.lists ≡ self.old.lists }
+    {
+        self.unmark_run(number, run);
+        if self.asking[number].first_from(0).is_none() {
+            self.offering.unmark(number);
+        }
+    }
+
+    fn unmark_run(&mut self, number: usize, run: usize)
+        requires { number < length self.old.asking }
+        ensures puts { PutsAt false number run self.old.asking self.new.asking }
+        ensures asks { SameAsked self.old.asking self.new.asking }
+        ensures lists { self.new.lists ≡ self.old.lists }
+        ensures len { length self.new.asking ≡ length self.old.asking }
+    {
+        self.asking[number].unmark(run);
+    }
+
+    /// The first list at or after a number that some run may offer a leg for.
+    pub fn next_offering(&self, number: usize) -> Option<usize>
+        ensures some { IfSome result (λ n. (number ≤ n) × (n < length self.now.lists)) }
+        ensures passed { (n r : ℕ) → number ≤ n → IsBefore n result → offers_at self.now.asking n r ≡ false }
+    {
+        self.offering.first_from(number)
+    }
+
+    /// Gives a list a number, if it has none, and a run a place there. It answers the number, or none where a later run asks already.
+    pub fn enter(
+        &mut self,
+        alloc: Global,
+        labels: Sequence<Chars>,
+        run: usize,
+    ) -> Result<Option<usize>, Refusal>
+        ensures enters { OnlyEnters self.old self.new }
+        ensures number { IfOk result (λ found. IfSome found (λ n. slice_get self.new.lists n ≡ Some labels)) }
+        ensures asks { IfOk result (λ found. IfSome found (λ n. asks_at self.new.asking n run ≡ true)) }
+        ensures err { IfErr result (λ e. e ≡ no_memory) }
+    {
+        let number = self.number_of(alloc, labels)?;
+        let has_place = self.enter_run(number, run)?;
+        if !has_place {
+            return Ok(None);
+        }
+        Ok(Some(number))
+    }
+
+    /// Gives a run a place at a number, and answers whether it has one.
+    fn enter_run(&mut self, number: usize, run: usize) -> Result<bool, Refusal>
+        requires { number < length self.old.asking }
+        ensures enters { OnlyEnters self.old self.new }
+        ensures asks { IfOk result (λ has. has ≡ true → asks_at self.new.asking number run ≡ true) }
+        ensures lists { self.new.lists ≡ self.old.lists }
+        ensures err { IfErr result (λ e. e ≡ no_memory) }
+    {
+        self.asking[number].enter(run)
+    }
+
+    /// The number of a list, which is entered if it has none.
+    fn number_of(&mut self, alloc: Global, labels: Sequence<Chars>) -> Result<usize, Refusal>
+        ensures enters { OnlyEnters self.old self.new }
+        ensures number { IfOk result (λ n. slice_get self.new.lists n ≡ Some labels) }
+        ensures within { IfOk result (λ n. n < length self.new.asking) }
+        ensures err { IfErr result (λ e. e ≡ no_memory) }
+    {
+        self.offering.cover(self.asking.len() + 1)?;
+        self.asking.reserve(1)?;
+        let (number, is_new) = self.lists.insert_full(LabelList::new(labels))?;
+        if !is_new {
+            return Ok(number);
+        }
+        self.asking.push_reserved(AskingRuns::new(alloc));
+        Ok(number)
+    }
+
+    pub fn copy(&self, alloc: Global) -> Result<Self, Refusal>
+        ensures { Gives (λ k. k) result (Ok self.now) }
+    {
+        Ok(KnownLists {
+            lists: copy_of(alloc, &self.lists)?,
+            asking: copies_of(alloc, self.asking.as_slice())?,
+            offering: self.offering.copy()?,
+        })
+    }
+}
+
+/// A copy of the lists, in their order.
+fn copy_of(alloc: Global, lists: &IndexSet<LabelList>) -> Result<IndexSet<LabelList>, Refusal>
+    ensures { Gives (λ s. s.keys) result (Ok lists.now.keys) }
+{
+    let mut copy = IndexSet::with_capacity(alloc, lists.len())?;
+    for list in lists.iter() {
+        copy.insert(list.copy(alloc)?)?;
+    }
+    Ok(copy)
+}
+
+/// A copy of the runs of each list.
+fn copies_of(alloc: Global, asking: &[AskingRuns]) -> Result<Vec<AskingRuns>, Refusal>
+    ensures { Gives (λ v. v.items) result (Ok asking.now) }
+{
+    let mut copies = Vec::with_capacity(alloc, asking.len())?;
+    for runs in asking {
+        copies.push(runs.copy()?)?;
+    }
+    Ok(copies)
+}
