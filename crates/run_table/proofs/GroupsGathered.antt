@@ -1,5 +1,5 @@
 -- The groups of runs and legs as they are gathered one after the other: each is new, or two clash.
-use Rattle.std.specs.Prelude.{◌≡◌, ◌⊎◌, ℕ, ◌+◌, ◌<◌, List, [], ◌||◌, not, Bool, true, false, Option, Some, None, Result, Ok, Err, IfOk}
+use Rattle.std.specs.Prelude.{◌≡◌, ◌⊎◌, ℕ, ◌+◌, ◌<◌, List, [], ◌∷◌, ◌||◌, not, Bool, true, false, Option, Some, None, Result, Ok, Err, IfOk}
 use Rattle.std.specs.Prelude.{OnOk, refl}
 use Rattle.std.proofs.Common.{arith, ap, sym, subst, ◌∙◌, inl, inr}
 use Rattle.std.proofs.lemmas.Bool.{cases_eq, not-false, not-true, or_right, true≢false}
@@ -7,10 +7,11 @@ use Rattle.std.proofs.lemmas.Option.{none-some, same_Some}
 use Rattle.wf_value.specs.declared.refusal.Refusal.{Refusal}
 use Rattle.group_name.specs.Group.{Group, same_group}
 use Rattle.group_name.proofs.SameGroups.{same_is_one, own_group}
-use Rattle.run_table.specs.GroupSets.{AddsEach, AreGroupsOf, Clash, DifferInGroup, Gathered, HasOneOf, IsALegOfRun, IsAny, IsOfRun}
+use Rattle.run_table.specs.GroupSets.{AddsEach, AreGroupsOf, Clash, DifferInGroup, Gathered, HasOneOf, IsALeg, IsARun, IsAny}
 use Rattle.run_table.specs.GroupSets.{has_group}
-use Rattle.workflow_runs.specs.Holders.{run_of}
 use Rattle.workflow_runs.specs.Moves.{Holder}
+use Rattle.workflow_runs.specs.Places.{LegPlace}
+use Rattle.run_table.proofs.LegsOnce.{Among}
 
 -- those of them that are passed
 abbrev pub SoFar : (Holder → Type 0) → (Holder → ℕ) → ℕ → Holder → Type 0
@@ -110,6 +111,34 @@ module _ (group_of : Holder → Option Group) where
     ];
   }
 
+  -- ---- the same ones, in other words
+
+  pub same_gathered : (a b : List Group) (those these : Holder → Type 0) → ((h : Holder) → those h → these h)
+      → ((h : Holder) (g : Group) → these h → group_of h ≡ Some g → those h) → Gathered group_of a b those → Gathered group_of a b these
+  same_gathered a b those these from to all = record {
+    keeps = all.keeps;
+    has_each = (λ h g is e. all.has_each h g (to h g is e) e);
+    no_other = (λ g e. elim (all.no_other g e) [
+      | inl old ↦ inl old
+      | inr s ↦ inr (record { one = s.one; is_one = from s.one s.is_one; has_it = s.has_it })
+    ]);
+    each_new = (λ h g is e. all.each_new h g (to h g is e) e);
+    each_once = (λ h k g is also e f. all.each_once h k g (to h g is e) (to k g also f) e f);
+  }
+
+  pub same_clash : (a : List Group) (those these : Holder → Type 0) → ((h : Holder) → those h → these h) → Clash group_of a those
+      → Clash group_of a these
+  same_clash a those these from two = record {
+    group = two.group;
+    one = two.one;
+    is_one = from two.one two.is_one;
+    has_it = two.has_it;
+    other = elim (two.other) [
+      | inl before ↦ inl before
+      | inr s ↦ inr (record { one = s.one; is_one = (from s.one s.is_one.0, s.is_one.1); has_it = s.has_it })
+    ];
+  }
+
   -- ---- place by place
 
   module _ (these : Holder → Type 0) (place : Holder → ℕ) where
@@ -124,19 +153,6 @@ module _ (group_of : Holder → Option Group) where
         ])
         (λ h is. (is.0, let lt = is.1 in omega arith))
         (λ h is. let is_here = from_next h is in (is_here.0, omega (arith, is_here.1)))
-
-    pub all_gathered : (i : ℕ) (a b : List Group) → Gathered group_of a b (SoFar these place i)
-        → ((h : Holder) (g : Group) → these h → group_of h ≡ Some g → place h < i) → Gathered group_of a b these
-    all_gathered i a b so_far within = record {
-      keeps = so_far.keeps;
-      has_each = (λ h g is e. so_far.has_each h g (is, within h g is e) e);
-      no_other = (λ g e. elim (so_far.no_other g e) [
-        | inl old ↦ inl old
-        | inr s ↦ inr (record { one = s.one; is_one = s.is_one.0; has_it = s.has_it })
-      ]);
-      each_new = (λ h g is e. so_far.each_new h g (is, within h g is e) e);
-      each_once = (λ h k g is also e f. so_far.each_once h k g (is, within h g is e) (also, within k g also f) e f);
-    }
 
   -- ---- all of them
 
@@ -154,27 +170,41 @@ module _ (group_of : Holder → Option Group) where
   all_new a b these true adds is = adds
   all_new a b these false adds is = cc
 
-  -- ---- a run, and then its legs
+  -- ---- the runs, and then the legs
 
-  run_or_leg : (r : ℕ) (h : Holder) → IsOfRun r h → (h ≡ Holder.a_run r) ⊎ IsALegOfRun r h
-  run_or_leg r (Holder.a_run s) is = inl (ap Holder.a_run is)
-  run_or_leg r (Holder.a_leg p) is = inr is
+  run_or_leg : (h : Holder) → IsAny h → IsARun h ⊎ IsALeg h
+  run_or_leg (Holder.a_run r) is = inl tt
+  run_or_leg (Holder.a_leg p) is = inr tt
 
-  the_run : (r : ℕ) (h : Holder) → h ≡ Holder.a_run r → IsOfRun r h
-  the_run r h is = ap run_of is
+  not_both : (h : Holder) → IsARun h → IsALeg h → ⊥
+  not_both (Holder.a_run r) is its = its
+  not_both (Holder.a_leg p) is its = is
 
-  its_leg : (r : ℕ) (h : Holder) → IsALegOfRun r h → IsOfRun r h
-  its_leg r (Holder.a_run s) is = absurd is
-  its_leg r (Holder.a_leg p) is = is
+  pub legs_put : (a b c : List Group) (result : Result Bool Refusal) → Gathered group_of a b IsARun
+      → IfOk result (AddsEach group_of b c IsALeg) → IfOk result (AddsEach group_of a c IsAny)
+  legs_put a b c (Err e) runs legs = tt
+  legs_put a b c (Ok true) runs legs = and_others a b c IsARun IsALeg IsAny runs legs run_or_leg (λ h is. tt) (λ h is. tt)
+  legs_put a b c (Ok false) runs legs = others_clash a b IsARun IsALeg IsAny runs legs (λ h is. tt) (λ h is. tt) not_both
 
-  pub legs_put : (r : ℕ) (a b c : List Group) (result : Result Bool Refusal) → Gathered group_of a b (λ h. h ≡ Holder.a_run r)
-      → IfOk result (AddsEach group_of b c (IsALegOfRun r)) → IfOk result (AddsEach group_of a c (IsOfRun r))
-  legs_put r a b c (Err e) one legs = tt
-  legs_put r a b c (Ok true) one legs =
-      and_others a b c (λ h. h ≡ Holder.a_run r) (IsALegOfRun r) (IsOfRun r) one legs (run_or_leg r) (the_run r) (its_leg r)
-  legs_put r a b c (Ok false) one legs =
-      others_clash a b (λ h. h ≡ Holder.a_run r) (IsALegOfRun r) (IsOfRun r) one legs (the_run r) (its_leg r)
-      (λ h is its. subst (IsALegOfRun r) is its)
+  -- ---- a leg, and then others
+
+  pub none_left : (ps : List LegPlace) (a : List Group) → ps ≡ [] → Gathered group_of a a (Among ps)
+  none_left [] a is = record {
+    keeps = (λ g e. e);
+    has_each = (λ h g no e. absurd no);
+    no_other = (λ g e. inl e);
+    each_new = (λ h g no e. absurd no);
+    each_once = (λ h k g no also e f. absurd no);
+  }
+  none_left (p ∷ ps) a is = cc
+
+  pub leg_and_others : (p : LegPlace) (ps : List LegPlace) (a b c : List Group) (new : Bool) → (Among ps (Holder.a_leg p) → ⊥)
+      → Gathered group_of a b (λ h. h ≡ Holder.a_leg p) → AddsEach group_of b c (Among ps) new → AddsEach group_of a c (Among (p ∷ ps)) new
+  leg_and_others p ps a b c true once one others =
+      and_others a b c (λ h. h ≡ Holder.a_leg p) (Among ps) (Among (p ∷ ps)) one others (λ h is. is) (λ h is. inl is) (λ h is. inr is)
+  leg_and_others p ps a b c false once one others =
+      others_clash a b (λ h. h ≡ Holder.a_leg p) (Among ps) (Among (p ∷ ps)) one others (λ h is. inl is) (λ h is. inr is)
+      (λ h is its. once (subst (Among ps) is its))
 
   -- ---- what putting one in says
 

@@ -12,28 +12,20 @@ use Rattle.wf_value.specs.declared.refusal.Refusal.{Refusal}
 use Rattle.group_name.specs.Group.{Group, same_group}
 use Rattle.group_name.proofs.SameGroups.{own_group}
 use Rattle.workflow_runs.specs.GroupOf.{group_at}
-use Rattle.run_table.specs.GroupSets.{AreGroupsOf, AreTaken, DifferInGroup, IsALegOfJob, IsALegOfRun, group_as, has_group}
+use Rattle.run_table.specs.GroupSets.{AreGroupsOf, AreTaken, DifferInGroup, IsALeg, IsARun, group_as, has_group}
 use Rattle.run_table.specs.GroupSets.{stands}
 use Rattle.workflow_runs.specs.Groups.{HasOneEach, all_holders, holds, is_in, is_pending_in, is_running_in, is_taken, waits}
 use Rattle.workflow_runs.specs.Holders.{run_of}
 use Rattle.workflow_runs.specs.Moves.{Holder}
-use Rattle.workflow_runs.specs.Places.{job_at, leg_place, run_at}
-use Rattle.workflow_runs.specs.RunState.{JobState, RunState}
+use Rattle.workflow_runs.specs.PlacedLegs.{PlacedLeg, placed_legs}
+use Rattle.workflow_runs.specs.RunState.{RunState}
 use Rattle.run_table.specs.declared.sound.groups.Standing.{Standing}
 use Rattle.run_table.specs.declared.sound.groups.Standing.TheVariants.{Pending, Running}
+use Rattle.workflow_runs.proofs.Found.{each_of_map}
 use Rattle.workflow_runs.proofs.JobKeeps.{leg_in}
-use Rattle.workflow_runs.proofs.LeaseReads.{same_place}
-use Rattle.workflow_runs.proofs.RunFits.{job_in_run}
+use Rattle.workflow_runs.proofs.PlacedLegs.{each_placed}
+use Rattle.run_table.proofs.LegsOnce.{Among, each_among, places}
 use Rattle.workflow_runs.proofs.OneEach.{IsOneOf, group_is, not_taken, one_that_holds, one_that_waits}
-
--- the place of its job, and its own
-abbrev pub job_of : Holder → ℕ
-job_of (Holder.a_run r) = 0
-job_of (Holder.a_leg p) = p.job
-
-abbrev pub leg_of : Holder → ℕ
-leg_of (Holder.a_run r) = 0
-leg_of (Holder.a_leg p) = p.leg
 
 -- ---- who stands in a group
 
@@ -58,27 +50,13 @@ module _ (runs : List RunState) where
       let at = leg_in runs p one.0 one.1 in
       slice_get_within runs p.run at.place.run at.place.run_is
 
-  pub job_within : (s : Standing) (r : ℕ) (h : Holder) (g : Group) → IsALegOfRun r h → group_as runs s h ≡ Some g
-      → job_of h < option_map_or (λ run. length run.jobs) (run_at runs r) 0
-  job_within s r (Holder.a_run q) g is e = absurd is
-  job_within s r (Holder.a_leg p) g is e =
+  pub leg_among : (s : Standing) (h : Holder) (g : Group) → IsALeg h → group_as runs s h ≡ Some g → Among (places (placed_legs runs)) h
+  leg_among s (Holder.a_run r) g is e = absurd is
+  leg_among s (Holder.a_leg p) g is e =
       let one = its_own s (Holder.a_leg p) g e in
-      let at = (leg_in runs p one.0 one.1).place in
-      let there : run_at runs r ≡ Some at.run = ap (run_at runs) (sym is) ∙ at.run_is in
-      subst (λ n. p.job < n) (sym (ap (λ o. option_map_or (λ (run : RunState). length run.jobs) o 0) there))
-      (slice_get_within at.run.jobs p.job _ at.job_is)
-
-  pub leg_within : (s : Standing) (r j : ℕ) (h : Holder) (g : Group) → IsALegOfJob r j h → group_as runs s h ≡ Some g
-      → leg_of h < option_map_or (λ job. length job.legs) (job_at runs r j) 0
-  leg_within s r j (Holder.a_run q) g is e = absurd is
-  leg_within s r j (Holder.a_leg p) g is e =
-      let one = its_own s (Holder.a_leg p) g e in
-      let at = leg_in runs p one.0 one.1 in
-      let there : job_at runs r j ≡ Some at.job =
-      ap (λ q. job_at runs q j) (sym is.0) ∙ ap (job_at runs p.run) (sym is.1)
-      ∙ job_in_run runs p.run p.job at.place.run at.place.run_is ∙ at.place.job_is in
-      subst (λ n. p.leg < n) (sym (ap (λ o. option_map_or (λ (job : JobState). length job.legs) o 0) there))
-      (slice_get_within at.job.legs p.leg one.0 at.leg_is)
+      let legs = placed_legs runs in
+      each_placed (λ x. Among (places legs) (Holder.a_leg x.place)) runs p one.0
+      (each_of_map (λ q. Among (places legs) (Holder.a_leg q)) (λ (x : PlacedLeg). x.place) legs (each_among (places legs))) one.1
 
   -- ---- at most one of each kind
 
@@ -181,19 +159,11 @@ module _ (runs : List RunState) where
   found_none_of_each None says is one = says one
   found_none_of_each (Some gs) says is one = cc
 
--- ---- which of them stands at a place
+-- ---- which of them is the run at a place
 
-pub a_leg_is : (r j l : ℕ) (h : Holder) → h ≡ Holder.a_leg (leg_place r j l) → IsALegOfJob r j h × (leg_of h ≡ l)
-a_leg_is r j l h is = subst (λ k. IsALegOfJob r j k × (leg_of k ≡ l)) (sym is) ((refl, refl), refl)
+pub a_run_is : (r : ℕ) (h : Holder) → h ≡ Holder.a_run r → IsARun h × (run_of h ≡ r)
+a_run_is r h is = subst (λ k. IsARun k × (run_of k ≡ r)) (sym is) (tt, refl)
 
-pub is_that_leg : (r j l : ℕ) (h : Holder) → IsALegOfJob r j h → leg_of h ≡ l → h ≡ Holder.a_leg (leg_place r j l)
-is_that_leg r j l (Holder.a_run q) is at = absurd is
-is_that_leg r j l (Holder.a_leg p) is at = ap Holder.a_leg (same_place p (leg_place r j l) is.0 is.1 at)
-
-pub leg_of_its_run : (r j : ℕ) (h : Holder) → IsALegOfJob r j h → IsALegOfRun r h × (job_of h ≡ j)
-leg_of_its_run r j (Holder.a_run q) is = absurd is
-leg_of_its_run r j (Holder.a_leg p) is = (is.0, is.1)
-
-pub leg_of_that_job : (r j : ℕ) (h : Holder) → IsALegOfRun r h → job_of h ≡ j → IsALegOfJob r j h
-leg_of_that_job r j (Holder.a_run q) is at = absurd is
-leg_of_that_job r j (Holder.a_leg p) is at = (is, at)
+pub is_that_run : (r : ℕ) (h : Holder) → IsARun h → run_of h ≡ r → h ≡ Holder.a_run r
+is_that_run r (Holder.a_run s) is at = ap Holder.a_run at
+is_that_run r (Holder.a_leg p) is at = absurd is

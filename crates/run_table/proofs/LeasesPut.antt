@@ -1,125 +1,78 @@
 -- The legs that have leases, as they are put in job by job and run by run, and the runners that hold them.
-use Rattle.std.specs.Prelude.{◌≡◌, ℕ, ◌+◌, ◌<◌, List, length, Option, Some, option_and_then, option_map, slice_get}
-use Rattle.std.proofs.Common.{ap, sym, subst, ◌∙◌}
-use Rattle.std.proofs.lemmas.Option.{slice_get_within, slice_get-map}
-use Rattle.std.proofs.lemmas.List.{length-map}
-use Rattle.run_table.specs.ByLease.{HasInJob, HasInRun, lease_in_job, lease_in_run, lease_of_leg, lease_of_runner}
+use Rattle.std.specs.Prelude.{◌≡◌, ◌⊎◌, ℕ, ◌+◌, ◌<◌, List, [], ◌∷◌, length, Option, Some, None, option_and_then, slice_get, refl}
+use Rattle.std.specs.List.{AllByRecursion}
+use Rattle.std.proofs.Common.{ap, sym, subst, ◌∙◌, inl, inr}
+use Rattle.std.proofs.lemmas.Option.{slice_get_within}
+use Rattle.run_table.specs.ByLease.{lease_in_job, lease_of_leg, lease_of_runner}
 use Rattle.run_table.specs.ByNumber.{Adds}
-use Rattle.workflow_runs.specs.Cells.{JobCells, states}
-use Rattle.workflow_runs.specs.Places.{LegPlace, leg_place, run_at}
+use Rattle.workflow_runs.specs.PlacedLegs.{PlacedLeg, placed_legs}
+use Rattle.workflow_runs.specs.Places.{LegPlace, job_at, leg_at, run_at}
 use Rattle.run_table.specs.TableState.{RunnerState}
 use Rattle.workflow_runs.specs.RunState.{LegState, JobState, RunState}
-use Rattle.workflow_runs.proofs.LeaseReads.{same_place}
-use Rattle.run_table.proofs.ByNumberRead.{adds_next, all_added}
+use Rattle.run_table.proofs.ByNumberRead.{adds_next, adds_on, adds_same, all_added, nothing_added}
+use Rattle.workflow_runs.proofs.Found.{all_weaken}
 use Rattle.workflow_runs.proofs.Optional.{from_and_then}
+use Rattle.workflow_runs.proofs.PlacedLegs.{each_is_there, each_placed}
 
--- what was put in so far, by the place of the leg, of its job or of its run
-abbrev pub SoFarInJob : ℕ → ℕ → List LegState → ℕ → LegPlace → ℕ → Type 0
-SoFarInJob r j legs i p n = HasInJob r j legs p n × (p.leg < i)
+-- one of these legs stands at the place and has the lease
+abbrev pub HasLease : List PlacedLeg → LegPlace → ℕ → Type 0
+HasLease [] p n = ⊥
+HasLease (x ∷ xs) p n = ((p ≡ x.place) × (x.leg.lease ≡ Some n)) ⊎ HasLease xs p n
 
-abbrev pub SoFarInRun : ℕ → List JobState → ℕ → LegPlace → ℕ → Type 0
-SoFarInRun r jobs i p n = HasInRun r jobs p n × (p.job < i)
-
-abbrev pub SoFarInTable : List RunState → ℕ → LegPlace → ℕ → Type 0
-SoFarInTable runs i p n = (lease_of_leg runs p ≡ Some n) × (p.run < i)
-
+-- what was put in so far
 abbrev pub SoFarOfRunners : List RunnerState → ℕ → ℕ → ℕ → Type 0
 SoFarOfRunners runners i k n = (lease_of_runner runners k ≡ Some n) × (k < i)
 
--- ---- one leg of a job
+-- ---- one leg after the other
 
-pub leg_put : (r j l : ℕ) (legs : List LegState) (x : LegState) (place : LegPlace) (a b c : ℕ → Option LegPlace)
-    → slice_get legs l ≡ Some x → place ≡ leg_place r j l → Adds a b (SoFarInJob r j legs l)
-    → Adds b c (λ p n. (p ≡ place) × (x.lease ≡ Some n)) → Adds a c (SoFarInJob r j legs (l + 1))
-leg_put r j l legs x place a b c at is before more =
-    adds_next (λ (p : LegPlace). p.leg) (HasInJob r j legs) l a b c (λ p n. (p ≡ place) × (x.lease ≡ Some n)) before more
-    (λ p n h. let same = h.0 ∙ is in (
-      record {
-        run_is = ap (λ (q : LegPlace). q.run) same;
-        job_is = ap (λ (q : LegPlace). q.job) same;
-        lease_is = ap (λ (q : LegPlace). lease_in_job legs q.leg) same ∙ its ∙ h.1;
-      },
-      ap (λ (q : LegPlace). q.leg) same,
-    ))
-    (λ p n h here. (
-      same_place p (leg_place r j l) h.run_is h.job_is here ∙ sym is,
-      sym its ∙ ap (lease_in_job legs) (sym here)
-          ∙ h.lease_is,
-    ))
-  where
-    its : lease_in_job legs l ≡ x.lease
-    its = ap (option_and_then (λ (y : LegState). y.lease)) at
+pub leg_put : (place : LegPlace) (x : LegState) (rest left : List PlacedLeg) (a b c : ℕ → Option LegPlace)
+    → left ≡ record { place = place; leg = x } ∷ rest → Adds a b (λ p n. (p ≡ place) × (x.lease ≡ Some n)) → Adds b c (HasLease rest)
+    → Adds a c (HasLease left)
+leg_put place x rest left a b c is one more =
+    subst (λ xs. Adds a c (HasLease xs)) (sym is)
+    (adds_on a b c (λ p n. (p ≡ place) × (x.lease ≡ Some n)) (HasLease rest) (HasLease (record { place = place; leg = x } ∷ rest)) one more
+    (λ p n h. inl h) (λ p n h. inr h) (λ p n h. h))
 
-pub legs_put : (r j i : ℕ) (legs : List LegState) (a b : ℕ → Option LegPlace) → length legs ≡ i → Adds a b (SoFarInJob r j legs i)
-    → Adds a b (HasInJob r j legs)
-legs_put r j i legs a b len adds =
-    all_added (λ (p : LegPlace). p.leg) (HasInJob r j legs) i a b adds
-    (λ p n h.
-    let from = from_and_then (λ (y : LegState). y.lease) (slice_get legs p.leg) n h.lease_is in
-    subst (λ m. p.leg < m) len (slice_get_within legs p.leg from.value from.is))
+pub none_left : (left : List PlacedLeg) (a : ℕ → Option LegPlace) → left ≡ [] → Adds a a (HasLease left)
+none_left left a is = nothing_added a (HasLease left) (λ p n h. subst (λ xs. HasLease xs p n) is h)
 
--- ---- one job of a run
+-- ---- those of a table
 
-pub job_put : (r j : ℕ) (jobs : List JobState) (x : JobState) (a b c : ℕ → Option LegPlace) → slice_get jobs j ≡ Some x
-    → Adds a b (SoFarInRun r jobs j) → Adds b c (HasInJob r j x.legs) → Adds a c (SoFarInRun r jobs (j + 1))
-job_put r j jobs x a b c at before more =
-    adds_next (λ (p : LegPlace). p.job) (HasInRun r jobs) j a b c (HasInJob r j x.legs) before more
-    (λ p n h. (
-      record {
-        run_is = h.run_is;
-        lease_is = ap (λ k. lease_in_run jobs k p.leg) h.job_is ∙ its p.leg ∙ h.lease_is;
-      },
-      h.job_is,
-    ))
-    (λ p n h here. record {
-      run_is = h.run_is;
-      job_is = here;
-      lease_is = sym (its p.leg) ∙ ap (λ k. lease_in_run jobs k p.leg) (sym here) ∙ h.lease_is;
-    })
-  where
-    its : (l : ℕ) → lease_in_run jobs j l ≡ lease_in_job x.legs l
-    its l = ap (option_and_then (λ (y : JobState). lease_in_job y.legs l)) at
+then_then : {X Y Z : Type 0} (f : Y → Option Z) (g : X → Option Y) (o : Option X)
+    → option_and_then f (option_and_then g o) ≡ option_and_then (λ x. option_and_then f (g x)) o
+then_then f g None = refl
+then_then f g (Some x) = refl
 
-pub jobs_put : (r i : ℕ) (jobs : List JobState) (a b : ℕ → Option LegPlace) → length jobs ≡ i → Adds a b (SoFarInRun r jobs i)
-    → Adds a b (HasInRun r jobs)
-jobs_put r i jobs a b len adds =
-    all_added (λ (p : LegPlace). p.job) (HasInRun r jobs) i a b adds
-    (λ p n h.
-    let from = from_and_then (λ (y : JobState). lease_in_job y.legs p.leg) (slice_get jobs p.job) n h.lease_is in
-    subst (λ m. p.job < m) len (slice_get_within jobs p.job from.value from.is))
+lease_is : (runs : List RunState) (p : LegPlace) → option_and_then (λ (x : LegState). x.lease) (leg_at runs p) ≡ lease_of_leg runs p
+lease_is runs p =
+    then_then (λ (x : LegState). x.lease) (λ (job : JobState). slice_get job.legs p.leg) (job_at runs p.run p.job)
+    ∙ then_then (λ (job : JobState). lease_in_job job.legs p.leg) (λ (run : RunState). slice_get run.jobs p.job) (run_at runs p.run)
 
-pub cell_at : (cells : List JobCells) (j : ℕ) (x : JobCells) → slice_get cells j ≡ Some x → slice_get (states cells) j ≡ Some x.state
-cell_at cells j x at = slice_get-map (λ (y : JobCells). y.state) cells j ∙ ap (option_map (λ (y : JobCells). y.state)) at
+has_lease : (runs : List RunState) (xs : List PlacedLeg) (p : LegPlace) (n : ℕ)
+    → AllByRecursion (λ (x : PlacedLeg). leg_at runs x.place ≡ Some x.leg) xs → HasLease xs p n → lease_of_leg runs p ≡ Some n
+has_lease runs [] p n all h = absurd h
+has_lease runs (x ∷ xs) p n all (inl h) =
+    sym (lease_is runs p) ∙ ap (option_and_then (λ (y : LegState). y.lease)) (ap (leg_at runs) h.0 ∙ all.0) ∙ h.1
+has_lease runs (x ∷ xs) p n all (inr h) = has_lease runs xs p n all.1 h
 
-pub as_many_states : (cells : List JobCells) → length (states cells) ≡ length cells
-as_many_states cells = length-map cells (λ (y : JobCells). y.state)
+among : (xs : List PlacedLeg) → AllByRecursion (λ (x : PlacedLeg). (n : ℕ) → x.leg.lease ≡ Some n → HasLease xs x.place n) xs
+among [] = tt
+among (x ∷ xs) = (
+  (λ n e. inl (refl, e)),
+  all_weaken (λ (y : PlacedLeg). (n : ℕ) → y.leg.lease ≡ Some n → HasLease xs y.place n)
+      (λ y. (n : ℕ) → y.leg.lease ≡ Some n → HasLease (x ∷ xs) y.place n) (λ y h n e. inr (h n e)) xs (among xs),
+)
 
--- ---- one run of a table
-
-pub run_put : (r : ℕ) (runs : List RunState) (x : RunState) (a b c : ℕ → Option LegPlace) → run_at runs r ≡ Some x
-    → Adds a b (SoFarInTable runs r) → Adds b c (HasInRun r x.jobs) → Adds a c (SoFarInTable runs (r + 1))
-run_put r runs x a b c at before more =
-    adds_next (λ (p : LegPlace). p.run) (λ p n. lease_of_leg runs p ≡ Some n) r a b c (HasInRun r x.jobs) before more
-    (λ p n h. (
-      ap (λ k. option_and_then (λ (y : RunState). lease_in_run y.jobs p.job p.leg) (run_at runs k)) h.run_is ∙ its p ∙ h.lease_is,
-      h.run_is,
-    ))
-    (λ p n h here. record {
-      run_is = here;
-      lease_is = sym (its p) ∙ ap (λ k. option_and_then (λ (y : RunState). lease_in_run y.jobs p.job p.leg) (run_at runs k)) (sym here) ∙ h;
-    })
-  where
-    its : (p : LegPlace) → option_and_then (λ (y : RunState). lease_in_run y.jobs p.job p.leg) (run_at runs r)
-        ≡ lease_in_run x.jobs p.job p.leg
-    its p = ap (option_and_then (λ (y : RunState). lease_in_run y.jobs p.job p.leg)) at
-
-pub runs_put : (i : ℕ) (runs : List RunState) (a b : ℕ → Option LegPlace) → length runs ≡ i → Adds a b (SoFarInTable runs i)
+pub all_put : (runs : List RunState) (left : List PlacedLeg) (a b : ℕ → Option LegPlace) → left ≡ []
+    → ((after : ℕ → Option LegPlace) → Adds b after (HasLease left) → Adds a after (HasLease (placed_legs runs)))
     → Adds a b (λ p n. lease_of_leg runs p ≡ Some n)
-runs_put i runs a b len adds =
-    all_added (λ (p : LegPlace). p.run) (λ p n. lease_of_leg runs p ≡ Some n) i a b adds
-    (λ p n h.
-    let from = from_and_then (λ (y : RunState). lease_in_run y.jobs p.job p.leg) (run_at runs p.run) n h in
-    subst (λ m. p.run < m) len (slice_get_within runs p.run from.value from.is))
+all_put runs left a b is adds =
+    adds_same a b (HasLease (placed_legs runs)) (λ p n. lease_of_leg runs p ≡ Some n) (adds b (none_left left b is))
+    (λ p n h. has_lease runs (placed_legs runs) p n (each_is_there runs) h)
+    (λ p n e.
+    let leg = from_and_then (λ (x : LegState). x.lease) (leg_at runs p) n (lease_is runs p ∙ e) in
+    each_placed (λ (x : PlacedLeg). (m : ℕ) → x.leg.lease ≡ Some m → HasLease (placed_legs runs) x.place m) runs p leg.value
+    (among (placed_legs runs)) leg.is n leg.gives)
 
 -- ---- one runner
 

@@ -32,6 +32,7 @@ pub mod GroupSetReads
 pub mod GroupsGathered
 pub mod GroupsOfTable
 pub mod LeasesPut
+mod LegsOnce
 pub mod DeliveriesFound
 pub mod PhasesTested
 pub mod RestTested

@@ -6,9 +6,9 @@ use Rattle.std.proofs.lemmas.Option.{same_Some}
 use Rattle.run_table.specs.ByLease.{lease_of_leg, lease_of_runner}
 use Rattle.run_table.specs.ByNumber.{Finds}
 use Rattle.workflow_runs.specs.Groups.{HasOneEach}
-use Rattle.run_table.specs.OneByOne.{EachRunIsSound, EachRunnerIsSound, HoldsWork, IsFound, LegIsSound, is_worked_on, leg_of, runner_of}
+use Rattle.run_table.specs.OneByOne.{EachLegIsSound, EachRunIsSound, EachRunnerIsSound, HoldsWork, IsFound, is_worked_on, leg_of, runner_of}
 use Rattle.workflow_runs.specs.Parallel.{is_at_work}
-use Rattle.workflow_runs.specs.Places.{LegPlace, leg_at, leg_place}
+use Rattle.workflow_runs.specs.Places.{LegPlace, leg_at}
 use Rattle.workflow_runs.specs.Settling.{first_place}
 use Rattle.run_table.specs.Sound.{DeliveriesDiffer, IsAtWork, IsHeld, IsSound, KeptLeasesAreOfLegs}
 use Rattle.workflow_runs.specs.AsPlanned.{AreAsPlanned}
@@ -16,11 +16,11 @@ use Rattle.run_table.specs.TableState.{RunnerState, TableState}
 use Rattle.workflow_runs.specs.RunState.{LegState, RunState}
 use Rattle.run_table.specs.Turns.{names_rise}
 use Rattle.run_table.specs.declared.sound.leases.Leases.{Leases}
-use Rattle.workflow_runs.proofs.JobKeeps.{job_in, leg_in}
+use Rattle.workflow_runs.proofs.JobKeeps.{job_in}
 use Rattle.workflow_runs.proofs.LegReads.{had_from_leg, leg_from_had}
 use Rattle.run_table.proofs.ByNumberRead.{found_has, found_is, found_some, there}
 use Rattle.workflow_runs.proofs.Optional.{from_and_then}
-use Rattle.workflow_runs.proofs.RunFits.{job_in_run, leg_in_job}
+use Rattle.workflow_runs.proofs.RunFits.{job_in_run}
 
 abbrev pub table_with : Leases → List RunState → List RunnerState → TableState
 table_with leases runs runners = record { last_lease = leases.last; runs = runs; runners = runners }
@@ -51,14 +51,14 @@ module _ (leases : Leases) (runs : List RunState) (runners : List RunnerState)
           found_some (lease_of_runner runners) n (runner_of leases n) k (held n) (holds_at runners k n y at_k holds)),
     )
 
-    leg_sound : (p : LegPlace) (x : LegState) → leg_at runs p ≡ Some x → LegIsSound leases p x
-    leg_sound p x at = record {
+    pub each_leg : EachLegIsSound leases runs
+    each_leg p x at = record {
       lease_fits = s.leases_fit p x at;
       lease_is_given = (λ n e. s.leases_are_given p x n at e);
       is_found = its_lease p x at;
     }
 
-    pub each_run : EachRunIsSound leases runs
+    pub each_run : EachRunIsSound runs
     each_run r x at = record {
       attempt_is_given = s.attempts_are_given r x at;
       phase_fits = s.run_phases_fit r x at;
@@ -68,7 +68,6 @@ module _ (leases : Leases) (runs : List RunState) (runners : List RunnerState)
             legs_fit = s.jobs_fit r j y job;
             needs_first = s.needs_settled_first r j y job;
             within_parallel = (λ most e. s.parallel_bounded r j y most job e);
-            each_leg = (λ l z at_l. leg_sound (leg_place r j l) z (leg_in_job runs (leg_place r j l) y job ∙ at_l));
           });
     }
 
@@ -91,16 +90,11 @@ module _ (leases : Leases) (runs : List RunState) (runners : List RunnerState)
 
   -- ---- to the table
 
-  module _ (each : EachRunIsSound leases runs) (each_of_runners : EachRunnerIsSound leases runs runners) where
-    of_leg : (p : LegPlace) (x : LegState) → leg_at runs p ≡ Some x → LegIsSound leases p x
-    of_leg p x at =
-        let place = leg_in runs p x at in
-        ((each p.run place.place.run place.place.run_is).each_job p.job place.job place.place.job_is).each_leg p.leg x place.leg_is
-
+  module _ (each_leg : EachLegIsSound leases runs) (each : EachRunIsSound runs) (each_of_runners : EachRunnerIsSound leases runs runners) where
     is_held : (p : LegPlace) (x : LegState) (n : ℕ) → leg_at runs p ≡ Some x → is_at_work x.phase ≡ true → x.lease ≡ Some n
         → IsHeld runners n
     is_held p x n at work e =
-        let k = there (runner_of leases n) (((of_leg p x at).is_found n e).1 work) in
+        let k = there (runner_of leases n) (((each_leg p x at).is_found n e).1 work) in
         let has = found_has (lease_of_runner runners) n (runner_of leases n) k.value (held n) k.is in
         let f = from_and_then (λ (y : RunnerState). y.holds) (slice_get runners k.value) n has in
         (k.value, f.value, f.is, f.gives)
@@ -126,10 +120,10 @@ module _ (leases : Leases) (runs : List RunState) (runners : List RunnerState)
       parallel_bounded = (λ r j x most at e.
           let i = job_in runs r j x at in ((each r i.run i.run_is).each_job j x i.job_is).within_parallel most e);
       one_of_each_group = one;
-      leases_fit = (λ p x at. (of_leg p x at).lease_fits);
-      leases_are_given = (λ p x n at e. (of_leg p x at).lease_is_given n e);
+      leases_fit = (λ p x at. (each_leg p x at).lease_fits);
+      leases_are_given = (λ p x n at e. (each_leg p x at).lease_is_given n e);
       leases_differ = (λ p q x y n at_p at_q e f.
-          same_Some p q (sym ((of_leg p x at_p).is_found n e).0 ∙ ((of_leg q y at_q).is_found n f).0));
+          same_Some p q (sym ((each_leg p x at_p).is_found n e).0 ∙ ((each_leg q y at_q).is_found n f).0));
       last_lease_in_range = last;
       runners_in_order = rise;
       work_is_held = is_held;

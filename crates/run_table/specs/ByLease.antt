@@ -1,5 +1,5 @@
 -- The leases of legs, place by place, and those that runners hold. Own.
-use Rattle.std.specs.Prelude.{◌≡◌, ℕ, ◌≤◌, List, Option, Some, length, option_and_then, slice_get}
+use Rattle.std.specs.Prelude.{ℕ, ◌≤◌, List, Option, length, option_and_then, slice_get}
 use Rattle.run_table.specs.ByNumber.{Finds}
 use Rattle.workflow_runs.specs.Places.{LegPlace, run_at}
 use Rattle.run_table.specs.TableState.{RunnerState}
@@ -23,13 +23,3 @@ pub record FindsLegs (runs : List RunState) (leg_of : ℕ → Option LegPlace) :
 -- the lease that the runner at a place holds, where it holds one
 abbrev pub lease_of_runner : List RunnerState → ℕ → Option ℕ
 lease_of_runner runners k = option_and_then (λ x. x.holds) (slice_get runners k)
-
--- a leg of a run, of a job, or of the first so many of these, has the lease
-pub record HasInJob (r j : ℕ) (legs : List LegState) (p : LegPlace) (n : ℕ) : Type 0 where
-  pub run_is : p.run ≡ r
-  pub job_is : p.job ≡ j
-  pub lease_is : lease_in_job legs p.leg ≡ Some n
-
-pub record HasInRun (r : ℕ) (jobs : List JobState) (p : LegPlace) (n : ℕ) : Type 0 where
-  pub run_is : p.run ≡ r
-  pub lease_is : lease_in_run jobs p.job p.leg ≡ Some n

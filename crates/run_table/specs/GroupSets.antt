@@ -1,11 +1,10 @@
 -- The concurrency groups in which the runs and legs of a table stand, gathered so that a group can be looked up. Own.
-use Rattle.std.specs.Prelude.{◌≡◌, ◌⊎◌, ℕ, List, Bool, true, false, Option, Some, None, if◌then◌else◌}
+use Rattle.std.specs.Prelude.{◌≡◌, ◌⊎◌, List, Bool, true, false, Option, Some, None, if◌then◌else◌}
 use Rattle.std.specs.Bool.{MatchBool}
 use Rattle.std.specs.List.{list_any}
 use Rattle.group_name.specs.Group.{Group, same_group}
 use Rattle.workflow_runs.specs.GroupOf.{group_at}
 use Rattle.workflow_runs.specs.Groups.{holds, is_taken, waits}
-use Rattle.workflow_runs.specs.Holders.{run_of}
 use Rattle.workflow_runs.specs.Moves.{Holder}
 use Rattle.workflow_runs.specs.RunState.{RunState}
 use Rattle.run_table.specs.declared.sound.groups.Standing.{Standing}
@@ -57,17 +56,13 @@ AddsEach group_of before after these all_new = MatchBool all_new (Gathered group
 abbrev pub IsAny : Holder → Type 0
 IsAny h = Unit {0}
 
--- the run, or one of its legs
-abbrev pub IsOfRun : ℕ → Holder → Type 0
-IsOfRun r h = run_of h ≡ r
+abbrev pub IsARun : Holder → Type 0
+IsARun (Holder.a_run r) = Unit {0}
+IsARun (Holder.a_leg p) = ⊥
 
-abbrev pub IsALegOfRun : ℕ → Holder → Type 0
-IsALegOfRun r (Holder.a_run s) = ⊥
-IsALegOfRun r (Holder.a_leg p) = p.run ≡ r
-
-abbrev pub IsALegOfJob : ℕ → ℕ → Holder → Type 0
-IsALegOfJob r j (Holder.a_run s) = ⊥
-IsALegOfJob r j (Holder.a_leg p) = (p.run ≡ r) × (p.job ≡ j)
+abbrev pub IsALeg : Holder → Type 0
+IsALeg (Holder.a_run r) = ⊥
+IsALeg (Holder.a_leg p) = Unit {0}
 
 -- ---- all of them
 

@@ -1,11 +1,11 @@
--- What a table keeps of each of its runs, of each job of a run, of each leg of a job and of each runner, one by one, where legs and
+-- What a table keeps of each of its runs, of each job of a run, of each leg and of each runner, one by one, where legs and
 -- runners can be looked up by leases. Own.
 use Rattle.std.specs.Prelude.{◌≡◌, ℕ, ◌≤◌, List, [], slice_get, Bool, false, true, is_some, Option, Some}
 use Rattle.std.specs.BTreeMap.{get}
 use Rattle.std.specs.Option.{option_map_or}
 use Rattle.std.specs.Ordering.{nat_cmp}
 use Rattle.workflow_runs.specs.Parallel.{is_at_work, legs_at_work, most_at_work}
-use Rattle.workflow_runs.specs.Places.{LegPlace, leg_at, leg_place, run_at}
+use Rattle.workflow_runs.specs.Places.{LegPlace, leg_at, run_at}
 use Rattle.workflow_runs.specs.Rules.{result_at}
 use Rattle.run_table.specs.Sound.{AttemptIsGiven, IsLastOf}
 use Rattle.workflow_runs.specs.SoundRuns.{LeaseFits, LegsFit, PhaseFits}
@@ -42,8 +42,8 @@ pub record LegIsSound (leases : Leases) (p : LegPlace) (x : LegState) : Type 0 w
   pub lease_is_given : IsGiven leases.last x.lease
   pub is_found : IsFound leases p x
 
-abbrev pub EachLegIsSound : Leases → ℕ → ℕ → List LegState → Type 0
-EachLegIsSound leases r j legs = (l : ℕ) (x : LegState) → slice_get legs l ≡ Some x → LegIsSound leases (leg_place r j l) x
+abbrev pub EachLegIsSound : Leases → List RunState → Type 0
+EachLegIsSound leases runs = (p : LegPlace) (x : LegState) → leg_at runs p ≡ Some x → LegIsSound leases p x
 
 -- ---- a job
 
@@ -55,24 +55,23 @@ NeedsAreFirst runs r j x = (x.legs ≡ [] → ⊥) → needs_have_settled runs r
 abbrev pub IsWithinParallel : List RunState → ℕ → ℕ → JobState → Type 0
 IsWithinParallel runs r j x = (most : ℕ) → most_at_work runs r j ≡ Some most → legs_at_work x ≤ most
 
-pub record JobIsSound (leases : Leases) (runs : List RunState) (r j : ℕ) (x : JobState) : Type 0 where
+pub record JobIsSound (runs : List RunState) (r j : ℕ) (x : JobState) : Type 0 where
   pub legs_fit : LegsFit (planned_legs runs r j) (result_at runs r j x) x.phase x.legs
   pub needs_first : NeedsAreFirst runs r j x
   pub within_parallel : IsWithinParallel runs r j x
-  pub each_leg : EachLegIsSound leases r j x.legs
 
-abbrev pub EachJobIsSound : Leases → List RunState → ℕ → List JobState → Type 0
-EachJobIsSound leases runs r jobs = (j : ℕ) (x : JobState) → slice_get jobs j ≡ Some x → JobIsSound leases runs r j x
+abbrev pub EachJobIsSound : List RunState → ℕ → List JobState → Type 0
+EachJobIsSound runs r jobs = (j : ℕ) (x : JobState) → slice_get jobs j ≡ Some x → JobIsSound runs r j x
 
 -- ---- a run
 
-pub record RunIsSound (leases : Leases) (runs : List RunState) (r : ℕ) (x : RunState) : Type 0 where
+pub record RunIsSound (runs : List RunState) (r : ℕ) (x : RunState) : Type 0 where
   pub attempt_is_given : AttemptIsGiven x
   pub phase_fits : PhaseFits x.phase x.stopping x.jobs
-  pub each_job : EachJobIsSound leases runs r x.jobs
+  pub each_job : EachJobIsSound runs r x.jobs
 
-abbrev pub EachRunIsSound : Leases → List RunState → Type 0
-EachRunIsSound leases runs = (r : ℕ) (x : RunState) → run_at runs r ≡ Some x → RunIsSound leases runs r x
+abbrev pub EachRunIsSound : List RunState → Type 0
+EachRunIsSound runs = (r : ℕ) (x : RunState) → run_at runs r ≡ Some x → RunIsSound runs r x
 
 -- ---- a runner
 

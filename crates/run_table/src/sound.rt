@@ -26,6 +26,7 @@ use crate::runner::Runner;
 use crate::sound::deliveries::do_deliveries_differ;
 use crate::sound::groups::taken_groups;
 use crate::sound::leases::Leases;
+use crate::sound::legs::are_legs_sound;
 use crate::sound::rest::do_runs_rest;
 use crate::sound::runners::are_runners_sound;
 use crate::sound::runs::are_runs_sound;
@@ -53,7 +54,10 @@ pub(crate) fn is_sound(
     if leases.last > LAST_NUMBER {
         return Ok(false);
     }
-    if !are_runs_sound(leases, runs) {
+    if !are_legs_sound(leases, runs) {
+        return Ok(false);
+    }
+    if !are_runs_sound(runs) {
         return Ok(false);
     }
     if !are_runners_sound(leases, runs, runners) {

@@ -1,5 +1,5 @@
 -- What was bound of a leg's flag says, by the results so far, whether its failure is passed over.
-use Rattle.std.specs.Prelude.{◌≡◌, ℕ, false, List, Some, option_and_then, slice_get}
+use Rattle.std.specs.Prelude.{◌≡◌, false, List, Some, option_and_then, slice_get}
 use Rattle.std.specs.Option.{option_map_or}
 use Rattle.std.proofs.Common.{ap, sym, ◌∙◌}
 use Rattle.wf_expr.specs.ContextValue.{Values}

@@ -33,7 +33,7 @@ use Rattle.workflow_runs.proofs.StoodBefore.{Stood}
 abbrev place_of : Holder → ℕ
 place_of h = run_of (holder_in_words h)
 
-not_same : (i r : ℕ) → (i ≡ r → ⊥) → nat_eq i r ≡ false
+pub not_same : (i r : ℕ) → (i ≡ r → ⊥) → nat_eq i r ≡ false
 not_same i r other = by (nat_eq i r) refl
   where
     by : (b : Bool) → nat_eq i r ≡ b → b ≡ false

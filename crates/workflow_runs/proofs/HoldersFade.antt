@@ -132,7 +132,7 @@ leg_fades f p runs waited held =
 
 -- ---- who waits, and who holds, after a change of one leg
 
-leg_change_weakens : (test : LegPhase → Bool) (f : LegState → LegState) → Weakens (leg_passes test) f → (j l i k : ℕ)
+pub leg_change_weakens : (test : LegPhase → Bool) (f : LegState → LegState) → Weakens (leg_passes test) f → (j l i k : ℕ)
     → Weakens (run_passes test i k) (with_job_of j (with_leg_of l f))
 leg_change_weakens test f weak j l i k x e =
     passed_changed (job_passes test k) (with_leg_of l f) (λ y now. passed_changed (leg_passes test) f weak l y.legs k now) j x.jobs i e
@@ -183,7 +183,7 @@ stopped_held (leg.Ended r) e = cc
 pub leg_stop_fades : (p : LegPlace) (runs : List RunState) → Fades runs (with_leg p stopped runs)
 leg_stop_fades p runs = leg_fades stopped p runs (λ z e. stopped_waited z.phase e) (λ z e. stopped_held z.phase e)
 
-legs_weaken : (test : LegPhase → Bool) → Weakens (leg_passes test) stopped → (l : ℕ) → Weakens (job_passes test l) with_stopped_legs
+pub legs_weaken : (test : LegPhase → Bool) → Weakens (leg_passes test) stopped → (l : ℕ) → Weakens (job_passes test l) with_stopped_legs
 legs_weaken test weak l y e = passed_map (leg_passes test) stopped weak y.legs l e
 
 pub legs_stop_fades : (r j : ℕ) (runs : List RunState) → Fades runs (with_job r j with_stopped_legs runs)
@@ -212,7 +212,7 @@ told_weakens test weak j l x e =
 cancelled_weakens : (test : LegPhase → Bool) (j l : ℕ) → Weakens (run_passes test j l) cancelled
 cancelled_weakens test j l x e = passed_map (job_passes test l) (settled_as result.Cancelled) (λ y now. now) x.jobs j e
 
-stop_weakens : (test : LegPhase → Bool) → Weakens (leg_passes test) stopped → (j l : ℕ) (phase : RunPhase)
+pub stop_weakens : (test : LegPhase → Bool) → Weakens (leg_passes test) stopped → (j l : ℕ) (phase : RunPhase)
     → Weakens (run_passes test j l) (stopped_in phase)
 stop_weakens test weak j l run.Waiting x e = cancelled_weakens test j l x e
 stop_weakens test weak j l run.Live x e =

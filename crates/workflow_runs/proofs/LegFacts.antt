@@ -1,4 +1,4 @@
--- What is told of a leg: its labels and its flag follow from it. It stays as it is once the jobs that its job needs have
+-- What is told of a leg: its flag follows from it. It stays as it is once the jobs that its job needs have
 -- settled.
 use Rattle.std.specs.Prelude.{◌≡◌, ℕ, zero, suc, ◌+◌, ◌<◌, ◌≤◌, List, [], ◌∷◌, filter_map, take, count_by, true, false, is_some, Option}
 use Rattle.std.specs.Prelude.{Some, None, option_map, option_and_then, slice_get, refl}
@@ -16,14 +16,13 @@ use Rattle.run_plan.specs.Admitted.{Admitted}
 use Rattle.run_plan.specs.PlanOf.{plan_graph, plan_of}
 use Rattle.run_plan.specs.declared.planned.PlannedJob.{PlannedJob}
 use Rattle.workflow_runs.specs.FirstOf.{placed}
-use Rattle.workflow_runs.specs.Fitting.{has_labels, is_served}
 use Rattle.workflow_runs.specs.JobResults.{direct_needs, needs_in, results_so_far, with_result}
 use Rattle.workflow_runs.specs.LegContext.{LegFacts, context_of, context_at, facts_at, nothing}
 use Rattle.workflow_runs.specs.Places.{LegPlace, plan_at, run_at}
 use Rattle.workflow_runs.specs.Rules.{leg_end, outcome_of, result_at}
 use Rattle.workflow_runs.specs.RunNumber.{events, same_workflow}
 use Rattle.workflow_runs.specs.RunState.{LegState, JobState, RunState}
-use Rattle.workflow_runs.specs.Words.{all_have_results, is_set, label_texts, needs_have_settled, continues_on_error}
+use Rattle.workflow_runs.specs.Words.{all_have_results, is_set, needs_have_settled, continues_on_error}
 use Rattle.workflow_runs.proofs.NeedsSettled.{KeepsResults, result_of_job}
 
 -- what is told of a leg: by its run's event and attempt, the events up to it, and the needs of its job
@@ -66,23 +65,7 @@ pub plan_told : (runs : List RunState) (p : LegPlace) → plan_at runs p.run p.j
 plan_told runs p =
     plan_in p (take (p.run + 1) (events runs)) (run_at runs p.run) ∙ ap (option_map (λ (f : LegFacts). f.job)) (sym (facts_are runs p))
 
--- ---- what the leg asks, and whether its failure is passed over
-
-served_by : (labels : List (List ℕ)) (o : Option LegFacts)
-    → option_map_or (has_labels labels)
-    (option_map (λ planned. label_texts (option_map_or context_of o nothing) planned.labels) (option_map (λ f. f.job) o)) false
-    ≡ option_map_or (λ f. has_labels labels (label_texts (context_of f) f.job.labels)) o false
-served_by labels None = refl
-served_by labels (Some f) = refl
-
-pub served_told : (labels : List (List ℕ)) (runs : List RunState) (p : LegPlace)
-    → is_served labels runs p
-    ≡ option_map_or (λ f. has_labels labels (label_texts (context_of f) f.job.labels)) (facts_at runs p) false
-unfolding context_at
-served_told labels runs p =
-    ap (λ o. option_map_or (has_labels labels) (option_map (λ planned. label_texts (context_at runs p) planned.labels) o) false)
-    (plan_told runs p)
-    ∙ served_by labels (facts_at runs p)
+-- ---- whether a failure of the leg is passed over
 
 passes_by : (o : Option LegFacts)
     → option_map_or (λ planned. is_set (option_map_or context_of o nothing) planned.continue_on_error) (option_map (λ f. f.job) o) false

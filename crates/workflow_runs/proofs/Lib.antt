@@ -10,6 +10,8 @@ pub mod DirectNeeds
 pub mod Doors
 pub mod DueRuns
 pub mod EachRule
+mod FirstOffering
+mod OffersList
 pub mod Firsts
 pub mod FlagsSaid
 pub mod Found
@@ -31,11 +33,13 @@ pub mod JobResult
 pub mod KeptBack
 pub mod KeptLabels
 pub mod KnownSays
+mod LabelNumbers
 pub mod LabelsTold
 pub mod LeaseReads
 pub mod LegCounts
 pub mod LegFacts
 pub mod LegReads
+mod LegsOffered
 pub mod LettingGo
 mod ListedRuns
 pub mod LivePlaces
@@ -48,13 +52,18 @@ mod NeedsLeft
 pub mod NeedsSettled
 pub mod NextAttempt
 pub mod NoneActive
+mod NoneOffered
 pub mod NoneReady
 pub mod NoRoomMade
 pub mod OneAfterAnother
 pub mod OneEach
 pub mod OneEachRules
 pub mod Optional
+pub mod PlacedLegs
+mod PlainLabels
+mod PlannedLegs
 pub mod QuietRules
+mod ReadyBefore
 pub mod ReadThere
 pub mod Rests
 pub mod RoomsRead

@@ -10,7 +10,7 @@ use Rattle.std.proofs.lemmas.Option.{slice_get-map, slice_get_past, slice_get_wi
 use Rattle.run_marks.specs.Bits.{Puts}
 use Rattle.run_marks.specs.Marked.{Covers, SameMarks, is_marked}
 use Rattle.workflow_runs.specs.LookAgain.{ask}
-use Rattle.workflow_runs.specs.MarkedRuns.{AreMarked, CoversRuns, OnlyGrows, RunsAreMarked, Stirs, has_waiting_leg, is_active, is_due, is_so_at, offers_legs}
+use Rattle.workflow_runs.specs.MarkedRuns.{AreMarked, CoversRuns, OnlyGrows, RunsAreMarked, Stirs, has_waiting_leg, is_active, is_due, is_so_at}
 use Rattle.workflow_runs.specs.MarkedRuns.{someone_waits}
 use Rattle.workflow_runs.specs.Groups.{holds, is_in, leg_waits, run_waits, waits}
 use Rattle.workflow_runs.specs.Holders.{run_of}
@@ -231,7 +231,6 @@ pub marks_after_change : (runs : List RunState) (y : RunState) (old new : RunMar
     → ((s : ℕ) → (s ≡ r → ⊥) → is_marked new.due s ≡ false → RunsStillFor runs (slice_set runs r y) s) → Stirs r bound old new
     → RunsAreMarked runs old → RunsAreMarked (slice_set runs r y) new
 marks_after_change runs y old new r bound same stay stirs are = record {
-  ready = written offers_legs runs old.ready new.ready r y stirs.ready_room stirs.ready are.ready;
   waiting = written someone_waits runs old.waiting new.waiting r y stirs.waiting_room stirs.waiting are.waiting;
   active = written is_active runs old.active new.active r y stirs.active_room stirs.active are.active;
   due = record {
@@ -274,7 +273,6 @@ one_more_stays runs y g h e =
 pub marks_more : (runs : List RunState) (y : RunState) (old new : RunMarks) (r bound : ℕ) → r ≡ length runs → CoversRuns old (r + 1)
     → Stirs r bound old new → RunsAreMarked runs old → RunsAreMarked (runs ++ y ∷ []) new
 marks_more runs y old new r bound end room stirs are = record {
-  ready = one_more offers_legs runs y old.ready new.ready r end room.ready stirs.ready_room stirs.ready are.ready;
   waiting = one_more someone_waits runs y old.waiting new.waiting r end room.waiting stirs.waiting_room stirs.waiting are.waiting;
   active = one_more is_active runs y old.active new.active r end room.active stirs.active_room stirs.active are.active;
   due = record {
@@ -291,7 +289,6 @@ marks_more runs y old new r bound end room stirs are = record {
 -- room for more
 pub marks_grown : (runs : List RunState) (old new : RunMarks) → OnlyGrows old new → RunsAreMarked runs old → RunsAreMarked runs new
 marks_grown runs old new grows are = record {
-  ready = roomier (λ _ x. offers_legs x) runs old.ready new.ready grows.ready grows.ready_room are.ready;
   waiting = roomier (λ _ x. someone_waits x) runs old.waiting new.waiting grows.waiting grows.waiting_room are.waiting;
   active = roomier (λ _ x. is_active x) runs old.active new.active grows.active grows.active_room are.active;
   due = roomier (is_due runs) runs old.due new.due grows.due grows.due_room are.due;

@@ -1,4 +1,4 @@
--- The first of those that are meant in a group, found run by run, job by job and leg by leg.
+-- The first of those that are meant in a group, found run by run and leg by leg.
 use Rattle.std.specs.Prelude.{◌≡◌, ℕ, zero, suc, ◌<◌, ◌≤◌, List, [], ◌∷◌, map, length, find, ◌||◌, not, Bool, true, false, is_none, is_some}
 use Rattle.std.specs.Prelude.{Option, Some, None, option_map, option_and_then, slice_get, if◌then◌else◌, refl}
 use Rattle.std.specs.List.{list_any}
@@ -11,26 +11,12 @@ use Rattle.workflow_runs.specs.GroupOf.{group_at}
 use Rattle.workflow_runs.specs.Groups.{all_holders, is_running_in, is_taken, may_start}
 use Rattle.workflow_runs.specs.Holders.{first_conflicting, holder_in_words}
 use Rattle.workflow_runs.specs.Moves.{Holder}
-use Rattle.workflow_runs.specs.Places.{LegPlace, job_at, leg_place, leg_places, leg_places_of_job, leg_places_of_run, run_at}
-use Rattle.workflow_runs.specs.RunState.{LegState, JobState, RunState}
+use Rattle.workflow_runs.specs.PlacedLegs.{PlacedLeg}
+use Rattle.workflow_runs.specs.Places.{LegPlace, leg_places, leg_places_of_run, run_at}
+use Rattle.workflow_runs.specs.RunState.{RunState}
 use Rattle.workflow_runs.specs.declared.holder.Holder.{Holder as HolderInCode}
 use Rattle.workflow_runs.specs.declared.holder.HolderFilter.TheVariants.{Running}
 use Rattle.workflow_runs.proofs.Firsts.{find-flat_map, find-map, found_at, none_found}
-
--- ---- a search in what something has, where it is there
-
-none_in : {X Y Z : Type 0} (g : X → List Y) (f : ℕ → Y → Option Z) (o : Option X) (i : ℕ)
-    → ((k : ℕ) → k < i → option_and_then (f k) (option_and_then (λ x. slice_get (g x) k) o) ≡ None)
-    → option_map_or (λ x. length (g x)) o 0 ≤ i → option_and_then (λ x. first_some (λ e. f e.0 e.1) (placed (g x))) o ≡ None
-none_in g f None i before le = refl
-none_in g f (Some x) i before le = none_found f (g x) i before le
-
-found_in : {X Y Z : Type 0} (g : X → List Y) (f : ℕ → Y → Option Z) (o : Option X) (i : ℕ) (z : Z)
-    → ((k : ℕ) → k < i → option_and_then (f k) (option_and_then (λ x. slice_get (g x) k) o) ≡ None)
-    → option_and_then (f i) (option_and_then (λ x. slice_get (g x) i) o) ≡ Some z
-    → option_and_then (λ x. first_some (λ e. f e.0 e.1) (placed (g x))) o ≡ Some z
-found_in g f None i z before here = cc
-found_in g f (Some x) i z before here = found_at f (g x) i z before here
 
 -- what is taken where a test holds, of an element that is there
 not_taken : {X Y : Type 0} (b : Bool) (y : Y) (o : Option X) → b ≡ false → option_and_then (λ _. if b then Some y else None) o ≡ None
@@ -42,12 +28,6 @@ taken : {X Y : Type 0} (b : Bool) (y : Y) (xs : List X) (i : ℕ) → b ≡ true
 taken b y [] i is lt = absurd (omega arith)
 taken b y (x ∷ xs) zero is lt = ap (λ c. if c then Some y else None) is
 taken b y (x ∷ xs) (suc i) is lt = taken b y xs i is (omega arith)
-
-taken_in : {X Y Z : Type 0} (g : X → List Y) (b : Bool) (z : Z) (o : Option X) (i : ℕ) → b ≡ true
-    → i < option_map_or (λ x. length (g x)) o 0
-    → option_and_then (λ _. if b then Some z else None) (option_and_then (λ x. slice_get (g x) i) o) ≡ Some z
-taken_in g b z None i is lt = absurd (omega arith)
-taken_in g b z (Some x) i is lt = taken b z (g x) i is lt
 
 -- ---- runs
 
@@ -73,68 +53,17 @@ no_run_found test runs r before le = sym
     ∙ none_found (λ k (run : RunState). if test k then Some k else None) runs r
     (λ k less. not_taken (test k) k (slice_get runs k) (before k less)) le)
 
--- ---- the legs of a job
+-- ---- the legs of a run
 
--- the first leg of a job that passes, and of a run
-abbrev pub first_of_job : (LegPlace → Bool) → List RunState → ℕ → ℕ → Option LegPlace
-first_of_job test runs r j = option_and_then (λ job. find test (leg_places_of_job r (j, job))) (job_at runs r j)
-
+-- the first leg of a run that passes
 abbrev pub first_of_run : (LegPlace → Bool) → List RunState → ℕ → Option LegPlace
 first_of_run test runs r = option_and_then (λ run. find test (leg_places_of_run (r, run))) (run_at runs r)
 
+-- the first that passes of the legs that are left
+abbrev pub first_left : (LegPlace → Bool) → List PlacedLeg → Option LegPlace
+first_left test left = find test (map (λ (x : PlacedLeg). x.place) left)
+
 module _ (test : LegPlace → Bool) (runs : List RunState) where
-  legs_one_by_one : (r j : ℕ) (o : Option JobState)
-      → option_and_then (λ job. find test (leg_places_of_job r (j, job))) o
-      ≡ option_and_then
-      (λ job. first_some (λ e. if test (leg_place r j e.0) then Some (leg_place r j e.0) else None) (placed job.legs)) o
-  legs_one_by_one r j None = refl
-  legs_one_by_one r j (Some job) = find-map test (λ (l : ℕ × LegState). leg_place r j l.0) (placed job.legs)
-
-  pub leg_found : (r j l : ℕ) → ((k : ℕ) → k < l → test (leg_place r j k) ≡ false)
-      → l < option_map_or (λ (job : JobState). length job.legs) (job_at runs r j) 0 → test (leg_place r j l) ≡ true
-      → Some (leg_place r j l) ≡ first_of_job test runs r j
-  leg_found r j l before lt is = sym
-      (legs_one_by_one r j (job_at runs r j)
-      ∙ found_in (λ (job : JobState). job.legs) (λ k leg. if test (leg_place r j k) then Some (leg_place r j k) else None)
-      (job_at runs r j) l
-      (leg_place r j l)
-      (λ k less. not_taken (test (leg_place r j k)) (leg_place r j k)
-      (option_and_then (λ (job : JobState). slice_get job.legs k) (job_at runs r j))
-      (before k less))
-      (taken_in (λ (job : JobState). job.legs) (test (leg_place r j l)) (leg_place r j l) (job_at runs r j) l is lt))
-
-  pub no_leg_found : (r j l : ℕ) → ((k : ℕ) → k < l → test (leg_place r j k) ≡ false)
-      → option_map_or (λ (job : JobState). length job.legs) (job_at runs r j) 0 ≤ l → None ≡ first_of_job test runs r j
-  no_leg_found r j l before le = sym
-      (legs_one_by_one r j (job_at runs r j)
-      ∙ none_in (λ (job : JobState). job.legs) (λ k leg. if test (leg_place r j k) then Some (leg_place r j k) else None)
-      (job_at runs r j) l
-      (λ k less. not_taken (test (leg_place r j k)) (leg_place r j k)
-      (option_and_then (λ (job : JobState). slice_get job.legs k) (job_at runs r j))
-      (before k less)) le)
-
-  -- ---- the jobs of a run
-
-  jobs_one_by_one : (r : ℕ) (o : Option RunState)
-      → option_and_then (λ run. find test (leg_places_of_run (r, run))) o
-      ≡ option_and_then (λ run. first_some (λ e. find test (leg_places_of_job r (e.0, e.1))) (placed run.jobs)) o
-  jobs_one_by_one r None = refl
-  jobs_one_by_one r (Some run) = find-flat_map test (leg_places_of_job r) (placed run.jobs)
-
-  pub job_found : (r j : ℕ) (o : Option LegPlace) → ((k : ℕ) → k < j → first_of_job test runs r k ≡ None) → o ≡ first_of_job test runs r j
-      → is_some o ≡ true
-      → o ≡ first_of_run test runs r
-  job_found r j None before here some = cc
-  job_found r j (Some p) before here some = sym
-      (jobs_one_by_one r (run_at runs r)
-      ∙ found_in (λ (run : RunState). run.jobs) (λ k job. find test (leg_places_of_job r (k, job))) (run_at runs r) j p before (sym here))
-
-  pub no_job_found : (r j : ℕ) → ((k : ℕ) → k < j → first_of_job test runs r k ≡ None)
-      → option_map_or (λ (run : RunState). length run.jobs) (run_at runs r) 0 ≤ j → None ≡ first_of_run test runs r
-  no_job_found r j before le = sym
-      (jobs_one_by_one r (run_at runs r)
-      ∙ none_in (λ (run : RunState). run.jobs) (λ k job. find test (leg_places_of_job r (k, job))) (run_at runs r) j before le)
-
   -- ---- the runs of a table
 
   pub leg_of_run_found : (r : ℕ) (o : Option LegPlace) → ((k : ℕ) → k < r → first_of_run test runs k ≡ None) → o ≡ first_of_run test runs r

@@ -17,18 +17,18 @@ use Rattle.workflow_runs.specs.LookAgain.{ask}
 use Rattle.workflow_runs.specs.MarkedRuns.{has_active_leg, is_active, is_active_leg, is_so_at}
 use Rattle.workflow_runs.specs.Moves.{Holder}
 use Rattle.workflow_runs.specs.Parallel.{is_at_work}
+use Rattle.workflow_runs.specs.PlacedLegs.{PlacedLeg, placed_legs_of_run}
 use Rattle.workflow_runs.specs.Places.{LegPlace, leg_at, leg_place}
 use Rattle.workflow_runs.specs.RunState.{JobState, LegState, RunState}
 use Rattle.workflow_runs.specs.StateWords.{is_live}
-use Rattle.workflow_runs.specs.WithinRun.{lease_in_job, lease_in_run}
+use Rattle.workflow_runs.specs.WithinRun.{lease_in_run}
 use Rattle.workflow_runs.specs.declared.holder.HolderFilter.{HolderFilter}
 use Rattle.workflow_runs.specs.declared.holder.HolderFilter.TheVariants.{OthersPending, Running}
 use Rattle.workflow_runs.specs.declared.phases.LegPhase.{LegPhase}
 use Rattle.workflow_runs.specs.declared.phases.LegPhase.TheVariants as a_leg
-use Rattle.workflow_runs.proofs.Firsts.{first_same_placed}
+use Rattle.workflow_runs.proofs.Firsts.{first_same_placed, first_some_same}
 use Rattle.workflow_runs.proofs.JobKeeps.{leg_in}
-use Rattle.workflow_runs.proofs.Sought.{leg_there}
-use Rattle.workflow_runs.proofs.Walks.{first_passing}
+use Rattle.workflow_runs.proofs.PlacedLegs.{each_in_run, leg_there}
 
 -- ---- where each place gives nothing
 
@@ -36,7 +36,7 @@ nothing : {X Y : Type 0} (xs : List X) → first_some {X = X} {Y = Y} (λ x. Non
 nothing [] = refl
 nothing (x ∷ xs) = nothing xs
 
-none_placed : {X Y : Type 0} (f : ℕ × X → Option Y) (xs : List X) → ((i : ℕ) (x : X) → slice_get xs i ≡ Some x → f (i, x) ≡ None)
+pub none_placed : {X Y : Type 0} (f : ℕ × X → Option Y) (xs : List X) → ((i : ℕ) (x : X) → slice_get xs i ≡ Some x → f (i, x) ≡ None)
     → first_some f (placed xs) ≡ None
 none_placed f xs none = first_same_placed f (λ x. None) xs none ∙ nothing (placed xs)
 
@@ -81,14 +81,6 @@ module _ (runs : List RunState) (lease : ℕ) (only : OnlyAtWork runs lease) whe
             | inr other ↦ grind (arith, nat_tests)
           ]
 
-  no_lease_in_job : (r j : ℕ) (run : RunState) (job : JobState) → slice_get runs r ≡ Some run → is_active run ≡ false
-      → slice_get run.jobs j ≡ Some job → lease_in_job lease r j job ≡ None
-  no_lease_in_job r j run job at_run none at_job =
-      sym (first_passing (has_lease lease) (leg_place r j) job.legs)
-      ∙ none_placed (λ l. if has_lease lease l.1 then Some (leg_place r j l.0) else None) job.legs
-      (λ l leg at_leg. ap (λ b. if b then Some (leg_place r j l) else None)
-      (not_held (leg_place r j l) leg (leg_there runs r j run job at_run at_job l leg at_leg) (leg_rests run j l job leg none at_job at_leg)))
-
   pub no_lease : (i : ℕ) → is_so_at is_active runs i ≡ false → ask (lease_in_run lease) runs i ≡ None
   no_lease i none = by (slice_get runs i) refl none
     where
@@ -96,7 +88,12 @@ module _ (runs : List RunState) (lease : ℕ) (only : OnlyAtWork runs lease) whe
           → option_and_then (lease_in_run lease i) o ≡ None
       by None at_run e = refl
       by (Some x) at_run e =
-          none_placed (λ j. lease_in_job lease i j.0 j.1) x.jobs (λ j job at_job. no_lease_in_job i j x job at_run e at_job)
+          let leased : PlacedLeg → Option LegPlace = λ y. if has_lease lease y.leg then Some y.place else None in
+          first_some_same leased (λ y. None) (placed_legs_of_run (i, x))
+          (each_in_run (λ y. leased y ≡ None) i x
+          (λ j l job leg at_job at_leg. ap (λ b. if b then Some (leg_place i j l) else None)
+          (not_held (leg_place i j l) leg (leg_there runs i j x job at_run at_job l leg at_leg) (leg_rests x j l job leg e at_job at_leg))))
+          ∙ nothing (placed_legs_of_run (i, x))
 
 -- ---- the holders of a group
 

@@ -35,7 +35,7 @@ use Rattle.workflow_runs.proofs.SettlingKeeps.{first_rule_keeps, settling_keeps}
 
 -- ---- a job opens, or settles
 
-replicate_fails : (test : LegPhase → Bool) → test leg.New ≡ false → (n l : ℕ)
+pub replicate_fails : (test : LegPhase → Bool) → test leg.New ≡ false → (n l : ℕ)
     → passes (leg_passes test) (slice_get (replicate n new_leg) l) ≡ false
 replicate_fails test fails zero l = refl
 replicate_fails test fails (suc n) zero = fails

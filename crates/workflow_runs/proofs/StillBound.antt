@@ -1,5 +1,5 @@
 -- A run that changes is still kept with its number and with what it asks of groups.
-use Rattle.std.specs.Prelude.{◌≡◌, ℕ, zero, suc, ◌+◌, ◌<◌, ◌≤◌, List, [], ◌∷◌, ◌++◌, length, count_by, Some, option_map, slice_get, slice_set}
+use Rattle.std.specs.Prelude.{◌≡◌, ℕ, zero, suc, ◌+◌, ◌<◌, ◌≤◌, List, [], ◌∷◌, ◌++◌, length, count_by, true, Some, option_map, slice_get, slice_set}
 use Rattle.std.specs.Prelude.{refl}
 use Rattle.std.specs.Fmt.{decimal}
 use Rattle.std.proofs.Common.{arith, ap, inl, inr, sym, subst, ◌∙◌, get_or}
@@ -11,10 +11,12 @@ use Rattle.workflow_runs.specs.Asks.{AreBound, RunSays}
 use Rattle.workflow_runs.specs.Counted.{AreCounted}
 use Rattle.workflow_runs.specs.Delivered.{FindsFirst}
 use Rattle.group_book.specs.Books.{group_at}
+use Rattle.label_lists.specs.Lists.{ListsState, OnlyGrows}
 use Rattle.run_marks.specs.Marked.{Covers, SameMarks}
 use Rattle.workflow_runs.specs.FoundHolders.{AllAreFound, HoldersAreFound, OnlyLists}
 use Rattle.workflow_runs.specs.GroupNumbers.{EachSaysNumbers, OnlyEnters, SaysNumbers}
 use Rattle.workflow_runs.specs.GroupOf.{RunFacts, run_facts_at}
+use Rattle.workflow_runs.specs.LabelNumbers.{AreListsOf, JobsOffer, LegsAreOffered, OnlyPuts}
 use Rattle.workflow_runs.specs.MarkedRuns.{RunsAreMarked, Stirs}
 use Rattle.workflow_runs.specs.RunNumber.{AreNumbered, events, number_of_next, numbers_after, run_number, same_workflow}
 use Rattle.workflow_runs.specs.RunState.{RunState}
@@ -29,6 +31,7 @@ use Rattle.workflow_runs.proofs.FoundHolders.{all_entered, all_roomier, found_wi
 use Rattle.workflow_runs.proofs.GroupNumbers.{each_again, each_stays, each_still}
 use Rattle.workflow_runs.proofs.GroupStays.{run_facts_stay}
 use Rattle.workflow_runs.proofs.LegFacts.{attempt_at}
+use Rattle.workflow_runs.proofs.LegsOffered.{offered_grown, offered_with}
 use Rattle.workflow_runs.proofs.MarkedRuns.{marks_after, set_other}
 use Rattle.workflow_runs.proofs.RunNumbers.{events_kept, length_kept, number_at, one_more, still_numbered}
 
@@ -55,13 +58,13 @@ still_bound xs kept r x y lt is same attempt are = record {
 
 -- a run is written of the event that stands at its place, in its attempt
 pub still_kept : (xs : List RunState) (numbers : List ℕ) (kept : List RunBindings) (index : Index) (groups : GroupHolders)
-    (marks marks' : RunMarks) (r : ℕ) (x y : RunState)
+    (lists : ListsState) (marks marks' : RunMarks) (r : ℕ) (x y : RunState)
     → ((n : ℕ) → group_at groups.book.entries n ≡ group_at index.groups.book.entries n)
-    → HoldersAreFound (slice_set xs r y) kept groups.book.entries groups.unlisted → r < length xs → x ≡ get_or xs r x
-    → y.admitted ≡ x.admitted → y.attempt ≡ x.attempt
+    → HoldersAreFound (slice_set xs r y) kept groups.book.entries groups.unlisted → LegsAreOffered (slice_set xs r y) kept lists
+    → r < length xs → x ≡ get_or xs r x → y.admitted ≡ x.admitted → y.attempt ≡ x.attempt
     → (events (slice_set xs r y) ≡ events xs → RunsAreMarked (slice_set xs r y) marks') → RunsAreKept xs numbers kept index marks
-    → RunsAreKept (slice_set xs r y) numbers kept (record index { groups = groups }) marks'
-still_kept xs numbers kept index groups marks marks' r x y stay_groups found lt is same attempt marked are =
+    → RunsAreKept (slice_set xs r y) numbers kept (record index { groups = groups; lists = lists }) marks'
+still_kept xs numbers kept index groups lists marks marks' r x y stay_groups found offered lt is same attempt marked are =
     let stay : events (slice_set xs r y) ≡ events xs = events_kept xs r x y lt is same in
     record {
       numbered = still_numbered xs numbers r x y lt is same are.numbered;
@@ -71,13 +74,14 @@ still_kept xs numbers kept index groups marks marks' r x y stay_groups found lt 
       marked = marked stay;
       grouped = each_stays index.groups.book.entries groups.book.entries kept stay_groups are.grouped;
       listed = found;
+      offered = offered;
     }
 
 -- the same runs, as the code sees them, in another index
 pub kept_in : (xs seen : List RunState) (numbers : List ℕ) (kept : List RunBindings) (old new : Index) (marks : RunMarks) → seen ≡ xs
     → RunsAreKept xs numbers kept old marks → FindsFirst (events seen) new.places.places → AreCounted (events seen) new.counts.counts
-    → new.groups ≡ old.groups → RunsAreKept xs numbers kept new marks
-kept_in xs seen numbers kept old new marks same are found counted groups = record {
+    → new.groups ≡ old.groups → new.lists ≡ old.lists → RunsAreKept xs numbers kept new marks
+kept_in xs seen numbers kept old new marks same are found counted groups lists = record {
   numbered = are.numbered;
   bound = are.bound;
   found = subst (λ (rs : List RunState). FindsFirst (events rs) new.places.places) same found;
@@ -85,6 +89,7 @@ kept_in xs seen numbers kept old new marks same are found counted groups = recor
   marked = are.marked;
   grouped = subst (λ (held : GroupHolders). EachSaysNumbers held.book.entries kept) (sym groups) are.grouped;
   listed = subst (λ (held : GroupHolders). HoldersAreFound xs kept held.book.entries held.unlisted) (sym groups) are.listed;
+  offered = subst (LegsAreOffered xs kept) (sym lists) are.offered;
 }
 
 -- the same runs, once groups are entered in the book
@@ -101,7 +106,33 @@ kept_entered xs numbers kept index marks groups enters same room are = record {
   grouped = each_still index.groups.book.entries groups.book.entries enters kept are.grouped;
   listed = all_roomier xs kept groups.book.entries index.groups.unlisted groups.unlisted same room
       (all_entered xs kept index.groups.book.entries groups.book.entries index.groups.unlisted enters are.listed);
+  offered = are.offered;
 }
+
+-- and once lists of labels are
+pub kept_grown : (xs : List RunState) (numbers : List ℕ) (kept : List RunBindings) (index : Index) (marks : RunMarks) (lists : ListsState)
+    → OnlyGrows index.lists lists → RunsAreKept xs numbers kept index marks
+    → RunsAreKept xs numbers kept (record index { lists = lists }) marks
+kept_grown xs numbers kept index marks lists grows are = record {
+  numbered = are.numbered;
+  bound = are.bound;
+  found = are.found;
+  counted = are.counted;
+  marked = are.marked;
+  grouped = are.grouped;
+  listed = are.listed;
+  offered = offered_grown xs kept index.lists lists grows are.offered;
+}
+
+-- the same runs, once room is made for lists, groups are entered, and then lists
+pub kept_taken : (xs : List RunState) (numbers : List ℕ) (kept : List RunBindings) (index : Index) (marks : RunMarks) (covered : ListsState)
+    (groups : GroupHolders) (lists : ListsState) → OnlyGrows index.lists covered → OnlyEnters index.groups.book.entries groups.book.entries
+    → SameMarks index.groups.unlisted groups.unlisted → length index.groups.unlisted ≤ length groups.unlisted → OnlyGrows covered lists
+    → RunsAreKept xs numbers kept index marks → RunsAreKept xs numbers kept (record index { groups = groups; lists = lists }) marks
+kept_taken xs numbers kept index marks covered groups lists covers enters same room grows are =
+    kept_grown xs numbers kept (record index { groups = groups; lists = covered }) marks lists grows
+    (kept_entered xs numbers kept (record index { lists = covered }) marks groups enters same room
+    (kept_grown xs numbers kept index marks covered covers are))
 
 -- ---- one run more
 
@@ -191,6 +222,16 @@ found_added runs run kept asked old new r end many lists all covers are =
     (λ s other. beside_end runs run s (λ e. other (e ∙ sym end))) (λ s other. beside_end kept asked s (λ e. other (e ∙ many ∙ sym end)))
     lists all are (omega (arith, covers, lists.room, end, length-append runs (run ∷ [])))
 
+-- and it is marked for each of its ready legs
+pub offered_added : (runs : List RunState) (run : RunState) (kept : List RunBindings) (asked : RunBindings) (old new : ListsState) (r : ℕ)
+    → r ≡ length runs → length kept ≡ length runs → AreListsOf old r asked.jobs asked.lists
+    → JobsOffer new asked.lists r run.jobs → OnlyPuts r true old new
+    → LegsAreOffered runs kept old → LegsAreOffered (runs ++ run ∷ []) (kept ++ asked ∷ []) new
+offered_added runs run kept asked old new r end many itself all puts are =
+    offered_with runs (runs ++ run ∷ []) kept (kept ++ asked ∷ []) old new r run asked (at_end runs run r end)
+    (at_end kept asked r (end ∙ sym many)) (λ s other. beside_end runs run s (λ e. other (e ∙ sym end)))
+    (λ s other. beside_end kept asked s (λ e. other (e ∙ many ∙ sym end))) itself all puts are
+
 -- a run that is added with its number and with what it asks
 pub all_added : (runs : List RunState) (run : RunState) (numbers : List ℕ) (kept : List RunBindings) (number : ℕ) (asked : RunBindings)
     → length runs < 100000 → AreNumbered runs numbers × AreBound runs kept → number ≡ number_of_next runs run.admitted
@@ -240,13 +281,23 @@ bound_again xs kept r x y asked lt is same says are =
           ]);
     }
 
+pub offered_again : (xs : List RunState) (kept : List RunBindings) (old new : ListsState) (r : ℕ) (y : RunState) (asked : RunBindings)
+    → r < length xs → length kept ≡ length xs → AreListsOf old r asked.jobs asked.lists
+    → JobsOffer new asked.lists r y.jobs → OnlyPuts r true old new
+    → LegsAreOffered xs kept old → LegsAreOffered (slice_set xs r y) (slice_set kept r asked) new
+offered_again xs kept old new r y asked within many itself all puts are =
+    offered_with xs (slice_set xs r y) kept (slice_set kept r asked) old new r y asked (set_here xs r y within)
+    (set_here kept r asked (omega (arith, within, many))) (λ s other. set_other xs r s y other)
+    (λ s other. set_other kept r s asked other) itself all puts are
+
 pub kept_again : (xs : List RunState) (numbers : List ℕ) (kept : List RunBindings) (index : Index) (groups : GroupHolders)
-    (marks marks' : RunMarks) (r : ℕ) (x y : RunState) (asked : RunBindings) → OnlyLists (slice_set xs r y) index.groups groups
-    → AllAreFound (slice_set xs r y) groups.book.entries groups.unlisted asked r → r < length xs → x ≡ get_or xs r x
+    (lists : ListsState) (marks marks' : RunMarks) (r : ℕ) (x y : RunState) (asked : RunBindings)
+    → OnlyLists (slice_set xs r y) index.groups groups → AllAreFound (slice_set xs r y) groups.book.entries groups.unlisted asked r
+    → LegsAreOffered (slice_set xs r y) (slice_set kept r asked) lists → r < length xs → x ≡ get_or xs r x
     → y.admitted ≡ x.admitted → RunSays (facts_of_run xs r y) asked → SaysNumbers index.groups.book.entries asked
     → Stirs r (length xs) marks marks' → RunsAreKept xs numbers kept index marks
-    → RunsAreKept (slice_set xs r y) numbers (slice_set kept r asked) (record index { groups = groups }) marks'
-kept_again xs numbers kept index groups marks marks' r x y asked lists all lt is same says grouped stirs are =
+    → RunsAreKept (slice_set xs r y) numbers (slice_set kept r asked) (record index { groups = groups; lists = lists }) marks'
+kept_again xs numbers kept index groups lists marks marks' r x y asked lists_only all offered lt is same says grouped stirs are =
     let stay : events (slice_set xs r y) ≡ events xs = events_kept xs r x y lt is same in
     record {
       numbered = still_numbered xs numbers r x y lt is same are.numbered;
@@ -254,10 +305,11 @@ kept_again xs numbers kept index groups marks marks' r x y asked lists all lt is
       found = subst (λ (es : List Admitted). FindsFirst es index.places.places) (sym stay) are.found;
       counted = subst (λ (es : List Admitted). AreCounted es index.counts.counts) (sym stay) are.counted;
       marked = marks_after xs y marks marks' r stay stirs are.marked;
-      grouped = each_stays index.groups.book.entries groups.book.entries (slice_set kept r asked) lists.numbers
+      grouped = each_stays index.groups.book.entries groups.book.entries (slice_set kept r asked) lists_only.numbers
           (each_again index.groups.book.entries kept r asked grouped are.grouped);
       listed = found_with xs (slice_set xs r y) kept (slice_set kept r asked) index.groups groups r asked
           (set_here kept r asked (omega (arith, lt, are.bound.as_many)))
-          (λ s other. set_other xs r s y other) (λ s other. set_other kept r s asked other) lists all are.listed
-          (omega (arith, are.listed.covers, lists.room, length-set xs r y));
+          (λ s other. set_other xs r s y other) (λ s other. set_other kept r s asked other) lists_only all are.listed
+          (omega (arith, are.listed.covers, lists_only.room, length-set xs r y));
+      offered = offered;
     }

@@ -1,10 +1,9 @@
 -- The first place of a table where a rule applies, found run by run and job by job.
-use Rattle.std.specs.Prelude.{◌≡◌, ℕ, ◌+◌, ◌&&◌, List, [], ◌∷◌, ◌++◌, map, flat_map, find, Bool, true, false, is_some, Some, None}
-use Rattle.std.specs.Prelude.{option_map, option_and_then, slice_get, if◌then◌else◌, refl}
-use Rattle.std.specs.List.{enumerate_from, list_all, position, position_from}
+use Rattle.std.specs.Prelude.{◌≡◌, ℕ, ◌&&◌, List, [], ◌∷◌, ◌++◌, map, flat_map, find, Bool, true, false, is_some, Some, None}
+use Rattle.std.specs.Prelude.{option_and_then, slice_get, if◌then◌else◌, refl}
+use Rattle.std.specs.List.{list_all}
 use Rattle.std.specs.Option.{option_or}
-use Rattle.std.proofs.Common.{ap, sym, ◌∙◌}
-use Rattle.std.proofs.lemmas.Iterator.Adapters.{position_from-zero}
+use Rattle.std.proofs.Common.{ap, ◌∙◌}
 use Rattle.std.proofs.lemmas.List.Folds.{find-append}
 use Rattle.workflow_runs.specs.FirstOf.{first_some, placed}
 use Rattle.workflow_runs.specs.Places.{LegPlace, job_at, leg_at}
@@ -65,24 +64,6 @@ whole_applies : (runs : List RunState) (r : ℕ) (x : RunState) → slice_get ru
     → applies runs (Whole r) ≡ whole_goes_on_in x.phase runs r x
 whole_applies runs r x at =
     ap (λ o. is_some (option_and_then (whole_rule runs r) o)) at ∙ whole_rule_applies x.phase runs r x
-
--- ---- the first leg of a list that passes a test
-
-passing_from : {X Y : Type 0} (test : X → Bool) (place : ℕ → Y) (xs : List X) (n : ℕ)
-    → first_some (λ e. if test e.1 then Some (place e.0) else None) (enumerate_from n xs) ≡ option_map place (position_from test n xs)
-passing_from test place [] n = refl
-passing_from test place (x ∷ xs) n =
-    elim (test x) as
-    (λ b. option_or (if b then Some (place n) else None)
-    (first_some (λ e. if test e.1 then Some (place e.0) else None) (enumerate_from (n + 1) xs))
-    ≡ option_map place (if b then Some n else position_from test (n + 1) xs)) [
-      | true ↦ refl
-      | false ↦ passing_from test place xs (n + 1)
-    ]
-
-pub first_passing : {X Y : Type 0} (test : X → Bool) (place : ℕ → Y) (xs : List X)
-    → first_some (λ e. if test e.1 then Some (place e.0) else None) (placed xs) ≡ option_map place (position test xs)
-first_passing test place xs = passing_from test place xs 0 ∙ ap (option_map place) (sym (position_from-zero test xs))
 
 -- ---- within a job
 

@@ -14,7 +14,7 @@ use Rattle.workflow_runs.specs.GroupOf.{group_at}
 use Rattle.workflow_runs.specs.Groups.{holds, is_in, is_running_in, waits}
 use Rattle.workflow_runs.specs.Holders.{holder_in_words, run_of}
 use Rattle.workflow_runs.specs.LettingGo.{IsFreed, LetsGoOnly}
-use Rattle.workflow_runs.specs.MarkedRuns.{AreMarked, RunsAreMarked, is_active, offers_legs, someone_waits}
+use Rattle.workflow_runs.specs.MarkedRuns.{AreMarked, RunsAreMarked, is_active, someone_waits}
 use Rattle.workflow_runs.specs.Moves.{Holder as HolderOfGroup}
 use Rattle.workflow_runs.specs.RunState.{RunState}
 use Rattle.workflow_runs.specs.SlotHolders.{IsSlotOf}
@@ -104,7 +104,6 @@ module _ (runs : List RunState) (asks : List RunBindings) (groups : GroupHolders
 pub marks_woken : (runs : List RunState) (freed : Frees) (groups : GroupHolders) (kept : RunBindings) (bound : ℕ) (old new : RunMarks)
     → Wakes freed groups kept bound old new → RunsAreMarked runs old → RunsAreMarked runs new
 marks_woken runs freed groups kept bound old new wakes are = record {
-  ready = subst (λ (m : List ℕ). AreMarked (λ _ x. offers_legs x) runs m) (sym wakes.ready) are.ready;
   waiting = subst (λ (m : List ℕ). AreMarked (λ _ x. someone_waits x) runs m) (sym wakes.waiting) are.waiting;
   active = subst (λ (m : List ℕ). AreMarked (λ _ x. is_active x) runs m) (sym wakes.active) are.active;
   due = record {

@@ -1,12 +1,15 @@
 -- What a run and its legs ask, of concurrency groups and of runners, bound when an attempt of the run begins (own).
-use Rattle.std.specs.Prelude.{◌≡◌, ℕ, List, length, Option, Some, option_and_then, slice_get}
+use Rattle.std.specs.Prelude.{◌≡◌, ℕ, List, length, Option, Some, IfSome, option_and_then, slice_get}
+use Rattle.std.specs.Option.{option_map_or}
+use Rattle.wf_expr.specs.Bound.{Results}
 use Rattle.wf_reader.specs.Event.{event_of}
 use Rattle.run_plan.specs.PlanOf.{plan_of}
 use Rattle.run_plan.specs.declared.planned.PlannedJob.{PlannedJob}
 use Rattle.workflow_runs.specs.BoundFlags.{FlagsSay}
 use Rattle.workflow_runs.specs.BoundGroups.{SaysSo, facts_by}
 use Rattle.workflow_runs.specs.GroupOf.{RunFacts, asked_of_leg, run_context, run_facts_at}
-use Rattle.workflow_runs.specs.KnownLabels.{AreKept}
+use Rattle.workflow_runs.specs.KnownLabels.{AreKept, texts_by}
+use Rattle.workflow_runs.specs.PlainLabels.{AreTheTexts}
 use Rattle.workflow_runs.specs.LegContext.{context_of}
 use Rattle.workflow_runs.specs.Moves.{Holder}
 use Rattle.workflow_runs.specs.RunState.{RunState}
@@ -14,7 +17,6 @@ use Rattle.workflow_runs.specs.declared.asks.JobBindings.{JobBindings}
 use Rattle.workflow_runs.specs.declared.asks.RunBindings.{RunBindings}
 use Rattle.workflow_runs.specs.declared.groups.Asked.{Asked}
 use Rattle.workflow_runs.specs.declared.groups.BoundFlag.{BoundFlag}
-use Rattle.workflow_runs.specs.declared.resolved_labels.ResolvedLabels.{ResolvedLabels}
 
 -- ---- what is kept
 
@@ -23,9 +25,12 @@ abbrev pub asked_of : RunBindings → Holder → Option Asked
 asked_of kept (Holder.a_run r) = kept.own
 asked_of kept (Holder.a_leg p) = option_and_then (λ job. slice_get job.groups p.leg) (slice_get kept.jobs p.job)
 
--- what is kept of the labels of a leg
-abbrev pub wanted_for : RunBindings → ℕ → ℕ → Option ResolvedLabels
-wanted_for kept j l = option_and_then (λ job. slice_get job.labels l) (slice_get kept.jobs j)
+-- the labels of a leg of a job by the results of the run's jobs, where they were bound
+abbrev pub labels_by : Results → JobBindings → ℕ → Option (List (List ℕ))
+labels_by results job l = option_map_or (λ kept. Some (texts_by results kept)) (slice_get job.labels l) job.plain
+
+abbrev pub labels_for : Results → RunBindings → ℕ → ℕ → Option (List (List ℕ))
+labels_for results kept j l = option_and_then (λ job. labels_by results job l) (slice_get kept.jobs j)
 
 -- what was bound of whether a failure of a leg is passed over
 abbrev pub flag_for : RunBindings → ℕ → ℕ → Option BoundFlag
@@ -38,7 +43,8 @@ pub record JobSays (run : RunFacts) (j : ℕ) (job : PlannedJob) (kept : JobBind
   pub groups : (l : ℕ)
       → SaysSo (event_of run.event.body).repo (λ results. context_of (facts_by run j job l results)) (asked_of_leg job l)
       (slice_get kept.groups l)
-  pub labels : AreKept run j job kept.labels
+  pub labels : AreKept run j job kept.plain kept.labels
+  pub plain : IfSome kept.plain (AreTheTexts job.labels)
   pub flags : FlagsSay run j job kept.flags
 
 -- and what the run and its legs ask

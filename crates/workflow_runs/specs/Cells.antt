@@ -1,9 +1,10 @@
 -- A job of a run with room for all legs of its plan from the start.
-use Rattle.std.specs.Prelude.{ℕ, List, [], length, map, Bool, Option, if◌then◌else◌}
+use Rattle.std.specs.Prelude.{◌≡◌, ℕ, List, [], length, map, Bool, Option, Some, slice_get, if◌then◌else◌}
 use Rattle.wf_value.specs.declared.outcome.JobResult.{JobResult}
 use Rattle.run_plan.specs.declared.planned.PlannedJob.{PlannedJob}
 use Rattle.workflow_runs.specs.JobResults.{settled_result}
-use Rattle.workflow_runs.specs.RunState.{LegState, JobState}
+use Rattle.workflow_runs.specs.RunState.{LegState, JobState, RunState}
+use Rattle.workflow_runs.specs.Words.{planned_legs}
 use Rattle.workflow_runs.specs.declared.phases.JobPhase.{JobPhase}
 use Rattle.workflow_runs.specs.declared.phases.JobPhase.TheVariants as job
 
@@ -28,6 +29,10 @@ states jobs = map (λ j. j.state) jobs
 
 abbrev pub rooms : List JobCells → List ℕ
 rooms jobs = map (λ j. j.room) jobs
+
+-- each job of a run has room for the legs that its plan has
+abbrev pub HaveTheirRoom : List RunState → ℕ → List JobCells → Type 0
+HaveTheirRoom runs r jobs = (j : ℕ) (x : JobCells) → slice_get jobs j ≡ Some x → x.room ≡ planned_legs runs r j
 
 -- how many legs a plan has, job by job
 abbrev pub legs_planned : List PlannedJob → List ℕ

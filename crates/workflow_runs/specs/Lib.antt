@@ -16,6 +16,7 @@ pub mod Groups
 pub mod Holders
 pub mod JobResults
 pub mod KnownLabels
+pub mod LabelNumbers
 pub mod LegContext
 pub mod LegCounts
 pub mod LettingGo
@@ -24,6 +25,8 @@ pub mod MarkedRuns
 pub mod Moves
 pub mod NeedsLeft
 pub mod Parallel
+pub mod PlacedLegs
+pub mod PlainLabels
 pub mod Places
 pub mod Rules
 pub mod RunConditions

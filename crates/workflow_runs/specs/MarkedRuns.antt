@@ -52,7 +52,6 @@ pub record AreMarked (fact : ℕ → RunState → Bool) (runs : List RunState) (
   pub marked : (r : ℕ) (x : RunState) → slice_get runs r ≡ Some x → fact r x ≡ true → is_marked marks r ≡ true
 
 pub record RunsAreMarked (runs : List RunState) (marks : RunMarks) : Type 0 where
-  pub ready : AreMarked (λ _ x. offers_legs x) runs marks.ready
   pub waiting : AreMarked (λ _ x. someone_waits x) runs marks.waiting
   pub active : AreMarked (λ _ x. is_active x) runs marks.active
   pub due : AreMarked (is_due runs) runs marks.due
@@ -61,31 +60,26 @@ pub record RunsAreMarked (runs : List RunState) (marks : RunMarks) : Type 0 wher
 
 -- there is room for all runs below the bound
 pub record CoversRuns (marks : RunMarks) (bound : ℕ) : Type 0 where
-  pub ready : Covers marks.ready bound
   pub waiting : Covers marks.waiting bound
   pub active : Covers marks.active bound
   pub due : Covers marks.due bound
 
 -- the same runs are marked, and there is no less room
 pub record OnlyGrows (old new : RunMarks) : Type 0 where
-  pub ready : SameMarks old.ready new.ready
   pub waiting : SameMarks old.waiting new.waiting
   pub active : SameMarks old.active new.active
   pub due : SameMarks old.due new.due
-  pub ready_room : length old.ready ≤ length new.ready
   pub waiting_room : length old.waiting ≤ length new.waiting
   pub active_room : length old.active ≤ length new.active
   pub due_room : length old.due ≤ length new.due
 
 -- a run is marked for everything, and every one below the bound in which someone may wait is due again
 pub record Stirs (r bound : ℕ) (old new : RunMarks) : Type 0 where
-  pub ready : Puts true r old.ready new.ready
   pub waiting : Puts true r old.waiting new.waiting
   pub active : Puts true r old.active new.active
   pub due : (i : ℕ) → is_marked old.due i ≡ true → is_marked new.due i ≡ true
   pub itself : is_marked new.due r ≡ true
   pub woken : (i : ℕ) → i < bound → is_marked old.waiting i ≡ true → is_marked new.due i ≡ true
-  pub ready_room : length new.ready ≡ length old.ready
   pub waiting_room : length new.waiting ≡ length old.waiting
   pub active_room : length new.active ≡ length old.active
   pub due_room : length new.due ≡ length old.due

@@ -1,7 +1,7 @@
 -- The first place with a rule, and the first leg that is sought, run by run and job by job. Of the rules those of a waiting
 -- run and of a waiting leg look beyond their run, at who runs in their group, and a leg's labels ask for the events alone.
-use Rattle.std.specs.Prelude.{ℕ, ◌&&◌, List, Bool, true, false, Option, Some, None, option_map, if◌then◌else◌}
-use Rattle.std.specs.List.{list_all, position}
+use Rattle.std.specs.Prelude.{ℕ, ◌&&◌, List, Bool, true, false, Option, Some, None, if◌then◌else◌}
+use Rattle.std.specs.List.{list_all}
 use Rattle.std.specs.Option.{option_or, option_map_or}
 use Rattle.needs_graph.specs.Results.{fails_job}
 use Rattle.workflow_runs.specs.FirstOf.{placed, first_some}
@@ -9,6 +9,7 @@ use Rattle.workflow_runs.specs.Fitting.{is_ready, is_served, has_lease}
 use Rattle.workflow_runs.specs.Groups.{may_start}
 use Rattle.workflow_runs.specs.Moves.{Holder}
 use Rattle.workflow_runs.specs.Parallel.{has_room}
+use Rattle.workflow_runs.specs.PlacedLegs.{PlacedLeg, placed_legs_of_run}
 pub use Rattle.workflow_runs.specs.Places.{LegPlace, leg_place}
 pub use Rattle.workflow_runs.specs.RunConditions.{condition_in, may_run_in, needs_settled_in}
 use Rattle.workflow_runs.specs.Rules.{leg_end}
@@ -73,6 +74,9 @@ fit_in_job labels runs r j job = if has_room runs r j job then served_in_job lab
 abbrev pub fit_in_jobs : List (List ℕ) → List RunState → ℕ → List JobState → Option LegPlace
 fit_in_jobs labels runs r jobs = first_some (λ j. fit_in_job labels runs r j.0 j.1) (placed jobs)
 
+abbrev pub fit_in_run : List (List ℕ) → List RunState → ℕ → RunState → Option LegPlace
+fit_in_run labels runs r run = fit_in_jobs labels runs r run.jobs
+
 -- ---- the first leg that fails its job
 
 -- its number, where the leg does
@@ -81,11 +85,9 @@ failing runs r j l = if option_map_or fails_job (leg_end runs r j l) false then 
 
 -- ---- the leg of a lease
 
-abbrev pub lease_in_job : ℕ → ℕ → ℕ → JobState → Option LegPlace
-lease_in_job lease r j job = option_map (leg_place r j) (position (has_lease lease) job.legs)
-
-abbrev pub lease_in_jobs : ℕ → ℕ → List JobState → Option LegPlace
-lease_in_jobs lease r jobs = first_some (λ j. lease_in_job lease r j.0 j.1) (placed jobs)
+-- the place of the first of these legs that has it
+abbrev pub first_leased : ℕ → List PlacedLeg → Option LegPlace
+first_leased lease legs = first_some (λ x. if has_lease lease x.leg then Some x.place else None) legs
 
 abbrev pub lease_in_run : ℕ → ℕ → RunState → Option LegPlace
-lease_in_run lease r run = lease_in_jobs lease r run.jobs
+lease_in_run lease r run = first_leased lease (placed_legs_of_run (r, run))

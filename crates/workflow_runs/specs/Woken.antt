@@ -1,5 +1,5 @@
 -- Which runs a change wakes, where it may let concurrency groups go (own).
-use Rattle.std.specs.Prelude.{◌≡◌, ◌⊎◌, ℕ, ◌<◌, List, length, true, false, Some}
+use Rattle.std.specs.Prelude.{◌≡◌, ◌⊎◌, ℕ, ◌<◌, List, length, true}
 use Rattle.group_book.specs.Books.{HasEachOnce}
 use Rattle.group_book.specs.Slots.{HasPlace}
 use Rattle.group_book.specs.declared.slot.Slot.{Slot}
@@ -36,6 +36,5 @@ pub record Wakes (freed : Frees) (groups : GroupHolders) (kept : RunBindings) (b
   pub woken : AreWoken freed groups kept bound old.waiting new.due
   pub due : (i : ℕ) → is_marked old.due i ≡ true → is_marked new.due i ≡ true
   pub due_room : length new.due ≡ length old.due
-  pub ready : new.ready ≡ old.ready
   pub waiting : new.waiting ≡ old.waiting
   pub active : new.active ≡ old.active

@@ -2,6 +2,7 @@
 
 ghost use Rattle.std.specs.Prelude.{◌≡◌};
 ghost use Rattle.workflow_runs.specs.FoundHolders.{newcomer};
+ghost use Rattle.workflow_runs.specs.LabelNumbers.{offered_by};
 
 use crate::holder::Holder;
 use crate::leg::Leg;
@@ -26,6 +27,20 @@ pub enum Change {
     PutLeg(usize, usize, Leg),
 }
 
+/// Which ready legs of a run a change may take.
+#[derive(Clone, Copy)]
+pub(crate) enum Taken {
+    Nothing,
+    One(LegPlace),
+    Any,
+}
+
+impl Taken {
+    pub(crate) fn any_if(may_take: bool) -> Self {
+        if may_take { Taken::Any } else { Taken::Nothing }
+    }
+}
+
 impl Change {
     /// Who waits or holds a group after the change of the run at a place, and may not have before.
     pub(crate) fn newcomer(&self, r: usize) -> Option<Holder>
@@ -47,6 +62,16 @@ impl Change {
                 }
             }
             Change::Open(_) | Change::Settle(_, _) | Change::Stop | Change::StopLegs(_) => None,
+        }
+    }
+
+    /// The leg that the change of the run at a place makes ready.
+    pub(crate) fn offered(&self, r: usize) -> Option<LegPlace>
+        ensures { result ≡ offered_by r self.now }
+    {
+        match self {
+            Change::PutLeg(j, l, leg) if leg.phase.is_ready() => Some(LegPlace::new(r, *j, *l)),
+            _ => None,
         }
     }
 }

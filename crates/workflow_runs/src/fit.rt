@@ -1,26 +1,27 @@
 //! Which leg a claim gets, and which leg has a lease: each the first one in the order of run, job and leg.
 
-ghost use Rattle.std.specs.Prelude.{◌≡◌, ◌<◌, ◌^◌, ◌&&◌, IfSome, false, if◌then◌else◌};
-ghost use Rattle.std.specs.List.{position};
+ghost use Rattle.std.specs.Prelude.{◌≡◌, ◌<◌, ◌^◌, ◌&&◌, IfSome, Some, false, if◌then◌else◌};
 ghost use Rattle.std.specs.Option.{option_map_or};
 ghost use Rattle.wf_value.specs.declared.outcome.Outcome.TheVariants.{Cancelled, Failure};
-ghost use Rattle.workflow_runs.specs.Cells.{states};
-ghost use Rattle.workflow_runs.specs.Fitting.{OnlyAtWork, first_fit, has_lease, is_ready, is_served, is_stopping_leg, place_of_lease};
+ghost use Rattle.workflow_runs.specs.Cells.{HaveTheirRoom, states};
+ghost use Rattle.workflow_runs.specs.Fitting.{OnlyAtWork, first_fit, is_ready, is_served, is_stopping_leg, place_of_lease};
 ghost use Rattle.workflow_runs.specs.Parallel.{has_room};
-ghost use Rattle.workflow_runs.specs.Places.{leg_at};
-ghost use Rattle.workflow_runs.specs.WithinRun.{fit_in_job, fit_in_jobs, lease_in_job, lease_in_jobs, lease_in_run, served_in_job};
+ghost use Rattle.workflow_runs.specs.Places.{leg_at, run_at};
+ghost use Rattle.workflow_runs.specs.WithinRun.{fit_in_job, fit_in_jobs, lease_in_run, served_in_job};
+ghost use Rattle.workflow_runs.specs.Words.{planned_legs};
 
 use crate::job::Job;
 use crate::leg::Leg;
 use crate::place::LegPlace;
 use crate::run::Run;
 use crate::runs::Runs;
+use crate::walk::Legs;
 use run_plan::{Label, Number};
 use wf_value::Outcome;
 
 /// Whether the leg is ready and asks for no label that these lack.
 fn fits(labels: &[Label], runs: &Runs, place: LegPlace, leg: &Leg) -> bool
-    requires leg { place.leg < 2 ^ 63 }
+    requires { place.leg < planned_legs runs.now place.run place.job }
     ensures { result ≡ (is_ready leg.now.phase && is_served labels.now runs.now place) }
 {
     leg.is_ready() && runs.is_served(labels, place)
@@ -28,10 +29,11 @@ fn fits(labels: &[Label], runs: &Runs, place: LegPlace, leg: &Leg) -> bool
 
 /// The first ready leg of the job that asks for no label that these lack.
 fn served_in_job(labels: &[Label], runs: &Runs, r: usize, j: usize, job: &Job) -> Option<LegPlace>
+    requires { job.now.room ≡ planned_legs runs.now r j }
     ensures found { result ≡ served_in_job labels.now runs.now r j job.now.state }
     ensures run { IfSome result (λ p. p.run ≡ r) }
 {
-    let legs = job.legs();
+    let legs = job.planned_legs();
     for l in 0..legs.len() {
         let place = LegPlace::new(r, j, l);
         let leg = &legs[l];
@@ -54,6 +56,7 @@ fn has_room(runs: &Runs, r: usize, j: usize, job: &Job) -> bool
 
 /// The same, where one more leg of the job may run. It goes over the legs where one is ready.
 fn fit_in_job(labels: &[Label], runs: &Runs, r: usize, j: usize, job: &Job) -> Option<LegPlace>
+    requires { job.now.room ≡ planned_legs runs.now r j }
     ensures found { result ≡ fit_in_job labels.now runs.now r j job.now.state }
     ensures run { IfSome result (λ p. p.run ≡ r) }
 {
@@ -65,6 +68,7 @@ fn fit_in_job(labels: &[Label], runs: &Runs, r: usize, j: usize, job: &Job) -> O
 }
 
 fn fit_in_jobs(labels: &[Label], runs: &Runs, r: usize, jobs: &[Job]) -> Option<LegPlace>
+    requires { HaveTheirRoom runs.now r jobs.now }
     ensures found { result ≡ fit_in_jobs labels.now runs.now r (states jobs.now) }
     ensures run { IfSome result (λ p. p.run ≡ r) }
 {
@@ -79,10 +83,11 @@ fn fit_in_jobs(labels: &[Label], runs: &Runs, r: usize, jobs: &[Job]) -> Option<
 }
 
 fn fit_in_run(labels: &[Label], runs: &Runs, r: usize, run: &Run) -> Option<LegPlace>
+    requires { run_at runs.now r ≡ Some run.now }
     ensures found { result ≡ fit_in_jobs labels.now runs.now r run.now.jobs }
     ensures run { IfSome result (λ p. p.run ≡ r) }
 {
-    fit_in_jobs(labels, runs, r, run.jobs())
+    fit_in_jobs(labels, runs, r, run.planned_jobs())
 }
 
 /// The first ready leg that asks for no label that these lack, in a job of which one more leg may run. It takes no memory.
@@ -92,7 +97,7 @@ pub fn first_fit(labels: &[Label], runs: &Runs) -> Option<LegPlace>
 {
     let all = runs.as_slice();
     let mut from = 0;
-    while let Some(r) = runs.next_ready(from) {
+    while let Some(r) = runs.next_offering(labels, from) {
         let run = &all[r];
         let place = fit_in_run(labels, runs, r, run);
         if place.is_some() {
@@ -103,40 +108,17 @@ pub fn first_fit(labels: &[Label], runs: &Runs) -> Option<LegPlace>
     None
 }
 
-fn leg_of_lease(lease: Number, legs: &[Leg]) -> Option<usize>
-    ensures found { result ≡ position (has_lease lease) legs.now }
-    ensures most { IfSome result (λ l. l < 2 ^ 63) }
-{
-    legs.iter().position(|leg| leg.has_lease(lease))
-}
-
-fn lease_in_job(lease: Number, r: usize, j: usize, job: &Job) -> Option<LegPlace>
-    ensures found { result ≡ lease_in_job lease r j job.now.state }
-    ensures leg { IfSome result (λ p. p.leg < 2 ^ 63) }
-{
-    let leg = leg_of_lease(lease, job.legs())?;
-    Some(LegPlace::new(r, j, leg))
-}
-
-fn lease_in_jobs(lease: Number, r: usize, jobs: &[Job]) -> Option<LegPlace>
-    ensures found { result ≡ lease_in_jobs lease r (states jobs.now) }
-    ensures leg { IfSome result (λ p. p.leg < 2 ^ 63) }
-{
-    for j in 0..jobs.len() {
-        let job = &jobs[j];
-        let place = lease_in_job(lease, r, j, job);
-        if place.is_some() {
-            return place;
-        }
-    }
-    None
-}
-
+/// The leg of the run that has the lease.
 fn lease_in_run(lease: Number, r: usize, run: &Run) -> Option<LegPlace>
     ensures found { result ≡ lease_in_run lease r run.now }
     ensures leg { IfSome result (λ p. p.leg < 2 ^ 63) }
 {
-    lease_in_jobs(lease, r, run.jobs())
+    for (place, leg) in Legs::of_run(r, run) {
+        if leg.has_lease(lease) {
+            return Some(place);
+        }
+    }
+    None
 }
 
 /// The leg that has a lease, where a runner is at work on it.

@@ -1,4 +1,4 @@
-ghost use Rattle.std.specs.Prelude.{◌≡◌, Ok, map};
+ghost use Rattle.std.specs.Prelude.{◌≡◌, ◌≤◌, Ok, length, map};
 ghost use Rattle.std.specs.List.{list_all};
 ghost use Rattle.wf_value.specs.Gives.{Gives};
 ghost use Rattle.workflow_runs.specs.Cells.{in_state};
@@ -67,6 +67,14 @@ impl Job {
 
     pub fn legs(&self) -> &[Leg]
         ensures { result.now ≡ self.now.state.legs }
+    {
+        self.planned_legs()
+    }
+
+    /// The same: they are no more than those that its plan has.
+    pub(crate) fn planned_legs(&self) -> &[Leg]
+        ensures legs { result.now ≡ self.now.state.legs }
+        ensures most { length result.now ≤ self.now.room }
     {
         let count = if self.has_legs { self.room.len() } else { 0 };
         &self.room[..count]

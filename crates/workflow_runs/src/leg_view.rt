@@ -1,13 +1,8 @@
 ghost use Rattle.std.specs.Prelude.{◌≡◌, Ok, option_copied};
-ghost use Rattle.std.specs.List.{list_all};
-ghost use Rattle.std.specs.Str.{str_eq_ignore_ascii_case};
 ghost use Rattle.wf_value.specs.Gives.{Gives};
-ghost use Rattle.wf_value.specs.ScalarValue.{scalar_text};
-ghost use Rattle.wf_expr.specs.TemplateValue.{template_value};
-ghost use Rattle.workflow_runs.specs.Fitting.{has_label, has_labels};
 ghost use Rattle.workflow_runs.specs.GroupOf.{asked_of_leg, leg_group};
 ghost use Rattle.workflow_runs.specs.LegContext.{context_of};
-ghost use Rattle.workflow_runs.specs.Words.{is_set, label_texts};
+ghost use Rattle.workflow_runs.specs.Words.{is_set};
 
 mod label_texts;
 
@@ -16,10 +11,9 @@ use crate::named_group::named_group;
 use crate::run::Run;
 use group_name::GroupKey;
 use itoa::Buffer;
-use run_plan::{Label, PlannedJob};
+use run_plan::PlannedJob;
 use std::alloc::Global;
 use std::marker::Model;
-use wf_expr::Template;
 use wf_reader::{Concurrency, Flag};
 use wf_value::Refusal;
 
@@ -92,15 +86,6 @@ impl<'a> LegView<'a> {
         }
     }
 
-    /// Whether the leg asks for no label that these lack. It takes no memory.
-    pub(crate) fn is_served(&self, labels: &[Label]) -> bool
-        ensures { result ≡ has_labels labels.now (label_texts (context_of self.now) self.now.job.labels) }
-    {
-        let mut digits = Digits::new();
-        let context = self.context(&mut digits);
-        has_labels(labels, self.job.labels.as_slice(), &context)
-    }
-
     /// Whether a failure of the leg is passed over. It takes no memory.
     pub(crate) fn continues_on_error(&self) -> bool
         ensures { result ≡ is_set (context_of self.now) self.now.job.continue_on_error }
@@ -138,24 +123,4 @@ fn is_set(flag: &Flag, context: &LegContext<'_>) -> bool
         Flag::Fixed(set) => *set,
         Flag::Template(template) => template.sets_flag(context),
     }
-}
-
-/// Whether the label is the text of a template's value, whatever the case of ASCII letters.
-fn is_label(label: &Label, wanted: &Template, context: &LegContext<'_>) -> bool
-    ensures { result ≡ str_eq_ignore_ascii_case label.now (scalar_text (template_value (context_of context.now) wanted.now)) }
-{
-    wanted.is_text_ignoring_ascii_case(context, label.as_str().as_bytes())
-}
-
-fn has_label(labels: &[Label], wanted: &Template, context: &LegContext<'_>) -> bool
-    ensures { result ≡ has_label labels.now (scalar_text (template_value (context_of context.now) wanted.now)) }
-{
-    labels.iter().any(|label| is_label(label, wanted, context))
-}
-
-/// Whether each label that the templates ask for is among these.
-fn has_labels(labels: &[Label], wanted: &[Template], context: &LegContext<'_>) -> bool
-    ensures { result ≡ list_all (λ t. has_label labels.now (scalar_text (template_value (context_of context.now) t))) wanted.now }
-{
-    wanted.iter().all(|label| has_label(labels, label, context))
 }

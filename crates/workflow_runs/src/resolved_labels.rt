@@ -1,48 +1,54 @@
-//! The labels that a leg asks for, where they are known when an attempt of its run begins: a claim compares them then and looks nothing up.
-//! GitHub Docs, "Workflow syntax for GitHub Actions", `jobs.<job_id>.runs-on`.
+//! The labels that a leg asks for, bound when an attempt of its run begins: a claim looks nothing up. GitHub Docs, "Workflow syntax for
+//! GitHub Actions", `jobs.<job_id>.runs-on`.
 
-ghost use Rattle.std.specs.Prelude.{◌≡◌, ℕ, IfOk, Ok, Some, length, slice_get};
-ghost use Rattle.std.specs.List.{flat_map, list_all};
-ghost use Rattle.wf_expr.specs.Bound.{bound_of};
+ghost use Rattle.std.specs.Prelude.{◌≡◌, ℕ, IfOk, Ok, Some, length, map, slice_get};
+ghost use Rattle.std.specs.List.{list_all};
+ghost use Rattle.std.specs.Str.{str_eq_ignore_ascii_case};
+ghost use Rattle.wf_expr.specs.Bound.{bound_of, bound_text};
 ghost use Rattle.wf_value.specs.Gives.{ErrsOnlyByMemory, Gives};
-ghost use Rattle.workflow_runs.specs.KnownLabels.{AreKept, are_as_they_stand, are_kept, asks_nothing};
-ghost use Rattle.workflow_runs.specs.KnownLabels.{is_as_it_stands, kept_of, kept_of_leg, known_text};
+ghost use Rattle.workflow_runs.specs.Fitting.{has_label, has_labels};
+ghost use Rattle.workflow_runs.specs.KnownLabels.{AreKept, ask_nothing, asks_nothing, kept_of, kept_of_leg, otherwise_text, texts_by};
 ghost use Rattle.workflow_runs.specs.declared.resolved_labels.ResolvedLabels.{ResolvedLabels as WantedLabels};
 
 use crate::run_identity::RunIdentity;
-use run_plan::{MOST_LABELS, MOST_TEXT_BYTES, PlannedJob};
+use run_plan::{Label, PlannedJob};
 use std::alloc::Global;
-use wf_expr::{BoundPiece, Context, Needs, Piece, Template};
+use wf_expr::{BoundPiece, BoundTemplate, Context, NeedResults, Needs, Template};
 use wf_value::{Chars, Refusal, Sequence, TryCopy};
 
 /// What is kept of the labels that a leg asks for.
 #[derive(Drop)]
 pub enum ResolvedLabels {
-    /// Their texts, whatever results the run's jobs will have.
+    /// Their texts, where none asks for the result of a job.
     Known(Sequence<Chars>),
-    /// Nothing: each claim looks them up.
-    LookedUp,
+    /// All but the results that they ask for.
+    ByResults(Sequence<BoundTemplate>),
 }
 
 impl ResolvedLabels {
-    /// The labels in a context that lacks the results of needs alone. They are kept where each is known by then.
-    fn bind<C: Context, N: Needs>(
-        alloc: Global,
-        labels: &[Template],
-        known: &C,
-        needs: &N,
-    ) -> Result<Self, Refusal>
-        ensures { Gives (λ w. w) result (Ok (kept_of (C.values known.now) (N.need_of needs.now) labels.now)) }
+    fn of(alloc: Global, bound: Vec<BoundTemplate>) -> Result<Self, Refusal>
+        ensures { Gives (λ kept. kept) result (Ok (kept_of bound.items)) }
     {
-        let mut texts = Vec::with_capacity(alloc, labels.len())?;
-        for label in labels {
-            let text = known_label(alloc, label, known, needs)?;
-            match text {
-                Some(text) => texts.push(text)?,
-                None => return Ok(ResolvedLabels::LookedUp),
-            }
+        if are_known(bound.as_slice()) {
+            let texts = known_texts(alloc, bound.as_slice())?;
+            Ok(ResolvedLabels::Known(Sequence::new(texts)))
+        } else {
+            Ok(ResolvedLabels::ByResults(Sequence::new(bound)))
         }
-        Ok(ResolvedLabels::Known(Sequence::new(texts)))
+    }
+
+    /// Whether each of the labels, by the results, is among these. It takes no memory.
+    pub(crate) fn are_among<R: NeedResults>(&self, labels: &[Label], results: &R) -> bool
+        ensures { result ≡ has_labels labels.now (texts_by (R.result_of results.now) self.now) }
+    {
+        match self {
+            ResolvedLabels::Known(texts) => has_texts(labels, texts.as_slice()),
+            ResolvedLabels::ByResults(wanted) => has_bound_labels(
+                labels,
+                wanted.as_slice(),
+                results,
+            ),
+        }
     }
 }
 
@@ -50,38 +56,12 @@ impl TryCopy for ResolvedLabels {
     fn copy(&self, alloc: Global) -> Result<Self, Refusal> {
         match self {
             ResolvedLabels::Known(texts) => Ok(ResolvedLabels::Known(texts.copy(alloc)?)),
-            ResolvedLabels::LookedUp => Ok(ResolvedLabels::LookedUp),
+            ResolvedLabels::ByResults(bound) => Ok(ResolvedLabels::ByResults(bound.copy(alloc)?)),
         }
     }
 }
 
-/// The text of a label, where it is known.
-fn known_label<C: Context, N: Needs>(
-    alloc: Global,
-    label: &Template,
-    known: &C,
-    needs: &N,
-) -> Result<Option<Chars>, Refusal>
-    ensures { Gives (λ t. t) result (Ok (known_text (bound_of (C.values known.now) (N.need_of needs.now) label.now))) }
-{
-    let bound = label.bind(alloc, known, needs)?;
-    known_text(alloc, bound.pieces())
-}
-
-/// The text of what was bound, where it asks for no result and is no longer than a runner's label.
-fn known_text(alloc: Global, pieces: &[BoundPiece]) -> Result<Option<Chars>, Refusal>
-    ensures { Gives (λ t. t) result (Ok (known_text pieces.now)) }
-{
-    if !ask_nothing(pieces) {
-        return Ok(None);
-    }
-    let text = otherwise_text(alloc, pieces)?;
-    if text.as_str().len() <= MOST_TEXT_BYTES {
-        Ok(Some(text))
-    } else {
-        Ok(None)
-    }
-}
+// ---- labels that ask for no result
 
 fn asks_nothing(piece: &BoundPiece) -> bool
     ensures { result ≡ asks_nothing piece.now }
@@ -89,15 +69,21 @@ fn asks_nothing(piece: &BoundPiece) -> bool
     piece.needs.len() == 0
 }
 
-fn ask_nothing(pieces: &[BoundPiece]) -> bool
-    ensures { result ≡ list_all asks_nothing pieces.now }
+fn ask_nothing(label: &BoundTemplate) -> bool
+    ensures { result ≡ ask_nothing label.now }
 {
-    pieces.iter().all(|piece| asks_nothing(piece))
+    label.pieces().iter().all(|piece| asks_nothing(piece))
+}
+
+fn are_known(labels: &[BoundTemplate]) -> bool
+    ensures { result ≡ list_all ask_nothing labels.now }
+{
+    labels.iter().all(|label| ask_nothing(label))
 }
 
 /// What the pieces say where no need has a result.
 fn otherwise_text(alloc: Global, pieces: &[BoundPiece]) -> Result<Chars, Refusal>
-    ensures { Gives (λ t. t) result (Ok (flat_map (λ piece. piece.otherwise) pieces.now)) }
+    ensures { Gives (λ t. t) result (Ok (otherwise_text pieces.now)) }
 {
     let mut text = String::new(alloc);
     for piece in pieces {
@@ -106,53 +92,70 @@ fn otherwise_text(alloc: Global, pieces: &[BoundPiece]) -> Result<Chars, Refusal
     Ok(Chars::new(text))
 }
 
-// ---- which labels are worth keeping
-
-fn is_as_it_stands(piece: &Piece) -> bool
-    ensures { result ≡ is_as_it_stands piece.now }
+fn known_texts(alloc: Global, labels: &[BoundTemplate]) -> Result<Vec<Chars>, Refusal>
+    ensures { Gives (λ texts. texts.items) result (Ok (map otherwise_text labels.now)) }
 {
-    match piece {
-        Piece::Plain(_) => true,
-        Piece::Braced(_) => false,
+    let mut texts = Vec::with_capacity(alloc, labels.len())?;
+    for label in labels {
+        texts.push(otherwise_text(alloc, label.pieces())?)?;
     }
+    Ok(texts)
 }
 
-fn stands_so(label: &Template) -> bool
-    ensures { result ≡ list_all is_as_it_stands label.now }
+// ---- labels among those of a runner
+
+fn has_text(labels: &[Label], wanted: &Chars) -> bool
+    ensures { result ≡ has_label labels.now wanted.now }
 {
-    label.pieces().iter().all(|piece| is_as_it_stands(piece))
+    labels.iter().any(|label| label.as_str().eq_ignore_ascii_case(wanted.as_str()))
 }
 
-fn are_as_they_stand(labels: &[Template]) -> bool
-    ensures { result ≡ are_as_they_stand labels.now }
+pub(crate) fn has_texts(labels: &[Label], wanted: &[Chars]) -> bool
+    ensures { result ≡ has_labels labels.now wanted.now }
 {
-    labels.iter().all(|label| stands_so(label))
+    wanted.iter().all(|text| has_text(labels, text))
 }
 
-/// Whether something is looked up for the labels, and they are no more than a runner's.
-fn are_kept(labels: &[Template]) -> bool
-    ensures { result ≡ are_kept labels.now }
+/// Whether the label is the text of what was bound, whatever the case of ASCII letters.
+fn is_bound_label<R: NeedResults>(label: &Label, wanted: &BoundTemplate, results: &R) -> bool
+    ensures { result ≡ str_eq_ignore_ascii_case label.now (bound_text (R.result_of results.now) wanted.now) }
 {
-    labels.len() <= MOST_LABELS && !are_as_they_stand(labels)
+    wanted.is_text_ignoring_ascii_case(results, label.as_str().as_bytes())
+}
+
+fn has_bound_label<R: NeedResults>(labels: &[Label], wanted: &BoundTemplate, results: &R) -> bool
+    ensures { result ≡ has_label labels.now (bound_text (R.result_of results.now) wanted.now) }
+{
+    labels
+        .iter()
+        .any(|label| is_bound_label(label, wanted, results))
+}
+
+fn has_bound_labels<R: NeedResults>(labels: &[Label], wanted: &[BoundTemplate], results: &R) -> bool
+    ensures { result ≡ list_all (λ t. has_label labels.now (bound_text (R.result_of results.now) t)) wanted.now }
+{
+    wanted
+        .iter()
+        .all(|label| has_bound_label(labels, label, results))
 }
 
 // ---- those of a job's legs
 
-/// What is kept for each leg of a job, where its labels are worth keeping.
+/// What is kept for each leg of a job, where its labels are not written as they stand.
 pub(crate) fn bind_labels<'x>(
     alloc: Global,
     told: &'x RunIdentity<'_>,
     j: usize,
     job: &'x PlannedJob,
+    plain: &Option<Sequence<Chars>>,
 ) -> Result<Sequence<ResolvedLabels>, Refusal>
     ensures err { ErrsOnlyByMemory result }
-    ensures kept { IfOk result (AreKept told.now j job.now) }
+    ensures kept { IfOk result (AreKept told.now j job.now plain.now) }
 {
-    if !are_kept(job.labels.as_slice()) {
-        return Ok(Sequence::new(Vec::new(alloc)));
+    match plain {
+        Some(_) => Ok(Sequence::new(Vec::new(alloc))),
+        None => Ok(Sequence::new(bind_each(alloc, told, j, job)?)),
     }
-    let legs = bind_each(alloc, told, j, job)?;
-    Ok(Sequence::new(legs))
 }
 
 fn bind_each<'x>(
@@ -171,8 +174,25 @@ fn bind_each<'x>(
     let mut legs = Vec::with_capacity(alloc, count)?;
     for leg in 0..count {
         let context = told.leg_context(j, job, leg);
-        let wanted = ResolvedLabels::bind(alloc, job.labels.as_slice(), &context, &needs)?;
+        let bound = bound_labels(alloc, job.labels.as_slice(), &context, &needs)?;
+        let wanted = ResolvedLabels::of(alloc, bound)?;
         legs.push(wanted)?;
     }
     Ok(legs)
+}
+
+/// The labels in a context that lacks the results of needs alone.
+fn bound_labels<C: Context, N: Needs>(
+    alloc: Global,
+    labels: &[Template],
+    known: &C,
+    needs: &N,
+) -> Result<Vec<BoundTemplate>, Refusal>
+    ensures { Gives (λ bound. bound.items) result (Ok (map (bound_of (C.values known.now) (N.need_of needs.now)) labels.now)) }
+{
+    let mut bound = Vec::with_capacity(alloc, labels.len())?;
+    for label in labels {
+        bound.push(label.bind(alloc, known, needs)?)?;
+    }
+    Ok(bound)
 }

@@ -2,7 +2,7 @@ ghost use Rattle.std.specs.Prelude.{◌≡◌, ◌&&◌, ◌<◌, None, Ok, is_s
 ghost use Rattle.std.specs.List.{list_any, slice_index_or};
 ghost use Rattle.wf_value.specs.Gives.{Gives};
 ghost use Rattle.run_plan.specs.PlanOf.{plan_of};
-ghost use Rattle.workflow_runs.specs.Cells.{blocked_cells, states};
+ghost use Rattle.workflow_runs.specs.Cells.{blocked_cells, legs_planned, rooms, states};
 ghost use Rattle.workflow_runs.specs.Changes.{changed};
 ghost use Rattle.workflow_runs.specs.FirstOf.{changed_at};
 ghost use Rattle.workflow_runs.specs.LettingGo.{has_legs_at, has_legs_behind, holds_by_a_leg, holds_by_a_leg_of, job_asks};
@@ -118,6 +118,14 @@ impl Run {
 
     pub fn jobs(&self) -> &[Job]
         ensures { states result.now ≡ self.now.jobs }
+    {
+        self.jobs.as_slice()
+    }
+
+    /// The same: each has room for the legs that its plan has.
+    pub(crate) fn planned_jobs(&self) -> &[Job]
+        ensures jobs { states result.now ≡ self.now.jobs }
+        ensures rooms { rooms result.now ≡ legs_planned (plan_of self.now.admitted.body) }
     {
         self.jobs.as_slice()
     }

@@ -2,7 +2,7 @@
 
 ghost use Rattle.std.specs.Prelude.{◌≡◌, IfOk, MatchOption, Ok};
 ghost use Rattle.wf_value.specs.Gives.{ErrsOnlyByMemory, Gives};
-ghost use Rattle.run_table.specs.GroupSets.{AddsEach, AreGroupsOf, AreTaken, DifferInGroup, IsALegOfJob, IsALegOfRun, IsAny, IsOfRun};
+ghost use Rattle.run_table.specs.GroupSets.{AddsEach, AreGroupsOf, AreTaken, DifferInGroup, IsALeg, IsARun, IsAny};
 ghost use Rattle.run_table.specs.GroupSets.{group_as, stands};
 ghost use Rattle.workflow_runs.specs.Groups.{HasOneEach};
 ghost use Rattle.workflow_runs.specs.Holders.{holder_in_words};
@@ -12,8 +12,8 @@ use group_name::GroupKey;
 use std::alloc::Global;
 use wf_value::Refusal;
 use workflow_runs::holder::Holder;
-use workflow_runs::place::LegPlace;
 use workflow_runs::runs::Runs;
+use workflow_runs::walk::Legs;
 
 /// How a run or a leg stands in its group.
 #[derive(Clone, Copy)]
@@ -63,54 +63,40 @@ impl<'a> Gathering<'a> {
         }
     }
 
-    /// Adds the groups of all runs and legs, and says whether no two of them have one.
-    fn put_all(&self, groups: &mut GroupSet) -> Result<bool, Refusal>
+    fn put_runs(&self, groups: &mut GroupSet) -> Result<bool, Refusal>
         ensures err { ErrsOnlyByMemory result }
-        ensures put { IfOk result (AddsEach (group_as self.now.runs.now self.now.standing) groups.old groups.new IsAny) }
+        ensures put { IfOk result (AddsEach (group_as self.now.runs.now self.now.standing) groups.old groups.new IsARun) }
     {
         for r in 0..self.runs.len() {
-            if !self.put_of_run(groups, r)? {
+            if !self.put(groups, &Holder::Run(r))? {
                 return Ok(false);
             }
         }
         Ok(true)
     }
 
-    /// Adds the groups of the run and of its legs.
-    fn put_of_run(&self, groups: &mut GroupSet, r: usize) -> Result<bool, Refusal>
+    fn put_legs(&self, groups: &mut GroupSet) -> Result<bool, Refusal>
         ensures err { ErrsOnlyByMemory result }
-        ensures put { IfOk result (AddsEach (group_as self.now.runs.now self.now.standing) groups.old groups.new (IsOfRun r)) }
+        ensures put { IfOk result (AddsEach (group_as self.now.runs.now self.now.standing) groups.old groups.new IsALeg) }
     {
-        if self.put(groups, &Holder::Run(r))? {
-            self.put_legs_of_run(groups, r)
-        } else {
-            Ok(false)
-        }
-    }
-
-    fn put_legs_of_run(&self, groups: &mut GroupSet, r: usize) -> Result<bool, Refusal>
-        ensures err { ErrsOnlyByMemory result }
-        ensures put { IfOk result (AddsEach (group_as self.now.runs.now self.now.standing) groups.old groups.new (IsALegOfRun r)) }
-    {
-        for j in 0..self.runs.job_count(r) {
-            if !self.put_legs_of_job(groups, r, j)? {
-                return Ok(false);
-            }
-        }
-        Ok(true)
-    }
-
-    fn put_legs_of_job(&self, groups: &mut GroupSet, r: usize, j: usize) -> Result<bool, Refusal>
-        ensures err { ErrsOnlyByMemory result }
-        ensures put { IfOk result (AddsEach (group_as self.now.runs.now self.now.standing) groups.old groups.new (IsALegOfJob r j)) }
-    {
-        for l in 0..self.runs.leg_count(r, j) {
-            let place = LegPlace::new(r, j, l);
+        for (place, _) in Legs::of_runs(self.runs) {
             if !self.put(groups, &Holder::Leg(place))? {
                 return Ok(false);
             }
         }
         Ok(true)
+    }
+
+    /// Adds the groups of all runs and legs, and says whether no two of them have one.
+    fn put_all(&self, groups: &mut GroupSet) -> Result<bool, Refusal>
+        ensures err { ErrsOnlyByMemory result }
+        ensures put { IfOk result (AddsEach (group_as self.now.runs.now self.now.standing) groups.old groups.new IsAny) }
+    {
+        if self.put_runs(groups)? {
+            self.put_legs(groups)
+        } else {
+            Ok(false)
+        }
     }
 }
 

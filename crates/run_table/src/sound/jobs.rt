@@ -10,8 +10,6 @@ ghost use Rattle.workflow_runs.specs.SoundRuns.{LegsFit, MayLackLegs};
 ghost use Rattle.workflow_runs.specs.declared.phases.JobPhase.TheVariants.{Settled};
 ghost use Rattle.workflow_runs.specs.Words.{needs_have_settled, planned_legs};
 
-use crate::sound::leases::Leases;
-use crate::sound::legs::are_legs_sound;
 use wf_value::JobResult;
 use workflow_runs::job::Job;
 use workflow_runs::phases::JobPhase;
@@ -89,27 +87,20 @@ fn is_within_parallel(runs: &Runs, r: usize, j: usize, job: &Job) -> bool
     }
 }
 
-fn is_job_sound(leases: &Leases, runs: &Runs, r: usize, j: usize, job: &Job) -> bool
-    ensures { Decides result (JobIsSound leases.now runs.now r j job.now.state) }
+fn is_job_sound(runs: &Runs, r: usize, j: usize, job: &Job) -> bool
+    ensures { Decides result (JobIsSound runs.now r j job.now.state) }
 {
-    if !legs_fit(runs, r, j, job) {
-        return false;
-    }
-    if !needs_are_first(runs, r, j, job) {
-        return false;
-    }
-    if !is_within_parallel(runs, r, j, job) {
-        return false;
-    }
-    are_legs_sound(leases, r, j, job.legs())
+    legs_fit(runs, r, j, job)
+        && needs_are_first(runs, r, j, job)
+        && is_within_parallel(runs, r, j, job)
 }
 
-pub(crate) fn are_jobs_sound(leases: &Leases, runs: &Runs, r: usize, jobs: &[Job]) -> bool
-    ensures { Decides result (EachJobIsSound leases.now runs.now r (states jobs.now)) }
+pub(crate) fn are_jobs_sound(runs: &Runs, r: usize, jobs: &[Job]) -> bool
+    ensures { Decides result (EachJobIsSound runs.now r (states jobs.now)) }
 {
     for j in 0..jobs.len() {
         let job = &jobs[j];
-        if !is_job_sound(leases, runs, r, j, job) {
+        if !is_job_sound(runs, r, j, job) {
             return false;
         }
     }

@@ -4,19 +4,17 @@ ghost use Rattle.std.specs.BTreeMap.{get};
 ghost use Rattle.std.specs.Ordering.{nat_cmp};
 ghost use Rattle.std.specs.Prelude.{◌≡◌, ℕ, IfOk, OnOk, Some};
 ghost use Rattle.wf_value.specs.Gives.{ErrsOnlyByMemory};
-ghost use Rattle.run_table.specs.ByLease.{HasInJob, HasInRun, lease_of_leg, lease_of_runner};
+ghost use Rattle.run_table.specs.ByLease.{lease_of_leg, lease_of_runner};
 ghost use Rattle.run_table.specs.ByNumber.{Adds, Finds};
-ghost use Rattle.workflow_runs.specs.Cells.{states};
 
 use crate::runner::Runner;
 use run_plan::Number;
 use std::alloc::Global;
 use std::collections::BTreeMap;
 use wf_value::Refusal;
-use workflow_runs::job::Job;
-use workflow_runs::leg::Leg;
 use workflow_runs::place::LegPlace;
 use workflow_runs::runs::Runs;
+use workflow_runs::walk::Legs;
 
 /// What is known of the leases of a table.
 #[derive(Drop)]
@@ -35,40 +33,10 @@ pub(crate) fn legs_by_lease(alloc: Global, runs: &Runs) -> Result<BTreeMap<u32, 
     ensures found { IfOk result (λ legs. (n : ℕ) → Finds (lease_of_leg runs.now) n (get nat_cmp legs n)) }
 {
     let mut legs = BTreeMap::new(alloc);
-    let all = runs.as_slice();
-    for r in 0..all.len() {
-        let run = &all[r];
-        put_jobs(&mut legs, r, run.jobs())?;
+    for (place, leg) in Legs::of_runs(runs) {
+        put_leg(&mut legs, leg.lease, place)?;
     }
     Ok(legs)
-}
-
-fn put_jobs(legs: &mut BTreeMap<u32, LegPlace>, r: usize, jobs: &[Job]) -> Result<(), Refusal>
-    ensures err { ErrsOnlyByMemory result }
-    ensures put { OnOk result (Adds (get nat_cmp legs.old) (get nat_cmp legs.new) (HasInRun r (states jobs.now))) }
-{
-    for j in 0..jobs.len() {
-        let job = &jobs[j];
-        put_legs(legs, r, j, job.legs())?;
-    }
-    Ok(())
-}
-
-fn put_legs(
-    legs: &mut BTreeMap<u32, LegPlace>,
-    r: usize,
-    j: usize,
-    of_job: &[Leg],
-) -> Result<(), Refusal>
-    ensures err { ErrsOnlyByMemory result }
-    ensures put { OnOk result (Adds (get nat_cmp legs.old) (get nat_cmp legs.new) (HasInJob r j of_job.now)) }
-{
-    for l in 0..of_job.len() {
-        let place = LegPlace::new(r, j, l);
-        let leg = &of_job[l];
-        put_leg(legs, leg.lease, place)?;
-    }
-    Ok(())
 }
 
 /// Puts the place of a leg under its lease, where it has one.

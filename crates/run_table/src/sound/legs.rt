@@ -12,6 +12,8 @@ use wf_value::Outcome;
 use workflow_runs::leg::Leg;
 use workflow_runs::phases::LegPhase;
 use workflow_runs::place::LegPlace;
+use workflow_runs::runs::Runs;
+use workflow_runs::walk::Legs;
 
 /// Whether a leg in this phase may have this lease, or may lack one.
 fn lease_fits(phase: LegPhase, lease: Option<Number>) -> bool
@@ -71,12 +73,10 @@ fn is_leg_sound(leases: &Leases, place: LegPlace, leg: &Leg) -> bool
         && is_found(leases, place, leg)
 }
 
-pub(crate) fn are_legs_sound(leases: &Leases, r: usize, j: usize, legs: &[Leg]) -> bool
-    ensures { Decides result (EachLegIsSound leases.now r j legs.now) }
+pub(crate) fn are_legs_sound(leases: &Leases, runs: &Runs) -> bool
+    ensures { Decides result (EachLegIsSound leases.now runs.now) }
 {
-    for l in 0..legs.len() {
-        let place = LegPlace::new(r, j, l);
-        let leg = &legs[l];
+    for (place, leg) in Legs::of_runs(runs) {
         if !is_leg_sound(leases, place, leg) {
             return false;
         }

@@ -10,7 +10,6 @@ ghost use Rattle.workflow_runs.specs.StateWords.{is_blocked};
 
 use crate::content::LAST_ATTEMPT;
 use crate::sound::jobs::are_jobs_sound;
-use crate::sound::leases::Leases;
 use workflow_runs::first_place::has_settled_jobs;
 use workflow_runs::job::Job;
 use workflow_runs::phases::RunPhase;
@@ -47,8 +46,8 @@ fn phase_fits(run: &Run) -> bool
     }
 }
 
-fn is_run_sound(leases: &Leases, runs: &Runs, r: usize, run: &Run) -> bool
-    ensures { Decides result (RunIsSound leases.now runs.now r run.now) }
+fn is_run_sound(runs: &Runs, r: usize, run: &Run) -> bool
+    ensures { Decides result (RunIsSound runs.now r run.now) }
 {
     if !attempt_is_given(run) {
         return false;
@@ -56,16 +55,16 @@ fn is_run_sound(leases: &Leases, runs: &Runs, r: usize, run: &Run) -> bool
     if !phase_fits(run) {
         return false;
     }
-    are_jobs_sound(leases, runs, r, run.jobs())
+    are_jobs_sound(runs, r, run.jobs())
 }
 
-pub(crate) fn are_runs_sound(leases: &Leases, runs: &Runs) -> bool
-    ensures { Decides result (EachRunIsSound leases.now runs.now) }
+pub(crate) fn are_runs_sound(runs: &Runs) -> bool
+    ensures { Decides result (EachRunIsSound runs.now) }
 {
     let all = runs.as_slice();
     for r in 0..all.len() {
         let run = &all[r];
-        if !is_run_sound(leases, runs, r, run) {
+        if !is_run_sound(runs, r, run) {
             return false;
         }
     }

@@ -8,11 +8,12 @@ ghost use Rattle.workflow_runs.specs.Rules.{opened, run_in_phase, settled_as, wi
 ghost use Rattle.workflow_runs.specs.Stops.{stopped_run, with_stopped_legs};
 ghost use Rattle.workflow_runs.specs.Words.{planned_legs};
 
-use crate::change::Change;
+use crate::change::{Change, Taken};
 use crate::leg::Leg;
 use crate::phases::{LegPhase, RunPhase};
 use crate::place::LegPlace;
 use crate::runs::Runs;
+use crate::runs::offers::offer;
 use wf_value::JobResult;
 
 impl Runs {
@@ -20,14 +21,53 @@ impl Runs {
     fn change(&mut self, r: usize, change: Change)
         ensures { self.new ≡ with_run r (changed change) self.old }
     {
+        let taken = self.taken(r, &change);
+        self.write(r, change);
+        self.look_again_after(r, taken);
+    }
+
+    /// Which ready legs the change of the run at a place may take. It is a hint: the run is looked at before a mark is taken away.
+    fn taken(&self, r: usize, change: &Change) -> Taken {
+        match change {
+            Change::PutLeg(j, l, leg) => self.taken_leg(LegPlace::new(r, *j, *l), leg),
+            Change::Stop | Change::StopLegs(_) => Taken::any_if(self.offers_legs(r)),
+            Change::Phase(_) | Change::Open(_) | Change::Settle(_, _) => Taken::Nothing,
+        }
+    }
+
+    /// The leg at a place, where it is ready and the next one there is not.
+    fn taken_leg(&self, place: LegPlace, next: &Leg) -> Taken {
+        match self.leg(place) {
+            Some(leg) if leg.is_ready() && !next.is_ready() => Taken::One(place),
+            _ => Taken::Nothing,
+        }
+    }
+
+    /// Claims pass the run of the legs that were taken, where no such leg is ready any more.
+    fn look_again_after(&mut self, r: usize, taken: Taken)
+        ensures { self.new ≡ self.old }
+    {
+        match taken {
+            Taken::Nothing => {}
+            Taken::One(place) => self.look_again_for_list(place),
+            Taken::Any => self.look_again_for_offers(r),
+        }
+    }
+
+    /// Writes the change, with all that it marks.
+    fn write(&mut self, r: usize, change: Change)
+        ensures { self.new ≡ with_run r (changed change) self.old }
+    {
         if r < self.runs.len() {
             let freed = self.freed(r, &change);
             let newcomer = change.newcomer(r);
+            let offered = change.offered(r);
             let runs = self.runs.as_slice();
             let asks = &self.asks[r];
             self.marks
                 .wake_freed(&freed, &self.index.groups, asks, runs.len());
             self.index.groups.list_newcomer(newcomer, runs, asks);
+            offer(&mut self.index.lists, offered, asks);
             self.marks.stir(r, 0);
             let run = &mut self.runs[r];
             run.change(change);

@@ -6,7 +6,7 @@ ghost use Rattle.run_marks.specs.Marked.{is_marked};
 ghost use Rattle.workflow_runs.specs.FirstOf.{placed};
 ghost use Rattle.workflow_runs.specs.Holders.{first_conflicting, holder_in_words, is_conflicting};
 ghost use Rattle.workflow_runs.specs.Moves.{Holder as HolderOfGroup};
-ghost use Rattle.workflow_runs.specs.Places.{job_at, leg_places, leg_places_of_job, leg_places_of_run, run_at};
+ghost use Rattle.workflow_runs.specs.Places.{leg_places, leg_places_of_run, run_at};
 ghost use Rattle.workflow_runs.specs.SlotHolders.{HaveAll, TellsOf, first_marked, is_marked_conflicting};
 ghost use Rattle.workflow_runs.specs.declared.holder.Holder.{Holder as HolderInCode};
 ghost use Rattle.workflow_runs.specs.declared.holder.HolderFilter.{HolderFilter as FilterInCode};
@@ -15,6 +15,7 @@ use crate::holder::{Holder, HolderFilter};
 use crate::place::LegPlace;
 use crate::runs::Runs;
 use crate::runs::marks::next_below;
+use crate::walk::Legs;
 use group_book::Slot;
 use run_marks::Marks;
 
@@ -169,30 +170,10 @@ impl Runs {
             (λ run. find (λ p. is_conflicting self.now (holder_in_words holder.now) whom (HolderOfGroup.a_leg p)) (leg_places_of_run (r, run)))
             (run_at self.now r) }
     {
-        for j in 0..self.job_count(r) {
-            let leg = self.first_conflicting_leg_of_job(holder, whom, r, j);
-            if leg.is_some() {
-                return leg;
-            }
-        }
-        None
-    }
-
-    fn first_conflicting_leg_of_job(
-        &self,
-        holder: &Holder,
-        whom: HolderFilter,
-        r: usize,
-        j: usize,
-    ) -> Option<LegPlace>
-        ensures { result ≡ option_and_then
-            (λ job. find (λ p. is_conflicting self.now (holder_in_words holder.now) whom (HolderOfGroup.a_leg p)) (leg_places_of_job r (j, job)))
-            (job_at self.now r j) }
-    {
-        for l in 0..self.leg_count(r, j) {
-            let leg = LegPlace::new(r, j, l);
-            if self.is_conflicting(holder, whom, &Holder::Leg(leg)) {
-                return Some(leg);
+        let run = self.run(r)?;
+        for (place, _) in Legs::of_run(r, run) {
+            if self.is_conflicting(holder, whom, &Holder::Leg(place)) {
+                return Some(place);
             }
         }
         None

@@ -1,6 +1,6 @@
 //! Which group a run or a leg is in, whether it waits for it or holds it, and what its coming there does. It takes no memory.
 
-ghost use Rattle.std.specs.Prelude.{◌≡◌, IfSome, Some, false, true, is_some, length, option_and_then, option_map};
+ghost use Rattle.std.specs.Prelude.{◌≡◌, IfSome, Some, false, true, is_some, option_and_then, option_map};
 ghost use Rattle.std.specs.Option.{option_map_or};
 ghost use Rattle.group_name.specs.BoundGroup.{group_at as bound_group_at};
 ghost use Rattle.workflow_runs.specs.Arrivals.{arrived, is_in_group_of_run};
@@ -10,7 +10,7 @@ ghost use Rattle.workflow_runs.specs.GroupOf.{RunFacts, cancels_in_progress, gro
 ghost use Rattle.workflow_runs.specs.Groups.{HasOneBeside, holds, is_in, may_start, waits};
 ghost use Rattle.workflow_runs.specs.Holders.{first_conflicting, holder_in_words, is_conflicting};
 ghost use Rattle.workflow_runs.specs.LookAgain.{finds_others, makes_room};
-ghost use Rattle.workflow_runs.specs.Places.{job_at, run_at, with_leg};
+ghost use Rattle.workflow_runs.specs.Places.{run_at, with_leg};
 ghost use Rattle.workflow_runs.specs.SoundRuns.{RunsAreSound};
 ghost use Rattle.workflow_runs.specs.StopMoves.{stop_holder};
 ghost use Rattle.workflow_runs.specs.Stops.{stopped};
@@ -117,24 +117,6 @@ impl Runs {
                 self.waits(other) && !other.is(holder) && self.is_in_group_of(holder, other)
             }
             HolderFilter::Running => self.holds(other) && self.is_in_group_of(holder, other),
-        }
-    }
-
-    pub fn job_count(&self, r: usize) -> usize
-        ensures { result ≡ option_map_or (λ run. length run.jobs) (run_at self.now r) 0 }
-    {
-        match self.runs.get(r) {
-            Some(run) => run.job_count(),
-            None => 0,
-        }
-    }
-
-    pub fn leg_count(&self, r: usize, j: usize) -> usize
-        ensures { result ≡ option_map_or (λ job. length job.legs) (job_at self.now r j) 0 }
-    {
-        match self.job(r, j) {
-            Some(job) => job.legs().len(),
-            None => 0,
         }
     }
 

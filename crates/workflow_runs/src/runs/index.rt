@@ -1,4 +1,5 @@
-//! The index of a table's runs: where the run of each delivery stands, how many runs each workflow has, and who may hold each group.
+//! The index of a table's runs: where the run of each delivery stands, how many runs each workflow has, who may hold each group, and which
+//! runs may have a ready leg for a list of labels.
 
 ghost use Rattle.std.specs.List.{position};
 ghost use Rattle.std.specs.Prelude.{◌≡◌, ◌+◌, ◌<◌, ◌&&◌, ◌∷◌, ◌++◌, ℕ, [], IfOk, List, OnErr, OnOk, Some, if◌then◌else◌, is_none};
@@ -10,6 +11,7 @@ ghost use Rattle.run_plan.specs.Admitted.{Admitted};
 ghost use Rattle.workflow_runs.specs.Counted.{AreCounted, IsOf, count_of, is_counted};
 ghost use Rattle.workflow_runs.specs.Delivered.{FindsFirst};
 ghost use Rattle.workflow_runs.specs.FoundHolders.{HoldersAreFound};
+ghost use Rattle.workflow_runs.specs.LabelNumbers.{LegsAreOffered};
 ghost use Rattle.workflow_runs.specs.NewRun.{is_delivered_as};
 ghost use Rattle.workflow_runs.specs.RunNumber.{events, number_of_next};
 
@@ -17,28 +19,34 @@ use crate::run::Run;
 use crate::runs::counts::{Counts, Workflow};
 use crate::runs::group_holders::GroupHolders;
 use crate::runs::places::DeliveryPlaces;
+use label_lists::LabelLists;
 use run_plan::Prepared;
 use std::alloc::Global;
 use wf_value::Refusal;
 
-/// Where the run of each delivery stands, how many runs there are of each workflow, and who may hold each concurrency group.
+/// Where the run of each delivery stands, how many runs there are of each workflow, who may hold each concurrency group, and which runs may
+/// have a ready leg that asks for a list of labels.
 #[derive(Drop)]
 pub(crate) struct Index {
     pub places: DeliveryPlaces,
     pub counts: Counts,
     pub groups: GroupHolders,
+    pub lists: LabelLists,
 }
 
 impl Index {
+    #[tactic(auto, using(crate::proofs::LegsOffered::none_offered))]
     pub(crate) fn new(alloc: Global) -> Self
         ensures places { FindsFirst [] result.places.places }
         ensures counts { AreCounted [] result.counts.counts }
         ensures groups { HoldersAreFound [] [] result.groups.book.entries result.groups.unlisted }
+        ensures offered { LegsAreOffered [] [] result.lists }
     {
         Index {
             places: DeliveryPlaces::new(alloc),
             counts: Counts::new(alloc),
             groups: GroupHolders::new(alloc),
+            lists: LabelLists::new(alloc),
         }
     }
 
@@ -64,6 +72,7 @@ impl Index {
         ensures one_more { OnOk result (FindsFirst (events runs.now ++ event.now ∷ []) self.new.places.places) }
         ensures room { OnOk result (is_counted self.new.counts.counts event.now ≡ true) }
         ensures groups { self.new.groups ≡ self.old.groups }
+        ensures lists { self.new.lists ≡ self.old.lists }
     {
         self.take_memory(alloc, event, workflow, runs.len(), found)
     }
@@ -88,6 +97,7 @@ impl Index {
         ensures uncounted { (other : Admitted) → count_of self.new.counts.counts other ≡ count_of self.old.counts.counts other }
         ensures room { OnOk result (is_counted self.new.counts.counts event.now ≡ true) }
         ensures groups { self.new.groups ≡ self.old.groups }
+        ensures lists { self.new.lists ≡ self.old.lists }
     {
         let number = self.counts.count(workflow) + 1;
         self.counts.make_room(alloc, workflow)?;
@@ -104,11 +114,13 @@ impl Index {
             → count_of index.counts.counts event ≡ count_of self.now.counts.counts event) }
         ensures book { IfOk result (λ index. index.groups.book.entries ≡ self.now.groups.book.entries) }
         ensures unlisted { IfOk result (λ index. index.groups.unlisted ≡ self.now.groups.unlisted) }
+        ensures lists { IfOk result (λ index. index.lists ≡ self.now.lists) }
     {
         Ok(Index {
             places: self.places.copy()?,
             counts: self.counts.copy()?,
             groups: self.groups.copy(alloc)?,
+            lists: self.lists.copy(alloc)?,
         })
     }
 }

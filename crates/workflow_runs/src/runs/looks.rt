@@ -6,23 +6,27 @@ ghost use Rattle.workflow_runs.specs.MarkedRuns.{is_active, is_so_at, offers_leg
 ghost use Rattle.workflow_runs.specs.Places.{run_at};
 ghost use Rattle.workflow_runs.specs.RunState.{RunState};
 ghost use Rattle.workflow_runs.specs.Settling.{first_place};
-ghost use Rattle.workflow_runs.specs.WithinRun.{first_in_run};
+ghost use Rattle.workflow_runs.specs.WithinRun.{first_in_run, fit_in_run};
 
 use crate::first_place::first_in_run_at;
-use crate::place::{JobPlace, Place};
+use crate::label_numbers::list_number;
+use crate::place::{JobPlace, LegPlace, Place};
 use crate::runs::Runs;
 use crate::runs::marks::next_below;
+use crate::runs::offers::{below, first_offering, offers_list, put_run};
+use run_plan::Label;
 
 impl Runs {
-    /// The next run that may have a ready leg.
-    pub(crate) fn next_ready(&self, from: usize) -> Option<usize>
+    /// The next run in which a leg may be ready that these labels serve.
+    pub(crate) fn next_offering(&self, labels: &[Label], from: usize) -> Option<usize>
         ensures within { IfSome result (λ r. r < length self.now) }
         ensures few { IfSome result (λ r. r < 100000) }
         ensures from { IfSome result (λ r. from ≤ r) }
-        ensures between { IfSome result (λ r. (i : ℕ) → from ≤ i → i < r → is_so_at offers_legs self.now i ≡ false) }
-        ensures none { IfNone result ((i : ℕ) → from ≤ i → is_so_at offers_legs self.now i ≡ false) }
+        ensures between { IfSome result (λ r. (i : ℕ) → from ≤ i → i < r → ask (fit_in_run labels.now self.now) self.now i ≡ None) }
+        ensures none { IfNone result ((i : ℕ) → from ≤ i → ask (fit_in_run labels.now self.now) self.now i ≡ None) }
     {
-        next_below(&self.marks.ready, from, self.len())
+        let found = first_offering(&self.index.lists, labels, from);
+        below(found, self.len())
     }
 
     /// The next run in which a rule may apply.
@@ -47,7 +51,7 @@ impl Runs {
         next_below(&self.marks.active, from, self.len())
     }
 
-    fn offers_legs(&self, r: usize) -> bool
+    pub(crate) fn offers_legs(&self, r: usize) -> bool
         ensures { result ≡ is_so_at offers_legs self.now r }
     {
         match self.runs.get(r) {
@@ -74,23 +78,41 @@ impl Runs {
         }
     }
 
-    /// Claims pass the run where no leg of it is ready, nobody wakes it where nobody in it waits, and neither a lease nor a holder of a group
-    /// is looked for in it where it is not active: nobody in it stands then who would have to be listed.
+    /// Nobody wakes the run where nobody in it waits. Where it is not active, neither a lease nor a holder of a group is looked for in it, nor a
+    /// ready leg: nobody in it stands then who would have to be listed.
     fn look_again(&mut self, r: usize)
         requires { r < length self.old }
         ensures { self.new ≡ self.old }
     {
-        self.look_again_for_ready(r);
         self.look_again_for_waiting(r);
-        self.look_again_for_active(r);
+        if !self.is_active(r) {
+            self.pass(r);
+            self.look_again_for_offers(r);
+        }
     }
 
-    fn look_again_for_ready(&mut self, r: usize)
-        requires { r < length self.old }
+    /// Claims pass the run where no leg of it is ready.
+    pub(crate) fn look_again_for_offers(&mut self, r: usize)
         ensures { self.new ≡ self.old }
     {
-        if !self.offers_legs(r) {
-            self.marks.ready.unmark(r);
+        if r < self.runs.len() && !self.offers_legs(r) {
+            let asks = &self.asks[r];
+            put_run(&mut self.index.lists, asks.lists.as_slice(), r, false);
+        }
+    }
+
+    /// Claims of runners that serve the list of a leg pass the run where no ready leg of it asks for that.
+    pub(crate) fn look_again_for_list(&mut self, place: LegPlace)
+        ensures { self.new ≡ self.old }
+    {
+        let r = place.run;
+        if r < self.runs.len() {
+            let run = &self.runs[r];
+            let numbers = self.asks[r].lists.as_slice();
+            let number = list_number(numbers, place.job, place.leg);
+            if !offers_list(run, numbers, number) {
+                self.index.lists.unmark(number, r);
+            }
         }
     }
 
@@ -103,18 +125,18 @@ impl Runs {
         }
     }
 
-    fn look_again_for_active(&mut self, r: usize)
-        requires { r < length self.old }
+    /// The run, which is not active, is passed where an active one is looked for.
+    fn pass(&mut self, r: usize)
+        requires within { r < length self.old }
+        requires rests { is_so_at is_active self.old r ≡ false }
         ensures { self.new ≡ self.old }
     {
-        if !self.is_active(r) {
-            self.marks.active.unmark(r);
-            self.index.groups.unlisted.unmark(r);
-        }
+        self.marks.active.unmark(r);
+        self.index.groups.unlisted.unmark(r);
     }
 
-    /// Settling passes the run, in which no rule applies, until it changes or may go on. While it went on it was marked for everything: its
-    /// legs are looked at once, however many of them changed.
+    /// Settling passes the run, in which no rule applies, until it changes or may go on. While it went on it was marked as waiting and as
+    /// active: it is looked at once, however many of its legs changed.
     pub(crate) fn rest(&mut self, r: usize)
         requires within { r < length self.old }
         requires rests { ask (first_in_run self.old) self.old r ≡ None }

@@ -11,8 +11,6 @@ use std::alloc::{AllocError, Global};
 /// Which runs have something for a command or for settling, each at least where it has.
 #[derive(Drop)]
 pub(crate) struct RunMarks {
-    /// Those with a ready leg.
-    pub ready: Marks,
     /// Those that wait for a group, or in which a leg does.
     pub waiting: Marks,
     /// Those that wait or are live, or in which a leg waits for its group, or holds it.
@@ -26,7 +24,6 @@ impl RunMarks {
         ensures { RunsAreMarked [] result }
     {
         RunMarks {
-            ready: Marks::new(alloc),
             waiting: Marks::new(alloc),
             active: Marks::new(alloc),
             due: Marks::new(alloc),
@@ -37,7 +34,6 @@ impl RunMarks {
         ensures { IfOk result (λ marks. marks ≡ self.now) }
     {
         Ok(RunMarks {
-            ready: self.ready.copy()?,
             waiting: self.waiting.copy()?,
             active: self.active.copy()?,
             due: self.due.copy()?,
@@ -49,7 +45,6 @@ impl RunMarks {
         ensures grows { OnlyGrows self.old self.new }
         ensures covers { OnOk result (CoversRuns self.new bound) }
     {
-        self.ready.cover(bound)?;
         self.waiting.cover(bound)?;
         self.active.cover(bound)?;
         self.due.cover(bound)
@@ -64,7 +59,6 @@ impl RunMarks {
     {
         wake(&mut self.due, &self.waiting, bound);
         self.due.mark(r);
-        self.ready.mark(r);
         self.waiting.mark(r);
         self.active.mark(r);
     }

@@ -11,6 +11,7 @@ ghost use Rattle.workflow_runs.specs.RunNumber.{events, run_number};
 use crate::asks::RunBindings;
 use crate::run::Run;
 use crate::runs::Runs;
+use crate::runs::offers::offer_run;
 use std::alloc::Global;
 use wf_value::Refusal;
 
@@ -46,7 +47,10 @@ impl Runs {
         ensures again { Gives (λ _. self.new) result (Ok (with_run r again self.old)) }
         ensures err { OnErr result (self.new ≡ self.old) }
     {
-        let asks = self.index.groups.enter(alloc, asked, r + 1)?;
+        self.index.lists.cover(r + 1)?;
+        let grouped = self.index.groups.enter(alloc, asked, r + 1)?;
+        let asks = grouped.with_lists(alloc, &mut self.index.lists, r)?;
+        offer_run(&mut self.index.lists, &asks, r, &next);
         let count = self.runs.len();
         self.marks.stir(r, count);
         put_at(&mut self.runs, r, next);

@@ -1,11 +1,11 @@
 use Rattle.std.proofs.Common.{◌-◌, length}
+use Rattle.workflow_runs.specs.WithinRun.{fit_in_run}
 use Rattle.workflow_runs.proofs.Firsts.{NoneBefore}
-use Rattle.workflow_runs.proofs.NoneReady.{fit_of}
 use Rattle.workflow_runs.proofs.fit.first_fit.Given as goal
 
 -- none so far is the one
 abbrev pub invariant-loop-r : goal.invariant-loop-r
-invariant-loop-r l = NoneBefore (fit_of l.labels l.runs) l.runs l.from
+invariant-loop-r l = NoneBefore (fit_in_run l.labels l.runs) l.runs l.from
 
 abbrev pub decreases-loop-r : goal.decreases-loop-r
 decreases-loop-r l = length l.runs - l.from

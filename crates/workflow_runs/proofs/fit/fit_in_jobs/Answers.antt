@@ -1,4 +1,6 @@
+use Rattle.std.specs.Prelude.{◌<◌, length, refl}
 use Rattle.std.proofs.Common.{arith, rules}
+use Rattle.std.proofs.lemmas.Option.{slice_get_read}
 use Rattle.workflow_runs.specs.WithinRun.{fit_in_job}
 use Rattle.workflow_runs.proofs.Firsts.{job_answers, job_passed, no_job_answers}
 use Rattle.workflow_runs.proofs.fit.fit_in_jobs.Goals as goal
@@ -16,3 +18,9 @@ loop-j-preserved c =
 pub returns-clause-found : goal.returns-clause-found
 returns-clause-found c =
     no_job_answers (fit_in_job c.args.labels.now c.args.runs.now c.args.r) c.args.jobs.now c.loop-j.j c.loop-j.invariant (omega arith)
+
+pub fit_in_job-place-requires : goal.fit_in_job-place-requires
+fit_in_job-place-requires c =
+    let jobs = c.args.jobs.now in
+    let within : c.loop-j.j < length jobs = omega arith in
+    c.requires c.loop-j.j c.index-jobs-j.result (slice_get_read jobs (length jobs) c.loop-j.j c.index-jobs-j.result refl within c.index-jobs-j.is)

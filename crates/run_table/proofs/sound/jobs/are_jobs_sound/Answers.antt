@@ -7,11 +7,11 @@ use Rattle.workflow_runs.proofs.OneAfterAnother.{each_mapped, each_unmapped, non
 use Rattle.run_table.proofs.sound.jobs.are_jobs_sound.Goals as goal
 
 pub loop-j-init : goal.loop-j-init
-loop-j-init c = none_yet (λ (k : ℕ) (x : JobCells). JobIsSound c.args.leases.now c.args.runs.now c.args.r k x.state) c.args.jobs.now
+loop-j-init c = none_yet (λ (k : ℕ) (x : JobCells). JobIsSound c.args.runs.now c.args.r k x.state) c.args.jobs.now
 
 pub returns-then-not-is_job_sound : goal.returns-then-not-is_job_sound
 returns-then-not-is_job_sound c =
-    let sound = λ (k : ℕ) (x : JobState). JobIsSound c.args.leases.now c.args.runs.now c.args.r k x in
+    let sound = λ (k : ℕ) (x : JobState). JobIsSound c.args.runs.now c.args.r k x in
     let fails : c.is_job_sound.result ≡ false = search rules in
     Decides-like false (each_mapped sound (λ (x : JobCells). x.state) c.args.jobs.now)
     (each_unmapped sound (λ (x : JobCells). x.state) c.args.jobs.now)
@@ -20,12 +20,12 @@ returns-then-not-is_job_sound c =
 
 pub loop-j-preserved : goal.loop-j-preserved
 loop-j-preserved c =
-    one_passed (λ (k : ℕ) (x : JobCells). JobIsSound c.args.leases.now c.args.runs.now c.args.r k x.state) c.args.jobs.now c.loop-j.j
+    one_passed (λ (k : ℕ) (x : JobCells). JobIsSound c.args.runs.now c.args.r k x.state) c.args.jobs.now c.loop-j.j
     c.index-jobs-j.result c.loop-j.invariant (omega arith) c.index-jobs-j.is (c.is_job_sound.ensures.0 (search rules))
 
 pub returns : goal.returns
 returns c =
-    let sound = λ (k : ℕ) (x : JobState). JobIsSound c.args.leases.now c.args.runs.now c.args.r k x in
+    let sound = λ (k : ℕ) (x : JobState). JobIsSound c.args.runs.now c.args.r k x in
     Decides-like true (each_mapped sound (λ (x : JobCells). x.state) c.args.jobs.now)
     (each_unmapped sound (λ (x : JobCells). x.state) c.args.jobs.now)
     (passed (λ (k : ℕ) (x : JobCells). sound k x.state) c.args.jobs.now c.loop-j.j c.loop-j.invariant (omega arith))

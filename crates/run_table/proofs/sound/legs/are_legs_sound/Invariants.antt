@@ -1,8 +1,10 @@
-use Rattle.run_table.specs.OneByOne.{LegIsSound}
-use Rattle.workflow_runs.specs.Places.{leg_place}
-use Rattle.workflow_runs.proofs.OneAfterAnother.{SoFar}
+use Rattle.std.specs.List.{AllByRecursion}
+use Rattle.run_table.specs.OneByOne.{EachLegIsSound, LegIsSound}
+use Rattle.workflow_runs.specs.PlacedLegs.{PlacedLeg}
 use Rattle.run_table.proofs.sound.legs.are_legs_sound.Given as goal
 
--- each leg so far is sound
-abbrev pub invariant-loop-l : goal.invariant-loop-l
-invariant-loop-l l = SoFar (λ k x. LegIsSound l.leases (leg_place l.r l.j k) x) l.legs l.l
+-- each leg is sound exactly where each that is left is
+abbrev pub invariant-loop-place : goal.invariant-loop-place
+invariant-loop-place l =
+    (AllByRecursion (λ (x : PlacedLeg). LegIsSound l.leases x.place x.leg) l.place-iterator → EachLegIsSound l.leases l.runs)
+    × (EachLegIsSound l.leases l.runs → AllByRecursion (λ (x : PlacedLeg). LegIsSound l.leases x.place x.leg) l.place-iterator)

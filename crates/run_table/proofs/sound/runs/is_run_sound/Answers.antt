@@ -16,7 +16,7 @@ pub returns : goal.returns
 returns c =
     let begun : c.attempt_is_given.result ≡ true = search rules in
     let fits : c.phase_fits.result ≡ true = search rules in
-    let jobs = subst (λ (jobs : List JobState). Decides c.are_jobs_sound.result (EachJobIsSound c.args.leases.now c.args.runs.now c.args.r jobs))
+    let jobs = subst (λ (jobs : List JobState). Decides c.are_jobs_sound.result (EachJobIsSound c.args.runs.now c.args.r jobs))
     c.jobs.ensures c.are_jobs_sound.ensures in (
       (λ e. record {
         attempt_is_given = c.attempt_is_given.ensures.0 begun;

@@ -1,6 +1,7 @@
-use Rattle.std.proofs.Common.{◌≡◌, ◌≤◌, ◌+◌, ◌++◌, ◌∷◌, ◌<◌, [], ℕ, List, length, ap, sym, subst, ◌∙◌, rules}
+use Rattle.std.proofs.Common.{arith, ◌≡◌, ◌≤◌, ◌+◌, ◌++◌, ◌∷◌, ◌<◌, [], ℕ, List, length, ap, sym, subst, ◌∙◌, rules}
 use Rattle.std.specs.Fmt.{decimal}
 use Rattle.run_plan.specs.Admitted.{Admitted}
+use Rattle.label_lists.specs.Lists.{ListsState, OnlyGrows as ListsGrow}
 use Rattle.run_marks.specs.Marked.{SameMarks}
 use Rattle.workflow_runs.specs.Asks.{RunSays}
 use Rattle.workflow_runs.specs.Counted.{count_of}
@@ -15,10 +16,11 @@ use Rattle.workflow_runs.specs.RunsKept.{RunsAreKept}
 use Rattle.workflow_runs.specs.declared.runs.group_holders.GroupHolders.{GroupHolders}
 use Rattle.workflow_runs.specs.declared.runs.marks.RunMarks.{RunMarks}
 use Rattle.workflow_runs.proofs.GroupNumbers.{each_more, each_stays}
+use Rattle.workflow_runs.proofs.LabelNumbers.{grows_more}
 use Rattle.workflow_runs.proofs.Indexed.{counted_more, events_more}
 use Rattle.workflow_runs.proofs.MarkedRuns.{marks_grown, marks_more}
 use Rattle.workflow_runs.proofs.RunNumbers.{count_of_map}
-use Rattle.workflow_runs.proofs.StillBound.{all_added, found_added, kept_entered, kept_in}
+use Rattle.workflow_runs.proofs.StillBound.{all_added, found_added, kept_entered, kept_grown, kept_in, offered_added}
 use Rattle.workflow_runs.proofs.runs.Runs.add_counted.Goals as goal
 use Rattle.workflow_runs.proofs.runs.Runs.add_counted.Goals.{In_ok-reserve}
 
@@ -29,7 +31,7 @@ still_kept : (c : In_ok-reserve)
 still_kept c =
     kept_in c.self.inside.runs.items c.as_slice-runs.result.now c.self.inside.numbers.items c.self.inside.asks.items c.self.inside.index
     c.make_room.new.self c.self.inside.marks c.as_slice-runs.ensures.value c.self.invariant c.make_room.ensures.finds c.make_room.ensures.counted
-    c.make_room.ensures.groups
+    c.make_room.ensures.groups c.make_room.ensures.lists
 
 pub invariant_of-self-in_err-reserve-2 : goal.invariant_of-self-in_err-reserve-2
 invariant_of-self-in_err-reserve-2 c =
@@ -53,6 +55,7 @@ roomier c marks grows =
       marked = marks_grown c.self.inside.runs.items c.self.inside.marks marks grows were.marked;
       grouped = were.grouped;
       listed = were.listed;
+      offered = were.offered;
     }
 
 pub invariant_of-self-in_err-cover : goal.invariant_of-self-in_err-cover
@@ -60,22 +63,52 @@ invariant_of-self-in_err-cover c =
     rw (c.reserve.ensures.items, c.reserve-2.ensures.items, c.reserve-3.ensures.items)
     (roomier (goal.at-invariant_of-self-in_err-cover c).In_ok-reserve c.cover.new.self c.cover.ensures.grows)
 
+-- nor is room for lists of labels
+covered : (c : In_ok-reserve) (marks : RunMarks) (lists : ListsState) → OnlyGrows c.self.inside.marks marks
+    → ListsGrow c.make_room.new.self.lists lists
+    → RunsAreKept c.self.inside.runs.items c.self.inside.numbers.items c.self.inside.asks.items
+    (record c.make_room.new.self { lists = lists }) marks
+covered c marks lists grows more =
+    kept_grown c.self.inside.runs.items c.self.inside.numbers.items c.self.inside.asks.items c.make_room.new.self marks lists more
+    (roomier c marks grows)
+
+pub invariant_of-self-in_err-cover-2 : goal.invariant_of-self-in_err-cover-2
+invariant_of-self-in_err-cover-2 c =
+    rw (c.reserve.ensures.items, c.reserve-2.ensures.items, c.reserve-3.ensures.items)
+    (covered (goal.at.invariant_of-self-in_err-cover-2 c).In_ok-reserve c.cover.new.self c.cover-2.new.self c.cover.ensures.grows
+    c.cover-2.ensures.grows)
+
 -- nor are groups that are entered
-entered : (c : In_ok-reserve) (marks : RunMarks) (groups : GroupHolders) → OnlyGrows c.self.inside.marks marks
+entered : (c : In_ok-reserve) (marks : RunMarks) (lists : ListsState) (groups : GroupHolders) → OnlyGrows c.self.inside.marks marks
+    → ListsGrow c.make_room.new.self.lists lists
     → OnlyEnters c.make_room.new.self.groups.book.entries groups.book.entries
     → SameMarks c.make_room.new.self.groups.unlisted groups.unlisted
     → length c.make_room.new.self.groups.unlisted ≤ length groups.unlisted
     → RunsAreKept c.self.inside.runs.items c.self.inside.numbers.items c.self.inside.asks.items
-    (record c.make_room.new.self { groups = groups }) marks
-entered c marks groups grows enters same room =
-    kept_entered c.self.inside.runs.items c.self.inside.numbers.items c.self.inside.asks.items c.make_room.new.self marks groups enters
-    same room (roomier c marks grows)
+    (record c.make_room.new.self { groups = groups; lists = lists }) marks
+entered c marks lists groups grows more enters same room =
+    kept_entered c.self.inside.runs.items c.self.inside.numbers.items c.self.inside.asks.items
+    (record c.make_room.new.self { lists = lists }) marks groups enters same room (covered c marks lists grows more)
 
+pub invariant_of-self-in_err-grouped : goal.invariant_of-self-in_err-grouped
+invariant_of-self-in_err-grouped c =
+    rw (c.reserve.ensures.items, c.reserve-2.ensures.items, c.reserve-3.ensures.items)
+    (entered (goal.at.invariant_of-self-in_err-grouped c).In_ok-reserve c.cover.new.self c.cover-2.new.self c.enter.new.self
+    c.cover.ensures.grows c.cover-2.ensures.grows c.enter.ensures.enters c.enter.ensures.marks c.enter.ensures.room)
+
+-- nor are lists
 pub invariant_of-self-in_err-asks : goal.invariant_of-self-in_err-asks
 invariant_of-self-in_err-asks c =
     rw (c.reserve.ensures.items, c.reserve-2.ensures.items, c.reserve-3.ensures.items)
-    (entered (goal.at.invariant_of-self-in_err-asks c).In_ok-reserve c.cover.new.self c.enter.new.self c.cover.ensures.grows
-    c.enter.ensures.enters c.enter.ensures.marks c.enter.ensures.room)
+    (entered (goal.at.invariant_of-self-in_err-asks c).In_ok-reserve c.cover.new.self c.with_lists.new.lists c.enter.new.self
+    c.cover.ensures.grows (grows_more _ _ _ c.cover-2.ensures.grows c.with_lists.ensures.grows) c.enter.ensures.enters
+    c.enter.ensures.marks c.enter.ensures.room)
+
+pub with_lists-requires : goal.with_lists-requires
+with_lists-requires c = c.in_ok-cover-2.ensures.places c.len-r.result (omega arith)
+
+pub offer_run-requires : goal.offer_run-requires
+offer_run-requires c = λ j l. (c.in_ok-asks.ensures.lists j l).place
 
 -- the run is kept with its number and with what it asks; it is found by its delivery, counted, and marked
 pub invariant_of-self-2 : goal.invariant_of-self-2
@@ -92,8 +125,11 @@ invariant_of-self-2 c =
     ∙ sym (events_more items c.args.run)) c.in_ok-number.ensures.one_more in
     let held = c.enter.new.self in
     let groups = c.list_run.new.self in
-    let were = entered (goal.at.invariant_of-self-2 c).In_ok-reserve c.cover.new.self held c.cover.ensures.grows c.enter.ensures.enters
-    c.enter.ensures.marks c.enter.ensures.room in
+    let entries = c.with_lists.new.lists in
+    let lists = c.offer_run.new.lists in
+    let were = entered (goal.at.invariant_of-self-2 c).In_ok-reserve c.cover.new.self entries held c.cover.ensures.grows
+    (grows_more _ _ _ c.cover-2.ensures.grows c.with_lists.ensures.grows) c.enter.ensures.enters c.enter.ensures.marks
+    c.enter.ensures.room in
     let counted = were.counted in
     let next : c.in_ok-number.number ≡ number_of_next items event =
     c.in_ok-number.ensures.number
@@ -109,14 +145,14 @@ invariant_of-self-2 c =
       run_attempt = decimal c.args.run.attempt;
     } in
     let asked : RunSays facts c.in_ok-asked.asked = search rules in
-    let says : RunSays facts c.in_ok-asks.asks = c.in_ok-asks.ensures.says facts asked in
+    let says : RunSays facts c.in_ok-asks.asks = c.in_ok-asks.ensures.says facts (c.in_ok-grouped.ensures.says facts asked) in
     let r = c.len-r.result in
     let end : r ≡ length items = search rules in
     let kept =
     all_added items c.args.run c.self.inside.numbers.items c.self.inside.asks.items c.in_ok-number.number c.in_ok-asks.asks room
     (c.self.invariant.numbered, c.self.invariant.bound) next says in
     let seen : c.as_slice-runs-2.result.now ≡ items ++ c.args.run ∷ [] = search rules in
-    let lists : OnlyLists (items ++ c.args.run ∷ []) held groups =
+    let only : OnlyLists (items ++ c.args.run ∷ []) held groups =
     subst (λ (runs : List RunState). OnlyLists runs held groups) seen c.list_run.ensures.others in
     let all : AllAreFound (items ++ c.args.run ∷ []) groups.book.entries groups.unlisted c.in_ok-asks.asks r =
     subst (λ (runs : List RunState). AllAreFound runs groups.book.entries groups.unlisted c.in_ok-asks.asks r) seen
@@ -136,8 +172,11 @@ invariant_of-self-2 c =
           (λ other. c.add.ensures.counted event other c.requires.workflow number);
       marked = marks_more items c.args.run c.cover.new.self c.stir.new.self r 0 end c.in_ok-cover.ensures.covers c.stir.ensures were.marked;
       grouped = each_stays held.book.entries groups.book.entries (c.self.inside.asks.items ++ c.in_ok-asks.asks ∷ [])
-          lists.numbers
-          (each_more held.book.entries c.self.inside.asks.items c.in_ok-asks.asks c.in_ok-asks.ensures.numbers were.grouped);
-      listed = found_added items c.args.run c.self.inside.asks.items c.in_ok-asks.asks held groups r end were.bound.as_many lists all
-          c.in_ok-asks.ensures.covers were.listed;
+          only.numbers
+          (each_more held.book.entries c.self.inside.asks.items c.in_ok-asks.asks
+          (c.in_ok-asks.ensures.numbers held.book.entries c.in_ok-grouped.ensures.numbers) were.grouped);
+      listed = found_added items c.args.run c.self.inside.asks.items c.in_ok-asks.asks held groups r end were.bound.as_many only all
+          c.in_ok-grouped.ensures.covers were.listed;
+      offered = offered_added items c.args.run c.self.inside.asks.items c.in_ok-asks.asks entries lists r end were.bound.as_many
+          c.in_ok-asks.ensures.lists c.offer_run.ensures.all c.offer_run.ensures.others were.offered;
     })

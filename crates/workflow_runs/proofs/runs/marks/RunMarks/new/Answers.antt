@@ -1,12 +1,11 @@
 use Rattle.std.specs.Prelude.{[]}
-use Rattle.workflow_runs.specs.MarkedRuns.{is_active, is_due, offers_legs, someone_waits}
+use Rattle.workflow_runs.specs.MarkedRuns.{is_active, is_due, someone_waits}
 use Rattle.workflow_runs.proofs.MarkedRuns.{nothing_to_mark}
 use Rattle.workflow_runs.proofs.runs.marks.RunMarks.new.Goals as goal
 
 pub returns : goal.returns
 returns c = record {
-  ready = nothing_to_mark (λ _ x. offers_legs x) c.new.result;
-  waiting = nothing_to_mark (λ _ x. someone_waits x) c.new-2.result;
-  active = nothing_to_mark (λ _ x. is_active x) c.new-3.result;
-  due = nothing_to_mark (is_due []) c.new-4.result;
+  waiting = nothing_to_mark (λ _ x. someone_waits x) c.new.result;
+  active = nothing_to_mark (λ _ x. is_active x) c.new-2.result;
+  due = nothing_to_mark (is_due []) c.new-3.result;
 }

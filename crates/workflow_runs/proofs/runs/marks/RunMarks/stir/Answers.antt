@@ -7,14 +7,12 @@ returns c =
     let r = c.args.r in
     let due = c.mark.ensures.puts in
     record {
-      ready = c.mark-2.ensures.puts;
-      waiting = c.mark-3.ensures.puts;
-      active = c.mark-4.ensures.puts;
+      waiting = c.mark-2.ensures.puts;
+      active = c.mark-3.ensures.puts;
       due = (λ i was. put_adds r i c.wake.new.due c.mark.new.self due (c.wake.ensures.due i was));
       itself = put_marks r r c.wake.new.due c.mark.new.self due refl;
       woken = (λ i lt waits. put_adds r i c.wake.new.due c.mark.new.self due (c.wake.ensures.woken i lt waits));
-      ready_room = c.mark-2.ensures.keeps;
-      waiting_room = c.mark-3.ensures.keeps;
-      active_room = c.mark-4.ensures.keeps;
+      waiting_room = c.mark-2.ensures.keeps;
+      active_room = c.mark-3.ensures.keeps;
       due_room = c.mark.ensures.keeps ∙ c.wake.ensures.keeps;
     }

@@ -1,0 +1,178 @@
+-- Each run stays marked for the lists of its ready legs, whatever changes.
+use Rattle.std.specs.Prelude.{◌≡◌, ◌&&◌, ℕ, List, [], Bool, true, false, nat_eq, IfSome, Option, Some, None, slice_get, if◌then◌else◌, refl}
+use Rattle.std.specs.Option.{option_map_or}
+use Rattle.std.proofs.Common.{ap, subst, sym, ◌∙◌, inl, inr}
+use Rattle.std.proofs.lemmas.Bool.{cases_eq, true≢false}
+use Rattle.std.proofs.lemmas.Option.{same_Some}
+use Rattle.label_lists.specs.Lists.{HasPlace, ListsState, OnlyGrows, PutsOffer, may_offer}
+use Rattle.workflow_runs.specs.Fitting.{is_ready}
+use Rattle.workflow_runs.specs.LabelNumbers.{AreListsOf, IsOffered, IsReadyAt, JobsOffer, LegsAreOffered, OnlyMarks, OnlyPuts, is_ready_in}
+use Rattle.workflow_runs.specs.LabelNumbers.{list_number, offered_by, offers_list}
+use Rattle.workflow_runs.specs.MarkedRuns.{has_ready_leg, is_so_at, offers_legs}
+use Rattle.workflow_runs.specs.Places.{LegPlace, leg_place, run_at}
+use Rattle.workflow_runs.specs.RunState.{JobState, LegState, RunState}
+use Rattle.workflow_runs.specs.declared.asks.RunBindings.{RunBindings}
+use Rattle.workflow_runs.specs.declared.change.Change.{Change}
+use Rattle.workflow_runs.specs.declared.change.Change.TheVariants as change
+use Rattle.workflow_runs.proofs.HoldersFade.{by_run, job_passes, leg_passes, passes, run_passes}
+use Rattle.workflow_runs.proofs.LabelNumbers.{puts_one, still_lists}
+use Rattle.workflow_runs.proofs.NoneActive.{none_of}
+use Rattle.workflow_runs.proofs.OffersList.{other_number}
+use Rattle.workflow_runs.proofs.ReadyBefore.{WasReady}
+
+pub none_offered : (lists : ListsState) → LegsAreOffered [] [] lists
+none_offered lists = record { numbers = (λ r kept at. cc); offered = (λ p kept ready at. cc) }
+
+-- lists are entered, or room is made
+pub offered_grown : (runs : List RunState) (asks : List RunBindings) (old new : ListsState) → OnlyGrows old new
+    → LegsAreOffered runs asks old → LegsAreOffered runs asks new
+offered_grown runs asks old new grows are = record {
+  numbers = (λ r kept at. still_lists old new grows.labels grows.places r kept.jobs kept.lists (are.numbers r kept at));
+  offered = (λ p kept ready at. grows.offers (list_number kept.lists p.job p.leg) p.run ∙ are.offered p kept ready at);
+}
+
+-- ---- after a change of one run
+
+offered_here : (r : ℕ) (c : Change) (p : LegPlace) → offered_by r c ≡ Some p → p.run ≡ r
+offered_here r (change.Phase phase) p is = cc
+offered_here r (change.Open j) p is = cc
+offered_here r (change.Settle j settled) p is = cc
+offered_here r change.Stop p is = cc
+offered_here r (change.StopLegs j) p is = cc
+offered_here r (change.PutLeg j l z) p is = by (is_ready z.phase) is
+  where
+    by : (b : Bool) → (if b then Some (leg_place r j l) else None) ≡ Some p → p.run ≡ r
+    by true e = sym (ap (λ (q : LegPlace). q.run) (same_Some (leg_place r j l) p e))
+    by false e = cc
+
+if_it : (one : Option LegPlace) (P : LegPlace → Type 0) → IfSome one P → (p : LegPlace) → one ≡ Some p → P p
+if_it None P says p is = cc
+if_it (Some q) P says p is = subst P (same_Some q p is) says
+
+-- the run of the leg that is made ready can be marked for its list
+pub has_place : (lists : ListsState) (r : ℕ) (c : Change) (asked : RunBindings) → AreListsOf lists r asked.jobs asked.lists
+    → (one : Option LegPlace) → one ≡ offered_by r c → IfSome one (λ p. HasPlace lists (list_number asked.lists p.job p.leg) p.run)
+has_place lists r c asked are None is = tt
+has_place lists r c asked are (Some p) is =
+    subst (λ (s : ℕ). HasPlace lists (list_number asked.lists p.job p.leg) s) (sym (offered_here r c p (sym is))) (are p.job p.leg).place
+
+pub offered_after : (runs next : List RunState) (asks : List RunBindings) (old new : ListsState) (r : ℕ) (c : Change) (asked : RunBindings)
+    → slice_get asks r ≡ Some asked → ((p : LegPlace) → IsReadyAt next p → WasReady runs (offered_by r c) p)
+    → IfSome (offered_by r c) (IsOffered new asked) → OnlyMarks old new → LegsAreOffered runs asks old → LegsAreOffered next asks new
+offered_after runs next asks old new r c asked asked_at before itself marks are = record {
+  numbers = (λ s kept at.
+      still_lists old new (λ n texts is. marks.labels n ∙ is) marks.places s kept.jobs kept.lists (are.numbers s kept at));
+  offered = (λ p kept ready at.
+      elim (before p ready) [
+        | inl it ↦
+            let here : slice_get asks r ≡ Some kept = ap (slice_get asks) (sym (offered_here r c p it)) ∙ at in
+            subst (λ (k : RunBindings). IsOffered new k p) (same_Some asked kept (sym asked_at ∙ here))
+            (if_it (offered_by r c) (IsOffered new asked) itself p it)
+        | inr was ↦ marks.offers (list_number kept.lists p.job p.leg) p.run (are.offered p kept was at)
+      ]);
+}
+
+-- ---- a run without a ready leg
+
+no_ready : (j l : ℕ) (o : Option RunState) → option_map_or offers_legs o false ≡ false → passes (run_passes is_ready j l) o ≡ true → ⊥
+no_ready j l None none e = true≢false (sym e)
+no_ready j l (Some x) none e = by_job (slice_get x.jobs j) refl e
+  where
+    by_leg : (y : JobState) → has_ready_leg y ≡ false → (o : Option LegState) → slice_get y.legs l ≡ o
+        → passes (leg_passes is_ready) o ≡ true → ⊥
+    by_leg y rests None at is = true≢false (sym is)
+    by_leg y rests (Some z) at is = true≢false (sym is ∙ none_of (λ (leg : LegState). is_ready leg.phase) y.legs l z rests at)
+
+    by_job : (o : Option JobState) → slice_get x.jobs j ≡ o → passes (job_passes is_ready l) o ≡ true → ⊥
+    by_job None at is = true≢false (sym is)
+    by_job (Some y) at is = by_leg y (none_of has_ready_leg x.jobs j y none at) (slice_get y.legs l) refl is
+
+pub ready_there : (runs : List RunState) (r : ℕ) (p : LegPlace) → is_so_at offers_legs runs r ≡ false → p.run ≡ r → IsReadyAt runs p → ⊥
+ready_there runs r p rests here ready =
+    no_ready p.job p.leg (run_at runs p.run)
+    (ap (is_so_at offers_legs runs) here ∙ rests) (sym (by_run is_ready runs p) ∙ ready)
+
+-- it is unmarked
+pub offered_unmarked : (runs : List RunState) (asks : List RunBindings) (old new : ListsState) (r : ℕ)
+    → is_so_at offers_legs runs r ≡ false → OnlyPuts r false old new → LegsAreOffered runs asks old → LegsAreOffered runs asks new
+offered_unmarked runs asks old new r rests puts are = record {
+  numbers = (λ s kept at.
+      still_lists old new (λ n texts is. puts.labels n ∙ is) puts.places s kept.jobs kept.lists (are.numbers s kept at));
+  offered = (λ p kept ready at.
+      elim (cases_eq p.run r) [
+        | inl here ↦ absurd (ready_there runs r p rests here ready)
+        | inr other ↦ puts.others (list_number kept.lists p.job p.leg) p.run other ∙ are.offered p kept ready at
+      ]);
+}
+
+-- ---- a run of which no ready leg has a number
+
+ready_there_in : (runs : List RunState) (p : LegPlace) (x : RunState) → run_at runs p.run ≡ Some x → IsReadyAt runs p
+    → is_ready_in x.jobs p.job p.leg ≡ true
+ready_there_in runs p x here ready = sym (ap (passes (run_passes is_ready p.job p.leg)) here) ∙ sym (by_run is_ready runs p) ∙ ready
+
+-- it is unmarked under that
+pub number_unmarked : (runs : List RunState) (asks : List RunBindings) (old new : ListsState) (r number : ℕ) (x : RunState)
+    (asked : RunBindings) → run_at runs r ≡ Some x → slice_get asks r ≡ Some asked → offers_list x asked.lists number ≡ false
+    → PutsOffer false number r old new → LegsAreOffered runs asks old → LegsAreOffered runs asks new
+number_unmarked runs asks old new r number x asked run_there asked_there rests puts are = record {
+  numbers = (λ s kept at.
+      still_lists old new (λ n texts is. puts.labels n ∙ is) puts.places s kept.jobs kept.lists (are.numbers s kept at));
+  offered = (λ p kept ready at.
+      let n = list_number kept.lists p.job p.leg in
+      let marked : may_offer old n p.run ≡ true = are.offered p kept ready at in
+      elim (cases_eq p.run r) [
+        | inl here ↦
+            let same : asked ≡ kept = same_Some asked kept (sym asked_there ∙ ap (slice_get asks) (sym here) ∙ at) in
+            let another : nat_eq n number ≡ false =
+            subst (λ (k : RunBindings). nat_eq (list_number k.lists p.job p.leg) number ≡ false) same
+            (other_number x asked.lists number rests p.job p.leg (ready_there_in runs p x (ap (run_at runs) here ∙ run_there) ready)) in
+            puts.offers n p.run ∙ ap (λ b. if b && nat_eq p.run r then false else may_offer old n p.run) another ∙ marked
+        | inr other ↦ (puts_one false number r old new puts).others n p.run other ∙ marked
+      ]);
+}
+
+-- ---- one run stands in the place of another, or behind the others
+
+module _ (runs next : List RunState) (asks asks' : List RunBindings) (old new : ListsState) (r : ℕ) (x : RunState) (asked : RunBindings)
+    (run_there : run_at next r ≡ Some x) (asked_there : slice_get asks' r ≡ Some asked)
+    (other_runs : (s : ℕ) → (s ≡ r → ⊥) → run_at next s ≡ run_at runs s)
+    (other_asks : (s : ℕ) → (s ≡ r → ⊥) → slice_get asks' s ≡ slice_get asks s)
+    (itself : AreListsOf old r asked.jobs asked.lists)
+    (all : JobsOffer new asked.lists r x.jobs) (puts : OnlyPuts r true old new)
+    (are : LegsAreOffered runs asks old) where
+  listed : (s : ℕ) (kept : RunBindings) → slice_get asks' s ≡ Some kept → AreListsOf old s kept.jobs kept.lists
+  listed s kept at =
+      elim (cases_eq s r) [
+        | inl here ↦
+            let same = same_Some asked kept (sym asked_there ∙ ap (slice_get asks') (sym here) ∙ at) in
+            subst (λ (k : RunBindings). AreListsOf old s k.jobs k.lists) same
+            (subst (λ (n : ℕ). AreListsOf old n asked.jobs asked.lists) (sym here) itself)
+        | inr other ↦ are.numbers s kept (sym (other_asks s other) ∙ at)
+      ]
+
+  ready_in_it : (p : LegPlace) → p.run ≡ r → IsReadyAt next p → is_ready_in x.jobs p.job p.leg ≡ true
+  ready_in_it p here ready = ready_there_in next p x (ap (run_at next) here ∙ run_there) ready
+
+  still_ready : (p : LegPlace) → (p.run ≡ r → ⊥) → IsReadyAt next p → IsReadyAt runs p
+  still_ready p other ready =
+      by_run is_ready runs p
+      ∙ ap (passes (run_passes is_ready p.job p.leg)) (sym (other_runs p.run other))
+      ∙ sym (by_run is_ready next p) ∙ ready
+
+  pub offered_with : LegsAreOffered next asks' new
+  offered_with = record {
+    numbers = (λ s kept at.
+        still_lists old new (λ n texts is. puts.labels n ∙ is) puts.places s kept.jobs kept.lists (listed s kept at));
+    offered = (λ p kept ready at.
+        elim (cases_eq p.run r) [
+          | inl here ↦
+              let same = same_Some asked kept (sym asked_there ∙ ap (slice_get asks') (sym here) ∙ at) in
+              subst (λ (k : RunBindings). IsOffered new k p) same
+              (ap (may_offer new (list_number asked.lists p.job p.leg)) here
+              ∙ all p.job p.leg (ready_in_it p here ready))
+          | inr other ↦
+              puts.others (list_number kept.lists p.job p.leg) p.run other
+              ∙ are.offered p kept (still_ready p other ready) (sym (other_asks p.run other) ∙ at)
+        ]);
+  }

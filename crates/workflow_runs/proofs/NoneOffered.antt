@@ -1,0 +1,147 @@
+-- A run that is marked for no list that a runner serves has no leg that fits the runner.
+use Rattle.std.specs.Prelude.{◌≡◌, ◌≤◌, ◌<◌, ℕ, ◌&&◌, List, length, Bool, true, false, IfNone, IfSome, Option, Some, None, option_and_then, option_map}
+use Rattle.std.specs.Prelude.{MatchOption, slice_get, if◌then◌else◌, refl}
+use Rattle.std.specs.Option.{option_map_or}
+use Rattle.std.proofs.Common.{arith, ap, subst, sym, ◌∙◌, inl, inr}
+use Rattle.std.proofs.lemmas.Bool.{cases_lt, true≢false}
+use Rattle.std.proofs.lemmas.Option.{slice_get_past}
+use Rattle.label_lists.specs.Known.{IsBefore}
+use Rattle.label_lists.specs.Lists.{ListsState, labels_of, may_offer}
+use Rattle.run_plan.specs.declared.planned.PlannedJob.{PlannedJob}
+use Rattle.workflow_runs.specs.Asks.{AreBound}
+use Rattle.workflow_runs.specs.Fitting.{has_labels, is_ready, is_served}
+use Rattle.workflow_runs.specs.LabelNumbers.{IsReadyAt, LegsAreOffered, MayServe, list_number, texts_of}
+use Rattle.workflow_runs.specs.LegContext.{context_at}
+use Rattle.workflow_runs.specs.LookAgain.{NoneBefore, ask}
+use Rattle.workflow_runs.specs.Parallel.{has_room}
+use Rattle.workflow_runs.specs.Places.{LegPlace, leg_at, leg_place, plan_at, run_at}
+use Rattle.workflow_runs.specs.RunState.{JobState, LegState, RunState}
+use Rattle.workflow_runs.specs.WithinRun.{fit_in_job, fit_in_run, served_in_job}
+use Rattle.workflow_runs.specs.Words.{label_texts, labels_at}
+use Rattle.workflow_runs.specs.declared.asks.RunBindings.{RunBindings}
+use Rattle.workflow_runs.proofs.KnownSays.{texts_there}
+use Rattle.workflow_runs.proofs.LabelNumbers.{as_long}
+use Rattle.workflow_runs.proofs.NoneActive.{none_placed}
+use Rattle.workflow_runs.proofs.RunFits.{job_in_run, leg_in_job}
+
+unplanned : (runs : List RunState) (p : LegPlace) → plan_at runs p.run p.job ≡ None → labels_at runs p ≡ None
+unplanned runs p none = ap (option_map (λ (planned : PlannedJob). label_texts (context_at runs p) planned.labels)) none
+
+none_taken : (b : Bool) (o : Option LegPlace) → o ≡ None → (if b then o else None) ≡ None
+none_taken true o e = e
+none_taken false o e = refl
+
+module _ (labels : List (List ℕ)) (runs : List RunState) (asks : List RunBindings) (lists : ListsState) (bound : AreBound runs asks)
+    (are : LegsAreOffered runs asks lists) (i : ℕ) (none : (n : ℕ) → MayServe lists labels n → may_offer lists n i ≡ false)
+    (kept : RunBindings) (asked : slice_get asks i ≡ Some kept) where
+  -- a ready leg of it is not served
+  misfits : (j l : ℕ) → IsReadyAt runs (leg_place i j l) → is_served labels runs (leg_place i j l) ≡ false
+  misfits j l ready = by_plan (plan_at runs i j) refl
+    where
+      p : LegPlace
+      p = leg_place i j l
+
+      n : ℕ
+      n = list_number kept.lists j l
+
+      offered : may_offer lists n i ≡ true
+      offered = are.offered p kept ready asked
+
+      never : MayServe lists labels n → is_served labels runs p ≡ false
+      never may = absurd (true≢false (sym offered ∙ none n may))
+
+      by_labels : (texts : List (List ℕ)) → labels_of lists n ≡ Some texts → labels_at runs p ≡ Some texts
+          → (b : Bool) → has_labels labels texts ≡ b → is_served labels runs p ≡ false
+      by_labels texts listed there true is = never (inr (ap (λ o. option_map_or (has_labels labels) o false) listed ∙ is))
+      by_labels texts listed there false is = ap (λ o. option_map_or (has_labels labels) o false) there ∙ is
+
+      by_texts : (job : PlannedJob) → plan_at runs i j ≡ Some job → (o : Option (List (List ℕ))) → texts_of kept.jobs j l ≡ o
+          → MatchOption o ⊥ (λ texts. labels_of lists n ≡ Some texts) → is_served labels runs p ≡ false
+      by_texts job planned None known says = absurd says
+      by_texts job planned (Some texts) known says =
+          by_labels texts says (texts_there runs asks bound p job kept texts planned asked known) (has_labels labels texts) refl
+
+      by_plan : (o : Option PlannedJob) → plan_at runs i j ≡ o → is_served labels runs p ≡ false
+      by_plan None planned =
+          ap (λ (o : Option (List (List ℕ))). option_map_or (has_labels labels) o false) (unplanned runs p planned)
+      by_plan (Some job) planned =
+          elim ((are.numbers i kept asked j l).says) [
+            | inl zero ↦ never (inl zero)
+            | inr says ↦ by_texts job planned (texts_of kept.jobs j l) refl says
+          ]
+
+  leg_passed : (j : ℕ) (y : JobState) (l : ℕ) (z : LegState) → leg_at runs (leg_place i j l) ≡ Some z → (b : Bool) → is_ready z.phase ≡ b
+      → (if is_ready z.phase && is_served labels runs (leg_place i j l) then Some (leg_place i j l) else None) ≡ None
+  leg_passed j y l z at true is =
+      let ready : IsReadyAt runs (leg_place i j l) = ap (λ o. option_map_or (λ (leg : LegState). is_ready leg.phase) o false) at ∙ is in
+      ap (λ b. if b && is_served labels runs (leg_place i j l) then Some (leg_place i j l) else None) is
+      ∙ ap (λ b. if b then Some (leg_place i j l) else None) (misfits j l ready)
+  leg_passed j y l z at false is =
+      ap (λ b. if b && is_served labels runs (leg_place i j l) then Some (leg_place i j l) else None) is
+
+  job_passed : (x : RunState) → run_at runs i ≡ Some x → (j : ℕ) (y : JobState) → slice_get x.jobs j ≡ Some y
+      → fit_in_job labels runs i j y ≡ None
+  job_passed x here j y at =
+      none_taken (has_room runs i j y) (served_in_job labels runs i j y)
+      (none_placed _ y.legs
+      (λ l z leg.
+      leg_passed j y l z (leg_in_job runs (leg_place i j l) y (job_in_run runs i j x here ∙ at) ∙ leg) (is_ready z.phase) refl))
+
+  run_passed : (x : RunState) → run_at runs i ≡ Some x → fit_in_run labels runs i x ≡ None
+  run_passed x here = none_placed _ x.jobs (λ j y at. job_passed x here j y at)
+
+pub none_fits_there : (labels : List (List ℕ)) (runs : List RunState) (asks : List RunBindings) (lists : ListsState) → AreBound runs asks
+    → LegsAreOffered runs asks lists → (i : ℕ) → ((n : ℕ) → MayServe lists labels n → may_offer lists n i ≡ false)
+    → ask (fit_in_run labels runs) runs i ≡ None
+none_fits_there labels runs asks lists bound are i none = by (slice_get runs i) refl (slice_get asks i) refl
+  where
+    by : (o : Option RunState) → slice_get runs i ≡ o → (k : Option RunBindings) → slice_get asks i ≡ k
+        → ask (fit_in_run labels runs) runs i ≡ None
+    by None here k asked = ap (option_and_then (fit_in_run labels runs i)) here
+    by (Some x) here None asked =
+        let gone : slice_get runs i ≡ None = as_long asks runs i bound.as_many asked in
+        let bad : Some x ≡ None = sym here ∙ gone in
+        cc
+    by (Some x) here (Some kept) asked =
+        ap (option_and_then (fit_in_run labels runs i)) here ∙ run_passed labels runs asks lists bound are i none kept asked x here
+
+-- ---- the next run in which one may fit
+
+pub next_from : (from : ℕ) (found next : Option ℕ) → IfSome next (λ r. found ≡ Some r) → IfSome found (λ r. from ≤ r)
+    → IfSome next (λ r. from ≤ r)
+next_from from found None same le = tt
+next_from from found (Some r) same le = subst (λ (o : Option ℕ). IfSome o (λ s. from ≤ s)) same le
+
+module _ (labels : List (List ℕ)) (runs : List RunState) (asks : List RunBindings) (lists : ListsState) (bound : AreBound runs asks)
+    (are : LegsAreOffered runs asks lists) (from : ℕ) (found : Option ℕ)
+    (passed : (n s : ℕ) → from ≤ s → IsBefore s found → MayServe lists labels n → may_offer lists n s ≡ false) where
+  passed_there : (i : ℕ) → from ≤ i → IsBefore i found → ask (fit_in_run labels runs) runs i ≡ None
+  passed_there i le before = none_fits_there labels runs asks lists bound are i (λ n may. passed n i le before may)
+
+  pub next_between : (next : Option ℕ) → IfSome next (λ r. found ≡ Some r)
+      → IfSome next (λ r. (i : ℕ) → from ≤ i → i < r → ask (fit_in_run labels runs) runs i ≡ None)
+  next_between None same = tt
+  next_between (Some r) same = λ i le lt. passed_there i le (subst (IsBefore i) (sym same) lt)
+
+  none_behind : (o : Option ℕ) → found ≡ o → IfSome o (λ r. length runs ≤ r) → (i : ℕ) → from ≤ i
+      → ask (fit_in_run labels runs) runs i ≡ None
+  none_behind None is past i le = passed_there i le (subst (IsBefore i) (sym is) tt)
+  none_behind (Some r) is past i le =
+      elim (cases_lt i (length runs)) [
+        | inl within ↦ passed_there i le (subst (IsBefore i) (sym is) (omega (arith, within, past)))
+        | inr behind ↦ ap (option_and_then (fit_in_run labels runs i)) (slice_get_past runs i behind)
+      ]
+
+  pub next_none : (count : ℕ) → count ≡ length runs → (next : Option ℕ) → IfNone next (IfSome found (λ r. count ≤ r))
+      → IfNone next ((i : ℕ) → from ≤ i → ask (fit_in_run labels runs) runs i ≡ None)
+  next_none count many None past = none_behind found refl (subst (λ (n : ℕ). IfSome found (λ r. n ≤ r)) many past)
+  next_none count many (Some r) past = tt
+
+-- none fits before a run, where none does from a place on
+pub none_before : (labels : List (List ℕ)) (runs : List RunState) (from r : ℕ) → NoneBefore (fit_in_run labels runs) runs from
+    → ((i : ℕ) → from ≤ i → i < r → ask (fit_in_run labels runs) runs i ≡ None) → NoneBefore (fit_in_run labels runs) runs r
+none_before labels runs from r before between k lt =
+    elim (cases_lt k from) [
+      | inl early ↦ before k early
+      | inr late ↦ between k late lt
+    ]

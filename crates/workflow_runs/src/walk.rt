@@ -1,0 +1,99 @@
+//! The legs of a table or of a run, one after the other in the order of run, job and leg, each with its place.
+
+ghost use Rattle.std.specs.Prelude.{◌≡◌, ◌<◌, ◌^◌, IfSome};
+ghost use Rattle.std.specs.Iterator.{YieldsFirstBy, item_count};
+ghost use Rattle.workflow_runs.specs.PlacedLegs.{placed_legs, placed_legs_of_run};
+
+use crate::job::Job;
+use crate::leg::Leg;
+use crate::place::LegPlace;
+use crate::run::Run;
+use crate::runs::Runs;
+use std::marker::Model;
+
+/// The legs that are still to come. A contract sees the list of them, each with its place.
+#[derive(Drop)]
+pub struct Legs<'a> {
+    /// The legs of one job, and the place of the first of them.
+    legs: &'a [Leg],
+    at: LegPlace,
+    /// The jobs behind it in its run, and the place of the first of them.
+    jobs: &'a [Job],
+    job: usize,
+    /// The runs behind that run, and the place of the first of them.
+    runs: &'a [Run],
+    run: usize,
+}
+
+impl<'a> Model for Legs<'a> {
+    ghost use Rattle.std.specs.Prelude.{List};
+    ghost use Rattle.workflow_runs.specs.PlacedLegs.{Fits, PlacedLeg, to_come};
+
+    ghost Value = { List PlacedLeg };
+
+    ghost view = { λ w. to_come w.at w.legs.now w.job w.jobs.now w.run w.runs.now };
+
+    ghost invariant = { λ w. Fits w.at.leg w.legs.now × Fits w.job w.jobs.now × Fits w.run w.runs.now };
+}
+
+impl<'a> Legs<'a> {
+    /// All legs of the table.
+    pub fn of_runs(runs: &'a Runs) -> Self
+        ensures { result ≡ placed_legs runs.now }
+    {
+        Legs {
+            legs: &[],
+            at: LegPlace::new(0, 0, 0),
+            jobs: &[],
+            job: 0,
+            runs: runs.as_slice(),
+            run: 0,
+        }
+    }
+
+    /// The legs of the run at a place.
+    pub fn of_run(r: usize, run: &'a Run) -> Self
+        ensures { result ≡ placed_legs_of_run (r, run.now) }
+    {
+        Legs {
+            legs: &[],
+            at: LegPlace::new(r, 0, 0),
+            jobs: run.jobs(),
+            job: 0,
+            runs: &[],
+            run: 0,
+        }
+    }
+}
+
+impl<'a> Iterator for Legs<'a> {
+    type Item = (LegPlace, &'a Leg);
+
+    ghost next_gives = { λ s r t. YieldsFirstBy (λ item. record { place = item.0; leg = item.1.now }) (λ rest. rest) s r t
+        × IfSome r (λ item. item.0.leg < 2 ^ 63) };
+
+    ghost remaining = { item_count (λ rest. rest) };
+
+    fn next(&mut self) -> Option<(LegPlace, &'a Leg)> {
+        while self.legs.is_empty() {
+            if let Some((job, jobs)) = self.jobs.split_first() {
+                self.legs = job.legs();
+                self.at = LegPlace::new(self.at.run, self.job, 0);
+                self.jobs = jobs;
+                self.job += 1;
+            } else {
+                let (run, runs) = self.runs.split_first()?;
+                self.jobs = run.jobs();
+                self.job = 0;
+                self.at = LegPlace::new(self.run, 0, 0);
+                self.runs = runs;
+                self.run += 1;
+            }
+        }
+        let (leg, legs) = self.legs.split_first()?;
+        let place = self.at;
+        self.legs = legs;
+        self.at.leg += 1;
+        Some((place, leg))
+    }
+}
