@@ -243,7 +243,8 @@ fn turned_over(rt: &impl Abort, store: Store<MemoryDisk>) -> Store<MemoryDisk>
     }
 }
 
-/// A settled store turns over: its history is empty, and it is served again.
+/// A settled store turns over: its history is empty, and it is served again. The area goes on: the entries of both services reach its half once, in
+/// the second one, and never its end, so one checkpoint is made, whatever the flusher gets.
 #[test]
 fn a_settled_store_is_served_again(rt: HostRuntime) {
     let alloc = rt.alloc();
