@@ -3,7 +3,7 @@
 ACTS := crates/acts/out/acts
 FIRST := crates/first_run
 
-.PHONY: first-run test build install example serve-example bench gate sweep hostile wrong-bodies tested-bodies definitions
+.PHONY: first-run test names build install example serve-example bench gate sweep hostile wrong-bodies tested-bodies definitions
 
 # Plays the example by a trial run, and prints each line of the script with its answer. A trial interprets the program first, which ends
 # without an answer where this one reads; so that takes one step here in place of some seconds, and the compiled program answers as before.
@@ -43,13 +43,17 @@ example: build
 serve-example:
 	examples/try_examples
 
-# The merge gate: every proof, but for what an earlier run on this machine has passed; the must-fail edits, the tests and the stored runs;
-# and then the quick start, with the program that was proved. By itself `rt ci` keeps memory free for a check by the length of its crate, more than it takes,
+# Whether each name in four pages of docs/ is one that a source has. Left out where Python 3 is not here.
+names:
+	@if command -v python3 > /dev/null; then docs/check_names; else echo 'names: python3 is not here, so the names in docs/ were not checked'; fi
+
+# The merge gate: the names in docs/; every proof, but for what an earlier run on this machine has passed; the must-fail edits, the tests and the
+# stored runs; and then the quick start, with the program that was proved. By itself `rt ci` keeps memory free for a check by the length of its crate, more than it takes,
 # and so a processor waits. Here each processor has a check, as far as there are 5 GB for it. CRATES="NAME .." tries these alone, with
 # those below them.
 LANES ?= $(shell awk -v most="$$(nproc)" '/^MemAvailable/ { held = int($$2 / 5000000); print held < 1 ? 1 : held < most ? held : most }' /proc/meminfo)
 
-test:
+test: names
 	RT_JOBS=$(LANES) rt ci $(CRATES)
 	$(if $(CRATES),,examples/serve_example $$(test ! -x $(ACTS) || echo $(ACTS)))
 
