@@ -78,15 +78,15 @@ hostile: build
 
 # The wrong bodies beyond those of the gate: of each crate, of CRATE, or the one of CRATE=NAME/EDIT.
 wrong-bodies:
-	sweeps/wrong_bodies/run $(CRATE)
+	sweeps/edits/run wrong_bodies $(CRATE)
 
 # The wrong bodies that no contract can refuse: the tests have to. Of the tests of CRATE, or the one of CRATE=NAME/EDIT.
 tested-bodies:
-	sweeps/tested_bodies/run $(CRATE)
+	sweeps/edits/run tested_bodies $(CRATE)
 
 # The changed definitions that a law or a row has to refuse; of CRATE, or the one of CRATE=NAME/EDIT.
 definitions:
-	sweeps/definitions/run $(CRATE)
+	sweeps/edits/run definitions $(CRATE)
 
 # Processor minutes of the gate, by crate, in a fresh clone; of CRATES and those below alone, where they are named.
 gate:
