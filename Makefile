@@ -59,17 +59,17 @@ bench: build
 
 # The stored run and some rows with each growth of memory refused in turn. Needs a C compiler.
 sweep: build
-	sweeps/refused_growth/run $(ACTS)
+	sweeps/refused_memory/run $(ACTS)
 
 # Stops, failing calls, want of memory, hostile clients, damaged files and a second machine, all of it with the proved program. Needs a C compiler.
 hostile: build
 	sweeps/stops/run.sh
 	sweeps/stops/file.sh
 	sweeps/stops/served $(ACTS)
-	sweeps/refused_growth/served $(ACTS)
-	sweeps/little_memory/run $(ACTS)
+	sweeps/refused_memory/served $(ACTS)
+	sweeps/refused_memory/little $(ACTS)
 	sweeps/clients/run $(ACTS)
-	sweeps/crowd/run $(ACTS)
+	sweeps/clients/crowd $(ACTS)
 	sweeps/forever/run $(ACTS) --kills 60 --faults 20 --changed 200
 	sweeps/damaged_files/run $(ACTS)
 	sweeps/first_layout/run $(ACTS)

@@ -5,14 +5,14 @@
 # SEED LINES --what lines --preload SCRIPT`); SAY what a script is answered (`SAY play`, the script on standard input). The runners of every
 # second session of lines have names that no other session has. CASES=FOLDER keeps the bytes of the sessions there, and takes those that
 # stand there.
-# Usage: bench/settle/run.sh MAKE SAY [COUNT [FIRST]]. COUNT runs are of each kind.
+# Usage: sweeps/compared/settle/run.sh MAKE SAY [COUNT [FIRST]]. COUNT runs are of each kind.
 set -eu
-. "$(dirname "$0")/../copy.sh"
+. "$(dirname "$0")/../../../bench/copy.sh"
 make=$1 say=$2 count=${3:-50} first=${4:-1}
 cases=${CASES:-$scratch/cases}
 mkdir -p "$cases"
-copy_for settle_bench main.rt.txt act_desk act_disk act_sessions act_store webhook_sessions runner_sessions run_plan wf_value anyhow
-build settle_bench
+copy_for compared_settle main.rt.txt act_desk act_disk act_sessions act_store webhook_sessions runner_sessions run_plan wf_value anyhow
+build compared_settle
 
 made() { # SEED: the bytes of 32 sessions, behind a line of their lengths
     local k seed lengths=

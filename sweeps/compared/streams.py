@@ -1,4 +1,4 @@
-"""What the benchmarks over `acts serve` share that hold sessions whose bytes are made up."""
+"""What the comparisons over `acts serve` share that hold sessions whose bytes are made up."""
 
 import socket
 import threading

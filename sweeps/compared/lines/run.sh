@@ -4,14 +4,14 @@
 # script (`MAKE SEED LINES --what lines --preload SCRIPT`); SAY what a session over those bytes writes (`SAY lines AREA --preload SCRIPT`, the
 # bytes on standard input). The script that is taken first has `admit` lines alone; in every second session no line is one. CASES=FOLDER
 # keeps the sessions there, and takes those that stand there.
-# Usage: bench/lines/run.sh MAKE SAY [COUNT [FIRST]]
+# Usage: sweeps/compared/lines/run.sh MAKE SAY [COUNT [FIRST]]
 set -eu
-. "$(dirname "$0")/../copy.sh"
+. "$(dirname "$0")/../../../bench/copy.sh"
 make=$1 say=$2 count=${3:-1000} first=${4:-1}
 cases=${CASES:-$scratch/cases}
 mkdir -p "$cases"
-copy_for lines_bench main.rt.txt wf_value run_plan act_disk act_store act_desk act_sessions command_lines runner_sessions anyhow
-build lines_bench
+copy_for compared_lines main.rt.txt wf_value run_plan act_disk act_store act_desk act_sessions command_lines runner_sessions anyhow
+build compared_lines
 
 one() { # SEED
     python3 "$make" "$1" 24 | grep -a '^admit ' | head -n 6 > "$scratch/taken" || true

@@ -2,14 +2,14 @@
 # Plays made-up webhook sessions over a store in memory, in random pieces, and compares what is written with what another program says.
 # MAKE prints the bytes of a session for a seed and a number of requests (`MAKE SEED REQUESTS --what hook`), and SAY what a session over
 # those bytes writes (`SAY hook 262144`, the bytes on standard input). CASES=FOLDER keeps the sessions there, and takes those that stand there.
-# Usage: bench/hooks/run.sh MAKE SAY [COUNT [FIRST]]
+# Usage: sweeps/compared/hooks/run.sh MAKE SAY [COUNT [FIRST]]
 set -eu
-. "$(dirname "$0")/../copy.sh"
+. "$(dirname "$0")/../../../bench/copy.sh"
 make=$1 say=$2 count=${3:-1000} first=${4:-1}
 cases=${CASES:-$scratch/cases}
 mkdir -p "$cases"
-copy_for hooks_bench main.rt.txt wf_value act_disk act_store act_desk act_sessions webhook_sessions anyhow
-build hooks_bench
+copy_for compared_hooks main.rt.txt wf_value act_disk act_store act_desk act_sessions webhook_sessions anyhow
+build compared_hooks
 
 differ=0
 for seed in $(seq "$first" $((first + count - 1))); do
