@@ -3,7 +3,7 @@
 ACTS := crates/acts/out/acts
 FIRST := crates/first_run
 
-.PHONY: first-run test build install example serve-example bench gate sweep hostile wrong-bodies tested-bodies definitions
+.PHONY: first-run test build install example serve-example bench gate sweep hostile stops-over-a-file wrong-bodies tested-bodies definitions
 
 # Plays the example by a trial run, and prints each line of the script with its answer. A trial interprets the program first, which ends
 # without an answer where this one reads; so that takes one step here in place of some seconds, and the compiled program answers as before.
@@ -61,20 +61,15 @@ bench: build
 sweep: build
 	sweeps/refused_memory/run $(ACTS)
 
-# Stops, failing calls, want of memory, hostile clients, damaged files and a second machine, all of it with the proved program. Needs a C compiler.
+# Every sweep that needs no proving, with the proved program: stops, failing calls, want of memory, hostile clients, damaged files and a second
+# machine. It says at the end how long each took. Needs a C compiler. `sweeps/all PROGRAM` does it with a program that is built already.
 hostile: build
-	sweeps/stops/run.sh
+	sweeps/all $(ACTS)
+
+# Stops of a store over a file, by programs that are proved first: each write and sync failing in turn, and `kill -9`. Needs a C compiler.
+stops-over-a-file:
 	sweeps/stops/file.sh
-	sweeps/stops/served $(ACTS)
-	sweeps/refused_memory/served $(ACTS)
-	sweeps/refused_memory/little $(ACTS)
-	sweeps/clients/run $(ACTS)
-	sweeps/clients/crowd $(ACTS)
-	sweeps/forever/run $(ACTS) --kills 60 --faults 20 --changed 200
-	sweeps/damaged_files/run $(ACTS)
-	sweeps/first_layout/run $(ACTS)
-	sweeps/failover/run $(ACTS)
-	sweeps/one_server/run $(ACTS)
+	sweeps/stops/killed.sh
 
 # The wrong bodies beyond those of the gate: of each crate, of CRATE, or the one of CRATE=NAME/EDIT.
 wrong-bodies:
