@@ -3,7 +3,7 @@
 ACTS := crates/acts/out/acts
 FIRST := crates/first_run
 
-.PHONY: first-run test build install example serve-example bench gate sweep hostile stops-over-a-file wrong-bodies tested-bodies definitions
+.PHONY: first-run test build install example serve-example bench gate sweep hostile compared stops-over-a-file wrong-bodies tested-bodies definitions
 
 # Plays the example by a trial run, and prints each line of the script with its answer. A trial interprets the program first, which ends
 # without an answer where this one reads; so that takes one step here in place of some seconds, and the compiled program answers as before.
@@ -65,6 +65,10 @@ sweep: build
 # machine. It says at the end how long each took. Needs a C compiler. `sweeps/all PROGRAM` does it with a program that is built already.
 hostile: build
 	sweeps/all $(ACTS)
+
+# Scripts, workflows and sessions by the proved program and by the plain model, compared byte by byte.
+compared: build
+	sweeps/all $(ACTS) compared
 
 # Stops of a store over a file, by programs that are proved first: each write and sync failing in turn, and `kill -9`. Needs a C compiler.
 stops-over-a-file:

@@ -1,6 +1,6 @@
 #!/bin/bash
 # Plays made-up webhook sessions over a store in memory, in random pieces, and compares what is written with what another program says.
-# MAKE prints the bytes of a session for a seed and a number of requests (`MAKE SEED REQUESTS --what hook`), and SAY what a session over
+# `sweeps/compared/mutations/make` is a MAKE, and `sweeps/compared/plain.py` a SAY. MAKE prints the bytes of a session for a seed and a number of requests (`MAKE SEED REQUESTS --what hook`), and SAY what a session over
 # those bytes writes (`SAY hook 262144`, the bytes on standard input). CASES=FOLDER keeps the sessions there, and takes those that stand there.
 # Usage: sweeps/compared/hooks/run.sh MAKE SAY [COUNT [FIRST]]
 set -eu

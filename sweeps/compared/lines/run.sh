@@ -1,6 +1,6 @@
 #!/bin/bash
 # Plays made-up sessions of runner lines over a store in memory, in random pieces, and compares what is written with what another program
-# says. MAKE prints a script for a seed and a number of lines (`MAKE SEED LINES`), and the bytes of a session over a store that took a
+# says. `sweeps/compared/mutations/make` is a MAKE, and `sweeps/compared/plain.py` a SAY. MAKE prints a script for a seed and a number of lines (`MAKE SEED LINES`), and the bytes of a session over a store that took a
 # script (`MAKE SEED LINES --what lines --preload SCRIPT`); SAY what a session over those bytes writes (`SAY lines AREA --preload SCRIPT`, the
 # bytes on standard input). The script that is taken first has `admit` lines alone; in every second session no line is one. CASES=FOLDER
 # keeps the sessions there, and takes those that stand there.
