@@ -1,5 +1,5 @@
 #!/usr/bin/env python3
-"""Makes scripts and workflows that look like chance, for `sweeps/compared/run`.
+"""Makes random scripts and workflows, for `sweeps/compared/run`.
 
     sweeps/compared/scripts.py SEED LINES             a script of so many lines
     sweeps/compared/scripts.py SEED LINES --workflow  a workflow
