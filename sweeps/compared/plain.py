@@ -740,6 +740,10 @@ class Store:
             reply = str(refused)
         return reply if isinstance(reply, bytes) else reply.encode()
 
+    def views(self):
+        """What `acts show` prints, line by line."""
+        return [run.view() for run in self.table.runs]
+
     def ask(self, word, fields):
         need(self.entries < MOST_ENTRIES, 46)
         self.entries += 1
@@ -909,45 +913,64 @@ def answer_to(head, body, store, ends):
     return written(status, reply.encode() + b'\n', ends), ends
 
 
-def hook_session(given, store):
-    """What a session of HTTP writes."""
-    out = b''
-    for turn in range(1, MOST_REQUESTS + 1):
+class Session:
+    """A session over a store that nobody else asks meanwhile. It gets bytes as they come; `over` says that it has ended."""
+
+    def __init__(self, store):
+        self.store, self.held, self.turns, self.over = store, b'', 0, False
+
+    def hear(self, data):
+        """What is written once these bytes have come."""
+        out, self.held = b'', self.held + data
+        while not self.over and (answer := self.next()) is not None:
+            out += answer
+        return out
+
+    def end(self, status, number):
+        """The answer to a head that ends the session."""
+        self.over = True
+        return written(status, b'refused %d\n' % number, True)
+
+
+class Requests(Session):
+    """A session of HTTP."""
+
+    def next(self):
+        """The answer to the request that stands first in what is held, or None where that is not whole."""
         try:
-            head = Head(given[:MOST_OF_A_HEAD])
+            head = Head(self.held[:MOST_OF_A_HEAD])
             length = head.length()
         except Cut:
-            return out + (written(400, b'refused 70\n', True) if len(given) >= MOST_OF_A_HEAD else b'')
+            return None if len(self.held) < MOST_OF_A_HEAD else self.end(400, 70)
         except Refused:
-            return out + written(400, b'refused 70\n', True)
+            return self.end(400, 70)
         except Answered as answer:
-            return out + written(answer.args[0], b'refused %d\n' % answer.args[1], True)
-        body, given = given[head.at:head.at + length], given[head.at + length:]
-        if len(body) < length:
-            return out
-        answer, ends = answer_to(head, body, store, head.closes() or turn == MOST_REQUESTS)
-        out += answer
-        if ends:
-            return out
-    return out
+            return self.end(*answer.args[:2])
+        if len(self.held) < head.at + length:
+            return None
+        body, self.held = self.held[head.at:head.at + length], self.held[head.at + length:]
+        self.turns += 1
+        answer, self.over = answer_to(head, body, self.store, head.closes() or self.turns == MOST_REQUESTS)
+        return answer
 
 
-def lines_session(given, store):
-    """What a session of runner lines writes."""
-    written, at = b'', 0
-    for _ in range(MOST_LINES):
-        end = given.find(b'\n', at, at + MOST_OF_A_LINE)
+class Lines(Session):
+    """A session of runner lines."""
+
+    def next(self):
+        """The answer to the line that stands first in what is held, or None where that is not whole."""
+        end = self.held.find(b'\n', 0, MOST_OF_A_LINE)
         if end < 0:
-            return written + (b'refused 75\n' if len(given) - at >= MOST_OF_A_LINE else b'')
-        line, at = given[at:end].removesuffix(b'\r'), end + 1
+            self.over = len(self.held) >= MOST_OF_A_LINE
+            return b'refused 75\n' if self.over else None
+        line, self.held = self.held[:end].removesuffix(b'\r'), self.held[end + 1:]
         word, *fields = line.split(b' ', 1)
         known = word in (b'CLAIM', b'DONE', b'BEAT', b'FETCH') and fields
-        answer = store.answer(word.lower() + b' ' + fields[0]) if known else b'refused 75'
-        written += answer + b'\n'
+        answer = self.store.answer(word.lower() + b' ' + fields[0]) if known else b'refused 75'
         refused = re.fullmatch(rb'refused (\d+)', answer)
-        if refused and int(refused[1]) in ENDING:
-            break
-    return written
+        self.turns += 1
+        self.over = self.turns == MOST_LINES or (refused is not None and int(refused[1]) in ENDING)
+        return answer + b'\n'
 
 
 def main():
@@ -964,7 +987,7 @@ def main():
             if len(words) > 2 and words[1] == '--preload':
                 with open(words[2], 'rb') as file:
                     play(file.read(), store)
-            out = (hook_session if what == 'hook' else lines_session)(given, store)
+            out = (Requests if what == 'hook' else Lines)(store).hear(given)
     except Refused as refused:
         sys.exit(f'acts: {refused}')
     sys.stdout.buffer.write(out)

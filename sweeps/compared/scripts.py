@@ -107,6 +107,32 @@ def change(dice, value):
             return
 
 
+def break_one(dice, made):
+    """Puts a fault into a workflow that has none."""
+    jobs = made['jobs']
+    name = dice.choice(list(jobs))
+    kind, it = dice.randrange(17), jobs[name]
+    if kind < 6:
+        it['strategy'] = ({'matrix': {'n': [1.5]}}, {'matrix': {'n': []}}, {'matrix': {f'n{place}': [1, 2] for place in range(13)}},
+                          {'max-parallel': 0}, {'matrix': {'n': list(range(257))}}, {'matrix': {'n': [1], 'include': [{}]}})[kind]
+    elif kind == 6:
+        jobs[dice.choice(('1a', '', 'a.b', 'x' * 101))] = dict(it)
+    elif kind == 7:
+        jobs.update((f'j{place}', {'runs-on': 'x'}) for place in range(257))
+    elif kind == 8:
+        made['concurrency'] = '${{ matrix.n }}'
+    elif kind == 9:
+        made['more'] = 'x' * dice.randint(60_000, 70_000)
+    elif kind < 12:
+        it['needs'] = [name] if kind == 10 else ['none']
+    elif kind == 12:
+        for one, other in zip(jobs, list(jobs)[1:] + [name]):
+            jobs[one]['needs'] = [other]
+    else:
+        member, value = (('runs-on', []), ('runs-on', '${{ secrets.x }}'), ('uses', './x.yml'), ('if', 'github.ref'))[kind - 13]
+        it[member] = value
+
+
 def spelled(dice, value):
     """The bytes of a value, of which some are changed at times."""
     data = json.dumps(value, ensure_ascii=chance(dice, 0.5), separators=dice.choice(((',', ':'), (', ', ': ')))).encode()
@@ -124,8 +150,10 @@ def body(dice):
         made['github'] = {'ref_name': dice.choice(SENT), 'workflow': {'x': 'linux'}}
     if chance(dice, 0.2):
         made['vars'] = {'l': dice.choice(SENT)}
-    if chance(dice, 0.15):
+    if chance(dice, 0.1):
         change(dice, made)
+    elif chance(dice, 0.1):
+        break_one(dice, made['workflow'])
     return spelled(dice, made)
 
 
@@ -201,8 +229,10 @@ def script(seed, count):
 def workflow_text(seed):
     dice = random.Random(f'workflow {seed}')
     made = workflow(dice)
-    if chance(dice, 0.4):
+    if chance(dice, 0.3):
         change(dice, made)
+    elif chance(dice, 0.3):
+        break_one(dice, made)
     return spelled(dice, made)
 
 
