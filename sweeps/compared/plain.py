@@ -8,7 +8,7 @@
 
 It folds the lines over a table of lists and dictionaries, and finds everything by going over the whole table from the first run: no store, no
 index, no limit of memory. `hook` and `lines` play SCRIPT first, and then say what a session over the table writes that gets BYTES and the
-end of its input; AREA is not looked at. It is written from the two pages, and of heads from the grammar of `httparse`, so where the
+end of its input; AREA is ignored. It is written from the two pages, and of heads from the grammar of `httparse`, so where the
 program and this differ, one of them does not do what the pages say. It needs Python 3.9 or later and nothing else. Left out: an area that is
 full (47), which no script is long enough for, and more than 999,999,999 leases. Case folding is that of this Python's Unicode, which may
 be older than the program's.

@@ -5,6 +5,7 @@
 # `crash` prints for each of these calls and each fill of an image a line CALL WORD KIND FILL N: the image opens to the table of N entries;
 # `faults` lets each of these calls fail, by itself and with all behind it, opens what is seen then and the image of each fill, and prints
 # `N calls, M images as wanted`, with a line before it for each image that opens to no front of the history with what was covered.
+# What is wanted comes from another program, since the plain model has no disk; `sweeps/stops/run.sh` judges the same images by itself.
 # Usage: sweeps/compared/disk/run.sh FOLDER. It is a trial run, so nothing is proved; overflows, indexes and accesses are checked as it goes.
 set -eu
 . "$(dirname "$0")/../../../bench/copy.sh"
