@@ -3,7 +3,7 @@
 ACTS := crates/acts/out/acts
 FIRST := crates/first_run
 
-.PHONY: first-run test names build install example serve-example bench gate sweep hostile wrong-bodies tested-bodies definitions
+.PHONY: first-run test names build install example serve-example bench gate sweep hostile compared stops-over-a-file wrong-bodies tested-bodies definitions
 
 # Plays the example by a trial run, and prints each line of the script with its answer. A trial interprets the program first, which ends
 # without an answer where this one reads; so that takes one step here in place of some seconds, and the compiled program answers as before.
@@ -63,34 +63,33 @@ bench: build
 
 # The stored run and some rows with each growth of memory refused in turn. Needs a C compiler.
 sweep: build
-	sweeps/refused_growth/run $(ACTS)
+	sweeps/refused_memory/run $(ACTS)
 
-# Stops, failing calls, want of memory, hostile clients, damaged files and a second machine, all of it with the proved program. Needs a C compiler.
+# Every sweep that needs no proving, with the proved program: stops, failing calls, want of memory, hostile clients, damaged files and a second
+# machine. It says at the end how long each took. Needs a C compiler. `sweeps/all PROGRAM` does it with a program that is built already.
 hostile: build
-	sweeps/stops/run.sh
+	sweeps/all $(ACTS)
+
+# Scripts, workflows and sessions by the proved program and by the plain model, compared byte by byte.
+compared: build
+	sweeps/all $(ACTS) compared
+
+# Stops of a store over a file, by programs that are proved first: each write and sync failing in turn, and `kill -9`. Needs a C compiler.
+stops-over-a-file:
 	sweeps/stops/file.sh
-	sweeps/stops/served $(ACTS)
-	sweeps/refused_growth/served $(ACTS)
-	sweeps/little_memory/run $(ACTS)
-	sweeps/clients/run $(ACTS)
-	sweeps/crowd/run $(ACTS)
-	sweeps/forever/run $(ACTS) --kills 60 --faults 20 --changed 200
-	sweeps/damaged_files/run $(ACTS)
-	sweeps/first_layout/run $(ACTS)
-	sweeps/failover/run $(ACTS)
-	sweeps/one_server/run $(ACTS)
+	sweeps/stops/killed.sh
 
 # The wrong bodies beyond those of the gate: of each crate, of CRATE, or the one of CRATE=NAME/EDIT.
 wrong-bodies:
-	sweeps/wrong_bodies/run $(CRATE)
+	sweeps/edits/run wrong_bodies $(CRATE)
 
 # The wrong bodies that no contract can refuse: the tests have to. Of the tests of CRATE, or the one of CRATE=NAME/EDIT.
 tested-bodies:
-	sweeps/tested_bodies/run $(CRATE)
+	sweeps/edits/run tested_bodies $(CRATE)
 
 # The changed definitions that a law or a row has to refuse; of CRATE, or the one of CRATE=NAME/EDIT.
 definitions:
-	sweeps/definitions/run $(CRATE)
+	sweeps/edits/run definitions $(CRATE)
 
 # Processor minutes of the gate, by crate, in a fresh clone; of CRATES and those below alone, where they are named.
 gate:

@@ -1,7 +1,7 @@
-# What the benchmarks share; each sources it. Their programs are no crates of the repository, since what they print differs from run to
-# run: one is built in a copy of the crates that it stands on, with what earlier checks left in them, and the copy goes at the end.
+# What the benchmarks and some sweeps share; each sources it. Their programs are no crates of the repository, since what they print differs from
+# run to run: one is built in a copy of the crates that it stands on, with what earlier checks left in them, and the copy goes at the end.
 here=$(cd "$(dirname "$0")" && pwd)
-top=$(cd "$here/../.." && pwd)
+top=$(cd "$(dirname "${BASH_SOURCE[0]}")/.." && pwd)
 scratch=$(mktemp -d)
 trap 'rm -rf "$scratch"' EXIT
 
@@ -17,7 +17,7 @@ below() { # CRATE..: the repository's own crates among these, and all of its own
     echo "$seen"
 }
 
-copy_for() { # PROGRAM SOURCE CRATE..: the crates that PROGRAM stands on, and PROGRAM itself, of one file of this benchmark
+copy_for() { # PROGRAM SOURCE CRATE..: the crates that PROGRAM stands on, and PROGRAM itself, of one file beside the script
     local program=$1 source=$2 crate
     shift 2
     mkdir -p "$scratch/crates/$program/src"

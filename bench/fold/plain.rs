@@ -1,6 +1,6 @@
 //! A plain fold over a script, to measure `acts play` against: a table in maps and sets of std, without contracts, a store or a refusal
 //! for want of memory. It knows what the scripts of `bench/play` need, and no more: admissions, claims, reports and looks; needs, matrices
-//! of variables, groups of runs. It reads no template and no condition, and fails no leg.
+//! of variables, groups of runs. It reads no template and no condition, and fails no leg. The model of all commands is `sweeps/compared/plain.py`.
 
 use std::collections::{BTreeSet, HashMap};
 use std::io::{Read, Write};

@@ -1,6 +1,6 @@
 """Sessions whose bytes were changed, over histories that turn over every one to five commands, beside a single round of `acts serve` on the same bytes.
 
-`sweeps/mutations/make` makes them; each meets two fresh services, to which it is sent in pieces by chance. What comes back, and the runs that the file shows,
+`sweeps/compared/mutations/make` makes them; each meets two fresh services, to which it is sent in pieces by chance. What comes back, and the runs that the file shows,
 have to be the same. Where a stream was reset, the last answers may be lost on the way: there a front of the other's will do, and how often is told.
 """
 
@@ -14,8 +14,8 @@ import threading
 from checking import Wrong, expect, module, served, stopped
 
 AREA, MOST_CUT_SHORT = 262_144, 0.05
-make = module('make', '../mutations/make')
-mutations = module('mutations', '../mutations/run')
+make = module('make', '../compared/mutations/make')
+mutations = module('mutations', '../compared/mutations/run')
 
 
 def beat(service, over):

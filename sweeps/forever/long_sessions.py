@@ -6,8 +6,9 @@ import random
 import threading
 import time
 
-import model
-from checking import at_once, expect, opened, served, stopped, turned_over
+from checking import at_once, expect, module, opened, served, stopped, turned_over
+
+plain = module('plain', '../compared/plain.py')
 
 SEATS = 4
 MOMENT = 0.001
@@ -62,7 +63,7 @@ class Talker:
 
 def runner_line(dice, table, name, labels):
     """Something that a runner says: mostly what fits to where it is."""
-    runner = table.runners.get(name) or model.Runner()
+    runner = table.runners.get(name.encode()) or plain.Runner()
     number, lease = runner.number + 1, runner.holds[0] if runner.holds else dice.randint(1, 9)
     kind = dice.randint(0, 99)
     if kind < 30 or (kind < 60 and not runner.holds):
@@ -97,7 +98,7 @@ def hook_request(dice, table, deliveries):
 
 def look_alike(dice, table, run):
     """A request that changes nothing."""
-    known = dice.choice(list(table.deliveries)) if table.deliveries else None
+    known = dice.choice(table.runs).event if table.runs else None
     return dice.choice((
         request('POST /runners/nobody/lost HTTP/1.1'),
         request('GET /nowhere HTTP/1.1'),
@@ -105,7 +106,7 @@ def look_alike(dice, table, run):
         request(f'POST /runs/{run} HTTP/1.1'),
         request('GET /events HTTP/1.1'),
         event('broken', b'['),
-        event(known, table.runs[table.deliveries[known] - 1].body) if known else request('PUT /events HTTP/1.1'),
+        event(known.delivery.decode(), known.body) if known else request('PUT /events HTTP/1.1'),
     ))
 
 
@@ -120,28 +121,28 @@ def pieces(dice, data):
 def one_of_each(acts, folder, turn_over, dice):
     """A session of 64 requests and one of 1,024 lines, by turns, over histories of so many commands. Answers what it came to."""
     service, path = opened(acts, folder, SEATS, turn_over=turn_over)
-    table, deliveries = model.Table(), (f'd{n}' for n in range(1, 100))
-    hook = Talker(service.hook(), model.Requests(table), 'the sender')
-    runner = Talker(service.runner(), model.Lines(table), 'the runner')
-    for turn in range(model.MOST_LINES):
-        if turn % (model.MOST_LINES // model.MOST_REQUESTS) == 0:
-            hook.say(*pieces(dice, hook_request(dice, table, deliveries)))
-        runner.say(*pieces(dice, runner_line(dice, table, 'r1', 'linux,X64').encode()))
+    store, deliveries = plain.Store(), (f'd{n}' for n in range(1, 100))
+    hook = Talker(service.hook(), plain.Requests(store), 'the sender')
+    runner = Talker(service.runner(), plain.Lines(store), 'the runner')
+    for turn in range(plain.MOST_LINES):
+        if turn % (plain.MOST_LINES // plain.MOST_REQUESTS) == 0:
+            hook.say(*pieces(dice, hook_request(dice, store.table, deliveries)))
+        runner.say(*pieces(dice, runner_line(dice, store.table, 'r1', 'linux,X64').encode()))
     hook.end(request('GET /runs/1 HTTP/1.1'))
     runner.end(b'BEAT nobody 1\n')
     histories, entries = len(service.settled), sum(service.settled)
     expect(histories >= 10, 'only', histories, 'histories')
-    expect(0 <= table.asked - entries <= 2 * turn_over, table.asked, 'commands, and histories of', entries, 'entries in all')
+    expect(0 <= store.entries - entries <= 2 * turn_over, store.entries, 'commands, and histories of', entries, 'entries in all')
     stopped(service)
     shown = served.show(acts, path)
-    expect(shown == table.views(), 'the file shows', shown, 'and not', table.views())
+    expect(shown == store.views(), 'the file shows', shown, 'and not', store.views())
     return f'64 requests and 1,024 lines over {histories} histories, {hook.bytes + runner.bytes} bytes as wanted'
 
 
 def prepared(service):
-    """A table for many sessions: run 1 has ended, run 2 is at work, run 3 waits, and 30 are for a runner of the name `mine`."""
-    table = model.Table()
-    hook, runner = Talker(service.hook(), model.Requests(table), 'the first sender'), Talker(service.runner(), model.Lines(table), 'the first runner')
+    """A store for many sessions: run 1 has ended, run 2 is at work, run 3 waits, and 30 are for a runner of the name `mine`."""
+    store = plain.Store()
+    hook, runner = Talker(service.hook(), plain.Requests(store), 'the first sender'), Talker(service.runner(), plain.Lines(store), 'the first runner')
     for place in range(1, 4):
         hook.say(event(f'd{place}', body('linux', place == 2, 2000)))
     for place in range(4, 34):
@@ -150,7 +151,7 @@ def prepared(service):
         runner.say(line)
     hook.client.close()
     runner.client.close()
-    return table
+    return store
 
 
 def all_at_once(talker, data, more, dice):
@@ -179,11 +180,11 @@ def difference(got, wanted):
     return f'from byte {at} on {got[at:at + 60]!r} and not {wanted[at:at + 60]!r}'
 
 
-def lines_ahead(dice, table, name):
+def lines_ahead(dice, store, name):
     """The lines of a whole session, none of which shows what others do: of runs they ask for the first alone, which has ended."""
-    given, session = b'', model.Lines(table)
+    given, session = b'', plain.Lines(store)
     while not session.over:
-        line = runner_line(dice, table, name, 'mine' if name == 'mine' else 'none').encode()
+        line = runner_line(dice, store.table, name, 'mine' if name == 'mine' else 'none').encode()
         if not line.startswith(b'FETCH') or line == b'FETCH 1\n':
             given += line
             session.hear(line)
@@ -193,43 +194,43 @@ def lines_ahead(dice, table, name):
 def requests_ahead(dice, table, place):
     """The requests of a whole session. The first sender posts events; the others ask what stays as it is."""
     if place == 0:
-        return b''.join(event(f'e{number}', body('nobody')) for number in range(model.MOST_REQUESTS))
+        return b''.join(event(f'e{number}', body('nobody')) for number in range(plain.MOST_REQUESTS))
     return b''.join(dice.choice((look_alike(dice, table, 1), request('GET /runs/1 HTTP/1.1'), request('GET /runs/3/body HTTP/1.1'),
-                                 request('POST /runs/1/cancel HTTP/1.1'))) for _ in range(model.MOST_REQUESTS))
+                                 request('POST /runs/1/cancel HTTP/1.1'))) for _ in range(plain.MOST_REQUESTS))
 
 
 def pipelined(acts, folder, turn_over, dice):
     """Sixteen clients send whole sessions at once over histories that turn over meanwhile."""
     service, path = opened(acts, folder, SEATS, turn_over=turn_over)
-    table = prepared(service)
+    store = prepared(service)
     before, talkers, tasks = len(service.settled), [], []
     for place in range(8):
-        name, own = 'mine' if place == 0 else f'p{place}', copy.deepcopy(table)
-        given = lines_ahead(dice, own, name) if place % 2 == 0 else b'FETCH 1\n' * model.MOST_LINES
-        talkers.append(Talker(service.runner(), model.Lines(copy.deepcopy(table)), f'the runner {name}'))
+        name, own = 'mine' if place == 0 else f'p{place}', copy.deepcopy(store)
+        given = lines_ahead(dice, own, name) if place % 2 == 0 else b'FETCH 1\n' * plain.MOST_LINES
+        talkers.append(Talker(service.runner(), plain.Lines(copy.deepcopy(store)), f'the runner {name}'))
         tasks.append((talkers[-1], given, b'BEAT nobody 1\n' * 3, random.Random(f'runner {place}')))
     for place in range(8):
-        talkers.append(Talker(service.hook(), model.Requests(copy.deepcopy(table)), f'the sender {place}'))
-        tasks.append((talkers[-1], requests_ahead(dice, table, place), request('GET /runs/1 HTTP/1.1'), random.Random(f'sender {place}')))
+        talkers.append(Talker(service.hook(), plain.Requests(copy.deepcopy(store)), f'the sender {place}'))
+        tasks.append((talkers[-1], requests_ahead(dice, store.table, place), request('GET /runs/1 HTTP/1.1'), random.Random(f'sender {place}')))
     at_once([lambda task=task: all_at_once(*task) for task in tasks], 120)
     histories = len(service.settled) - before
     expect(histories >= 10, 'only', histories, 'histories')
     stopped(service)
-    expect(len(served.show(acts, path)) == len(table.runs) + 64, 'the number of runs')
+    expect(len(served.show(acts, path)) == len(store.table.runs) + 64, 'the number of runs')
     return f'8 sessions of 64 requests and 8 of 1,024 lines, each sent at once, over {histories} histories, {sum(it.bytes for it in talkers)} bytes as wanted'
 
 
 class Cut:
     """Clients that are cut: each says a part of something, a history turns over, and it says the rest."""
 
-    def __init__(self, service, table):
-        self.service, self.table, self.other, self.talker, self.sessions = service, table, service.runner(), None, 0
+    def __init__(self, service, store):
+        self.service, self.store, self.other, self.talker, self.sessions = service, store, service.runner(), None, 0
 
     def session(self, kind):
         """The session that it goes on with, or a new one."""
         if self.talker is None or self.talker.session.over or not isinstance(self.talker.session, kind):
             self.end()
-            self.talker = Talker(self.service.hook() if kind is model.Requests else self.service.runner(), kind(self.table), 'who is cut')
+            self.talker = Talker(self.service.hook() if kind is plain.Requests else self.service.runner(), kind(self.store), 'who is cut')
             self.sessions += 1
         return self.talker
 
@@ -250,30 +251,30 @@ class Cut:
 def cut_at_each_byte(acts, folder):
     """A request, and a line, is cut at each of its bytes, and a history turns over there; and then at all bytes."""
     service, path = opened(acts, folder, SEATS, turn_over=2)
-    table, given = model.Table(), body('linux')
-    cut, last, beat = Cut(service, table), event('c999', given), b'BEAT runner-1 99\n'
+    store, given = plain.Store(), body('linux')
+    cut, last, beat = Cut(service, store), event('c999', given), b'BEAT runner-1 99\n'
     requests = [event(f'c{100 + place}', given) for place in range(len(last) - 1)]
     lines = [f'CLAIM runner-1 {number} linux,x64\n'.encode() for number in range(1, 100)]
     for place, data in enumerate(requests, 1):
-        cut.say(model.Requests, data, [place])
+        cut.say(plain.Requests, data, [place])
     for place, data in enumerate(lines[:len(lines[0]) - 1], 1):
-        cut.say(model.Lines, data, [place])
-    cut.say(model.Requests, last, list(range(1, len(last))))
-    cut.say(model.Lines, beat, list(range(1, len(beat))))
+        cut.say(plain.Lines, data, [place])
+    cut.say(plain.Requests, last, list(range(1, len(last))))
+    cut.say(plain.Lines, beat, list(range(1, len(beat))))
     cut.end()
     cuts, histories = 2 * (len(last) - 1) + len(lines[0]) - 1 + len(beat) - 1, len(service.settled)
     stopped(service)
-    expect(served.show(acts, path) == table.views(), 'the runs that are shown')
+    expect(served.show(acts, path) == store.views(), 'the runs that are shown')
     return f'{cuts} cuts in {cut.sessions} sessions, a history turned over in each ({histories} in all)'
 
 
 def halves(acts, folder, dice):
     """Forty clients have each sent half of something, ten histories turn over, and each sends the rest, in another order."""
     service, path = opened(acts, folder, SEATS, turn_over=3)
-    table, other, clients = model.Table(), service.runner(), []
+    store, other, clients = plain.Store(), service.runner(), []
     for place in range(20):
-        for client, kind, data in ((service.hook(), model.Requests, event(f'h{place}', body('linux', space=place))),
-                                   (service.runner(), model.Lines, f'CLAIM h{place} 1 none\n'.encode())):
+        for client, kind, data in ((service.hook(), plain.Requests, event(f'h{place}', body('linux', space=place))),
+                                   (service.runner(), plain.Lines, f'CLAIM h{place} 1 none\n'.encode())):
             cut = dice.randint(1, len(data) - 1)
             client.send(data[:cut])
             clients.append((client, kind, data, cut))
@@ -281,12 +282,12 @@ def halves(acts, folder, dice):
         other = turned_over(service, other)
     dice.shuffle(clients)
     for client, kind, data, cut in clients:
-        talker = Talker(client, kind(table), 'who sent a half')
+        talker = Talker(client, kind(store), 'who sent a half')
         talker.session.hear(data[:cut])
         talker.say(data[cut:])
         client.close()
     stopped(service)
-    expect(served.show(acts, path) == table.views(), 'the runs that are shown')
+    expect(served.show(acts, path) == store.views(), 'the runs that are shown')
     return f'{len(clients)} halves kept over ten histories'
 
 

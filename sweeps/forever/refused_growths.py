@@ -10,7 +10,7 @@ import select
 
 from checking import HERE, expect, module, served, stopped
 
-refused = module('refused_growth', '../refused_growth/served')
+refused = module('refused_memory', '../refused_memory/served')
 SEATS, AREA, TURN_OVER, SESSIONS = 2, 65536, 3, 5
 
 
@@ -52,7 +52,7 @@ def try_growth(acts, path, shim, growth):
 
 
 def check(acts, folder, amount):
-    shim, path, ends, growth = served.library(os.path.join(HERE, '../refused_growth/failing.c'), folder), os.path.join(folder, 'store'), collections.Counter(), 1
+    shim, path, ends, growth = served.library(os.path.join(HERE, '../refused_memory/failing.c'), folder), os.path.join(folder, 'store'), collections.Counter(), 1
     while (end := try_growth(acts, path, shim, growth)) is not None:
         ends[end] += 1
         growth += amount.growths

@@ -1,0 +1,59 @@
+"""What the comparisons over `acts serve` share that hold sessions whose bytes are made up."""
+
+import socket
+import threading
+
+SECONDS = 60
+MOST_OF_A_LINE = 512
+
+
+def free_ports():
+    """Two ports of this machine that nobody has."""
+    with socket.socket() as one, socket.socket() as other:
+        one.bind(('127.0.0.1', 0))
+        other.bind(('127.0.0.1', 0))
+        return one.getsockname()[1], other.getsockname()[1]
+
+
+def taken(given):
+    """What a session reads of its bytes: 512 without a line feed end it."""
+    at = 0
+    while (end := given.find(b'\n', at, at + MOST_OF_A_LINE) + 1) > 0:
+        at = end
+    return given[: at + MOST_OF_A_LINE]
+
+
+def pieces(given, dice):
+    """1 to 8 bytes, or 1 to 4,096 in one piece of four."""
+    at = 0
+    while at < len(given):
+        size = dice.randint(1, dice.choice((8, 8, 8, 4096)))
+        yield given[at : at + size]
+        at += size
+
+
+def send(stream, given, dice):
+    """Sends the pieces, and then the end; a service that has closed the session takes no more."""
+    try:
+        for piece in pieces(given, dice):
+            stream.sendall(piece)
+        stream.shutdown(socket.SHUT_WR)
+    except OSError:
+        pass
+
+
+def said(port, given, dice):
+    """What a session writes that gets these bytes and then the end of its input, and whether its end came without a reset."""
+    with socket.create_connection(('127.0.0.1', port), timeout=SECONDS) as stream:
+        stream.setsockopt(socket.IPPROTO_TCP, socket.TCP_NODELAY, 1)
+        sender = threading.Thread(target=send, args=(stream, given, dice))
+        sender.start()
+        answer = b''
+        try:
+            while more := stream.recv(65536):
+                answer += more
+            whole = True
+        except ConnectionResetError:
+            whole = False
+        sender.join()
+        return answer, whole
